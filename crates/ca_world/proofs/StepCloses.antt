@@ -77,6 +77,7 @@ may-one i core j ks rs a n m known waited applied few waits = record {
   beside = m.beside;
   apart = m.apart;
   unstamped = m.unstamped;
+  reported = m.reported;
 }
 
 -- what holds before anything is looked at, and what was looked at

@@ -15,7 +15,7 @@ use Rattle.ca_model.specs.Due.{Action, Adds, Applies, Clears, Drops, Greets, Nam
 use Rattle.ca_model.specs.Ends as why
 use Rattle.ca_model.specs.History.{Step, Told}
 use Rattle.ca_model.specs.Server.{Ended, Open, Server, ServerCircuit, ServerEnd, Subscription, concerns, key_of, with_post}
-use Rattle.ca_model.specs.ServerSteps.{Handles, HasEnd, Next, Reaches, is_write, reached, stored_now, write_mask}
+use Rattle.ca_model.specs.ServerSteps.{Handles, HasEnd, Next, Reaches, Records, is_write, reached, stored_now, write_mask}
 use Rattle.ca_model.specs.Speech.{Stored}
 use Rattle.ca_model.proofs.Handles.{handle-or}
 use Rattle.ca_model.proofs.Placed.{under-other}
@@ -25,7 +25,8 @@ use Rattle.ca_model.specs.World as model
 use Rattle.ca_model.specs.World.{Joined, RecordSide}
 use Rattle.ca_world.specs.declared.server_step.Counts.{Counts}
 use Rattle.ca_world.specs.ServerStepping.{with_lists}
-use Rattle.ca_world.specs.StepParts.{IsHandled, MayStep}
+use Rattle.ca_world.specs.Reported.{HasReported, IsReportedTable}
+use Rattle.ca_world.specs.StepParts.{IsHandled, MayStep, wrote_by}
 use Rattle.ca_world_data.specs.declared.joined.Joined.{Joined as Opened}
 use Rattle.ca_world_data.specs.Numbering.{AllAlike, AllMayCount, AreAlike, IsAlike, keys_within, post_limit}
 use Rattle.ca_world_data.specs.Reporting.{AreServed}
@@ -35,6 +36,8 @@ use Rattle.ca_world_servers.specs.declared.ahead.Ahead.{Ahead}
 use Rattle.ca_world_servers.specs.declared.deeds.Deed.{Deed}
 use Rattle.ca_world_servers.specs.declared.deeds.Deed.TheVariants as deed
 use Rattle.ca_world_servers.specs.Deeds.{IsDeed, WasDone}
+use Rattle.ca_wire.specs.Fields.{Fields}
+use Rattle.ca_world.proofs.Reported.{reported-changed}
 use Rattle.ca_world.proofs.StepNumbers.{each-under, wrote-circuits}
 
 -- ---- by the action
@@ -155,6 +158,53 @@ alike-wrote y h e has next gone core reaches wrote i ks alike = go next.action n
     go (Drops key) handles reaches wrote = absurd cc
     go (Switches on) handles reaches wrote = absurd cc
 
+-- another action leaves the ends of the other circuits as they are
+quiet-action : (action : Action) (done : Deed) → IsDeed action done → wrote_by done ≡ false → is_write action ≡ false
+quiet-action (Applies name value b) done is none = go done is none
+  where
+    go : (done : Deed) → IsDeed (Applies name value b) done → wrote_by done ≡ false → true ≡ false
+    go (deed.Applies other) is none = none
+    go (deed.Opens sid) is none = absurd is
+    go (deed.Clears sid) is none = absurd is
+    go deed.Waits is none = absurd is
+    go (deed.Adds key) is none = absurd is
+    go (deed.Drops key) is none = absurd is
+    go (deed.Switches on) is none = absurd is
+    go deed.Nothing is none = absurd is
+quiet-action (Waits name value) done is none = refl
+quiet-action (Clears sid) done is none = refl
+quiet-action Nothing done is none = refl
+quiet-action Greets done is none = refl
+quiet-action (Names p) done is none = refl
+quiet-action (Opens c) done is none = refl
+quiet-action (Adds s) done is none = refl
+quiet-action (Drops key) done is none = refl
+quiet-action (Switches on) done is none = refl
+
+quiet-records : (y : Server) (h : Handle) (e : ServerEnd) (m : Fields) (action : Action) (new : Server) → is_write action ≡ false → Records y h e m action new → new.circuits ≡ y.circuits
+quiet-records y h e m (Applies name value b) new none is = absurd cc
+quiet-records y h e m (Waits name value) new none is = ap (λ (z : Server). z.circuits) is.2
+quiet-records y h e m (Clears sid) new none is = ap (λ (z : Server). z.circuits) is
+quiet-records y h e m Nothing new none is = ap (λ (z : Server). z.circuits) is
+quiet-records y h e m Greets new none is = ap (λ (z : Server). z.circuits) is
+quiet-records y h e m (Names p) new none is = ap (λ (z : Server). z.circuits) is
+quiet-records y h e m (Opens c) new none is = ap (λ (z : Server). z.circuits) is
+quiet-records y h e m (Adds s) new none is = ap (λ (z : Server). z.circuits) is
+quiet-records y h e m (Drops key) new none is = ap (λ (z : Server). z.circuits) is
+quiet-records y h e m (Switches on) new none is = ap (λ (z : Server). z.circuits) is
+
+quiet-reaches : (action : Action) (gone : Handle → Bool) (y new : Server) → is_write action ≡ false → Reaches action gone y new → new ≡ y
+quiet-reaches (Applies name value b) gone y new none is = absurd cc
+quiet-reaches (Waits name value) gone y new none is = is.1
+quiet-reaches (Clears sid) gone y new none is = is.1
+quiet-reaches Nothing gone y new none is = is.1
+quiet-reaches Greets gone y new none is = is.1
+quiet-reaches (Names p) gone y new none is = is.1
+quiet-reaches (Opens c) gone y new none is = is.1
+quiet-reaches (Adds s) gone y new none is = is.1
+quiet-reaches (Drops key) gone y new none is = is.1
+quiet-reaches (Switches on) gone y new none is = is.1
+
 -- ---- a message that was handled
 
 module _ (before core : Server) (i : ℕ) (j : Joined) (ks : List Joined) (rs : List RecordSide) (a : Ahead) (c : Counts) (m : MayStep i before j ks rs a c) (d : IsHandled before core j.at_server m.e) where
@@ -174,6 +224,15 @@ module _ (before core : Server) (i : ℕ) (j : Joined) (ks : List Joined) (rs : 
         apart = m.apart;
         unstamped = m.unstamped;
       }
+
+  -- no end has ended by it, if it was no write
+  pub handled-reported : (done : Deed) → IsDeed d.next.action done → wrote_by done ≡ false → HasReported core
+  handled-reported done is none =
+      let quiet : is_write d.next.action ≡ false = quiet-action d.next.action done is none in
+      let h = d.next.handles in
+      let recorded : HasReported h.recorded = subst IsReportedTable (sym (quiet-records before j.at_server _ d.next.m d.next.action h.recorded quiet h.records)) m.reported in
+      let after : HasReported d.next.after = subst HasReported (sym h.leaves) (reported-changed h.recorded.circuits j.at_server _ recorded) in
+      subst HasReported (sym (quiet-reaches d.next.action d.gone d.next.after core quiet d.reaches)) after
 
   -- the same subscriptions stand at the ends and on the circuits, once its write reached them
   pub alike-core : is_write d.next.action ≡ true → AllAlike i core ks

@@ -44,7 +44,7 @@ use Rattle.ca_world.specs.ServerStepping.{LacksAs, Quits, StepsAt, circuits_acte
 use Rattle.ca_world.specs.StepParts.{MayBegin, StepsServer}
 use Rattle.ca_world.specs.Whole.{IsReached}
 use Rattle.ca_world.proofs.Additions.{others-apart, run-order}
-use Rattle.ca_world.proofs.Cuttings.{run-stands, serves-there}
+use Rattle.ca_world.proofs.Cuttings.{run-reported, run-stands, serves-there}
 use Rattle.ca_world.proofs.Postings.{ending-keeps, posted-keeps, run-alike}
 use Rattle.ca_world.proofs.Seating.{run-seated}
 use Rattle.ca_world.proofs.StepLaws.{step-happens}
@@ -98,6 +98,7 @@ run-may-begin w k j y reached fit at server on =
       beside = beside-by y.core.records y.records (run-order w j.server y reached server);
       apart = others-apart y.records l.life.others;
       unstamped = run-unstamped w reached j.server y server;
+      reported = run-reported w reached j.server y server;
     }
 
 -- ---- circuits keep their ends

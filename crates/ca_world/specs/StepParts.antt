@@ -14,6 +14,7 @@ use Rattle.ca_model.specs.ServerCalls.{waiting}
 use Rattle.ca_model.specs.ServerSteps.{HasEnd, NeedsMemory, Next, Reaches}
 use Rattle.ca_model.specs.ServerEvents.{about, logged_by, numbers_after, records_after, write_numbers}
 use Rattle.ca_model.specs.World.{Joined, PutPlace, RecordSide, ServerSide as Side, grown, log_length}
+use Rattle.ca_world.specs.Reported.{HasReported}
 use Rattle.ca_world.specs.ServerStepping.{StepsAt, with_lists}
 use Rattle.ca_world.specs.declared.server_step.Counts.{Counts}
 use Rattle.ca_world.specs.declared.server_step.Prepared.{Prepared}
@@ -25,6 +26,8 @@ use Rattle.ca_world_data.specs.Reporting.{Reports}
 use Rattle.ca_world_data.specs.Seen.{joined_of, record_of, server_of, step_of, told_of}
 use Rattle.ca_world_data.specs.Updates.{AreGood}
 use Rattle.ca_world_servers.specs.declared.ahead.Ahead.{Ahead}
+use Rattle.ca_world_servers.specs.declared.deeds.Deed.{Deed}
+use Rattle.ca_world_servers.specs.declared.deeds.Deed.TheVariants as deed
 use Rattle.ca_world_servers.specs.Deeds.{AreApart, IsAhead, IsDeed, MayWaitFor, TellsDeed}
 use Rattle.ca_world_servers.specs.EndsWith.{ReportsWith}
 use Rattle.ca_world_servers.specs.Handling.{with_handled}
@@ -59,6 +62,7 @@ pub record MayStep (i : ℕ) (core : Server) (j : Joined) (ks : List Joined) (rs
   pub beside : AreBeside core.records rs
   pub apart : AreApart rs
   pub unstamped : core.stamp ≡ record { seconds = 0; nanos = 0 }
+  pub reported : HasReported core
 
 -- The same before anything is looked at.
 pub record MayBegin (i : ℕ) (core : Server) (j : Joined) (ks : List Joined) (rs : List RecordSide) : Type 0 where
@@ -74,8 +78,14 @@ pub record MayBegin (i : ℕ) (core : Server) (j : Joined) (ks : List Joined) (r
   pub beside : AreBeside core.records rs
   pub apart : AreApart rs
   pub unstamped : core.stamp ≡ record { seconds = 0; nanos = 0 }
+  pub reported : HasReported core
 
 -- ---- after it
+
+-- a write was applied at once
+abbrev pub wrote_by : Deed → Bool
+wrote_by (deed.Applies busies) = true
+wrote_by d = false
 
 -- The end handled a message, whose write, if it is one, reached the subscriptions of its record.
 pub record IsHandled (before core : Server) (h : Handle) (e : ServerEnd) : Type 0 where

@@ -1,4 +1,4 @@
-ghost use Rattle.std.specs.Prelude.{ℕ, ◌≡◌, ◌+◌, ◌<◌, ◌≤◌, [], Bool, IfOk, List, OnErr, OnOk, Some, None, length, map, take, vec_capacity, vec_len};
+ghost use Rattle.std.specs.Prelude.{ℕ, ◌≡◌, ◌+◌, ◌<◌, ◌≤◌, [], Bool, false, IfOk, List, OnErr, OnOk, Some, None, length, map, take, vec_capacity, vec_len};
 ghost use Rattle.ca_arena.specs.declared.handle.Handle as handle;
 ghost use Rattle.ca_ids.specs.Table.{under};
 ghost use Rattle.ca_model.specs.Due.{Action};
@@ -15,13 +15,14 @@ ghost use Rattle.ca_queue.specs.Circuit.{HasNone};
 ghost use Rattle.ca_queue.specs.declared.entry.SubKey as sub_key;
 ghost use Rattle.ca_wire.specs.Fields.{Fields};
 ghost use Rattle.ca_world_servers.specs.Losing.{AreSeated};
+ghost use Rattle.ca_world.specs.Reported.{HasReported};
 ghost use Rattle.ca_world.specs.ServerStepping.{StepsAt, with_lists};
-ghost use Rattle.ca_world.specs.StepParts.{AreAside, ClosesWith, IsAheadOf, IsHandled, IsPrepared, MayBegin, MayStep, NotesAt, StandBehind, StepsServer};
+ghost use Rattle.ca_world.specs.StepParts.{AreAside, ClosesWith, IsAheadOf, IsHandled, IsPrepared, MayBegin, MayStep, NotesAt, StandBehind, StepsServer, wrote_by};
 ghost use Rattle.ca_world_data.specs.declared.joined.Joined as opened;
 ghost use Rattle.ca_world_data.specs.Does.{Does};
 ghost use Rattle.ca_world_data.specs.Numbering.{AllAlike, AllMayCount};
 ghost use Rattle.ca_world_data.specs.Opening.{entries_in};
-ghost use Rattle.ca_world_data.specs.Reporting.{AreServed, waits};
+ghost use Rattle.ca_world_data.specs.Reporting.{AreServed, Reports, waits};
 ghost use Rattle.ca_world_data.specs.Seen.{joined_of, queue_of, record_of, server_of, step_of, told_of};
 ghost use Rattle.ca_world_data.specs.ServerCuts.{HasRoomFor, IsServing, cut_core};
 ghost use Rattle.ca_world_servers.specs.declared.coming.Coming as coming;
@@ -508,6 +509,7 @@ fn note(
     requires alike { (busies : Bool) → prepared.deed ≡ did.Applies busies
         → AllAlike server side.old.core (map joined_of circuits.old.items) }
     requires counts { (busies : Bool) → prepared.deed ≡ did.Applies busies → AllMayCount circuits.old.items }
+    requires reported { wrote_by prepared.deed ≡ false → HasReported side.old.core }
     requires served { AreServed
         side.old.circuits.items
         (map joined_of circuits.old.items)
@@ -544,7 +546,7 @@ fn note(
     tell_deed(
         circuit, place, server, side, circuits, logs, deed, write, parting,
     );
-    report_ends(alloc, server, side, circuits, logs);
+    report_written(alloc, deed, server, side, circuits, logs);
     let after = logged_of(logs, side.life);
     let step = Step {
         sent,
@@ -552,6 +554,48 @@ fn note(
         after,
     };
     note_on(&mut circuits[circuit], down, handled, step, told);
+}
+
+// Ends that ended by a write are reported. By another message none ended.
+fn report_written(
+    alloc: Global,
+    deed: Deed,
+    server: usize,
+    side: &mut ServerSide,
+    circuits: &mut Vec<Joined>,
+    logs: &mut Vec<Vec<Entry>>,
+)
+    requires reported { wrote_by deed ≡ false → HasReported side.old.core }
+    requires room { HasRoomFor (waits side.old.records.items) side.old.life logs.old.items }
+    requires served { AreServed side.old.circuits.items (map joined_of circuits.old.items) server }
+    ensures { Reports
+        server
+        side.old
+        (map joined_of circuits.old.items)
+        (entries_in logs.old.items)
+        side.new
+        (map joined_of circuits.new.items)
+        (entries_in logs.new.items) }
+{
+    if has_written(deed) {
+        report_ends(alloc, server, side, circuits, logs);
+    }
+}
+
+// Whether a write was applied at once.
+fn has_written(deed: Deed) -> bool
+    ensures { result ≡ wrote_by deed }
+{
+    match deed {
+        Deed::Applies(_) => true,
+        Deed::Nothing => false,
+        Deed::Opens(_) => false,
+        Deed::Clears(_) => false,
+        Deed::Waits => false,
+        Deed::Adds(_) => false,
+        Deed::Drops(_) => false,
+        Deed::Switches(_) => false,
+    }
 }
 
 // The lists of the circuit are given back, and the message is noted as handled in this step, by these replies.

@@ -22,7 +22,7 @@ use Rattle.ca_world_servers.specs.declared.deeds.Deed.{Deed}
 use Rattle.ca_world_servers.specs.Deeds.{WasDone}
 use Rattle.ca_world_servers.proofs.Done.{write-known}
 use Rattle.ca_world.proofs.StepClosed.{closed-lacks, closed-numbers, handled-lacks, handled-left, handled-open, lacks-alike, lacks-done, set-same}
-use Rattle.ca_world.proofs.StepFacts.{alike-after, applies-writes, counts-set, keeps-noted, served-set, was-done, write-same}
+use Rattle.ca_world.proofs.StepFacts.{alike-after, applies-writes, counts-set, handled-reported, keeps-noted, served-set, was-done, write-same}
 use Rattle.ca_world.proofs.StepHandled.{step-handled}
 use Rattle.ca_world.proofs.server_step.tell_step.Goals as goal
 
@@ -75,6 +75,21 @@ note-requires-clause-alike c = λ busies applies.
     subst (AllAlike c.args.server c.args.side.now.core)
     (sym (set-map joined_of items k new ∙ ap (slice_set ks k) p.circuit))
     (alike-after w.0 c.args.side.now.core c.args.server (joined_of x) ks rs c.args.ahead c.args.counts m d.1 c.in-Ok.prepared.deed p.did busies applies k _ there)
+
+pub note-requires-clause-reported : goal.note-requires-clause-reported
+note-requires-clause-reported c = λ none.
+    let items : List Joined = c.args.circuits.now.items in
+    let k : ℕ = c.args.circuit in
+    let x : Joined = c.index_mut.result.now in
+    let ks : List model.Joined = map joined_of items in
+    let rs : List model.RecordSide = map record_of c.args.side.now.records.items in
+    let within : k < length items = subst (λ (n : ℕ). k < n) c.args.circuits.now.ok.0 c.requires.within in
+    let there : At ks k (joined_of x) = At-map joined_of items k x (found items k x x within c.index_mut.ensures.value) in
+    let w = c.requires.was in
+    let m = w.1 (joined_of x) there in
+    let d = w.2 (joined_of x) there in
+    let p = c.in-Ok.ensures.ok w.0 c.args.server ks rs m d.1 in
+    handled-reported w.0 c.args.side.now.core c.args.server (joined_of x) ks rs c.args.ahead c.args.counts m d.1 c.in-Ok.prepared.deed p.did none
 
 pub note-requires-clause-counts : goal.note-requires-clause-counts
 note-requires-clause-counts c = λ busies applies.
