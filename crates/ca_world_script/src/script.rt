@@ -64,6 +64,11 @@ fn read_line(
 {
     let mut words = Words::new(line);
     let first = words.word()?;
+    if let Some(verb) = Verb::of(first) {
+        let event = read_event(alloc, verb, words)?;
+        script.events.push(event)?;
+        return Ok(());
+    }
     if is_word(first, "client") {
         return add_client(alloc, words, script);
     }
@@ -84,12 +89,7 @@ fn read_line(
     if is_word(first, "add") {
         return add_addition(alloc, words, script, types);
     }
-    let Some(verb) = Verb::of(first) else {
-        return Err(Refusal::BadText);
-    };
-    let event = read_event(alloc, verb, words)?;
-    script.events.push(event)?;
-    Ok(())
+    Err(Refusal::BadText)
 }
 
 // A client comes before all servers and events.
