@@ -48,11 +48,11 @@ pub returns-then-is_word-4-clause-err : goal.returns-then-is_word-4-clause-err
 returns-then-is_word-4-clause-err c =
     to-refused c.add_to-then-is_word-4.result (reading c.args.script.now (added_of c.args.types.now)) (parted 32 c.args.line.now) _ c.in_ok-first.first.now (sym c.new-words.ensures ∙ c.in_ok-first.ensures.ok.0) (inr (search rules)) (c.add_to-then-is_word-4.ensures.err (added_of c.args.types.now))
 
-pub returns-in_err-event-clause-err : goal.returns-in_err-event-clause-err
-returns-in_err-event-clause-err c =
-    handed-on c.from_residual-in_err-event.result c.in_err-event.field-0.0 (λ (e : Refusal). Refuses (Adds (reading c.args.script.now (added_of c.args.types.now)) (parted 32 c.args.line.now)) e) c.from_residual-in_err-event.ensures.1
-    (post-refused (reading c.args.script.now (added_of c.args.types.now)) (parted 32 c.args.line.now) _ c.in_ok-first.first.now c.in_err-event.field-0.0 (sym c.new-words.ensures ∙ c.in_ok-first.ensures.ok.0) (search rules)
-    (subst (λ (ys : List ServerSetting). Refuses (SaysPost ys (added_of c.args.types.now) c.word.new.self) c.in_err-event.field-0.0) c.deref.ensures.value c.in_err-event.ensures.err))
+pub returns-in_err-event-2-clause-err : goal.returns-in_err-event-2-clause-err
+returns-in_err-event-2-clause-err c =
+    handed-on c.from_residual-in_err-event-2.result c.in_err-event-2.field-0.0 (λ (e : Refusal). Refuses (Adds (reading c.args.script.now (added_of c.args.types.now)) (parted 32 c.args.line.now)) e) c.from_residual-in_err-event-2.ensures.1
+    (post-refused (reading c.args.script.now (added_of c.args.types.now)) (parted 32 c.args.line.now) _ c.in_ok-first.first.now c.in_err-event-2.field-0.0 (sym c.new-words.ensures ∙ c.in_ok-first.ensures.ok.0) (search rules)
+    (subst (λ (ys : List ServerSetting). Refuses (SaysPost ys (added_of c.args.types.now) c.word.new.self) c.in_err-event-2.field-0.0) c.deref.ensures.value c.in_err-event-2.ensures.err))
 
 pub returns-then-is_word-6-clause-err : goal.returns-then-is_word-6-clause-err
 returns-then-is_word-6-clause-err c =
