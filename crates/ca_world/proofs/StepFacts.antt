@@ -230,7 +230,7 @@ module _ (before core : Server) (i : ℕ) (j : Joined) (ks : List Joined) (rs : 
   handled-reported done is none =
       let quiet : is_write d.next.action ≡ false = quiet-action d.next.action done is none in
       let h = d.next.handles in
-      let recorded : HasReported h.recorded = subst IsReportedTable (sym (quiet-records before j.at_server _ d.next.m d.next.action h.recorded quiet h.records)) m.reported in
+      let recorded : HasReported h.recorded = subst IsReportedTable (sym (quiet-records before j.at_server (record m.e { link = with_rest d.next.rest m.e.link }) d.next.m d.next.action h.recorded quiet h.records)) m.reported in
       let after : HasReported d.next.after = subst HasReported (sym h.leaves) (reported-changed h.recorded.circuits j.at_server _ recorded) in
       subst HasReported (sym (quiet-reaches d.next.action d.gone d.next.after core quiet d.reaches)) after
 
