@@ -65,6 +65,7 @@ fn call_on_circuits(
         b"datagram" => datagram(alloc, core, words),
         b"tick" => tick(core, words, answer),
         b"reads" => rounds::reads(alloc, core, words),
+        b"ticks" => rounds::ticks(core, words),
         _ => Err(Refusal::BadText),
     }
 }

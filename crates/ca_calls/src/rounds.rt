@@ -51,6 +51,16 @@ fn read(
     }
 }
 
+/// `ticks ROUNDS NOW`: so many ticks at one moment.
+pub fn ticks(core: &mut ClientCore, mut words: Words<'_>) -> Result<(), Refusal> {
+    let rounds = words.count()?;
+    let now = words.number()?;
+    for _ in 0..rounds {
+        core.tick(now)?;
+    }
+    Ok(())
+}
+
 /// `handles CIRCUITS ROUNDS BYTES`: in each round each circuit is given a message, handles it, and sends what there is to be sent.
 pub fn handles(alloc: Global, core: &mut ServerCore, mut words: Words<'_>) -> Result<(), Refusal> {
     let circuits = words.short()?;
