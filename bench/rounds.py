@@ -40,12 +40,16 @@ class Core:
         if not told.startswith(f"{line} -> {answer}"):
             sys.exit(f"not answered by {answer}: {told[:200]}")
 
+    def spent(self):
+        """The processor time of the program so far, in seconds, by the clock that clock_getcpuclockid names."""
+        return time.clock_gettime(~self.process.pid << 3 | 2)
+
     def time(self, line):
-        """Seconds of a call, the least of some runs."""
+        """Seconds of processor time that a call takes, the least of some runs."""
         least = None
         for _ in range(RUNS):
-            start = time.perf_counter()
+            start = self.spent()
             self.ask(line)
-            took = time.perf_counter() - start
+            took = self.spent() - start
             least = took if least is None else min(least, took)
         return least
