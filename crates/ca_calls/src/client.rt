@@ -1,6 +1,7 @@
 //! The calls of a client.
 
 use crate::answer::Answer;
+use crate::rounds;
 use crate::words::Words;
 use ca_client_core::{ChannelState, ClientCore, Closing, Left, Stepped, Ticked, Why};
 use ca_text::Refusal;
@@ -63,6 +64,8 @@ fn call_on_circuits(
         b"close" => close(core, words, answer),
         b"datagram" => datagram(alloc, core, words),
         b"tick" => tick(core, words, answer),
+        b"reads" => rounds::reads(alloc, core, words),
+        b"ticks" => rounds::ticks(core, words),
         _ => Err(Refusal::BadText),
     }
 }

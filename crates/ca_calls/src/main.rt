@@ -15,6 +15,7 @@
 
 mod answer;
 mod client;
+mod rounds;
 mod server;
 mod table;
 mod words;

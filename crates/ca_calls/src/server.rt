@@ -1,6 +1,7 @@
 //! The calls of a server.
 
 use crate::answer::Answer;
+use crate::rounds;
 use crate::words::Words;
 use ca_script::{RecordFile, read_records};
 use ca_server_core::{Cause, ServerCore, Step};
@@ -55,6 +56,8 @@ fn call_on_records(
         b"datagram" => datagram(alloc, core, words, answer),
         b"beacon" => beacon(core, words, answer),
         b"stamp" => stamp(core, words),
+        b"handles" => rounds::handles(alloc, core, words),
+        b"posts" => rounds::posts(alloc, core, words),
         b"applied" => answer.number(core.applied()),
         b"waiting" => answer.number(core.waiting()),
         _ => Err(Refusal::BadText),
