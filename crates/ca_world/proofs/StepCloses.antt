@@ -40,7 +40,7 @@ busies-one a b o p q = some_is a b (sym p ∙ q)
 -- ---- a step without memory
 
 -- a refusal that came of a lack of memory
-lacks-error : (r : Result (Unit {0}) Refusal) → IsErrAnd r (λ x. x ≡ OutOfMemory) → r ≡ Err OutOfMemory
+pub lacks-error : (r : Result (Unit {0}) Refusal) → IsErrAnd r (λ x. x ≡ OutOfMemory) → r ≡ Err OutOfMemory
 lacks-error (Ok x) h = absurd h
 lacks-error (Err x) h = ap (λ (y : Refusal). Err y) h
 
