@@ -127,8 +127,14 @@ impl<L: Listener> Context<L> {
     }
 
     fn issue<R: Wait>(&self, rt: &R, request: &Request) -> Result<Ticket, Refusal> {
-        let issued = self.shared.locked.lock(rt).desk.issue(request);
+        let mut guard = self.shared.hold(rt);
+        let issued = guard.desk.issue(request);
+        let all = guard.note();
+        drop(guard);
         self.shared.ask();
+        if !all {
+            self.wake();
+        }
         let (_, ticket) = issued?;
         Ok(ticket)
     }
@@ -195,7 +201,7 @@ impl<L: Listener> Context<L> {
             if let Some(outcome) = self.collect(caller, ticket) {
                 return Some(outcome);
             }
-            let seen = self.shared.turns(rt);
+            let seen = self.shared.turns();
             if let Some(outcome) = self.collect(caller, ticket) {
                 return Some(outcome);
             }
@@ -209,7 +215,7 @@ impl<L: Listener> Context<L> {
     /// Waits until a channel is live, for at most so many turns of the thread of input and output, and says whether it is.
     pub fn wait_live<R: Wait>(&self, rt: &R, channel: Handle, turns: u64) -> bool {
         for _ in 0..turns {
-            let seen = self.shared.turns(rt);
+            let seen = self.shared.turns();
             if self.is_live(rt, channel) {
                 return true;
             }
@@ -324,7 +330,10 @@ fn joined<R: Net + Clock + Copy + Drop, L: Listener>(
     } = parts;
     let locked = Locked {
         desk,
+        links: Vec::new(alloc),
+        told: Vec::new(alloc),
         changes: Vec::new(alloc),
+        unsent: 0,
         ending: false,
     };
     let shared = Arc::new(alloc, Shared::new(locked, waker))?;
@@ -334,7 +343,6 @@ fn joined<R: Net + Clock + Copy + Drop, L: Listener>(
         poll,
         events,
         datagrams,
-        links: Vec::new(alloc),
         tries: Tries::new(alloc),
         ears,
         told: Vec::new(alloc),

@@ -1,14 +1,15 @@
 use crate::addresses::{from_system, to_system};
-use crate::links::{Link, Tries, close_all, connect, forget, serve};
+use crate::links::{Heard, Link, Tries, close_all, connect, forget, serve};
 use crate::listener::{Ears, Listener};
 use crate::shared::{Locked, Shared};
-use ca_client::{Answer, Ask, Desk, Told};
+use ca_client::{Answer, Ask, Desk};
 use ca_client_core::{Notice, Ticked};
 use ca_dbr::Outcome;
 use ca_text::Refusal;
 use mio::net::UdpSocket;
 use mio::{Events, Poll};
 use std::alloc::Global;
+use std::mem::swap;
 use std::net::Net;
 use std::sync::{Arc, Wait};
 use std::thread;
@@ -48,10 +49,9 @@ pub struct Engine<N: Net + Drop, L: Listener> {
     pub(crate) poll: Poll,
     pub(crate) events: Events<Global>,
     pub(crate) datagrams: UdpSocket,
-    pub(crate) links: Vec<Link>,
     pub(crate) tries: Tries,
     pub(crate) ears: Ears<L>,
-    pub(crate) told: Vec<Told>,
+    pub(crate) told: Vec<Heard>,
     pub(crate) began: Instant,
 }
 
@@ -64,7 +64,6 @@ impl<N: Net + Drop, L: Listener> Work for Engine<N, L> {
             mut poll,
             mut events,
             datagrams,
-            mut links,
             mut tries,
             mut ears,
             mut told,
@@ -76,25 +75,26 @@ impl<N: Net + Drop, L: Listener> Work for Engine<N, L> {
         for _ in rt.forever() {
             let wait = if busy { 0 } else { TURN };
             let _ = poll.poll(&mut events, Some(Duration::from_millis(wait)));
+            shared.rise();
             let now = moment(rt, &began);
-            let mut guard = shared.locked.lock(rt);
+            shared.let_ask();
+            let mut guard = shared.hold(rt);
             let locked = &mut *guard;
-            busy = turn(
-                &net, locked, &poll, &datagrams, &mut links, &mut tries, &mut ears, &mut told, now,
-            );
+            busy = turn(&net, locked, &poll, &datagrams, &mut tries, &mut ears, now);
             if !busy {
                 shared.doze();
             }
             let ending = locked.ending;
             if ending {
-                close_all(&mut locked.desk, &mut links);
+                close_all(&mut locked.desk, &mut locked.links);
             }
+            swap(&mut locked.told, &mut told);
             drop(guard);
             tell_all(&mut ears, &mut told);
             // A turn that brought nothing ends no wait: it has sent what callers ask.
             if busy || ending || now.saturating_sub(passed) >= TURN {
                 passed = now;
-                shared.pass(rt, ending);
+                shared.pass(ending);
             }
             if ending {
                 break;
@@ -117,17 +117,18 @@ fn turn<N: Net, L: Listener>(
     locked: &mut Locked<L>,
     poll: &Poll,
     datagrams: &UdpSocket,
-    links: &mut Vec<Link>,
     tries: &mut Tries,
     ears: &mut Ears<L>,
-    told: &mut Vec<Told>,
     now: u64,
 ) -> bool {
+    // A caller found that a circuit ended.
+    let told_before = !locked.told.is_empty();
+    locked.unsent = 0;
     ears.follow(&mut locked.changes);
     hear(&mut locked.desk, datagrams, now);
-    let ended = tick(&mut locked.desk, datagrams, links, now);
-    connect(net, &mut locked.desk, poll, links, tries, now);
-    serve(&mut locked.desk, links, told) || ended
+    let ended = tick(&mut locked.desk, datagrams, &mut locked.links, now);
+    connect(net, &mut locked.desk, poll, &mut locked.links, tries, now);
+    serve(&mut locked.desk, &mut locked.links, &mut locked.told) || ended || told_before
 }
 
 // Search replies and beacons.
@@ -165,15 +166,16 @@ fn tick(desk: &mut Desk, datagrams: &UdpSocket, links: &mut Vec<Link>, now: u64)
 }
 
 // Tells the listeners, in order.
-fn tell_all<L: Listener>(ears: &mut Ears<L>, told: &mut Vec<Told>) {
+fn tell_all<L: Listener>(ears: &mut Ears<L>, told: &mut Vec<Heard>) {
     for index in 0..told.len() {
         tell_each(ears, &mut told[index]);
     }
     told.clear();
 }
 
-fn tell_each<L: Listener>(ears: &mut Ears<L>, notices: &mut Told) {
-    while let Some(notice) = notices.next() {
+fn tell_each<L: Listener>(ears: &mut Ears<L>, heard: &mut Heard) {
+    tell(ears, &heard.first);
+    while let Some(notice) = heard.rest.next() {
         tell(ears, &notice);
     }
 }
