@@ -9,7 +9,7 @@ use std::sync::{Mutex, MutexGuard, Wait};
 const TOGETHER: u64 = 256;
 
 // A caller tries so often to have the lock before it sleeps: it is mostly held for as long as a request takes, and to be woken takes longer.
-const TRIES: usize = 32;
+const TRIES: usize = 8;
 
 // So often it looks at a number between two tries.
 const LOOKS: usize = 64;
@@ -99,11 +99,11 @@ impl<L: Listener> Shared<L> {
         true
     }
 
-    // Waits while requests are being made, for a short time at most: a turn holds the lock for as long as many requests take, so those that make
-    // them would sleep meanwhile. Requests are sent by those that make them, so that the server need not wait for it.
+    // Waits while requests are being made and nobody waits for an outcome, for a short time at most: a turn holds the lock for as long as many
+    // requests take, so those that make them would sleep meanwhile. They send their requests themselves, so that the server need not wait.
     pub(crate) fn let_ask(&self) {
         for _ in 0..PATIENCE {
-            if self.asked() == 0 || self.is_quiet(QUIET) {
+            if self.asked() == 0 || self.is_awaited() || self.is_quiet(QUIET) {
                 return;
             }
         }
@@ -132,23 +132,29 @@ impl<L: Listener> Shared<L> {
 
     // Has the requests go out at once: somebody looks for an outcome.
     //
-    // Whoever finds that there are some sends those of all callers, so that the others need not. Another may have the lock: the thread of input and
-    // output, whose turn has just begun with sending them, or a caller, after whom that thread is to send them. So that is woken, if it is not at work.
+    // Whoever finds that there are some has those of all callers sent, so that the others need not. While others wait it leaves them to the thread of
+    // input and output, which sends those of several callers together. Else it sends them itself. If it cannot have the lock, they are left to that
+    // thread too: it has the lock, and its turn began with sending them; or another caller has it, and then it is woken, if it is not at work.
     pub(crate) fn flush(&self) {
-        if self.asked.swap(0, Ordering::SeqCst) == 0 {
-            return;
+        if self.asked.swap(0, Ordering::SeqCst) != 0 && (self.is_awaited() || !self.send_now()) {
+            self.wake();
         }
+    }
+
+    // Sends what waits on all circuits, if it can have the lock at once. It says whether nothing is left for the thread of input and output.
+    fn send_now(&self) -> bool {
         match self.locked.try_lock() {
             Some(guard) => {
                 let mut guard = guard;
-                let all = guard.send();
-                drop(guard);
-                if !all {
-                    self.wake();
-                }
+                guard.send()
             }
-            None => self.wake(),
+            None => false,
         }
+    }
+
+    // Whether callers wait.
+    fn is_awaited(&self) -> bool {
+        self.waiting.load(Ordering::SeqCst) != 0
     }
 
     // Ends its wait, once for all that was changed under the lock meanwhile.
@@ -167,7 +173,7 @@ impl<L: Listener> Shared<L> {
             self.ended.store(1, Ordering::SeqCst);
         }
         self.turns.fetch_add(1, Ordering::SeqCst);
-        if self.waiting.load(Ordering::SeqCst) != 0 {
+        if self.is_awaited() {
             self.turns.wake_all();
         }
     }
