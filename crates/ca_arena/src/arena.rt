@@ -110,10 +110,10 @@ impl<T> Arena<T> {
         ensures { option_copied result ≡ find self.now handle }
     {
         let index = usize::from(handle.index);
-        if self.blocks.generation(index) != handle.generation {
+        if !self.blocks.holds(index, handle.generation) {
             return None;
         }
-        self.blocks.lend(index)
+        Some(self.blocks.lend(index))
     }
 
     /// The value of this handle for writing, unless it is stale.
@@ -181,9 +181,7 @@ impl<T> Arena<T> {
         match self.freed.pop() {
             None => self.append(value),
             Some(index) => {
-                let place = usize::from(index);
-                let generation = self.blocks.generation(place) + 1;
-                self.blocks.write(place, generation, value);
+                let generation = self.blocks.put(usize::from(index), value);
                 Ok(Handle { index, generation })
             }
         }
@@ -241,9 +239,7 @@ impl<T> Arena<T> {
         if !self.is_live(handle) {
             return Err(Refusal::StaleHandle);
         }
-        let value = self
-            .blocks
-            .take_out(usize::from(handle.index), handle.generation);
+        let value = self.blocks.take_out(usize::from(handle.index));
         if handle.generation == LAST_GENERATION {
             self.retired += 1;
             return Ok(value);
@@ -265,9 +261,9 @@ impl<T> Arena<T> {
         if index == given {
             return self.blocks.pop(index);
         }
-        let value = self
-            .blocks
-            .take_out(index, handle.generation.saturating_sub(1));
+        let value = self.blocks.take_out(index);
+        self.blocks
+            .renumber(index, handle.generation.saturating_sub(1));
         self.freed.push_reserved(handle.index);
         value
     }
@@ -275,6 +271,7 @@ impl<T> Arena<T> {
     fn is_live(&self, handle: Handle) -> bool
         ensures { IsTrue result ↔ IsLive self.now handle }
     {
-        self.get(handle).is_some()
+        self.blocks
+            .holds(usize::from(handle.index), handle.generation)
     }
 }

@@ -1,7 +1,8 @@
 //! Values by index, in blocks that never move, and the generation given last at each index.
 ghost use Rattle.std.specs.Prelude.{◌≡◌, ◌+◌, ◌<◌, ◌≤◌, [], IsSome, None, Some, OnOk, is_some, length, option_copied};
 ghost use Rattle.std.specs.Borrow.{sem};
-ghost use Rattle.ca_arena.specs.Arena.{place_at};
+ghost use Rattle.ca_arena.specs.Arena.{place_at, value_for};
+ghost use Rattle.ca_text.specs.Limits.{last_generation};
 ghost use Rattle.std.specs.Vec.{vec_capacity};
 ghost use Rattle.ca_arena.specs.Stored.{changed, IsVacant, nothing, popped, pushed};
 ghost use Rattle.ca_arena.specs.StoredLayout.{mark_at};
@@ -76,13 +77,21 @@ impl<T> Blocks<T> {
     }
 
     // The value at an index.
-    pub(crate) fn lend(&self, index: usize) -> Option<&T>
-        ensures { option_copied result ≡ (place_at self.now.places index).value }
+    pub(crate) fn lend(&self, index: usize) -> &T
+        requires { IsSome (place_at self.now.places index).value }
+        ensures { (place_at self.now.places index).value ≡ Some result.now }
     {
-        if !self.is_filled(index) {
-            return None;
+        self.blocks[index / BLOCK_SLOTS].lend(index % BLOCK_SLOTS)
+    }
+
+    // Whether there is a value at an index, in this generation.
+    pub(crate) fn holds(&self, index: usize, generation: u32) -> bool
+        ensures { result ≡ is_some (value_for generation (place_at self.now.places index)) }
+    {
+        match self.marks.get(index) {
+            Some(mark) => mark.generation == generation && mark.is_filled,
+            None => false,
         }
-        Some(self.blocks[index / BLOCK_SLOTS].lend(index % BLOCK_SLOTS))
     }
 
     // The value at an index for writing.
@@ -94,31 +103,40 @@ impl<T> Blocks<T> {
         self.blocks[index / BLOCK_SLOTS].lend_mut(index % BLOCK_SLOTS)
     }
 
-    // Puts a value at an index that has none, under this generation.
-    pub(crate) fn write(&mut self, index: usize, generation: u32, value: T)
+    // Puts a value at an index that has none, in the next generation, which it returns.
+    pub(crate) fn put(&mut self, index: usize, value: T) -> u32
         requires given { index < length self.old.places }
         requires vacant { (place_at self.old.places index).value ≡ None }
-        ensures { self.new ≡ changed self.old index generation (Some value) }
+        requires lasting { (place_at self.old.places index).generation < last_generation }
+        ensures generation { result ≡ (place_at self.old.places index).generation + 1 }
+        ensures put { self.new ≡ changed self.old index result (Some value) }
     {
-        self.blocks[index / BLOCK_SLOTS].write(index % BLOCK_SLOTS, value);
+        let generation = self.marks[index].generation + 1;
         self.marks[index] = Mark {
             generation,
             is_filled: true,
         };
+        self.blocks[index / BLOCK_SLOTS].write(index % BLOCK_SLOTS, value);
+        generation
     }
 
-    // Takes the value at an index out, and leaves this generation.
-    pub(crate) fn take_out(&mut self, index: usize, generation: u32) -> T
+    // Takes the value at an index out. The generation stays.
+    pub(crate) fn take_out(&mut self, index: usize) -> T
         requires { IsSome (place_at self.old.places index).value }
         ensures value { (place_at self.old.places index).value ≡ Some result }
-        ensures left { self.new ≡ changed self.old index generation None }
+        ensures left { self.new ≡ changed self.old index (place_at self.old.places index).generation None }
     {
-        let value = self.blocks[index / BLOCK_SLOTS].take_out(index % BLOCK_SLOTS);
-        self.marks[index] = Mark {
-            generation,
-            is_filled: false,
-        };
-        value
+        self.marks[index].is_filled = false;
+        self.blocks[index / BLOCK_SLOTS].take_out(index % BLOCK_SLOTS)
+    }
+
+    // Writes another generation at an index that has no value.
+    pub(crate) fn renumber(&mut self, index: usize, generation: u32)
+        requires given { index < length self.old.places }
+        requires vacant { (place_at self.old.places index).value ≡ None }
+        ensures { self.new ≡ changed self.old index generation None }
+    {
+        self.marks[index].generation = generation;
     }
 
     // Puts a value at the next index, in the first generation.
@@ -141,7 +159,7 @@ impl<T> Blocks<T> {
         ensures value { (place_at self.old.places last).value ≡ Some result }
         ensures left { self.new ≡ popped self.old last }
     {
-        let value = self.take_out(last, 0);
+        let value = self.take_out(last);
         self.marks.pop();
         value
     }
@@ -177,7 +195,7 @@ impl<T> Blocks<T> {
     {
         for index in 0..self.len() {
             if self.is_filled(index) {
-                drop(self.take_out(index, 0));
+                drop(self.take_out(index));
             }
         }
     }
