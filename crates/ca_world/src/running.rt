@@ -66,16 +66,22 @@ pub fn run_telling<P: Progress>(
     let many = events.len();
     let mut world = World::new(config)?;
     for place in 0..many {
-        match world.step(&events[place]) {
-            AfterEvent::Done(next) => world = next,
-            AfterEvent::Refused(last, refusal) => {
-                let why = Some(refusal);
-                return Ok(ended(last.stop(), place, why));
+        let event = &events[place];
+        if event.moment().is_some() {
+            match world.step(event) {
+                AfterEvent::Done(next) => world = next,
+                AfterEvent::Refused(last, refusal) => {
+                    let why = Some(refusal);
+                    return Ok(ended(last.stop(), place, why));
+                }
+                AfterEvent::Stopped(last) => {
+                    let why = Some(Refusal::OutOfMemory);
+                    return Ok(ended(last, place, why));
+                }
             }
-            AfterEvent::Stopped(last) => {
-                let why = Some(Refusal::OutOfMemory);
-                return Ok(ended(last, place, why));
-            }
+        } else if let Err(refusal) = world.happen(event) {
+            let why = Some(refusal);
+            return Ok(ended(world.stop(), place, why));
         }
         progress.has_done(place + 1, many);
     }

@@ -52,8 +52,8 @@ impl World {
         }
     }
 
-    // The same in place.
-    fn happen(&mut self, event: &Event) -> Result<(), Refusal>
+    /// An event that is no moment happens in place, if it can be done and memory allows. If it is refused, nothing changed.
+    pub fn happen(&mut self, event: &Event) -> Result<(), Refusal>
         requires { moment_of (event_of event.now) ≡ None }
         ensures { Does self.old (event_of event.now) result self.new }
     {
