@@ -13,9 +13,14 @@ const MESSAGES: u32 = 100_000;
 
 /// `PORT NOW`, with these lines of records and rules.
 pub fn begin(alloc: Global, mut words: Words<'_>, lines: &[u8]) -> Result<ServerCore, Refusal> {
-    let RecordFile { records, rules } = read_records(alloc, lines)?;
     let port = words.short()?;
-    Ok(ServerCore::new(port, words.number()?, &records, rules)?)
+    let now = words.number()?;
+    server_over(port, now, read_records(alloc, lines)?)
+}
+
+fn server_over(port: u16, now: u64, file: RecordFile) -> Result<ServerCore, Refusal> {
+    let RecordFile { records, rules } = file;
+    Ok(ServerCore::new(port, now, &records, rules)?)
 }
 
 /// Makes a call.

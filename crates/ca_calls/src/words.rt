@@ -28,26 +28,17 @@ impl<'a> Words<'a> {
 
     /// A number of 64 bits.
     pub fn number(&mut self) -> Result<u64, Refusal> {
-        match self.word()?.parse::<u64>() {
-            Ok(number) => Ok(number),
-            Err(_) => Err(Refusal::BadText),
-        }
+        number_in(self.word()?)
     }
 
     /// A number of 16 bits.
     pub fn short(&mut self) -> Result<u16, Refusal> {
-        match self.word()?.parse::<u16>() {
-            Ok(number) => Ok(number),
-            Err(_) => Err(Refusal::BadText),
-        }
+        short_of(self.number()?)
     }
 
     /// A number of 32 bits.
     pub fn count(&mut self) -> Result<u32, Refusal> {
-        match self.word()?.parse::<u32>() {
-            Ok(number) => Ok(number),
-            Err(_) => Err(Refusal::BadText),
-        }
+        count_of(self.number()?)
     }
 
     /// A handle as `INDEX.GENERATION`.
@@ -55,10 +46,10 @@ impl<'a> Words<'a> {
         let Some((index, generation)) = self.word()?.split_once(".") else {
             return Err(Refusal::BadText);
         };
-        match (index.parse::<u16>(), generation.parse::<u32>()) {
-            (Ok(index), Ok(generation)) => Ok(Handle { index, generation }),
-            _ => Err(Refusal::BadText),
-        }
+        Ok(Handle {
+            index: short_of(number_in(index)?)?,
+            generation: count_of(number_in(generation)?)?,
+        })
     }
 
     /// A mask, of which at least one bit has a meaning.
@@ -75,7 +66,7 @@ impl<'a> Words<'a> {
     pub fn addresses(self, alloc: Global) -> Result<Vec<Address>, Refusal> {
         let mut all = Vec::new(alloc);
         for word in self.left {
-            all.push(address_in(word)?)?;
+            add_address(&mut all, word)?;
         }
         Ok(all)
     }
@@ -84,7 +75,7 @@ impl<'a> Words<'a> {
     pub fn bytes(self, alloc: Global) -> Result<Vec<u8>, Refusal> {
         let mut bytes = Vec::new(alloc);
         for word in self.left {
-            bytes.extend_from_slice(&decoded(alloc, word)?)?;
+            add_bytes(alloc, &mut bytes, word)?;
         }
         Ok(bytes)
     }
@@ -95,6 +86,38 @@ impl<'a> Words<'a> {
         let count = self.count()?;
         read_value(alloc, data_type, count, &self.bytes(alloc)?)
     }
+}
+
+/// The number that a word is.
+fn number_in(word: &str) -> Result<u64, Refusal> {
+    match word.parse::<u64>() {
+        Ok(number) => Ok(number),
+        Err(_) => Err(Refusal::BadText),
+    }
+}
+
+fn short_of(number: u64) -> Result<u16, Refusal> {
+    if number > u64::from(u16::MAX) {
+        return Err(Refusal::BadText);
+    }
+    Ok(number as u16)
+}
+
+fn count_of(number: u64) -> Result<u32, Refusal> {
+    if number > u64::from(u32::MAX) {
+        return Err(Refusal::BadText);
+    }
+    Ok(number as u32)
+}
+
+fn add_address(all: &mut Vec<Address>, word: &str) -> Result<(), Refusal> {
+    all.push(address_in(word)?)?;
+    Ok(())
+}
+
+fn add_bytes(alloc: Global, bytes: &mut Vec<u8>, word: &str) -> Result<(), Refusal> {
+    bytes.extend_from_slice(&decoded(alloc, word)?)?;
+    Ok(())
 }
 
 /// The bytes of a word of hexadecimal digits.
