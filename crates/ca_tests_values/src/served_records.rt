@@ -114,29 +114,58 @@ fn busy_served(alloc: Global) -> Result<ServedRecords, Refusal> {
     Ok(served)
 }
 
+/// Whether the record of this name has this LONG, is busy or not, and has that many puts that wait.
+fn has_long(
+    alloc: Global,
+    served: &ServedRecords,
+    name: &[u8],
+    number: i32,
+    is_busy: bool,
+    waits: usize,
+) -> Result<bool, Refusal> {
+    let value = own_long(alloc, number)?;
+    Ok(has(served, name, &value, is_busy, waits))
+}
+
+/// Writes this INT to SLOW, which is 1 before. If a growth is refused, SLOW stays, with that many puts that wait, and it is written then.
+fn write_again(
+    rt: &impl Abort,
+    alloc: Global,
+    served: &mut ServedRecords,
+    put: Option<Put>,
+    number: i16,
+    waits: usize,
+) -> Result<(), Fail> {
+    let Err(refusal) = write(served, b"SLOW", put, own_int(alloc, number)?) else {
+        return Ok(());
+    };
+    assert!(rt; refusal == Refusal::OutOfMemory);
+    assert!(rt; has_long(alloc, served, b"SLOW", 1, true, waits)?);
+    write(served, b"SLOW", put, own_int(alloc, number)?)?;
+    Ok(())
+}
+
+/// Adds NEW, a 4. If a growth is refused, there is no NEW, and it is added then.
+fn add_again(rt: &impl Abort, alloc: Global, served: &mut ServedRecords) -> Result<(), Fail> {
+    let Err(refusal) = served.add(b"NEW", 1, false, own_long(alloc, 4)?) else {
+        return Ok(());
+    };
+    assert!(rt; refusal == Refusal::OutOfMemory && !served.has(b"NEW"));
+    served.add(b"NEW", 1, false, own_long(alloc, 4)?)?;
+    Ok(())
+}
+
 // Run it too with the Nth growth refused, for each N from 1 to 20: `rt try --test --fail-alloc N`.
 #[test]
 fn refused_growth_leaves_records(rt: HostRuntime) -> Result<(), Fail> {
-    let mut served = busy_served(rt.alloc())?;
-    let one = own_long(rt.alloc(), 1)?;
-    let waits = Some(put_of(1));
-    if let Err(refusal) = write(&mut served, b"SLOW", waits, own_int(rt.alloc(), 2)?) {
-        assert!(rt; refusal == Refusal::OutOfMemory);
-        assert!(rt; has(&served, b"SLOW", &one, true, 0));
-        write(&mut served, b"SLOW", waits, own_int(rt.alloc(), 2)?)?;
-    }
-    assert!(rt; has(&served, b"SLOW", &one, true, 1));
-    if let Err(refusal) = write(&mut served, b"SLOW", None, own_int(rt.alloc(), 3)?) {
-        assert!(rt; refusal == Refusal::OutOfMemory);
-        assert!(rt; has(&served, b"SLOW", &one, true, 1));
-        write(&mut served, b"SLOW", None, own_int(rt.alloc(), 3)?)?;
-    }
-    if let Err(refusal) = served.add(b"NEW", 1, false, own_long(rt.alloc(), 4)?) {
-        assert!(rt; refusal == Refusal::OutOfMemory && !served.has(b"NEW"));
-        served.add(b"NEW", 1, false, own_long(rt.alloc(), 4)?)?;
-    }
-    assert!(rt; has(&served, b"SLOW", &own_long(rt.alloc(), 3)?, true, 1));
-    assert!(rt; has(&served, b"NEW", &own_long(rt.alloc(), 4)?, false, 0));
+    let alloc = rt.alloc();
+    let mut served = busy_served(alloc)?;
+    write_again(&rt, alloc, &mut served, Some(put_of(1)), 2, 0)?;
+    assert!(rt; has_long(alloc, &served, b"SLOW", 1, true, 1)?);
+    write_again(&rt, alloc, &mut served, None, 3, 1)?;
+    add_again(&rt, alloc, &mut served)?;
+    assert!(rt; has_long(alloc, &served, b"SLOW", 3, true, 1)?);
+    assert!(rt; has_long(alloc, &served, b"NEW", 4, false, 0)?);
     Ok(())
 }
 
