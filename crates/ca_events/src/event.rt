@@ -7,7 +7,26 @@ use ca_client_tables::Address;
 use ca_dbr::Value;
 use ca_text::Mask;
 
-/// What may happen to a world. Clients, servers and circuits are counted from 0, circuits in the order in which they were accepted; channels,
+/// A value that is posted to a record of a server.
+#[derive(Drop)]
+pub struct Posting {
+    pub server: u64,
+    pub name: Vec<u8>,
+    pub value: Value,
+    pub mask: Mask,
+}
+
+/// A record that is added to those of a server.
+#[derive(Drop)]
+pub struct Addition {
+    pub server: u64,
+    pub name: Vec<u8>,
+    pub count: u64,
+    pub slow: bool,
+    pub value: Value,
+}
+
+/// What may happen to a world. What few events carry is in a box, so that all the others are small. Clients, servers and circuits are counted from 0, circuits in the order in which they were accepted; channels,
 /// requests and subscriptions by their client's accepted calls in its present life.
 #[derive(Drop)]
 pub enum Event {
@@ -31,12 +50,12 @@ pub enum Event {
     Write {
         client: u64,
         channel: u64,
-        value: Value,
+        value: Box<Value>,
     },
     WriteNotify {
         client: u64,
         channel: u64,
-        value: Value,
+        value: Box<Value>,
     },
     Subscribe {
         client: u64,
@@ -108,12 +127,7 @@ pub enum Event {
         server: u64,
     },
     /// A value is posted to a record of a server.
-    Post {
-        server: u64,
-        name: Vec<u8>,
-        value: Value,
-        mask: Mask,
-    },
+    Post(Box<Posting>),
     /// A record's busy put is finished.
     Finish {
         server: u64,
@@ -124,13 +138,7 @@ pub enum Event {
         name: Vec<u8>,
     },
     /// A record is added to a server's.
-    Add {
-        server: u64,
-        name: Vec<u8>,
-        count: u64,
-        slow: bool,
-        value: Value,
-    },
+    Add(Box<Addition>),
     /// A moment is handed to all clients, in order.
     Tick {
         moment: u64,
@@ -146,11 +154,11 @@ impl Event {
             Event::Write { value, .. } => value.know(),
             Event::WriteNotify { value, .. } => value.know(),
             Event::Subscribe { mask, .. } => know_mask(*mask),
-            Event::Post { value, mask, .. } => {
-                value.know();
-                know_mask(*mask);
+            Event::Post(posting) => {
+                posting.value.know();
+                know_mask(posting.mask);
             }
-            Event::Add { value, .. } => value.know(),
+            Event::Add(addition) => addition.value.know(),
             _ => {}
         }
     }

@@ -123,21 +123,21 @@ impl World {
             Event::CutServer { circuit } => self.cut_server(*circuit as usize),
             Event::ClientRestart { client } => self.client_restart(*client as usize),
             Event::ServerRestart { server } => self.server_restart(*server as usize),
-            Event::Post {
-                server,
-                name,
-                value,
-                mask,
-            } => self.post_copy(*server as usize, name, value, *mask),
+            Event::Post(posting) => self.post_copy(
+                posting.server as usize,
+                &posting.name,
+                &posting.value,
+                posting.mask,
+            ),
             Event::Finish { server, name } => self.finish(*server as usize, name),
             Event::Remove { server, name } => self.remove(*server as usize, name),
-            Event::Add {
-                server,
-                name,
-                count,
-                slow,
-                value,
-            } => self.add_copy(*server as usize, name, *count, *slow, value),
+            Event::Add(addition) => self.add_copy(
+                addition.server as usize,
+                &addition.name,
+                addition.count,
+                addition.slow,
+                &addition.value,
+            ),
             Event::Tick { .. } => unreachable!(),
         }
     }

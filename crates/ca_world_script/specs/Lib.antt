@@ -4,4 +4,3 @@ pub mod Types
 pub mod Events
 pub mod Scripts
 pub mod Index
-pub mod Written

@@ -151,8 +151,8 @@ fn read_subscribe(mut words: Words<'_>) -> Result<Event, Refusal>
 }
 
 // `C CH TYPE V..`, after the verb: the client, the channel and the value.
-fn written(alloc: Global, mut words: Words<'_>) -> Result<(u64, u64, Value), Refusal>
-    ensures ok { IfOk result (λ r. SaysWritten words.entry (r.0, r.1, elements r.2)) }
+fn written(alloc: Global, mut words: Words<'_>) -> Result<(u64, u64, Box<Value>), Refusal>
+    ensures ok { IfOk result (λ r. SaysWritten words.entry (r.0, r.1, elements r.2.value)) }
     ensures err { IfErr result (λ e. Refuses (SaysWritten words.entry) e) }
 {
     let client = words.number()?;
@@ -160,7 +160,8 @@ fn written(alloc: Global, mut words: Words<'_>) -> Result<(u64, u64, Value), Ref
     let number = words.number()?;
     let base = base_at(number)?;
     let value = read_value(alloc, base, words)?;
-    Ok((client, channel, value))
+    let boxed = Box::new(alloc, value)?;
+    Ok((client, channel, boxed))
 }
 
 // `S RECORD`, after the verb: the server and the name.

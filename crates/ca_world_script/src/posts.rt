@@ -2,18 +2,17 @@ ghost use Rattle.std.specs.Prelude.{◌≡◌, ◌<◌, ℕ, List, IfErr, IfOk, 
 ghost use Rattle.ca_text.specs.Place.{At};
 ghost use Rattle.ca_text.specs.declared.refusal.Refusal.TheVariants.{BadText};
 ghost use Rattle.ca_dbr.specs.declared.data_type.BaseType.{BaseType};
-ghost use Rattle.ca_events.specs.Events.{event_of};
+ghost use Rattle.ca_events.specs.Events.{event_of, record_of};
 ghost use Rattle.ca_records.specs.Record.{RecordState};
 ghost use Rattle.ca_script.specs.Grammar.{Refuses};
 ghost use Rattle.ca_world_script.specs.Events.{SaysAdd, SaysPost};
 ghost use Rattle.ca_world_script.specs.Index.{added_of};
 ghost use Rattle.ca_world_script.specs.Types.{HasType, IsRecorded};
-ghost use Rattle.ca_world_script.specs.Written.{record_of};
 
 use crate::types::Types;
 use crate::values::mask_of;
 use ca_dbr::{BaseType, Value};
-use ca_events::Event;
+use ca_events::{Addition, Event, Posting};
 use ca_script::{Words, base_in, read_value, slow_in};
 use ca_text::Refusal;
 use ca_world_data::settings::ServerSetting;
@@ -38,12 +37,14 @@ pub(crate) fn read_post(
     let base = type_of(alloc, servers, types, server, name)?;
     let value = read_value(alloc, base, words)?;
     let name = Vec::from_slice(alloc, name)?;
-    Ok(Event::Post {
+    let posting = Posting {
         server,
         name,
         value,
         mask,
-    })
+    };
+    let boxed = Box::new(alloc, posting)?;
+    Ok(Event::Post(boxed))
 }
 
 // The type of a record by the lines above. Refused as BadText, then as OutOfMemory.
@@ -97,16 +98,6 @@ fn server_at(servers: &[ServerSetting], place: usize) -> &ServerSetting
     ensures { At servers.now place result.now }
 {
     &servers[place]
-}
-
-/// A record that is to be added to a server.
-#[derive(Drop)]
-pub(crate) struct Addition {
-    pub server: u64,
-    pub name: Vec<u8>,
-    pub count: u64,
-    pub slow: bool,
-    pub value: Value,
 }
 
 // `S NAME TYPE COUNT quick|slow V..`, after the verb. Refused as BadText, then as OutOfMemory.

@@ -6,7 +6,7 @@ ghost use Rattle.ca_world_script.specs.Types.{Added};
 
 use crate::clients::read_client;
 use crate::events::read_event;
-use crate::posts::{Addition, read_addition, read_post};
+use crate::posts::{read_addition, read_post};
 use crate::servers::with_line;
 use crate::types::Types;
 use crate::verb::Verb;
@@ -165,19 +165,7 @@ fn add_addition(
     let key = Vec::from_slice(alloc, &addition.name)?;
     let base = addition.value.base_type();
     types.name(addition.server, key, base)?;
-    let Addition {
-        server,
-        name,
-        count,
-        slow,
-        value,
-    } = addition;
-    script.events.push(Event::Add {
-        server,
-        name,
-        count,
-        slow,
-        value,
-    })?;
+    let boxed = Box::new(alloc, addition)?;
+    script.events.push(Event::Add(boxed))?;
     Ok(())
 }

@@ -1,4 +1,7 @@
+use Rattle.std.proofs.Common.{subst, sym}
 use Rattle.ca_dbr.specs.Elements.{elements}
+use Rattle.ca_events.specs.declared.event.Posting.{Posting}
+use Rattle.ca_model.specs.Events as world
 use Rattle.ca_text.specs.declared.refusal.Refusal.{Refusal}
 use Rattle.ca_script.specs.Grammar.{Refuses}
 use Rattle.ca_script.proofs.Refusals.{says-none}
@@ -27,4 +30,5 @@ returns-in_err-value-clause-err c =
 
 pub returns-clause-ok : goal.returns-clause-ok
 returns-clause-ok c =
-    post-said c.args.words _ _ _ c.in_ok-name.name.now c.in_ok-name-2.name.items c.in_ok-server.server c.in_ok-mask.mask c.in_ok-mask-2.mask c.args.servers.now (added_of c.args.types.now) c.in_ok-base.base (elements c.in_ok-value.value) c.in_ok-server.ensures.ok c.in_ok-name.ensures.ok c.in_ok-mask.ensures.ok c.in_ok-mask-2.ensures.ok c.in_ok-base.ensures.ok c.in_ok-value.ensures.base c.in_ok-value.ensures.ok c.in_ok-name-2.ensures.items
+    subst (λ (p : Posting). SaysPost c.args.servers.now (added_of c.args.types.now) c.args.words (world.Post p.server p.name.items (elements p.value) p.mask)) (sym c.in_ok-boxed.ensures.ok)
+    (post-said c.args.words _ _ _ c.in_ok-name.name.now c.in_ok-name-2.name.items c.in_ok-server.server c.in_ok-mask.mask c.in_ok-mask-2.mask c.args.servers.now (added_of c.args.types.now) c.in_ok-base.base (elements c.in_ok-value.value) c.in_ok-server.ensures.ok c.in_ok-name.ensures.ok c.in_ok-mask.ensures.ok c.in_ok-mask-2.ensures.ok c.in_ok-base.ensures.ok c.in_ok-value.ensures.base c.in_ok-value.ensures.ok c.in_ok-name-2.ensures.items)
