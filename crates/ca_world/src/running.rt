@@ -66,16 +66,25 @@ pub fn run_telling<P: Progress>(
     let many = events.len();
     let mut world = World::new(config)?;
     for place in 0..many {
-        match world.step(&events[place]) {
-            AfterEvent::Done(next) => world = next,
-            AfterEvent::Refused(last, refusal) => {
-                let why = Some(refusal);
-                return Ok(ended(last.stop(), place, why));
+        let event = &events[place];
+        match event.moment() {
+            None => {
+                if let Err(refusal) = world.happen(event) {
+                    let why = Some(refusal);
+                    return Ok(ended(world.stop(), place, why));
+                }
             }
-            AfterEvent::Stopped(last) => {
-                let why = Some(Refusal::OutOfMemory);
-                return Ok(ended(last, place, why));
-            }
+            Some(_) => match world.step(event) {
+                AfterEvent::Done(next) => world = next,
+                AfterEvent::Refused(last, refusal) => {
+                    let why = Some(refusal);
+                    return Ok(ended(last.stop(), place, why));
+                }
+                AfterEvent::Stopped(last) => {
+                    let why = Some(Refusal::OutOfMemory);
+                    return Ok(ended(last, place, why));
+                }
+            },
         }
         progress.has_done(place + 1, many);
     }

@@ -52,8 +52,8 @@ impl World {
         }
     }
 
-    // The same in place.
-    fn happen(&mut self, event: &Event) -> Result<(), Refusal>
+    // The same in place. What is refused changes nothing.
+    pub(crate) fn happen(&mut self, event: &Event) -> Result<(), Refusal>
         requires { moment_of (event_of event.now) ≡ None }
         ensures { Does self.old (event_of event.now) result self.new }
     {

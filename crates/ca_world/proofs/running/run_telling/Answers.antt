@@ -12,20 +12,20 @@ use Rattle.ca_world.proofs.running.run_telling.Goals as goal
 
 pub returns-in-Refused : goal.returns-in-Refused
 returns-in-Refused g c =
-    let e : Event = c.index-events-place.result in
+    let e : Event = c.index-event.result in
     let es : List model.Event = map event_of c.args.events.now in
     let n : ℕ = c.loop-place.place in
-    let at : At es n (event_of e) = At-map event_of c.args.events.now n e (found c.args.events.now n e e c.loop-place-test.true c.index-events-place.is) in
+    let at : At es n (event_of e) = At-map event_of c.args.events.now n e (found c.args.events.now n e e c.loop-place-test.true c.index-event.is) in
     run-as c.args.config es n c.ended.result.done (Some c.in-Refused.refusal) c.ended.result.refusal c.in-Refused.last c.ended.result.world c.ended.ensures.done c.ended.ensures.refusal (c.ended.ensures.world ∙ c.stop.ensures)
     (λ both. run-refused c.args.config es n c.loop-place.world (event_of e) c.in-Refused.refusal c.in-Refused.last at c.loop-place.invariant c.in-Refused.ensures both)
     c.ended.ensures.safe c.ended.ensures.legal
 
 pub returns-in-Stopped : goal.returns-in-Stopped
 returns-in-Stopped g c =
-    let e : Event = c.index-events-place.result in
+    let e : Event = c.index-event.result in
     let es : List model.Event = map event_of c.args.events.now in
     let n : ℕ = c.loop-place.place in
-    let at : At es n (event_of e) = At-map event_of c.args.events.now n e (found c.args.events.now n e e c.loop-place-test.true c.index-events-place.is) in
+    let at : At es n (event_of e) = At-map event_of c.args.events.now n e (found c.args.events.now n e e c.loop-place-test.true c.index-event.is) in
     let r = c.ended-in-Stopped in
     run-as c.args.config es n r.result.done (Some OutOfMemory) r.result.refusal c.in-Stopped.last r.result.world r.ensures.done r.ensures.refusal r.ensures.world
     (λ both. run-stopped c.args.config es n c.loop-place.world (event_of e) c.in-Stopped.last at c.loop-place.invariant c.in-Stopped.ensures both)
@@ -33,10 +33,10 @@ returns-in-Stopped g c =
 
 pub loop-place-preserved : goal.loop-place-preserved
 loop-place-preserved g c =
-    let e : Event = c.index-events-place.result in
+    let e : Event = c.index-event.result in
     let es : List model.Event = map event_of c.args.events.now in
     let n : ℕ = c.loop-place.place in
-    let at : At es n (event_of e) = At-map event_of c.args.events.now n e (found c.args.events.now n e e c.loop-place-test.true c.index-events-place.is) in
+    let at : At es n (event_of e) = At-map event_of c.args.events.now n e (found c.args.events.now n e e c.loop-place-test.true c.index-event.is) in
     ran-next c.args.config es n c.loop-place.world c.in-Done.next (event_of e) at c.loop-place.invariant c.in-Done.ensures
 
 pub returns : goal.returns
