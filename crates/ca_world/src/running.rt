@@ -68,12 +68,13 @@ pub fn run_telling<P: Progress>(
     for place in 0..many {
         let event = &events[place];
         match event.moment() {
-            None => {
-                if let Err(refusal) = world.happen(event) {
+            None => match world.happen(event) {
+                Ok(()) => {}
+                Err(refusal) => {
                     let why = Some(refusal);
                     return Ok(ended(world.stop(), place, why));
                 }
-            }
+            },
             Some(_) => match world.step(event) {
                 AfterEvent::Done(next) => world = next,
                 AfterEvent::Refused(last, refusal) => {
