@@ -1,0 +1,72 @@
+//! A socket that fails.
+use crate::circuit::{live, memory, turn};
+use crate::requests::Requests;
+use ca_arena::Handle;
+use ca_board::Ticket;
+use ca_client::{Caller, Desk, Tape};
+use ca_dbr::Outcome;
+use ca_text::Refusal;
+use std::alloc::Global;
+
+/// The channel is live on a circuit whose socket fails after so many calls. How many requests complete with Disconnected then.
+pub(crate) fn lost_at(
+    alloc: Global,
+    desk: &mut Desk,
+    caller: &mut Caller,
+    requests: &Requests,
+    calls: u64,
+) -> Result<usize, Refusal> {
+    let mut tape = memory(alloc)?;
+    let circuit = live(desk, &mut tape)?;
+    tape.calls_left = calls;
+    let tickets = made_until_cut(alloc, desk, requests, circuit, &mut tape)?;
+    Ok(lost(caller, &tickets))
+}
+
+/// A read and a put before each turn, until the circuit is cut, for so many turns at most.
+fn made_until_cut(
+    alloc: Global,
+    desk: &mut Desk,
+    requests: &Requests,
+    circuit: Handle,
+    tape: &mut Tape,
+) -> Result<Vec<Ticket>, Refusal> {
+    let mut tickets = Vec::new(alloc);
+    for _ in 0..20 {
+        make_both(desk, requests, &mut tickets)?;
+        if !turn(desk, circuit, tape) {
+            return Ok(tickets);
+        }
+    }
+    Ok(tickets)
+}
+
+fn make_both(
+    desk: &mut Desk,
+    requests: &Requests,
+    tickets: &mut Vec<Ticket>,
+) -> Result<(), Refusal> {
+    let (_, first) = desk.issue(&requests.read)?;
+    tickets.push(first)?;
+    let (_, second) = desk.issue(&requests.put)?;
+    tickets.push(second)?;
+    Ok(())
+}
+
+/// How many outcomes are Disconnected, and there once.
+pub(crate) fn lost(caller: &mut Caller, tickets: &[Ticket]) -> usize {
+    let mut count = 0usize;
+    for ticket in tickets {
+        if is_lost(&caller.collect(*ticket)) && caller.collect(*ticket).is_none() {
+            count = count.saturating_add(1);
+        }
+    }
+    count
+}
+
+fn is_lost(outcome: &Option<Outcome>) -> bool {
+    match outcome {
+        Some(Outcome::Disconnected) => true,
+        _ => false,
+    }
+}

@@ -1,0 +1,89 @@
+//! What lies under a client's lock, with a socket in memory. Requests that the core refuses use up no cells of the board, and neither do requests that
+//! complete; a full board refuses a request before the core does; and a socket that fails at any of its calls completes each open request with Disconnected,
+//! once. What came of it is `stdout`.
+#![tactic(auto)]
+
+mod circuit;
+mod faults;
+mod requests;
+
+use crate::circuit::{live, memory, turn};
+use crate::faults::{lost, lost_at};
+use crate::requests::{Requests, accepted, answered, make_requests, refused_as};
+use ca_client::{Caller, Desk};
+use ca_client_core::Address;
+use ca_text::Refusal;
+use std::alloc::Global;
+use std::io::Write;
+use std::process::ExitCode;
+
+fn main(rt: HostRuntime) -> ExitCode {
+    let mut out = rt.stdout();
+    match show(rt.alloc(), &mut out) {
+        Ok(()) => ExitCode::SUCCESS,
+        Err(_) => ExitCode::FAILURE,
+    }
+}
+
+fn show<W: Write>(alloc: Global, out: &mut W) -> Result<(), Refusal> {
+    let mut desk = new_desk(alloc)?;
+    show_all(alloc, &mut desk, out)
+}
+
+fn new_desk(alloc: Global) -> Result<Desk, Refusal> {
+    let user = Vec::from_slice(alloc, b"ca")?;
+    let host = Vec::from_slice(alloc, b"localhost")?;
+    let servers: Vec<Address> = Vec::new(alloc);
+    Desk::new(alloc, user, host, servers, &[], 0)
+}
+
+fn show_all<W: Write>(alloc: Global, desk: &mut Desk, out: &mut W) -> Result<(), Refusal> {
+    let channel = desk.open(b"TEMP", 0, 0)?;
+    let requests = make_requests(alloc, channel)?;
+    let mut caller = desk.caller()?;
+    show_cells(alloc, desk, &mut caller, &requests, out)?;
+    show_faults(alloc, desk, &mut caller, &requests, out)
+}
+
+/// More requests than the board has cells complete, and more are refused by the core; then all cells can be in use, and the board refuses.
+fn show_cells<W: Write>(
+    alloc: Global,
+    desk: &mut Desk,
+    caller: &mut Caller,
+    requests: &Requests,
+    out: &mut W,
+) -> Result<(), Refusal> {
+    let mut tape = memory(alloc)?;
+    let circuit = live(desk, &mut tape)?;
+    let done = answered(desk, caller, &requests.put, circuit, &mut tape)?;
+    say(out, "answered", done)?;
+    say(out, "refused as 10", refused_as(desk, &requests.stale, 10))?;
+    let tickets = accepted(alloc, desk, &requests.read)?;
+    say(out, "outstanding", tickets.len())?;
+    say(out, "refused as 24", refused_as(desk, &requests.stale, 24))?;
+    tape.calls_left = 0;
+    turn(desk, circuit, &mut tape);
+    say(out, "lost", lost(caller, &tickets))
+}
+
+/// The socket fails at its first call, then on another circuit at its second, and so on.
+fn show_faults<W: Write>(
+    alloc: Global,
+    desk: &mut Desk,
+    caller: &mut Caller,
+    requests: &Requests,
+    out: &mut W,
+) -> Result<(), Refusal> {
+    for calls in 0..8u64 {
+        let lost = lost_at(alloc, desk, caller, requests, calls)?;
+        say(out, "lost", lost)?;
+    }
+    Ok(())
+}
+
+fn say<W: Write>(out: &mut W, what: &str, number: usize) -> Result<(), Refusal> {
+    match writeln!(out, "{what}: {number}") {
+        Ok(()) => Ok(()),
+        Err(_) => Err(Refusal::Device),
+    }
+}

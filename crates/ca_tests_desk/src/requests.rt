@@ -1,0 +1,111 @@
+//! Requests, by the cells that they use.
+use crate::circuit::{step, turn};
+use ca_arena::Handle;
+use ca_board::Ticket;
+use ca_client::{Ask, Caller, Desk, Request, Tape};
+use ca_dbr::{Outcome, Value};
+use ca_text::Refusal;
+use std::alloc::Global;
+
+/// More than the board has cells.
+const MANY: usize = 1_100;
+
+/// The requests that are made: one for a channel that there is not, which the core refuses as 10, and two that it accepts.
+#[derive(Drop)]
+pub(crate) struct Requests {
+    pub(crate) stale: Request,
+    pub(crate) read: Request,
+    pub(crate) put: Request,
+}
+
+pub(crate) fn make_requests(alloc: Global, channel: Handle) -> Result<Requests, Refusal> {
+    let nothing = Handle {
+        index: 9,
+        generation: 9,
+    };
+    let value = Value::Longs(vec![in alloc; 42]?);
+    Ok(Requests {
+        stale: Request::Read(nothing, 5, 1),
+        read: Request::Read(channel, 5, 1),
+        put: Request::Put(channel, value),
+    })
+}
+
+/// How many of so many puts, one after the other, are done, once.
+pub(crate) fn answered(
+    desk: &mut Desk,
+    caller: &mut Caller,
+    put: &Request,
+    circuit: Handle,
+    tape: &mut Tape,
+) -> Result<usize, Refusal> {
+    let mut count = 0usize;
+    for _ in 0..MANY {
+        let ticket = answered_put(desk, put, circuit, tape)?;
+        if is_done(&caller.collect(ticket)) && caller.collect(ticket).is_none() {
+            count = count.saturating_add(1);
+        }
+    }
+    Ok(count)
+}
+
+/// A put, which the server answers.
+fn answered_put(
+    desk: &mut Desk,
+    put: &Request,
+    circuit: Handle,
+    tape: &mut Tape,
+) -> Result<Ticket, Refusal> {
+    let (request, ticket) = desk.issue(put)?;
+    tape.incoming.extend_from_slice(&done_reply(request))?;
+    turn(desk, circuit, tape);
+    step(desk, Ask::Step(circuit));
+    Ok(ticket)
+}
+
+/// The reply to a put of one LONG: status 1, and the request's id, which is its generation and its index.
+fn done_reply(request: Handle) -> [u8; 16] {
+    let [_, _, g, h] = request.generation.to_be_bytes();
+    let [i, j] = request.index.to_be_bytes();
+    [0, 19, 0, 0, 0, 5, 0, 1, 0, 0, 0, 1, g, h, i, j]
+}
+
+fn is_done(outcome: &Option<Outcome>) -> bool {
+    match outcome {
+        Some(Outcome::Done) => true,
+        _ => false,
+    }
+}
+
+/// How many of so many requests are refused with this number.
+pub(crate) fn refused_as(desk: &mut Desk, request: &Request, number: u8) -> usize {
+    let mut count = 0usize;
+    for _ in 0..MANY {
+        if is_refused_as(desk, request, number) {
+            count = count.saturating_add(1);
+        }
+    }
+    count
+}
+
+fn is_refused_as(desk: &mut Desk, request: &Request, number: u8) -> bool {
+    match desk.issue(request) {
+        Ok(_) => false,
+        Err(refusal) => refusal.number() == number,
+    }
+}
+
+/// The tickets of those of so many requests that are accepted.
+pub(crate) fn accepted(
+    alloc: Global,
+    desk: &mut Desk,
+    request: &Request,
+) -> Result<Vec<Ticket>, Refusal> {
+    let mut tickets = Vec::new(alloc);
+    for _ in 0..MANY {
+        if let Ok((_, ticket)) = desk.issue(request) {
+            tickets.push(ticket)?;
+        }
+    }
+    Ok(tickets)
+}
