@@ -1,1 +1,3 @@
 pub mod Ascents
+pub mod Members
+pub mod Walked
