@@ -1,3 +1,4 @@
 pub mod Ascents
+pub mod Listed
 pub mod Members
 pub mod Walked

@@ -1,9 +1,9 @@
 -- Working: a walk over the indices of a list in place of one over all of a table.
-use Rattle.std.specs.Prelude.{ℕ, ◌≡◌, ◌⊎◌, ◌++◌, List, [], ◌∷◌, Option, map, option_to_list}
+use Rattle.std.specs.Prelude.{ℕ, ◌≡◌, ◌⊎◌, ◌++◌, List, [], ◌∷◌, Option, Some, map, option_to_list}
 use Rattle.ca_arena.specs.declared.handle.Handle.{Handle}
 use Rattle.ca_arena.specs.Arena.{Place, place_at}
 use Rattle.ca_ids.specs.Table.{Table, held_at}
-use Rattle.ca_lists.specs.Lists.{Has}
+use Rattle.ca_lists.specs.Lists.{Has, list_of}
 
 module _ {T : Type 0} where
   -- a change to the value of a place
@@ -36,3 +36,8 @@ module _ {T : Type 0} where
   pub record IsInOrder {X : Type 0} (f : List (Handle × T) → List X) : Type 0 where
     pub none : f [] ≡ []
     pub more : (xs ys : List (Handle × T)) → f (xs ++ ys) ≡ f xs ++ f ys
+
+  -- Each value that has an owner is listed as that owner's.
+  abbrev pub AreListed : (T → Option ℕ) → Table T → List (List ℕ) → Type 0
+  AreListed owner t lists =
+      (i : ℕ) (v : T) (o : ℕ) → (place_at t i).value ≡ Some v → owner v ≡ Some o → Has (list_of lists o) i

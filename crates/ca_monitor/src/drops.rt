@@ -1,21 +1,21 @@
-//! What ends many subscriptions at once. No memory is asked for: a walk over the table.
-ghost use Rattle.std.specs.Prelude.{◌≡◌, ◌<◌, length};
-ghost use Rattle.ca_ids.specs.Table.{with_all_freed};
+//! What ends many subscriptions at once. No memory is asked for: a walk over those that are listed.
+ghost use Rattle.std.specs.Prelude.{◌≡◌, None, option_map};
+ghost use Rattle.ca_arena.specs.Arena.{place_at};
+ghost use Rattle.ca_ids.specs.Table.{held_at, kept_of, with_all_freed};
 ghost use Rattle.ca_ids.specs.Walks.{with_place};
-ghost use Rattle.ca_monitor.specs.Layout.{named, place_freed, place_over};
-ghost use Rattle.ca_monitor.specs.Subscriptions.{channel_over};
+ghost use Rattle.ca_lists.specs.Walks.{Covers, by_value};
+ghost use Rattle.ca_monitor.specs.Layout.{named};
+ghost use Rattle.ca_monitor.specs.Subscriptions.{channel_over, over_on};
 
 use crate::subscription::Subscription;
 use ca_arena::Handle;
 use ca_ids::HeldTable;
 
-/// Which subscriptions are meant: those to a channel; those whose ids drain on a circuit, and that are to a channel; or all whose ids
-/// drain on a circuit.
+/// Which subscriptions are meant: those to a channel, or those to a channel whose ids drain on a circuit.
 #[derive(Clone, Copy, Debug, PartialEq, Eq)]
 pub(crate) enum Which {
     ToChannel(Handle),
     DrainingTo(Handle, Handle),
-    DrainingOn(Handle),
 }
 
 impl Which {
@@ -28,26 +28,36 @@ impl Which {
             Which::DrainingTo(circuit, channel) => {
                 subscription.is_to(channel) && subscription.stage.drains_in(circuit)
             }
-            Which::DrainingOn(circuit) => subscription.stage.drains_in(circuit),
         }
     }
 }
 
-/// The ids of the subscriptions that are meant are free.
-pub(crate) fn free_all(table: &mut HeldTable<Subscription>, which: Which)
+/// What has an id of this index, if any does.
+pub(crate) fn at(table: &HeldTable<Subscription>, index: u16) -> Option<(Handle, &Subscription)>
+    ensures { option_map (λ e. (e.0, e.1.now)) result
+        ≡ held_at index (place_at table.now index) }
+{
+    let index = usize::from(index);
+    if index >= table.places() {
+        return None;
+    }
+    table.at(index)
+}
+
+/// The ids of the subscriptions that are meant are free. All of them are at these indices.
+pub(crate) fn free_all(table: &mut HeldTable<Subscription>, listed: &[u16], which: Which)
+    requires { Covers (kept_of (named which)) table.old listed.now }
     ensures { table.new ≡ with_all_freed (named which) table.old }
 {
-    let places = table.places();
-    for index in 0..places {
-        free_at(table, index, which);
+    for place in 0..listed.len() {
+        free_at(table, listed[place], which);
     }
 }
 
-fn free_at(table: &mut HeldTable<Subscription>, index: usize, which: Which)
-    requires { index < length table.old }
-    ensures { table.new ≡ with_place index (place_freed which) table.old }
+fn free_at(table: &mut HeldTable<Subscription>, index: u16, which: Which)
+    ensures { table.new ≡ with_place index (by_value (kept_of (named which))) table.old }
 {
-    let Some((handle, subscription)) = table.at(index) else {
+    let Some((handle, subscription)) = at(table, index) else {
         return;
     };
     if !which.names(subscription) {
@@ -56,21 +66,25 @@ fn free_at(table: &mut HeldTable<Subscription>, index: usize, which: Which)
     let _ = table.free(handle);
 }
 
-/// The subscriptions to this channel are over, and their ids drain on this circuit.
-pub(crate) fn end_all(table: &mut HeldTable<Subscription>, circuit: Handle, channel: Handle)
+/// The subscriptions to this channel are over, and their ids drain on this circuit. All of them are at these indices.
+pub(crate) fn end_all(
+    table: &mut HeldTable<Subscription>,
+    listed: &[u16],
+    circuit: Handle,
+    channel: Handle,
+)
+    requires { Covers (option_map (over_on circuit channel)) table.old listed.now }
     ensures { table.new ≡ channel_over circuit channel table.old }
 {
-    let places = table.places();
-    for index in 0..places {
-        end_at(table, index, circuit, channel);
+    for place in 0..listed.len() {
+        end_at(table, listed[place], circuit, channel);
     }
 }
 
-fn end_at(table: &mut HeldTable<Subscription>, index: usize, circuit: Handle, channel: Handle)
-    requires { index < length table.old }
-    ensures { table.new ≡ with_place index (place_over circuit channel) table.old }
+fn end_at(table: &mut HeldTable<Subscription>, index: u16, circuit: Handle, channel: Handle)
+    ensures { table.new ≡ with_place index (by_value (option_map (over_on circuit channel))) table.old }
 {
-    let Some((handle, subscription)) = table.at(index) else {
+    let Some((handle, subscription)) = at(table, index) else {
         return;
     };
     if !subscription.is_to(channel) {

@@ -1,18 +1,21 @@
-ghost use Rattle.std.specs.Prelude.{◌≡◌, ◌≢◌, ◌<◌, ◌++◌, [], IfOk, OnErr, OnOk, filter, length, option_to_list};
+ghost use Rattle.std.specs.Prelude.{◌≡◌, ◌≢◌, ◌<◌, ◌++◌, [], IfOk, OnErr, OnOk, filter, length};
 ghost use Rattle.ca_arena.specs.Arena.{place_at};
 ghost use Rattle.ca_ids.specs.Holding.{IsVacant};
-ghost use Rattle.ca_ids.specs.Table.{held_at, with_freed};
+ghost use Rattle.ca_ids.specs.Table.{with_freed};
+ghost use Rattle.ca_ids.specs.Walks.{with_place};
+ghost use Rattle.ca_lists.specs.Walks.{one_at};
 ghost use Rattle.ca_monitor.specs.Calls.{Adds, Comes, freed_if};
-ghost use Rattle.ca_monitor.specs.Layout.{is_standing_to};
+ghost use Rattle.ca_monitor.specs.Layout.{is_of, is_standing_to, place_freed};
 ghost use Rattle.ca_monitor.specs.Stages.{stage_of};
 ghost use Rattle.ca_monitor.specs.Subscriptions.{channel_drained, channel_gone, channel_over, circuit_gone, confirmed_by, new_subscription, standing_by, standing_to, standing_under, with_stage};
 ghost use Rattle.ca_monitor.specs.Subscriptions as monitor;
 
-use crate::drops::{Which, end_all, free_all};
+use crate::drops::{Which, at, end_all, free_all};
 use crate::stage::Stage;
 use crate::subscription::Subscription;
 use ca_arena::Handle;
 use ca_ids::{HeldTable, WireId};
+use ca_lists::IndexLists;
 use ca_text::{Mask, Refusal};
 use std::alloc::{AllocError, Global};
 use std::marker::Model;
@@ -21,6 +24,8 @@ use std::marker::Model;
 #[derive(Drop)]
 pub struct Monitors {
     table: HeldTable<Subscription>,
+    // The indices of those to each channel, by its index, and of some that are gone.
+    channels: IndexLists,
 }
 
 impl Model for Monitors {
@@ -29,7 +34,13 @@ impl Model for Monitors {
 
     ghost Value = { Table Subscription };
 
+    ghost use Rattle.ca_lists.specs.Walks.{AreListed};
+    ghost use Rattle.ca_monitor.specs.Layout.{owner_of};
+
     ghost view = { λ m. m.table };
+
+    // Each is listed as its channel's.
+    ghost invariant = { λ m. AreListed owner_of m.table m.channels };
 }
 
 impl Monitors {
@@ -39,6 +50,7 @@ impl Monitors {
     {
         Monitors {
             table: HeldTable::new(alloc),
+            channels: IndexLists::new(alloc),
         }
     }
 
@@ -74,6 +86,7 @@ impl Monitors {
             mask,
             stage: Stage::Stands,
         };
+        self.channels.add(channel.index, vacant.index)?;
         match self.table.open_at(vacant, added) {
             Ok(()) => Ok(()),
             Err(_) => Err(AllocError),
@@ -138,7 +151,10 @@ impl Monitors {
     pub fn free(&mut self, handle: Handle)
         ensures { self.new ≡ with_freed handle self.old }
     {
-        let _ = self.table.free(handle);
+        let Some(found) = self.table.free(handle) else {
+            return;
+        };
+        self.channels.remove(found.channel.index, handle.index);
     }
 
     /// A cancel was confirmed on this circuit, under this wire id: the id is free, if it is one that was cancelled there.
@@ -160,8 +176,7 @@ impl Monitors {
         }
     }
 
-    /// The subscriptions to this channel that stand, in order of index. It goes over each index that was ever given, and takes
-    /// memory only if there is one.
+    /// The subscriptions to this channel that stand, in order of index. It goes over those to it, and takes memory only if there is one.
     pub fn standing_to(
         &self,
         alloc: Global,
@@ -171,9 +186,9 @@ impl Monitors {
         ensures some { OnErr result (standing_to channel self.now ≢ []) }
     {
         let mut found = Vec::new(alloc);
-        let places = self.table.places();
-        for index in 0..places {
-            note(&self.table, index, channel, &mut found)?;
+        let listed = self.channels.of(channel.index);
+        for place in 0..listed.len() {
+            note(&self.table, listed[place], channel, &mut found)?;
         }
         Ok(found)
     }
@@ -183,50 +198,98 @@ impl Monitors {
     pub fn end_channel(&mut self, circuit: Handle, channel: Handle)
         ensures { self.new ≡ channel_over circuit channel self.old }
     {
-        end_all(&mut self.table, circuit, channel);
+        let listed = self.channels.of(channel.index);
+        end_all(&mut self.table, listed, circuit, channel);
     }
 
     /// The ids of this channel's subscriptions are free. It does not allocate.
     pub fn free_channel(&mut self, channel: Handle)
         ensures { self.new ≡ channel_gone channel self.old }
     {
-        free_all(&mut self.table, Which::ToChannel(channel));
+        let listed = self.channels.of(channel.index);
+        free_all(&mut self.table, listed, Which::ToChannel(channel));
+        self.tidy(channel.index);
     }
 
     /// The ids of this channel's subscriptions that drain on this circuit are free. It does not allocate.
     pub fn drained(&mut self, circuit: Handle, channel: Handle)
         ensures { self.new ≡ channel_drained circuit channel self.old }
     {
-        free_all(&mut self.table, Which::DrainingTo(circuit, channel));
+        let listed = self.channels.of(channel.index);
+        free_all(&mut self.table, listed, Which::DrainingTo(circuit, channel));
+        self.tidy(channel.index);
     }
 
     /// The ids that drain on this circuit are free. It does not allocate.
     pub fn free_circuit(&mut self, circuit: Handle)
         ensures { self.new ≡ circuit_gone circuit self.old }
     {
-        free_all(&mut self.table, Which::DrainingOn(circuit));
+        for index in 0..self.table.places() {
+            self.free_at(index, circuit);
+        }
+    }
+
+    // The id at this index is free, if it drains on this circuit.
+    fn free_at(&mut self, index: usize, circuit: Handle)
+        requires { index < length self.old }
+        ensures { self.new ≡ with_place index (place_freed circuit) self.old }
+    {
+        let Some((handle, subscription)) = self.table.at(index) else {
+            return;
+        };
+        if !subscription.stage.drains_in(circuit) {
+            return;
+        }
+        self.free(handle);
+    }
+
+    // Takes the indices out of the list of a channel at which there is nothing to it any more.
+    fn tidy(&mut self, channel: u16)
+        ensures { self.new ≡ self.old }
+    {
+        for place in (0..self.channels.of(channel).len()).rev() {
+            self.tidy_at(channel, place);
+        }
+    }
+
+    // Takes the index at this place out, if that is so of it.
+    fn tidy_at(&mut self, channel: u16, place: usize)
+        ensures { self.new ≡ self.old }
+    {
+        let listed = self.channels.of(channel);
+        if place >= listed.len() {
+            return;
+        }
+        let index = listed[place];
+        if is_of(&self.table, index, channel) {
+            return;
+        }
+        self.channels.remove(channel, index);
+    }
+}
+
+// Whether there is a subscription to a channel of this index at an index.
+fn is_of(table: &HeldTable<Subscription>, index: u16, channel: u16) -> bool
+    ensures { result ≡ is_of channel (place_at table.now index).value }
+{
+    match at(table, index) {
+        Some((_, found)) => found.channel.index == channel,
+        None => false,
     }
 }
 
 // Puts the subscription at this index after what was found, if it is to this channel and stands.
 fn note(
     table: &HeldTable<Subscription>,
-    index: usize,
+    index: u16,
     channel: Handle,
     found: &mut Vec<(Handle, Subscription)>,
 ) -> Result<(), AllocError>
-    requires { index < length table.now }
     ensures ok { OnOk result (found.new.items
-        ≡ found.old.items
-        ++ filter
-        (is_standing_to channel)
-        (option_to_list (held_at index (place_at table.now index)))) }
-    ensures err { OnErr result (filter
-        (is_standing_to channel)
-        (option_to_list (held_at index (place_at table.now index)))
-        ≢ []) }
+        ≡ found.old.items ++ filter (is_standing_to channel) (one_at table.now index)) }
+    ensures err { OnErr result (filter (is_standing_to channel) (one_at table.now index) ≢ []) }
 {
-    let Some((handle, subscription)) = table.at(index) else {
+    let Some((handle, subscription)) = at(table, index) else {
         return Ok(());
     };
     if !subscription.is_to(channel) {
