@@ -1,11 +1,12 @@
 -- What is listed of a table, as it and the lists change.
-use Rattle.std.proofs.Common.{◌≡◌, ◌≢◌, ◌⊎◌, ◌<◌, ◌≤◌, ◌+◌, ◌++◌, ◌==◌, if◌then◌else◌, ℕ, zero, suc, inl, inr, Bool, true, false, List, [], ◌∷◌, Option, Some, None, is_some, length, map, option_map, option_to_list, refl, sym, ap, ◌∙◌, subst, arith, slice_set, length-append}
+use Rattle.std.proofs.Common.{◌≡◌, ◌≢◌, ◌⊎◌, ◌<◌, ◌≤◌, ◌+◌, ◌++◌, ◌==◌, if◌then◌else◌, ℕ, zero, suc, inl, inr, Bool, true, false, List, [], ◌∷◌, Option, Some, None, Result, Ok, Err, is_some, length, map, option_map, option_to_list, refl, sym, ap, ◌∙◌, subst, arith, slice_set, length-append}
 use Rattle.std.proofs.lemmas.Bool.{cases_Bool, cases_eq, cases_lt, eq-eqb, ne_eqb}
 use Rattle.std.proofs.lemmas.List.{get_or-set_other, get_or-set_same, get_or_append_left, get_or_past, get_or_push}
 use Rattle.ca_text.proofs.Places.{some_is}
 use Rattle.ca_arena.specs.declared.handle.Handle.{Handle}
 use Rattle.ca_arena.specs.Arena.{Place, blank, place_at, value_for}
 use Rattle.ca_ids.specs.Table.{MayGive, Table, held_at, under, with_changed, with_freed, with_held}
+use Rattle.ca_ids.specs.Holding.{Fills}
 use Rattle.ca_lists.specs.Lists.{Has, added, list_of, without}
 use Rattle.ca_lists.specs.Walks.{AreListed, Covers, IsInOrder, Tells, by_value, one_at}
 use Rattle.ca_lists.proofs.Members.{has-added, has-own, has-without}
@@ -87,10 +88,10 @@ module _ {T : Type 0} where
           by_test false = refl
 
   -- what is at a place once a value changed was there, or is the value changed
-  pub value-changed : (f : T → T) (t : Table T) (h : Handle) (i : ℕ) (v : T) → (place_at (with_changed f h t) i).value ≡ Some v → ((place_at t i).value ≡ Some v) ⊎ ((w : T) × ((place_at t i).value ≡ Some w) × (v ≡ f w))
+  pub value-changed : (f : T → T) (t : Table T) (h : Handle) (i : ℕ) (v : T) → (place_at (with_changed f h t) i).value ≡ Some v → ((place_at t i).value ≡ Some v) ⊎ ((w : T) × ((place_at t i).value ≡ Some w) × (v ≡ f w) × (under t h ≡ Some w))
   value-changed f t h i v there = by_live (under t h) refl
     where
-      by_live : (o : Option T) → under t h ≡ o → ((place_at t i).value ≡ Some v) ⊎ ((w : T) × ((place_at t i).value ≡ Some w) × (v ≡ f w))
+      by_live : (o : Option T) → under t h ≡ o → ((place_at t i).value ≡ Some v) ⊎ ((w : T) × ((place_at t i).value ≡ Some w) × (v ≡ f w) × (under t h ≡ Some w))
       by_live None stale = inl (rw stale at there)
       by_live (Some w) live =
           let place : Place T = record { generation = h.generation; value = Some (f w) } in
@@ -100,7 +101,7 @@ module _ {T : Type 0} where
             | inr here ↦
                 let now : Some (f w) ≡ Some v = sym (ap (λ (p : Place T). p.value) here.1) ∙ after in
                 let was : (place_at t h.index).value ≡ Some w = held-value (place_at t h.index) h.generation w live in
-                inr (w, ap (λ (n : ℕ). (place_at t n).value) here.0 ∙ was, sym (some_is (f w) v now))
+                inr (w, ap (λ (n : ℕ). (place_at t n).value) here.0 ∙ was, sym (some_is (f w) v now), live)
           ]
         where
           held-value : (p : Place T) (n : ℕ) (w : T) → value_for n p ≡ Some w → p.value ≡ Some w
@@ -212,3 +213,24 @@ module _ {T : Type 0} where
           (subst (λ (xs : List ℕ). Has xs i) (sym own) (has-without n i (list_of old o) apart (listed i v o there mine)))
       | inr other ↦ subst (λ (xs : List ℕ). Has xs i) (sym (others k other)) (listed i v k there owned)
     ]
+
+    -- a value is put in place of another of the same owner
+    pub listed-put : (t : Table T) (h : Handle) (v w : T) (lists : List (List ℕ)) → under t h ≡ Some v → owner w ≡ owner v → AreListed owner t lists → AreListed owner (with_changed (λ (e : T). w) h t) lists
+    listed-put t h v w lists live same listed i z o there owned = elim (value-changed (λ (e : T). w) t h i z there) [
+      | inl was ↦ listed i z o was owned
+      | inr was ↦
+          let it : was.0 ≡ v = some_is was.0 v (sym was.3 ∙ live) in
+          listed i was.0 o was.1 (ap owner it ∙ sym same ∙ ap owner (sym was.2) ∙ owned)
+    ]
+
+    -- a value is gone, and its index is taken out
+    pub listed-gone : (t u : Table T) (h : Handle) (w : T) (o : ℕ) (old new : List (List ℕ)) → u ≡ with_freed h t → under t h ≡ Some w → list_of new o ≡ without h.index (list_of old o) → ((k : ℕ) → k ≢ o → list_of new k ≡ list_of old k) → AreListed owner t old → AreListed owner u new
+    listed-gone t u h w o old new is live own others listed =
+        subst (λ (z : Table T). AreListed owner z new) (sym is)
+        (listed-without (with_freed h t) old new o h.index own others (λ v there mine. none-freed t h w live v there) (listed-thin t (with_freed h t) old (thins-freed t h) listed))
+
+    -- a value was to be given an id, and its index is listed
+    pub listed-filled : (t u : Table T) (h : Handle) (v : T) (r : Result (Unit {0}) T) (o : ℕ) (old new : List (List ℕ)) → Fills t h v r u → owner v ≡ Some o → list_of new o ≡ added h.index (list_of old o) → ((k : ℕ) → k ≢ o → list_of new k ≡ list_of old k) → AreListed owner t old → AreListed owner u new
+    listed-filled t u h v (Ok r) o old new fills owned own others listed = listed-held t u h v old new o fills.0 fills.1 owned own others listed
+    listed-filled t u h v (Err e) o old new fills owned own others listed =
+        subst (λ (z : Table T). AreListed owner z new) (sym fills.1) (listed-more t old new o h.index own others listed)

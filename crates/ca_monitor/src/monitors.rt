@@ -143,7 +143,7 @@ impl Monitors {
         ensures { self.new ≡ with_stage (stage_of stage) handle self.old }
     {
         if let Some(found) = self.table.by_handle_mut(handle) {
-            found.stage = stage;
+            found.set_stage(stage);
         }
     }
 

@@ -1,4 +1,5 @@
 ghost use Rattle.std.specs.Prelude.{◌≡◌};
+ghost use Rattle.ca_monitor.specs.Stages.{stage_of};
 ghost use Rattle.ca_monitor.specs.Subscriptions.{is_to};
 
 use crate::stage::{Stage, is_same};
@@ -60,5 +61,12 @@ impl Subscription {
         ensures { result ≡ is_to channel self.now }
     {
         is_same(self.channel, channel)
+    }
+
+    // It comes to this stage.
+    pub(crate) fn set_stage(&mut self, stage: Stage)
+        ensures { self.new ≡ record self.old { stage = stage_of stage } }
+    {
+        self.stage = stage;
     }
 }

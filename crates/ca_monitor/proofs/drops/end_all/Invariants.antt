@@ -1,7 +1,7 @@
-use Rattle.std.proofs.Common.{◌≡◌}
-use Rattle.ca_ids.specs.Walks.{walked}
-use Rattle.ca_monitor.specs.Layout.{place_over}
+use Rattle.std.proofs.Common.{drop, option_map}
+use Rattle.ca_lists.specs.Walks.{IsLeft}
+use Rattle.ca_monitor.specs.Subscriptions.{over_on}
 use Rattle.ca_monitor.proofs.drops.end_all.Given as goal
 
-abbrev pub invariant-loop-index : goal.invariant-loop-index
-invariant-loop-index l = l.table ≡ walked (place_over l.circuit l.channel) l.index l.initial.table
+abbrev pub invariant-loop-place : goal.invariant-loop-place
+invariant-loop-place l = IsLeft (option_map (over_on l.circuit l.channel)) l.initial.table l.table (drop l.place l.listed)

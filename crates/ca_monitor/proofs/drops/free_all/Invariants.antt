@@ -1,7 +1,8 @@
-use Rattle.std.proofs.Common.{◌≡◌}
-use Rattle.ca_ids.specs.Walks.{walked}
-use Rattle.ca_monitor.specs.Layout.{place_freed}
+use Rattle.std.proofs.Common.{drop}
+use Rattle.ca_ids.specs.Table.{kept_of}
+use Rattle.ca_lists.specs.Walks.{IsLeft}
+use Rattle.ca_monitor.specs.Layout.{named}
 use Rattle.ca_monitor.proofs.drops.free_all.Given as goal
 
-abbrev pub invariant-loop-index : goal.invariant-loop-index
-invariant-loop-index l = l.table ≡ walked (place_freed l.which) l.index l.initial.table
+abbrev pub invariant-loop-place : goal.invariant-loop-place
+invariant-loop-place l = IsLeft (kept_of (named l.which)) l.initial.table l.table (drop l.place l.listed)
