@@ -68,6 +68,7 @@ ascends-added i (x ∷ xs) up = elim (cases_Bool (nat_lt i x)) [
   where
     ltb-less : (a b : ℕ) → nat_lt a b ≡ true → a < b
     ltb-less a b h = ltb-true a b h
+
     ltb-more : (a b : ℕ) → nat_lt a b ≡ false → (b == a) ≡ false → b < a
     ltb-more a b h other =
         let at_least = ltb-false a b h in

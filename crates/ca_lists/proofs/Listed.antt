@@ -189,6 +189,7 @@ module _ {T : Type 0} where
       where
         more : AreListed owner t new
         more = listed-more t old new o h.index own others listed
+
         given : AreListed owner (with_held h v t) new
         given i w k there owns = elim (cases_eq i h.index) [
           | inl here ↦

@@ -102,6 +102,7 @@ module _ {T : Type 0} where
         lower : (m : ℕ) (ys : List ℕ) → m ≤ x → AreAbove x ys → AreAbove m ys
         lower m [] less above = tt
         lower m (y ∷ ys) less above = (omega (arith, less, above.0), lower m ys less above.1)
+
         not-there : n < x → Has xs n → ⊥
         not-there more has = none-above n xs (lower n xs (omega (arith, more)) up.0) has
 

@@ -83,7 +83,7 @@ pub over-listed : (circuit channel : Handle) (t u : Table Subscription) (lists :
 over-listed circuit channel t u lists is listed =
     subst (λ (z : Table Subscription). AreListed owner_of z lists) (sym is)
     (listed-thin owner_of t (map (by_value (option_map (over_on circuit channel))) t) lists (thins-map owner_of (option_map (over_on circuit channel)) t refl (λ w v o there owned.
-        ap (λ (c : Handle). Some c.index) (sym (over-channel circuit channel w)) ∙ ap owner_of (some_is (over_on circuit channel w) v there) ∙ owned)) listed)
+    ap (λ (c : Handle). Some c.index) (sym (over-channel circuit channel w)) ∙ ap owner_of (some_is (over_on circuit channel w) v there) ∙ owned)) listed)
 
 -- ---- those that stand
 
