@@ -6,9 +6,11 @@ use Rattle.ca_text.proofs.Places.{some_is}
 use Rattle.ca_arena.specs.declared.handle.Handle.{Handle}
 use Rattle.ca_arena.specs.Arena.{Place, blank, place_at, value_for}
 use Rattle.ca_ids.specs.Table.{MayGive, Table, held_at, under, with_changed, with_freed, with_held}
-use Rattle.ca_ids.specs.Holding.{Fills}
+use Rattle.ca_ids.specs.Holding.{Fills, Gives}
+use Rattle.ca_text.specs.declared.refusal.Refusal.{Refusal}
+use Rattle.ca_text.specs.declared.refusal.Refusal.TheVariants as refusal
 use Rattle.ca_lists.specs.Lists.{Has, added, list_of, without}
-use Rattle.ca_lists.specs.Walks.{AreListed, Covers, IsInOrder, Tells, by_value, one_at}
+use Rattle.ca_lists.specs.Walks.{AreAllIn, AreListed, Covers, IsInOrder, Tells, by_value, one_at}
 use Rattle.ca_lists.proofs.Members.{has-added, has-own, has-without}
 
 module _ {T : Type 0} where
@@ -88,10 +90,10 @@ module _ {T : Type 0} where
           by_test false = refl
 
   -- what is at a place once a value changed was there, or is the value changed
-  pub value-changed : (f : T → T) (t : Table T) (h : Handle) (i : ℕ) (v : T) → (place_at (with_changed f h t) i).value ≡ Some v → ((place_at t i).value ≡ Some v) ⊎ ((w : T) × ((place_at t i).value ≡ Some w) × (v ≡ f w) × (under t h ≡ Some w))
+  pub value-changed : (f : T → T) (t : Table T) (h : Handle) (i : ℕ) (v : T) → (place_at (with_changed f h t) i).value ≡ Some v → ((place_at t i).value ≡ Some v) ⊎ ((w : T) × ((place_at t i).value ≡ Some w) × (v ≡ f w) × (under t h ≡ Some w) × (i ≡ h.index))
   value-changed f t h i v there = by_live (under t h) refl
     where
-      by_live : (o : Option T) → under t h ≡ o → ((place_at t i).value ≡ Some v) ⊎ ((w : T) × ((place_at t i).value ≡ Some w) × (v ≡ f w) × (under t h ≡ Some w))
+      by_live : (o : Option T) → under t h ≡ o → ((place_at t i).value ≡ Some v) ⊎ ((w : T) × ((place_at t i).value ≡ Some w) × (v ≡ f w) × (under t h ≡ Some w) × (i ≡ h.index))
       by_live None stale = inl (rw stale at there)
       by_live (Some w) live =
           let place : Place T = record { generation = h.generation; value = Some (f w) } in
@@ -101,7 +103,7 @@ module _ {T : Type 0} where
             | inr here ↦
                 let now : Some (f w) ≡ Some v = sym (ap (λ (p : Place T). p.value) here.1) ∙ after in
                 let was : (place_at t h.index).value ≡ Some w = held-value (place_at t h.index) h.generation w live in
-                inr (w, ap (λ (n : ℕ). (place_at t n).value) here.0 ∙ was, sym (some_is (f w) v now), live)
+                inr (w, ap (λ (n : ℕ). (place_at t n).value) here.0 ∙ was, sym (some_is (f w) v now), live, here.0)
           ]
         where
           held-value : (p : Place T) (n : ℕ) (w : T) → value_for n p ≡ Some w → p.value ≡ Some w
@@ -235,3 +237,56 @@ module _ {T : Type 0} where
     listed-filled t u h v (Ok r) o old new fills owned own others listed = listed-held t u h v old new o fills.0 fills.1 owned own others listed
     listed-filled t u h v (Err e) o old new fills owned own others listed =
         subst (λ (z : Table T). AreListed owner z new) (sym fills.1) (listed-more t old new o h.index own others listed)
+
+    -- a value changed, and its index is listed for whoever owns it then
+    pub listed-stood : (f : T → T) (t u : Table T) (h : Handle) (lists : List (List ℕ)) → u ≡ with_changed f h t → ((w : T) (o : ℕ) → owner (f w) ≡ Some o → Has (list_of lists o) h.index) → AreListed owner t lists → AreListed owner u lists
+    listed-stood f t u h lists is own listed = subst (λ (z : Table T). AreListed owner z lists) (sym is) stood
+      where
+        stood : AreListed owner (with_changed f h t) lists
+        stood i v o there owned = elim (value-changed f t h i v there) [
+          | inl was ↦ listed i v o was owned
+          | inr was ↦ subst (λ (n : ℕ). Has (list_of lists o) n) (sym was.4) (own was.0 o (ap owner (sym was.2) ∙ owned))
+        ]
+
+    -- a value of no owner was to be given an id
+    pub listed-given : (t u : Table T) (v : T) (r : Result Handle (T × Refusal)) (lists : List (List ℕ)) → Gives t v r u → owner v ≡ None → AreListed owner t lists → AreListed owner u lists
+    listed-given t u v (Ok h) lists gives none listed = subst (λ (z : Table T). AreListed owner z lists) (sym gives.1) given
+      where
+        given : AreListed owner (with_held h v t) lists
+        given i w o there owned = elim (cases_eq i h.index) [
+          | inl here ↦
+              let at : (place_at (with_held h v t) i).value ≡ Some v = ap (λ (n : ℕ). (place_at (with_held h v t) n).value) here ∙ ap (λ (p : Place T). p.value) (place-held t h v gives.0) in
+              let same : v ≡ w = some_is v w (sym at ∙ there) in
+              let bad : None ≡ Some o = sym none ∙ ap owner same ∙ owned in
+              absurd cc
+          | inr other ↦ listed i w o (sym (ap (λ (p : Place T). p.value) (place-beside t h v i gives.0 other)) ∙ there) owned
+        ]
+    listed-given t u v (Err (back, refusal.ArenaFull)) lists gives none listed = subst (λ (z : Table T). AreListed owner z lists) (sym gives.2) listed
+    listed-given t u v (Err (back, refusal.OutOfMemory)) lists gives none listed = subst (λ (z : Table T). AreListed owner z lists) (sym gives.3) listed
+    listed-given t u v (Err (back, _)) lists gives none listed = absurd gives
+
+    -- ---- one list
+
+    pub all-in : (t : Table T) (lists : List (List ℕ)) (o : ℕ) → AreListed owner t lists → AreAllIn owner o t (list_of lists o)
+    all-in t lists o listed i v there owned = listed i v o there owned
+
+    pub in-covers : (g : Option T → Option T) (t : Table T) (xs : List ℕ) (o : ℕ) → g None ≡ None → ((v : T) → (g (Some v) ≡ Some v) ⊎ (owner v ≡ Some o)) → AreAllIn owner o t xs → Covers g t xs
+    in-covers g t xs o none only all i = by_value_at (place_at t i).value refl
+      where
+        by_value_at : (x : Option T) → (place_at t i).value ≡ x → Has xs i ⊎ (g (place_at t i).value ≡ (place_at t i).value)
+        by_value_at None is = inr (ap g is ∙ none ∙ sym is)
+        by_value_at (Some v) is = elim (only v) [
+          | inl same ↦ inr (ap g is ∙ same ∙ sym is)
+          | inr owned ↦ inl (all i v is owned)
+        ]
+
+    pub in-tells : {X : Type 0} (f : List (Handle × T) → List X) (t : Table T) (xs : List ℕ) (o : ℕ) → IsInOrder f → ((h : Handle) (v : T) → (f ((h, v) ∷ []) ≡ []) ⊎ (owner v ≡ Some o)) → AreAllIn owner o t xs → Tells f t xs
+    in-tells {X} f t xs o in_order only all i = by_value_at (place_at t i).value refl
+      where
+        told : Option T → List X
+        told y = f (option_to_list (held_at i (let p : Place T = record { generation = (place_at t i).generation; value = y } in p)))
+        by_value_at : (x : Option T) → (place_at t i).value ≡ x → Has xs i ⊎ (f (one_at t i) ≡ [])
+        by_value_at None is = inr (ap told is ∙ in_order.none)
+        by_value_at (Some v) is =
+            let h : Handle = record { index = i; generation = (place_at t i).generation } in
+            elim (only h v) [ inl nothing ↦ inr (ap told is ∙ nothing) | inr owned ↦ inl (all i v is owned) ]

@@ -1,5 +1,6 @@
 -- Vocabulary: ascending lists of indices, one for each owner, by the owner's index.
-use Rattle.std.specs.Prelude.{ℕ, ◌≡◌, ◌⊎◌, ◌<◌, ◌≤◌, ◌==◌, List, [], ◌∷◌, Result, Ok, Err, filter, if◌then◌else◌, length, nat_lt, not, slice_index_or}
+use Prim.Native.Nat.{zero, suc}
+use Rattle.std.specs.Prelude.{ℕ, ◌++◌, ◌≡◌, ◌⊎◌, ◌<◌, ◌≤◌, ◌==◌, List, [], ◌∷◌, Result, Ok, Err, filter, if◌then◌else◌, length, nat_lt, not, slice_index_or}
 
 -- it is one of these
 abbrev pub Has : List ℕ → ℕ → Type 0
@@ -36,3 +37,8 @@ IsSought i xs (Err k) =
     (k ≤ length xs)
     × ((j : ℕ) → j < k → slice_index_or xs j 0 < i)
     × ((j : ℕ) → k ≤ j → j < length xs → i < slice_index_or xs j 0)
+
+-- those below n
+abbrev pub upto : ℕ → List ℕ
+upto zero = []
+upto (suc n) = upto n ++ n ∷ []
