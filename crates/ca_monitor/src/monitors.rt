@@ -234,13 +234,13 @@ impl Monitors {
         requires { index < length self.old }
         ensures { self.new ≡ with_place index (place_freed circuit) self.old }
     {
-        let Some((handle, subscription)) = self.table.at(index) else {
+        let Some((draining, subscription)) = self.table.at(index) else {
             return;
         };
         if !subscription.stage.drains_in(circuit) {
             return;
         }
-        self.free(handle);
+        self.free(draining);
     }
 
     // Takes the indices out of the list of a channel at which there is nothing to it any more.
