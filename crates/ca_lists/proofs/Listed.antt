@@ -285,6 +285,7 @@ module _ {T : Type 0} where
       where
         told : Option T → List X
         told y = f (option_to_list (held_at i (let p : Place T = record { generation = (place_at t i).generation; value = y } in p)))
+
         by_value_at : (x : Option T) → (place_at t i).value ≡ x → Has xs i ⊎ (f (one_at t i) ≡ [])
         by_value_at None is = inr (ap told is ∙ in_order.none)
         by_value_at (Some v) is =
