@@ -1,5 +1,5 @@
 -- The put with notification that comes next, by its header and the channel of its SID.
-use Rattle.std.proofs.Common.{◌≡◌, ◌+◌, ℕ, ◌≤◌, true, false, List, take, drop, length, Option, Some, None, sym, ap, ◌∙◌, subst}
+use Rattle.std.proofs.Common.{◌≡◌, ◌+◌, ℕ, ◌≤◌, ◌⊎◌, inl, inr, true, false, List, ◌++◌, take, drop, length, get_or, Option, Some, None, sym, ap, ◌∙◌, subst, append_assoc, arith}
 use Rattle.std.proofs.lemmas.List.{take-append-drop}
 use Rattle.ca_arena.specs.declared.handle.Handle.{Handle}
 use Rattle.ca_ids.specs.Table.{Table, by_wire, held}
@@ -17,6 +17,8 @@ use Rattle.ca_wire.specs.declared.header.Header.{Header}
 use Rattle.ca_wire.specs.declared.reading.Head.{Head}
 use Rattle.ca_wire.specs.declared.reading.One.{One}
 use Rattle.ca_wire.specs.declared.reading.One.TheVariants.{Bad, More, Whole}
+use Rattle.ca_wire.specs.Header.{HeaderSpells, SpellsExtended, SpellsShort, number16, number32}
+use Rattle.ca_wire.proofs.Headers.{extended-behind, narrowed, short-behind}
 use Rattle.ca_wire.proofs.Messages.{one-again}
 use Rattle.ca_dgram.proofs.Readings.{fields_at, spells-fields_at}
 use Rattle.ca_model.specs.Server.{OpenChannel, ServerEnd}
@@ -56,6 +58,22 @@ puts-named e h None is named = λ again. named
 
 -- ---- by the bytes that came
 
+-- the command stands first in either form
+command-first : (h : Header) (head back : List ℕ) → HeaderSpells head h → (x : List ℕ) × (head ++ back ≡ number16 h.command ++ x)
+command-first h head back s = by s.form
+  where
+    by : SpellsShort head h ⊎ SpellsExtended head h → (x : List ℕ) × (head ++ back ≡ number16 h.command ++ x)
+    by (inl f) = (number16 h.size ++ (number16 h.data_type ++ (number16 h.count ++ (number32 h.p1 ++ (number32 h.p2 ++ back)))), ap (λ (z : List ℕ). z ++ back) f.are ∙ short-behind h back)
+    by (inr f) = (
+      number16 65535 ++ (number16 h.data_type ++ (number16 f.count16 ++ (number32 h.p1 ++ (number32 h.p2 ++ (number32 h.size ++ (number32 h.count ++ back)))))),
+      ap (λ (z : List ℕ). z ++ back) f.are ∙ extended-behind f.count16 h back ∙ short-behind (narrowed f.count16 h) (number32 h.size ++ (number32 h.count ++ back)),
+    )
+
+-- bytes of which the second is another one do not begin so
+pub second-is : (bytes rest : List ℕ) → bytes ≡ number16 (command_number command.WriteNotify) ++ rest → (2 ≤ length bytes) × (get_or bytes 1 0 ≡ command_number command.WriteNotify)
+unfolding number16
+second-is bytes rest e = (subst (λ (b : List ℕ). 2 ≤ length b) (sym e) (omega arith), ap (λ (b : List ℕ). get_or b 1 0) e)
+
 module _ (e : ServerEnd) (bytes : List ℕ) (are : bytes ≡ e.link.input.bytes) where
   -- what stands first is the message that is taken from there
   first-is : (one : One) (m : Fields) (rest : List ℕ) → TakesFirst e.link m rest → IsOne bytes one → (head : Head) × (one ≡ Whole head) × (head.header ≡ header_of m)
@@ -83,6 +101,14 @@ module _ (e : ServerEnd) (bytes : List ℕ) (are : bytes ≡ e.link.input.bytes)
       let h : head.header ≡ header_of m = whole-header head m rest is t in
       let p : PutsBy e (header_of m) None = subst (λ (x : Header). PutsBy e x None) h puts in
       p put c there.0 there.1 there.2
+
+  -- another command stands first
+  pub puts-other : ((x : List ℕ) → bytes ≡ number16 (command_number command.WriteNotify) ++ x → ⊥) → PutsFirst e None
+  puts-other other = λ m rest c t put there.
+      let s = t.1 in
+      let f = command-first (header_of m) s.head (m.payload ++ rest) s.header in
+      let all : bytes ≡ s.head ++ (m.payload ++ rest) = are ∙ t.2 ∙ ap (λ (z : List ℕ). z ++ rest) s.are ∙ append_assoc s.head m.payload rest in
+      other f.0 (subst (λ (n : ℕ). bytes ≡ number16 n ++ f.0) put (all ∙ f.1))
 
   pub puts-more : IsOne bytes More → PutsFirst e None
   puts-more is = λ m rest c t put there. (let w = first-is More m rest t is in never w.0 w.1)

@@ -1,4 +1,7 @@
-ghost use Rattle.std.specs.Prelude.{option_map};
+ghost use Rattle.std.specs.Prelude.{List, ℕ, ◌≡◌, ◌++◌, false, option_map};
+ghost use Rattle.ca_text.specs.Command.{command_number};
+ghost use Rattle.ca_text.specs.declared.command.Command.TheVariants as command;
+ghost use Rattle.ca_wire.specs.Header.{number16};
 ghost use Rattle.ca_server_circuit.specs.NextPut.{NamesBy, PutsBy, PutsFirst};
 
 use crate::end::End;
@@ -10,7 +13,11 @@ impl End {
     pub(crate) fn next_put(&self) -> Option<&[u8]>
         ensures { PutsFirst self.now (option_map (λ t. t.now) result) }
     {
-        match read_one(self.link.in_bytes()) {
+        let bytes = self.link.in_bytes();
+        if !may_put(bytes) {
+            return None;
+        }
+        match read_one(bytes) {
             One::Whole(head) => self.put_of(&head.header),
             One::More => None,
             One::Bad(_) => None,
@@ -39,4 +46,15 @@ impl End {
         }
         Some(channel.name())
     }
+}
+
+// Whether these bytes may begin with a put with notification, by the low byte of the command: of other messages no header is read.
+fn may_put(bytes: &[u8]) -> bool
+    ensures { result ≡ false → (rest : List ℕ)
+        → bytes.now ≡ number16 (command_number command.WriteNotify) ++ rest → ⊥ }
+{
+    if bytes.len() < 2 {
+        return false;
+    }
+    u16::from(bytes[1]) == Command::WriteNotify.number()
 }
