@@ -1,6 +1,6 @@
 -- A step of a server, from what it made of one circuit.
 use Rattle.std.proofs.Common.{◌≡◌, ◌≢◌, ℕ, suc, ◌+◌, ◌≤◌, inl, inr, Bool, true, false, List, [], ◌∷◌, length, Option, Some, None, refl, sym, ap, ◌∙◌, subst}
-use Rattle.std.specs.Prelude.{option_map}
+use Rattle.std.specs.Prelude.{option_map, if◌then◌else◌}
 use Rattle.ca_arena.specs.declared.handle.Handle.{Handle}
 use Rattle.ca_arena.specs.Arena.{Place}
 use Rattle.ca_beacon.specs.Clock.{Clock}
@@ -22,10 +22,13 @@ use Rattle.ca_server_circuit.specs.declared.cause.Cause.{Cause}
 use Rattle.ca_server_circuit.specs.declared.cause.Cause.TheVariants as cause
 use Rattle.ca_server_circuit.specs.declared.step.EndStep.TheVariants as step
 use Rattle.ca_server_core.specs.declared.stepping.Step.{Step}
+use Rattle.ca_server_core.specs.declared.stepping.Step.TheVariants as own
 use Rattle.ca_server_circuit.specs.declared.step.Effect.{Effect}
+use Rattle.ca_server_circuit.specs.Circuits.{is_open}
 use Rattle.ca_server_circuit.specs.Ending.{KeepsPlaces, WithdrawsAll}
 use Rattle.ca_server_circuit.specs.Handling.{Does, Recorded, Tells, is_wrote, known, replied}
 use Rattle.ca_server_circuit.specs.Serving.{CircuitSteps}
+use Rattle.ca_server_core.specs.Following.{IsSettled, Settles}
 use Rattle.ca_server_core.specs.Serving.{IsReport, Reports, StepsIn, more_applied, stepped}
 use Rattle.ca_server_circuit.specs.Sound.{EndIsSound}
 use Rattle.ca_server_core.specs.Sound.{IsSound}
@@ -233,6 +236,17 @@ step-sound port s u t after h did (inl g) i = by g.0 g.1 g.2 g.3 g.4
     by : (c new : ServerCircuit) → under t h ≡ Some c → CircuitSteps port h c s (Some (step.Handled did)) new u → after ≡ with_changed (λ (x : ServerCircuit). new) h t → IsSound (records_of u) after
     by (Open e) new there d changed =
         handled-sound port 0 0 (record { number = 0; wait = 0; due = 0 }) s u t after h e d.0 did there d.1 d.2 d.3 (became t after h new (Open d.0) changed d.4) i
+    by (Ended w left) new there d changed = not-some (step.Handled did) d.0
+
+-- the end of a circuit that handled a message is open, so that nothing is to be taken out
+pub handled-settles : (port : ℕ) (s u : Store) (t after : Table ServerCircuit) (h : Handle) (did : Effect) (waited : ℕ) → StepsIn port t h s (Some (step.Handled did)) after u → Settles after h waited own.Handled after
+handled-settles port s u t after h did waited (inr none) = not-some (step.Handled did) none.1
+handled-settles port s u t after h did waited (inl g) = by g.0 g.1 g.2 g.3 g.4
+  where
+    by : (c new : ServerCircuit) → under t h ≡ Some c → CircuitSteps port h c s (Some (step.Handled did)) new u → after ≡ with_changed (λ (x : ServerCircuit). new) h t → Settles after h waited own.Handled after
+    by (Open e) new there d changed =
+        let found : under after h ≡ Some (Open d.0) = ap (λ (z : Table ServerCircuit). under z h) (became t after h new (Open d.0) changed d.4) ∙ changed-own (λ (z : ServerCircuit). Open d.0) t h (Open e) there in
+        subst (λ (o : Option ServerCircuit). IsSettled o waited own.Handled × (after ≡ (if is_open o then after else with_freed h after))) (sym found) (refl, refl)
     by (Ended w left) new there d changed = not-some (step.Handled did) d.0
 
 -- a step that finds nothing to do leaves all as it was

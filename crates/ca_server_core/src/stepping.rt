@@ -1,8 +1,9 @@
-ghost use Rattle.std.specs.Prelude.{◌≡◌, take};
+ghost use Rattle.std.specs.Prelude.{◌≡◌, length, take, true};
 ghost use Rattle.ca_ids.specs.Table.{under};
-ghost use Rattle.ca_model.specs.ServerSteps.{Steps};
+ghost use Rattle.ca_model.specs.ServerSteps.{Steps, output_of};
 ghost use Rattle.ca_records.specs.Store.{records_of};
 ghost use Rattle.ca_server_core.specs.Following.{Settles};
+ghost use Rattle.ca_server_circuit.specs.declared.step.Effect.TheVariants.{Quiet};
 ghost use Rattle.ca_server_circuit.specs.Circuits.{is_open};
 ghost use Rattle.ca_server_core.specs.Serving.{Reports, StepsIn, more_applied, stepped};
 ghost use Rattle.ca_server_core.specs.Sound.{IsSound};
@@ -12,7 +13,7 @@ use crate::server::ServerCore;
 use ca_arena::Handle;
 use ca_ids::HeldTable;
 use ca_records::ServedRecords;
-use ca_server_circuit::{Cause, Circuit, EndStep};
+use ca_server_circuit::{Cause, Circuit, Effect, EndStep};
 use ca_text::APPLIED_LIMIT;
 use ca_wire::Pipe;
 use std::alloc::Global;
@@ -41,9 +42,18 @@ impl ServerCore {
     pub fn step(&mut self, circuit: Handle) -> Step
         ensures { Steps self.old circuit (stepped result) self.new }
     {
-        let waited = self.out_bytes(circuit).len();
-        match step_on(self.port, &mut self.circuits, &mut self.records, circuit) {
+        let mut waited = 0;
+        match step_on(
+            self.port,
+            &mut self.circuits,
+            &mut self.records,
+            circuit,
+            &mut waited,
+        ) {
             Some(EndStep::Handled(effect)) => {
+                if is_quiet(effect) {
+                    return Step::Handled;
+                }
                 self.applied = more_applied(self.applied, effect.is_write());
                 follow(
                     &mut self.circuits,
@@ -62,20 +72,35 @@ impl ServerCore {
     }
 }
 
-/// One step of a circuit's end, which has ended if it broke. None if there is no circuit, or its end had ended.
+/// One step of a circuit's end, which has ended if it broke, and how many bytes waited to be sent before it. None if there is no circuit, or its
+/// end had ended.
 fn step_on(
     port: u16,
     circuits: &mut HeldTable<Circuit>,
     records: &mut ServedRecords,
     circuit: Handle,
+    waited: &mut usize,
 ) -> Option<EndStep>
     requires { IsSound (records_of records.old) circuits.old }
-    ensures { StepsIn port circuits.old circuit records.old result circuits.new records.new }
+    ensures steps { StepsIn port circuits.old circuit records.old result circuits.new records.new }
+    ensures waited { waited.new ≡ length (output_of (under circuits.old circuit)) }
 {
     let Some(found) = circuits.by_handle_mut(circuit) else {
+        *waited = 0;
         return None;
     };
+    *waited = found.out_bytes().len();
     found.step(port, circuit, records)
+}
+
+/// Whether nothing is left to do: so it is after most messages.
+fn is_quiet(effect: Effect) -> bool
+    ensures { result ≡ true → effect ≡ Quiet }
+{
+    match effect {
+        Effect::Quiet => true,
+        _ => false,
+    }
 }
 
 /// What a step of a circuit that handled a message answers. If its end has ended since, out of memory, nothing is left of its replies:

@@ -1,24 +1,50 @@
-use Rattle.std.proofs.Common.{length, List, ℕ, ap}
+use Rattle.std.proofs.Common.{◌∙◌, false, length, refl, ap}
+use Rattle.ca_ids.specs.Table.{under}
+use Rattle.ca_model.specs.Server.{Server}
+use Rattle.ca_model.specs.ServerSteps.{output_of}
 use Rattle.ca_records.specs.Store.{records_of}
 use Rattle.ca_server_core.proofs.Covered.{covers-thinned}
 use Rattle.ca_server_core.proofs.Followed.{broke-thins, none-thins, settled-sound, settled-thins, step-covers, viewed-followed}
-use Rattle.ca_server_core.proofs.Stepped.{broke-sound, none-sound, step-sound, viewed-broke, viewed-none}
+use Rattle.ca_server_core.proofs.Stepped.{broke-sound, handled-settles, none-sound, step-sound, viewed-broke, viewed-none}
+use Rattle.ca_server_circuit.specs.declared.step.Effect.TheVariants.{Quiet}
+use Rattle.ca_server_core.specs.declared.stepping.Step.TheVariants as own
 use Rattle.ca_server_core.proofs.server.ServerCore.step.Goals as goal
+
+pub invariant_of-self : goal.invariant_of-self
+invariant_of-self c =
+    let i = c.self.inside in
+    let quiet = c.is_quiet.ensures c.if-is_quiet.true in
+    let did = rw quiet at (rw c.in-Some-Handled.field-0-is at c.in-Some-Handled.ensures.steps) in
+    record {
+      sound = step-sound i.port i.records c.step_on.new.records i.circuits c.step_on.new.circuits c.args.circuit Quiet did c.self.invariant.sound;
+      covered = step-covers i.port i.watchers i.records c.step_on.new.records i.circuits c.step_on.new.circuits c.args.circuit Quiet did c.self.invariant.covered;
+    }
+
+pub returns-then-is_quiet : goal.returns-then-is_quiet
+returns-then-is_quiet c =
+    let i = c.self.inside in
+    let u = c.step_on.new in
+    let quiet = c.is_quiet.ensures c.if-is_quiet.true in
+    let did = rw quiet at (rw c.in-Some-Handled.field-0-is at c.in-Some-Handled.ensures.steps) in
+    let long = c.in-Some-Handled.ensures.waited ∙ ap (λ (z : Server). length (output_of (under z.circuits c.args.circuit))) c.self.view_is in
+    let sound = step-sound i.port i.records u.records i.circuits u.circuits c.args.circuit Quiet did c.self.invariant.sound in
+    let settles = handled-settles i.port i.records u.records i.circuits u.circuits c.args.circuit Quiet _ did in
+    viewed-followed c.args.self.now i.port i.moment i.applied i.applied _ i.beacons i.records u.records u.records i.circuits u.circuits u.circuits u.circuits c.args.circuit Quiet false own.Handled c.self.view_is refl refl long did (refl, refl) sound settles
 
 pub follow-requires-clause-sound : goal.follow-requires-clause-sound
 follow-requires-clause-sound c =
     let i = c.self.inside in
-    let did = rw c.in-Some-Handled.field-0-is at c.in-Some-Handled.ensures in
+    let did = rw c.in-Some-Handled.field-0-is at c.in-Some-Handled.ensures.steps in
     step-sound i.port i.records c.step_on.new.records i.circuits c.step_on.new.circuits c.args.circuit c.in-Some-Handled.effect did c.self.invariant.sound
 
 pub follow-requires-clause-covered : goal.follow-requires-clause-covered
 follow-requires-clause-covered c =
     let i = c.self.inside in
-    let did = rw c.in-Some-Handled.field-0-is at c.in-Some-Handled.ensures in
+    let did = rw c.in-Some-Handled.field-0-is at c.in-Some-Handled.ensures.steps in
     step-covers i.port i.watchers i.records c.step_on.new.records i.circuits c.step_on.new.circuits c.args.circuit c.in-Some-Handled.effect did c.self.invariant.covered
 
-pub invariant_of-self : goal.invariant_of-self
-invariant_of-self c =
+pub invariant_of-self-in-Some-Handled : goal.invariant_of-self-in-Some-Handled
+invariant_of-self-in-Some-Handled c =
     let f = c.follow.new in
     record {
       sound = settled-sound (records_of f.records) f.circuits c.settle.new.circuits c.args.circuit _ c.settle.result c.settle.ensures c.follow.ensures.sound;
@@ -28,7 +54,7 @@ invariant_of-self c =
 pub invariant_of-self-in-Some-Breaks : goal.invariant_of-self-in-Some-Breaks
 invariant_of-self-in-Some-Breaks c =
     let i = c.self.inside in
-    let did = rw c.in-Some-Breaks.field-0-is at c.in-Some-Breaks.ensures in
+    let did = rw c.in-Some-Breaks.field-0-is at c.in-Some-Breaks.ensures.steps in
     record {
       sound = broke-sound i.port i.records c.step_on.new.records i.circuits c.step_on.new.circuits c.report.new.circuits c.args.circuit c.in-Some-Breaks.field-0-0 c.report.result did c.report.ensures c.self.invariant.sound;
       covered = covers-thinned i.watchers i.circuits c.report.new.circuits (broke-thins i.port i.records c.step_on.new.records i.circuits c.step_on.new.circuits c.report.new.circuits c.args.circuit c.in-Some-Breaks.field-0-0 c.report.result did c.report.ensures) c.self.invariant.covered;
@@ -38,25 +64,25 @@ pub invariant_of-self-in-None : goal.invariant_of-self-in-None
 invariant_of-self-in-None c =
     let i = c.self.inside in
     record {
-      sound = none-sound i.port i.records c.step_on.new.records i.circuits c.step_on.new.circuits c.report-in-None.new.circuits c.args.circuit c.report-in-None.result c.in-None.ensures c.report-in-None.ensures c.self.invariant.sound;
-      covered = covers-thinned i.watchers i.circuits c.report-in-None.new.circuits (none-thins i.port i.records c.step_on.new.records i.circuits c.step_on.new.circuits c.report-in-None.new.circuits c.args.circuit c.report-in-None.result c.in-None.ensures c.report-in-None.ensures) c.self.invariant.covered;
+      sound = none-sound i.port i.records c.step_on.new.records i.circuits c.step_on.new.circuits c.report-in-None.new.circuits c.args.circuit c.report-in-None.result c.in-None.ensures.steps c.report-in-None.ensures c.self.invariant.sound;
+      covered = covers-thinned i.watchers i.circuits c.report-in-None.new.circuits (none-thins i.port i.records c.step_on.new.records i.circuits c.step_on.new.circuits c.report-in-None.new.circuits c.args.circuit c.report-in-None.result c.in-None.ensures.steps c.report-in-None.ensures) c.self.invariant.covered;
     }
 
-pub returns-in-Some-Handled : goal.returns-in-Some-Handled
-returns-in-Some-Handled c =
+pub returns-else-is_quiet : goal.returns-else-is_quiet
+returns-else-is_quiet c =
     let i = c.self.inside in
-    let did = rw c.in-Some-Handled.field-0-is at c.in-Some-Handled.ensures in
+    let did = rw c.in-Some-Handled.field-0-is at c.in-Some-Handled.ensures.steps in
     let f = c.follow.new in
-    let long = ap (λ (o : List ℕ). length o) c.out_bytes-waited.ensures in
+    let long = c.in-Some-Handled.ensures.waited ∙ ap (λ (z : Server). length (output_of (under z.circuits c.args.circuit))) c.self.view_is in
     viewed-followed c.args.self.now i.port i.moment i.applied c.more_applied-self-inside.result _ i.beacons i.records c.step_on.new.records f.records i.circuits c.step_on.new.circuits f.circuits c.settle.new.circuits c.args.circuit c.in-Some-Handled.effect c.is_write.result c.settle.result c.self.view_is c.is_write.ensures c.more_applied-self-inside.ensures long did c.follow.ensures.follows c.follow.ensures.sound c.settle.ensures
 
 pub returns-in-Some-Breaks : goal.returns-in-Some-Breaks
 returns-in-Some-Breaks c =
     let i = c.self.inside in
-    let did = rw c.in-Some-Breaks.field-0-is at c.in-Some-Breaks.ensures in
+    let did = rw c.in-Some-Breaks.field-0-is at c.in-Some-Breaks.ensures.steps in
     viewed-broke c.args.self.now i.port i.moment i.applied i.beacons i.records c.step_on.new.records i.circuits c.step_on.new.circuits c.report.new.circuits c.args.circuit c.in-Some-Breaks.field-0-0 c.report.result c.self.view_is did c.report.ensures c.self.invariant.sound
 
 pub returns-in-None : goal.returns-in-None
 returns-in-None c =
     let i = c.self.inside in
-    viewed-none c.args.self.now i.port i.moment i.applied i.beacons i.records c.step_on.new.records i.circuits c.step_on.new.circuits c.report-in-None.new.circuits c.args.circuit c.report-in-None.result c.self.view_is c.in-None.ensures c.report-in-None.ensures c.self.invariant.sound
+    viewed-none c.args.self.now i.port i.moment i.applied i.beacons i.records c.step_on.new.records i.circuits c.step_on.new.circuits c.report-in-None.new.circuits c.args.circuit c.report-in-None.result c.self.view_is c.in-None.ensures.steps c.report-in-None.ensures c.self.invariant.sound
