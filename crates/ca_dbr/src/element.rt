@@ -48,6 +48,30 @@ pub(crate) fn put_bytes(bytes: &[u8], out: &mut Vec<u8>)
     }
 }
 
+/// Puts these two bytes at the end, where room was made for them. One by one, since no room is to be asked for again.
+fn put_two(bytes: [u8; 2], out: &mut Vec<u8>)
+    requires { vec_len out.old + 2 ≤ vec_capacity out.old }
+    ensures after { out.new.items ≡ out.old.items ++ bytes }
+    ensures len { vec_len out.new ≡ vec_len out.old + 2 }
+    ensures capacity { vec_capacity out.old ≤ vec_capacity out.new }
+{
+    out.push_reserved(bytes[0]);
+    out.push_reserved(bytes[1]);
+}
+
+/// The same with four.
+fn put_four(bytes: [u8; 4], out: &mut Vec<u8>)
+    requires { vec_len out.old + 4 ≤ vec_capacity out.old }
+    ensures after { out.new.items ≡ out.old.items ++ bytes }
+    ensures len { vec_len out.new ≡ vec_len out.old + 4 }
+    ensures capacity { vec_capacity out.old ≤ vec_capacity out.new }
+{
+    out.push_reserved(bytes[0]);
+    out.push_reserved(bytes[1]);
+    out.push_reserved(bytes[2]);
+    out.push_reserved(bytes[3]);
+}
+
 impl Element for [u8; 40] {
     ghost SIZE = { 40 };
 
@@ -83,7 +107,7 @@ impl Element for i16 {
 
     #[tactic(auto, unfolding(crate::specs::Elements::signed_bytes_2))]
     fn put(self, out: &mut Vec<u8>) {
-        put_bytes(&self.to_be_bytes(), out);
+        put_two(self.to_be_bytes(), out);
     }
 
     fn know(self) {}
@@ -105,7 +129,7 @@ impl Element for u32 {
 
     #[tactic(auto, unfolding(crate::specs::Elements::bytes_4))]
     fn put(self, out: &mut Vec<u8>) {
-        put_bytes(&self.to_be_bytes(), out);
+        put_four(self.to_be_bytes(), out);
     }
 
     fn know(self) {}
@@ -127,7 +151,7 @@ impl Element for u16 {
 
     #[tactic(auto, unfolding(crate::specs::Elements::bytes_2))]
     fn put(self, out: &mut Vec<u8>) {
-        put_bytes(&self.to_be_bytes(), out);
+        put_two(self.to_be_bytes(), out);
     }
 
     fn know(self) {}
@@ -171,7 +195,7 @@ impl Element for i32 {
 
     #[tactic(auto, unfolding(crate::specs::Elements::signed_bytes_4))]
     fn put(self, out: &mut Vec<u8>) {
-        put_bytes(&self.to_be_bytes(), out);
+        put_four(self.to_be_bytes(), out);
     }
 
     fn know(self) {}

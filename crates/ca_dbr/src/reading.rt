@@ -129,7 +129,7 @@ pub fn read_value_into(
 }
 
 // The memory of a value of texts, or none yet.
-fn texts_in(alloc: Global, room: Option<Value>) -> Vec<[u8; 40]> {
+pub(crate) fn texts_in(alloc: Global, room: Option<Value>) -> Vec<[u8; 40]> {
     match room {
         Some(Value::Strings(items)) => items,
         _ => Vec::new(alloc),
@@ -137,7 +137,7 @@ fn texts_in(alloc: Global, room: Option<Value>) -> Vec<[u8; 40]> {
 }
 
 // The memory of a value of INTs, or none yet.
-fn ints_in(alloc: Global, room: Option<Value>) -> Vec<i16> {
+pub(crate) fn ints_in(alloc: Global, room: Option<Value>) -> Vec<i16> {
     match room {
         Some(Value::Ints(items)) => items,
         _ => Vec::new(alloc),
@@ -145,7 +145,7 @@ fn ints_in(alloc: Global, room: Option<Value>) -> Vec<i16> {
 }
 
 // The memory of a value of FLOATs, or none yet.
-fn floats_in(alloc: Global, room: Option<Value>) -> Vec<u32> {
+pub(crate) fn floats_in(alloc: Global, room: Option<Value>) -> Vec<u32> {
     match room {
         Some(Value::Floats(items)) => items,
         _ => Vec::new(alloc),
@@ -153,7 +153,7 @@ fn floats_in(alloc: Global, room: Option<Value>) -> Vec<u32> {
 }
 
 // The memory of a value of ENUMs, or none yet.
-fn enums_in(alloc: Global, room: Option<Value>) -> Vec<u16> {
+pub(crate) fn enums_in(alloc: Global, room: Option<Value>) -> Vec<u16> {
     match room {
         Some(Value::Enums(items)) => items,
         _ => Vec::new(alloc),
@@ -161,7 +161,7 @@ fn enums_in(alloc: Global, room: Option<Value>) -> Vec<u16> {
 }
 
 // The memory of a value of CHARs, or none yet.
-fn chars_in(alloc: Global, room: Option<Value>) -> Vec<u8> {
+pub(crate) fn chars_in(alloc: Global, room: Option<Value>) -> Vec<u8> {
     match room {
         Some(Value::Chars(items)) => items,
         _ => Vec::new(alloc),
@@ -169,7 +169,7 @@ fn chars_in(alloc: Global, room: Option<Value>) -> Vec<u8> {
 }
 
 // The memory of a value of LONGs, or none yet.
-fn longs_in(alloc: Global, room: Option<Value>) -> Vec<i32> {
+pub(crate) fn longs_in(alloc: Global, room: Option<Value>) -> Vec<i32> {
     match room {
         Some(Value::Longs(items)) => items,
         _ => Vec::new(alloc),
@@ -177,7 +177,7 @@ fn longs_in(alloc: Global, room: Option<Value>) -> Vec<i32> {
 }
 
 // The memory of a value of DOUBLEs, or none yet.
-fn doubles_in(alloc: Global, room: Option<Value>) -> Vec<u64> {
+pub(crate) fn doubles_in(alloc: Global, room: Option<Value>) -> Vec<u64> {
     match room {
         Some(Value::Doubles(items)) => items,
         _ => Vec::new(alloc),
