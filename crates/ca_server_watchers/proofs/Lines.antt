@@ -184,6 +184,11 @@ module _ {K : Type 0} (bytes : K → List ℕ) where
   pub watched : (name : List ℕ) (es : Lines) (hs : List Handle) → lookup (λ k. bytes_eq name (bytes k)) es ≡ Some hs → watching (lines_in bytes es) name ≡ hs
   watched name es hs is = ap (λ (o : Option (List Handle)). unwrap_or o []) (looked name es ∙ is)
 
+  -- the same by a key that is the name
+  pub named : (name key : List ℕ) (es : Lines) (hs : List Handle) → bytes_eq key name ≡ true → lookup (λ k. bytes_eq key (bytes k)) es ≡ Some hs → watching (lines_in bytes es) name ≡ hs
+  named name key es hs same is =
+      watched name es hs (subst (λ (t : List ℕ). lookup (λ k. bytes_eq t (bytes k)) es ≡ Some hs) ((bytes_eq-Decides key name).0 same) is)
+
   pub unwatched : (name : List ℕ) (es : Lines) → (let none : Option (List Handle) = None in lookup (λ k. bytes_eq name (bytes k)) es ≡ none) → watching (lines_in bytes es) name ≡ []
   unwatched name es is = ap (λ (o : Option (List Handle)). unwrap_or o []) (looked name es ∙ is)
 

@@ -1,4 +1,4 @@
-ghost use Rattle.std.specs.Prelude.{◌≡◌, OnErr, OnOk, [], length, slice_get};
+ghost use Rattle.std.specs.Prelude.{◌≡◌, IfSome, OnErr, OnOk, [], length, slice_get};
 ghost use Rattle.ca_server_watchers.specs.Watching.{AreApart, Clears, LeavesAt, Watches, watching};
 
 use crate::line::Line;
@@ -11,6 +11,8 @@ use std::marker::Model;
 #[derive(Drop)]
 pub struct Watchers {
     lines: IndexMap<Vec<u8>, Line>,
+    // Where a line was found last: mostly the same is asked for again. The name decides.
+    recent: usize,
 }
 
 impl Model for Watchers {
@@ -30,26 +32,69 @@ impl Watchers {
     {
         Watchers {
             lines: IndexMap::new(alloc),
+            recent: 0,
         }
     }
 
     /// How many circuits watch the record of this name.
-    pub fn count(&self, name: &[u8]) -> usize
-        ensures count { result ≡ length (watching self.now name.now) }
-        ensures apart { AreApart (watching self.now name.now) }
+    pub fn count(&mut self, name: &[u8]) -> usize
+        ensures count { result ≡ length (watching self.old name.now) }
+        ensures apart { AreApart (watching self.old name.now) }
+        ensures stays { self.new ≡ self.old }
     {
         // Then no name need be hashed.
         if self.lines.is_empty() {
             return 0;
         }
-        match self.lines.get(name) {
-            Some(line) => line.len(),
+        if let Some(count) = self.recent_count(name) {
+            return count;
+        }
+        match self.lines.get_full(name) {
+            Some((place, _, line)) => {
+                let count = line.len();
+                self.recent = place;
+                count
+            }
             None => 0,
         }
     }
 
+    // How many watch the record of this name, if its line was found last.
+    fn recent_count(&self, name: &[u8]) -> Option<usize>
+        ensures { IfSome result (λ n.
+            (n ≡ length (watching self.now name.now)) × AreApart (watching self.now name.now)) }
+    {
+        match self.recent_line(name) {
+            Some(line) => Some(line.len()),
+            None => None,
+        }
+    }
+
+    // The line of this name, if it was found last.
+    fn recent_line(&self, name: &[u8]) -> Option<&Line>
+        ensures { IfSome result (λ l. l.now ≡ watching self.now name.now) }
+    {
+        let Some((key, line)) = self.lines.get_index(self.recent) else {
+            return None;
+        };
+        if key.as_slice() == name {
+            return Some(line);
+        }
+        None
+    }
+
     /// The one at this place among them.
     pub fn at(&self, name: &[u8], place: usize) -> Option<Handle>
+        ensures { result ≡ slice_get (watching self.now name.now) place }
+    {
+        match self.recent_line(name) {
+            Some(line) => line.at(place),
+            None => self.hashed_at(name, place),
+        }
+    }
+
+    // The same by the hash of the name.
+    fn hashed_at(&self, name: &[u8], place: usize) -> Option<Handle>
         ensures { result ≡ slice_get (watching self.now name.now) place }
     {
         match self.lines.get(name) {

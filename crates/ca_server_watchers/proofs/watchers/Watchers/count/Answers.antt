@@ -16,17 +16,17 @@ returns-then-is_empty-clause-apart c =
     let none = unlisted (λ k. k.items) name c.self.inside.lines.entries (c.is_empty.ensures.0 c.if-is_empty.true) in
     subst (λ (hs : List Handle). AreApart hs) (sym none ∙ ap (λ (w : Watched). watching w name) c.self.view_is) none-apart
 
-pub returns-in-Some-clause-count : goal.returns-in-Some-clause-count
-returns-in-Some-clause-count c =
+pub returns-in-Some-get_full-clause-count : goal.returns-in-Some-get_full-clause-count
+returns-in-Some-get_full-clause-count c =
     let name = c.args.name.now in
-    let here = watched (λ k. k.items) name c.self.inside.lines.entries c.in-Some.line.now (sym c.in-Some.ensures.value) in
-    c.len.ensures.count ∙ ap (λ (hs : List Handle). length hs) (sym here ∙ ap (λ (w : Watched). watching w name) c.self.view_is)
+    let here = watched (λ k. k.items) name c.self.inside.lines.entries c.in-Some-get_full.line.now (sym c.in-Some-get_full.ensures.value) in
+    c.len-count.ensures.count ∙ ap (λ (hs : List Handle). length hs) (sym here ∙ ap (λ (w : Watched). watching w name) c.self.view_is)
 
-pub returns-in-Some-clause-apart : goal.returns-in-Some-clause-apart
-returns-in-Some-clause-apart c =
+pub returns-in-Some-get_full-clause-apart : goal.returns-in-Some-get_full-clause-apart
+returns-in-Some-get_full-clause-apart c =
     let name = c.args.name.now in
-    let here = watched (λ k. k.items) name c.self.inside.lines.entries c.in-Some.line.now (sym c.in-Some.ensures.value) in
-    subst (λ (hs : List Handle). AreApart hs) (sym here ∙ ap (λ (w : Watched). watching w name) c.self.view_is) c.len.ensures.apart
+    let here = watched (λ k. k.items) name c.self.inside.lines.entries c.in-Some-get_full.line.now (sym c.in-Some-get_full.ensures.value) in
+    subst (λ (hs : List Handle). AreApart hs) (sym here ∙ ap (λ (w : Watched). watching w name) c.self.view_is) c.len-count.ensures.apart
 
 pub returns-in-None-clause-count : goal.returns-in-None-clause-count
 returns-in-None-clause-count c =

@@ -2,7 +2,7 @@ use Rattle.std.proofs.Common.{slice_get, List, sym, ap, ◌∙◌}
 use Rattle.ca_arena.specs.declared.handle.Handle.{Handle}
 use Rattle.ca_server_watchers.specs.Watching.{Watched, watching}
 use Rattle.ca_server_watchers.proofs.Lines.{unwatched, watched}
-use Rattle.ca_server_watchers.proofs.watchers.Watchers.at.Goals as goal
+use Rattle.ca_server_watchers.proofs.watchers.Watchers.hashed_at.Goals as goal
 
 pub returns-in-Some : goal.returns-in-Some
 returns-in-Some c =
