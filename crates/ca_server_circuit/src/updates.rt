@@ -63,6 +63,7 @@ impl End {
             return Ok(false);
         };
         show(self.alloc, &mut self.link, wanted, &update)?;
+        self.subscriptions.recycle(update);
         Ok(true)
     }
 }

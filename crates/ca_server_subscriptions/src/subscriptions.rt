@@ -24,6 +24,8 @@ use std::marker::Model;
 pub struct Subscriptions {
     standing: IndexMap<SubKey, Standing>,
     queues: CircuitQueues<Update, EventQueue<Update>>,
+    // The value of an update that was shown: its memory is for the next.
+    spare: Option<Value>,
 }
 
 impl Model for Subscriptions {
@@ -48,6 +50,7 @@ impl Subscriptions {
         Ok(Subscriptions {
             standing: IndexMap::new(alloc),
             queues,
+            spare: None,
         })
     }
 
@@ -197,9 +200,17 @@ impl Subscriptions {
             return Ok(());
         }
         let (key, queue) = (*key, standing.queue());
-        let update = Update::of(alloc, value, *meta)?;
+        let room = self.spare.take();
+        let update = Update::of_in(alloc, room, value, *meta)?;
         self.queues.post(queue, key, update);
         Ok(())
+    }
+
+    /// An update that was shown gives its memory to the next one.
+    pub fn recycle(&mut self, update: Update)
+        ensures { self.new ≡ self.old }
+    {
+        self.spare = Some(update.into_value());
     }
 
     /// The place of the queue that has the one at this place, if a post to the record of this name, with this mask, concerns it. Only

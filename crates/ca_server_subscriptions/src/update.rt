@@ -40,6 +40,28 @@ impl Update {
         }
     }
 
+    /// The same in the memory of a value that is used no more, if there is one of this type.
+    pub(crate) fn of_in(
+        alloc: Global,
+        room: Option<Value>,
+        value: &Value,
+        meta: Meta,
+    ) -> Result<Update, AllocError>
+        requires { count_of (elements value.now) ≤ element_limit }
+        ensures { IfOk result (λ u. u ≡ record { value = elements value.now; meta = meta }) }
+    {
+        match value.copy_into(alloc, room) {
+            Ok(value) => Ok(Update { value, meta }),
+            Err(_) => Err(AllocError),
+        }
+    }
+
+    // Its value, for its memory.
+    pub(crate) fn into_value(self) -> Value {
+        let Update { value, .. } = self;
+        value
+    }
+
     /// Its value.
     pub fn value(&self) -> &Value
         ensures value { elements result.now ≡ self.now.value }

@@ -1,4 +1,4 @@
-use Rattle.std.proofs.Common.{◌≡◌, ◌∙◌, ℕ, ◌<◌, ◌≤◌, Bool, true, false, List, length, get_or, sym, nat_eq, arith}
+use Rattle.std.proofs.Common.{◌≡◌, ◌∙◌, ℕ, true, false, sym, nat_eq, arith}
 use Rattle.ca_server_circuit.proofs.Peeked.{second-is}
 use Rattle.ca_server_circuit.proofs.next_put.may_put.Goals as goal
 

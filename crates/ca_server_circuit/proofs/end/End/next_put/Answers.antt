@@ -1,4 +1,4 @@
-use Rattle.std.proofs.Common.{◌∙◌, ap, rules}
+use Rattle.std.proofs.Common.{◌∙◌, ap}
 use Rattle.ca_model.specs.Server.{ServerEnd}
 use Rattle.ca_server_circuit.proofs.Peeked.{puts-bad, puts-more, puts-other, puts-whole}
 use Rattle.ca_server_circuit.proofs.end.End.next_put.Goals as goal

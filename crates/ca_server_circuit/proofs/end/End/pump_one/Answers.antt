@@ -11,4 +11,4 @@ returns-in_err-show c =
 pub returns : goal.returns
 returns c =
     let did = c.in_ok-show.ensures.ok in
-    leaves-one _ c.args.self.now c.show.new.link c.take.new.self c.in-Some.wanted _ did.0 c.self.view_is (leb-false output_limit (length c.self.inside.link.output) (sym c.if-is_full.ensures)) c.in-Some.ensures.gives did.1 did.2
+    rw c.recycle.ensures (leaves-one _ c.args.self.now c.show.new.link c.take.new.self c.in-Some.wanted _ did.0 c.self.view_is (leb-false output_limit (length c.self.inside.link.output) (sym c.if-is_full.ensures)) c.in-Some.ensures.gives did.1 did.2)

@@ -22,7 +22,10 @@ returns-then-not-is_concerned c =
     }
 
 pub invariant_of-self : goal.invariant_of-self
-invariant_of-self c =
+invariant_of-self c = c.self.invariant
+
+pub invariant_of-self-2 : goal.invariant_of-self-2
+invariant_of-self-2 c =
     let es = c.self.inside.standing.entries in
     let qs = c.self.inside.queues in
     subst (λ (rs : List (Queue Stored)). ArePlaced es rs) (sym c.post.ensures)
