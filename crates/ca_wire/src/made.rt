@@ -75,5 +75,23 @@ fn pad(size: usize, out: &mut Vec<u8>) -> Result<(), AllocError>
     if over == 0 {
         return Ok(());
     }
+    // After one element of four bytes.
+    if over == 4 {
+        pad_four(out)?;
+        return Ok(());
+    }
     out.extend_from_slice(&[0u8; 8][over..])
+}
+
+/// Puts four zeros at the end.
+fn pad_four(out: &mut Vec<u8>) -> Result<(), AllocError>
+    ensures ok { OnOk result (out.new.items ≡ out.old.items ++ replicate 4 0) }
+    ensures err { OnErr result (out.new.items ≡ out.old.items) }
+{
+    out.reserve(4)?;
+    out.push_reserved(0);
+    out.push_reserved(0);
+    out.push_reserved(0);
+    out.push_reserved(0);
+    Ok(())
 }
