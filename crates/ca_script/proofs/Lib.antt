@@ -1,5 +1,4 @@
 pub mod Partings
-pub mod Numerals
 pub mod Plain
 pub mod Sayings
 pub mod Heads

@@ -5,11 +5,17 @@ ghost use Rattle.ca_script.specs.Grammar.{IsNumber};
 pub fn decimal(word: &[u8]) -> Option<u64>
     ensures { MatchOption result ((n : ℕ) → IsNumber word.now n → ⊥) (IsNumber word.now) }
 {
-    if word.first() == Some(&b'+') {
+    if word.is_empty() {
         return None;
     }
-    let Ok(text) = str::from_utf8(word) else {
-        return None;
-    };
-    text.parse::<u64>().ok()
+    let mut number: u64 = 0;
+    for byte in word {
+        if !byte.is_ascii_digit() {
+            return None;
+        }
+        number = number
+            .checked_mul(10)?
+            .checked_add(u64::from(*byte - b'0'))?;
+    }
+    Some(number)
 }
