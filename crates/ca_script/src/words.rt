@@ -99,7 +99,16 @@ impl<'a, const SEPARATOR: u8> Pieces<'a, SEPARATOR> {
 pub fn is_word(word: &[u8], text: &str) -> bool
     ensures { IsTrue result ↔ (word.now ≡ text.now) }
 {
-    word == text.as_bytes()
+    let text = text.as_bytes();
+    if word.len() != text.len() {
+        return false;
+    }
+    for place in 0..text.len() {
+        if word[place] != text[place] {
+            return false;
+        }
+    }
+    true
 }
 
 /// The decimal number that a word is. Refused as BadText.
