@@ -1,5 +1,6 @@
 //! One ticket after another, on one thread.
 ghost use Rattle.std.specs.Prelude.{◌≡◌, ◌≤◌};
+ghost use Rattle.ca_board.specs.Views.{IsDue};
 
 use ca_board::{Board, CallerSeat, CoreSeat, Filled, Ticket};
 use ca_dbr::Outcome;
@@ -11,15 +12,52 @@ pub(crate) fn outcome_is_given_once(alloc: Global) -> Result<bool, Refusal> {
     let (board, mut core) = Board::new(alloc)?;
     let mut caller = board.caller(&mut core);
     let ticket = board.arm(&mut core)?;
-    let early = board.collect(&mut caller, ticket).is_some();
-    let unused = board.recycle(&mut core, ticket.cell);
-    let stored = board.fill(&mut core, ticket, Outcome::Done) == Filled::Stored;
-    let first = collects(&board, &mut caller, ticket) == Some(Outcome::Done);
-    let again = collects(&board, &mut caller, ticket).is_some();
-    let late = gives_up(&board, &mut caller, ticket).is_some();
+    let waits = still_waits(&board, &mut core, &mut caller, ticket);
+    let given = is_given_once(&board, &mut core, &mut caller, ticket);
     let freed = frees(&board, &mut core, ticket.cell);
     let twice = frees(&board, &mut core, ticket.cell);
-    Ok(!early && !unused && stored && first && !again && !late && freed && !twice)
+    Ok(waits && given && freed && !twice)
+}
+
+// Whether a ticket that is not filled gives nothing, and keeps its cell.
+fn still_waits(board: &Board, core: &mut CoreSeat, caller: &mut CallerSeat, ticket: Ticket) -> bool
+    requires board { (core.old.board ≡ board.now) × (caller.old.board ≡ board.now) }
+    requires due { IsDue core.old ticket }
+    ensures core { core.new.board ≡ board.now }
+    ensures caller { caller.new.board ≡ board.now }
+    ensures due { IsDue core.new ticket }
+{
+    let early = collects(board, caller, ticket).is_some();
+    let unused = board.recycle(core, ticket.cell);
+    !early && !unused
+}
+
+// Whether an outcome is stored, and then given once.
+fn is_given_once(
+    board: &Board,
+    core: &mut CoreSeat,
+    caller: &mut CallerSeat,
+    ticket: Ticket,
+) -> bool
+    requires board { (core.old.board ≡ board.now) × (caller.old.board ≡ board.now) }
+    requires due { IsDue core.old ticket }
+    ensures core { core.new.board ≡ board.now }
+    ensures caller { caller.new.board ≡ board.now }
+{
+    let stored = board.fill(core, ticket, Outcome::Done) == Filled::Stored;
+    let first = collects(board, caller, ticket) == Some(Outcome::Done);
+    let gone = is_gone(board, caller, ticket);
+    stored && first && gone
+}
+
+// Whether a ticket gives nothing, and a give-up finds nothing.
+fn is_gone(board: &Board, caller: &mut CallerSeat, ticket: Ticket) -> bool
+    requires { caller.old.board ≡ board.now }
+    ensures { caller.new.board ≡ board.now }
+{
+    let again = collects(board, caller, ticket).is_some();
+    let late = gives_up(board, caller, ticket).is_some();
+    !again && !late
 }
 
 /// A ticket whose cell was armed anew gives nothing.
@@ -27,16 +65,46 @@ pub(crate) fn old_ticket_is_stale(alloc: Global) -> Result<bool, Refusal> {
     let (board, mut core) = Board::new(alloc)?;
     let mut caller = board.caller(&mut core);
     let old = board.arm(&mut core)?;
-    board.fill(&mut core, old, Outcome::Done);
-    let found = gives_up(&board, &mut caller, old) == Some(Outcome::Done);
-    let freed = frees(&board, &mut core, old.cell);
+    let ended = ends_by_give_up(&board, &mut core, &mut caller, old);
     let new = board.arm(&mut core)?;
     let anew = new.cell == old.cell && new.generation == 1;
-    board.fill(&mut core, new, Outcome::Disconnected);
-    let stale = collects(&board, &mut caller, old).is_none();
-    let gone = gives_up(&board, &mut caller, old).is_none();
-    let fresh = collects(&board, &mut caller, new) == Some(Outcome::Disconnected);
-    Ok(found && freed && anew && stale && gone && fresh)
+    let stale = is_stale(&board, &mut core, &mut caller, old, new);
+    Ok(ended && anew && stale)
+}
+
+// Whether a give-up finds what is stored, and the cell is free then.
+fn ends_by_give_up(
+    board: &Board,
+    core: &mut CoreSeat,
+    caller: &mut CallerSeat,
+    ticket: Ticket,
+) -> bool
+    requires board { (core.old.board ≡ board.now) × (caller.old.board ≡ board.now) }
+    requires due { IsDue core.old ticket }
+    ensures core { core.new.board ≡ board.now }
+    ensures caller { caller.new.board ≡ board.now }
+{
+    board.fill(core, ticket, Outcome::Done);
+    let found = gives_up(board, caller, ticket) == Some(Outcome::Done);
+    let freed = frees(board, core, ticket.cell);
+    found && freed
+}
+
+// Whether the old ticket gives nothing once the new one is filled, and the new one gives its outcome.
+fn is_stale(
+    board: &Board,
+    core: &mut CoreSeat,
+    caller: &mut CallerSeat,
+    old: Ticket,
+    new: Ticket,
+) -> bool
+    requires board { (core.old.board ≡ board.now) × (caller.old.board ≡ board.now) }
+    requires due { IsDue core.old new }
+{
+    board.fill(core, new, Outcome::Disconnected);
+    let gone = is_gone(board, caller, old);
+    let fresh = collects(board, caller, new) == Some(Outcome::Disconnected);
+    gone && fresh
 }
 
 /// A cell again and again, more often than 16 bits count: how many generations gave their outcome, and then nothing.
@@ -62,11 +130,9 @@ fn is_given(
     ensures caller { caller.new.board ≡ board.now }
 {
     let ticket = board.arm(core)?;
-    let stored = board.fill(core, ticket, Outcome::Done) == Filled::Stored;
-    let first = collects(board, caller, ticket) == Some(Outcome::Done);
-    let again = collects(board, caller, ticket).is_some();
+    let given = is_given_once(board, core, caller, ticket);
     let freed = frees(board, core, ticket.cell);
-    Ok(ticket.generation == generation && stored && first && !again && freed)
+    Ok(ticket.generation == generation && given && freed)
 }
 
 /// The outcome of a ticket that was given up comes back to the core, also where the cell was freed before.
@@ -74,17 +140,42 @@ pub(crate) fn fill_after_give_up(alloc: Global) -> Result<bool, Refusal> {
     let (board, mut core) = Board::new(alloc)?;
     let mut caller = board.caller(&mut core);
     let early = board.arm(&mut core)?;
-    let gone = gives_up(&board, &mut caller, early).is_none();
-    let outcome = Outcome::Unreadable(Refusal::Short);
-    let back = board.fill(&mut core, early, outcome)
-        == Filled::GivenUp(Outcome::Unreadable(Refusal::Short));
-    let freed = board.recycle(&mut core, early.cell);
+    let back = comes_back(&board, &mut core, &mut caller, early);
     let late = board.arm(&mut core)?;
-    let gone_again = gives_up(&board, &mut caller, late).is_none();
-    let freed_again = board.recycle(&mut core, late.cell);
-    let back_again = board.fill(&mut core, late, Outcome::Done) == Filled::GivenUp(Outcome::Done);
-    let none = collects(&board, &mut caller, late).is_none();
-    Ok(gone && back && freed && gone_again && freed_again && back_again && none)
+    let back_late = comes_back_late(&board, &mut core, &mut caller, late);
+    Ok(back && back_late)
+}
+
+// Whether the outcome of a ticket that was given up comes back, and the cell is free then.
+fn comes_back(board: &Board, core: &mut CoreSeat, caller: &mut CallerSeat, ticket: Ticket) -> bool
+    requires board { (core.old.board ≡ board.now) × (caller.old.board ≡ board.now) }
+    requires due { IsDue core.old ticket }
+    ensures core { core.new.board ≡ board.now }
+    ensures caller { caller.new.board ≡ board.now }
+{
+    let gone = gives_up(board, caller, ticket).is_none();
+    let outcome = Outcome::Unreadable(Refusal::Short);
+    let back = board.fill(core, ticket, outcome)
+        == Filled::GivenUp(Outcome::Unreadable(Refusal::Short));
+    let freed = frees(board, core, ticket.cell);
+    gone && back && freed
+}
+
+// The same where the cell is freed before the outcome comes; and nobody collects it.
+fn comes_back_late(
+    board: &Board,
+    core: &mut CoreSeat,
+    caller: &mut CallerSeat,
+    ticket: Ticket,
+) -> bool
+    requires board { (core.old.board ≡ board.now) × (caller.old.board ≡ board.now) }
+    requires due { IsDue core.old ticket }
+{
+    let gone = gives_up(board, caller, ticket).is_none();
+    let freed = board.recycle(core, ticket.cell);
+    let back = board.fill(core, ticket, Outcome::Done) == Filled::GivenUp(Outcome::Done);
+    let none = collects(board, caller, ticket).is_none();
+    gone && freed && back && none
 }
 
 // 1 for what holds.
