@@ -74,7 +74,8 @@ pub(crate) fn allocate<T, A: Allocator>(
     len: usize,
 ) -> Result<(Base<T>, Cells<T>, Deed<T, A>), AllocError>
     requires { FitsInBlock T.row len }
-    ensures { IfOk result (λ r. (r.1.at ≡ r.0.ptr) × (r.1.slots ≡ replicate len None) × (r.2.at ≡ r.0.ptr) × (r.2.len ≡ len) × (r.2.alloc ≡ alloc.now)) }
+    ensures { IfOk result (λ r. (r.1.at ≡ r.0.ptr) × (r.1.slots ≡ replicate len None)
+        × (r.2.at ≡ r.0.ptr) × (r.2.len ≡ len) × (r.2.alloc ≡ alloc.now)) }
 {
     match alloc.allocate(len * size_of::<T>(), align_of::<T>()) {
         Ok(block) => {
@@ -98,7 +99,8 @@ pub(crate) fn deallocate<T, A: Allocator>(
     cells: Cells<T>,
     deed: Deed<T, A>,
 )
-    requires { (cells.at ≡ base.ptr) × (cells.slots ≡ replicate len None) × (deed.at ≡ base.ptr) × (deed.len ≡ len) × (deed.alloc ≡ alloc.now) }
+    requires { (cells.at ≡ base.ptr) × (cells.slots ≡ replicate len None) × (deed.at ≡ base.ptr)
+        × (deed.len ≡ len) × (deed.alloc ≡ alloc.now) }
 {
     let Cells { mark: _ } = cells;
     let Deed { mark: _ } = deed;
@@ -111,8 +113,10 @@ impl<T> Cells<T> {
     ghost use Rattle.ca_arena.specs.Cells.{lends_slot};
 
     pub(crate) fn write(&mut self, base: Base<T>, index: usize, item: T)
-        requires { (base.ptr ≡ self.old.at) × (index < length self.old.slots) × (get_or self.old.slots index None ≡ None) }
-        ensures { (self.new.at ≡ self.old.at) × (self.new.slots ≡ slice_set self.old.slots index (Some item)) }
+        requires { (base.ptr ≡ self.old.at) × (index < length self.old.slots)
+            × (get_or self.old.slots index None ≡ None) }
+        ensures { (self.new.at ≡ self.old.at)
+            × (self.new.slots ≡ slice_set self.old.slots index (Some item)) }
     {
         unsafe { base.ptr.add(index).write(item) }
     }
@@ -120,7 +124,8 @@ impl<T> Cells<T> {
     pub(crate) fn read(&mut self, base: Base<T>, index: usize) -> T
         requires { (base.ptr ≡ self.old.at) × IsFilled self.old.slots index }
         ensures value { get_or self.old.slots index None ≡ Some result }
-        ensures slots { (self.new.at ≡ self.old.at) × (self.new.slots ≡ slice_set self.old.slots index None) }
+        ensures slots { (self.new.at ≡ self.old.at)
+            × (self.new.slots ≡ slice_set self.old.slots index None) }
     {
         unsafe { base.ptr.add(index).read() }
     }

@@ -82,7 +82,8 @@ pub(crate) fn end_all(
 }
 
 fn end_at(table: &mut HeldTable<Subscription>, index: u16, circuit: Handle, channel: Handle)
-    ensures { table.new ≡ with_place index (by_value (option_map (over_on circuit channel))) table.old }
+    ensures { table.new
+        ≡ with_place index (by_value (option_map (over_on circuit channel))) table.old }
 {
     let Some((handle, subscription)) = at(table, index) else {
         return;

@@ -72,7 +72,8 @@ impl Line {
 
     // It is this owner's. What it lists of another is over.
     fn own(&mut self, owner: Handle)
-        ensures readies { (t : Table request.Request) → MayBeOf t owner self.old → Readies t self.old self.new }
+        ensures readies { (t : Table request.Request) → MayBeOf t owner self.old
+            → Readies t self.old self.new }
         ensures owner { self.new.owner ≡ owner }
     {
         if is_same(self.owner, owner) {

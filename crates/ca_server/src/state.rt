@@ -34,7 +34,8 @@ impl<L: Ledger> State<L> {
     ) -> Result<State<L>, AllocError>
         requires { book.total ≡ 0 }
         ensures { IfOk result (λ s.
-            (s.core ≡ new_server port now rules.items records.now) × (s.count ≡ 0) × (sum s.credits.items ≡ 0)) }
+            (s.core ≡ new_server port now rules.items records.now) × (s.count ≡ 0)
+            × (sum s.credits.items ≡ 0)) }
     {
         know_apart(records);
         let credits = no_credits(*rules.allocator(), ARENA_SLOTS)?;

@@ -115,7 +115,8 @@ fn step_at(
         server }
     requires may { (j : model.Joined)
         → At (map joined_of circuits.old.items) circuit j
-        → MayBegin server side.old.core j (map joined_of circuits.old.items) (map record_of side.old.records.items) }
+        → MayBegin server side.old.core j (map joined_of circuits.old.items)
+        (map record_of side.old.records.items) }
     ensures { StepsServer
         circuit
         side.old
@@ -151,7 +152,8 @@ fn check_write(circuits: &[Joined], write: &Option<Coming>) -> Result<(), AllocE
 
 // How much waits on a circuit, and how much was applied and waits at its server.
 fn counts_of(core: &ServerCore, joined: &Joined) -> Counts
-    ensures waited { result.waited ≡ length (output_of (under core.now.circuits joined.now.at_server)) }
+    ensures waited { result.waited ≡ length (output_of
+        (under core.now.circuits joined.now.at_server)) }
     ensures applied { result.applied ≡ core.now.applied }
     ensures waits { result.waiting ≡ waiting core.now }
 {
@@ -207,7 +209,8 @@ fn step_end(
     requires within { circuit < vec_len circuits.old }
     requires may { (j : model.Joined)
         → At (map joined_of circuits.old.items) circuit j
-        → MayStep server side.old.core j (map joined_of circuits.old.items) (map record_of side.old.records.items) ahead counts }
+        → MayStep server side.old.core j (map joined_of circuits.old.items)
+        (map record_of side.old.records.items) ahead counts }
     requires served { AreServed
         side.old.circuits.items
         (map joined_of circuits.old.items)
@@ -278,7 +281,8 @@ fn tell_step(
     requires within { circuit < vec_len circuits.old }
     requires was { (before : Server) × (m : (j : model.Joined)
         → At (map joined_of circuits.old.items) circuit j
-        → MayStep server before j (map joined_of circuits.old.items) (map record_of side.old.records.items) ahead counts)
+        → MayStep server before j (map joined_of circuits.old.items)
+        (map record_of side.old.records.items) ahead counts)
         × ((j : model.Joined) (there : At (map joined_of circuits.old.items) circuit j)
         → (at ≡ j.at_server) × IsHandled before side.old.core j.at_server (m j there).e) }
     requires served { AreServed
@@ -291,7 +295,8 @@ fn tell_step(
     requires room { HasRoomFor (waits side.old.records.items + 2) side.old.life logs.old.items }
     ensures steps { (before : Server) (j : model.Joined)
         → At (map joined_of circuits.old.items) circuit j
-        → (m : MayStep server before j (map joined_of circuits.old.items) (map record_of side.old.records.items) ahead counts)
+        → (m : MayStep server before j (map joined_of circuits.old.items)
+        (map record_of side.old.records.items) ahead counts)
         → IsHandled before side.old.core j.at_server m.e
         → StepsAt
         circuit
@@ -508,7 +513,8 @@ fn note(
         × WasDone before h (map record_of side.old.records.items) prepared.deed write parting action }
     requires alike { (busies : Bool) → prepared.deed ≡ did.Applies busies
         → AllAlike server side.old.core (map joined_of circuits.old.items) }
-    requires counts { (busies : Bool) → prepared.deed ≡ did.Applies busies → AllMayCount circuits.old.items }
+    requires counts { (busies : Bool) → prepared.deed ≡ did.Applies busies
+        → AllMayCount circuits.old.items }
     requires reported { wrote_by prepared.deed ≡ false → HasReported side.old.core }
     requires served { AreServed
         side.old.circuits.items
@@ -640,7 +646,8 @@ fn close_stepped(
     requires within { circuit < vec_len circuits.old }
     requires done { (busies : Bool) → wrote_in side.old.core applied command write ≡ Some busies
         → (before : Server) × (h : handle.Handle) × (action : Action)
-        × WasDone before h (map record_of side.old.records.items) (did.Applies busies) write parting action }
+        × WasDone before h (map record_of side.old.records.items)
+        (did.Applies busies) write parting action }
     requires alike { (busies : Bool) → wrote_in side.old.core applied command write ≡ Some busies
         → AllAlike server side.old.core (map joined_of circuits.old.items) }
     requires counts { (busies : Bool) → wrote_in side.old.core applied command write ≡ Some busies
@@ -662,10 +669,12 @@ fn close_stepped(
         side.new
         (map joined_of circuits.new.items)
         (entries_in logs.new.items) }
-    ensures some { (busies : Bool) (j : model.Joined) → wrote_in side.old.core applied command write ≡ Some busies
+    ensures some { (busies : Bool) (j : model.Joined)
+        → wrote_in side.old.core applied command write ≡ Some busies
         → At (map joined_of circuits.old.items) circuit j
         → (before : Server) (h : handle.Handle) (action : Action)
-        → WasDone before h (map record_of side.old.records.items) (did.Applies busies) write parting action
+        → WasDone before h (map record_of side.old.records.items)
+        (did.Applies busies) write parting action
         → ClosesWith
         circuit
         server
@@ -708,7 +717,8 @@ fn close_written(
     left: Pipe,
 )
     requires done { (before : Server) × (h : handle.Handle) × (action : Action)
-        × WasDone before h (map record_of side.old.records.items) (did.Applies busies) write parting action }
+        × WasDone before h (map record_of side.old.records.items)
+        (did.Applies busies) write parting action }
     requires alike { AllAlike server side.old.core (map joined_of circuits.old.items) }
     requires counts { AllMayCount circuits.old.items }
     requires served { AreServed
@@ -718,7 +728,8 @@ fn close_written(
     requires space { MayWaitFor write side.old.records.items }
     requires room { HasRoomFor (waits side.old.records.items + 2) side.old.life logs.old.items }
     ensures { (before : Server) (h : handle.Handle) (action : Action)
-        → WasDone before h (map record_of side.old.records.items) (did.Applies busies) write parting action
+        → WasDone before h (map record_of side.old.records.items)
+        (did.Applies busies) write parting action
         → ClosesWith
         circuit
         server

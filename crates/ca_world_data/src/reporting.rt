@@ -105,7 +105,8 @@ fn tell_gone(
     ensures { entries_in logs.new.items
         ≡ grown
         life
-        (world.withdrawals (gone_at server core.now (map joined_of circuits.now)) (map record_of records.now))
+        (world.withdrawals (gone_at server core.now (map joined_of circuits.now))
+        (map record_of records.now))
         (entries_in logs.old.items) }
 {
     if life < logs.len() {

@@ -54,7 +54,8 @@ fn push_all(down: &mut Vec<Told>, replies: Vec<Told>)
 
 /// A channel was created under this SID by the message at this place.
 pub fn begin_channel(joined: &mut Joined, sid: u32, place: usize) -> Result<(), AllocError>
-    ensures ok { OnOk result (joined_of joined.new ≡ with_creation sid place (joined_of joined.old)) }
+    ensures ok { OnOk result (joined_of joined.new ≡ with_creation sid place
+        (joined_of joined.old)) }
     ensures err { OnErr result (joined_of joined.new ≡ joined_of joined.old) }
 {
     joined.creations.push(Creation { sid, place })?;
@@ -82,7 +83,8 @@ fn switch_all(queues: &mut [ListQueue<(usize, Cause)>], on: bool)
 /// room.
 pub fn begin_standing(joined: &mut Joined, key: SubKey, place: usize) -> Result<(), AllocError>
     requires { HasNone (map (λ q. queue_of q.0) joined.old.queues.items) key }
-    ensures ok { OnOk result (joined_of joined.new ≡ with_standing key place (joined_of joined.old)) }
+    ensures ok { OnOk result (joined_of joined.new ≡ with_standing key place
+        (joined_of joined.old)) }
     ensures err { OnErr result (joined_of joined.new ≡ joined_of joined.old) }
 {
     joined.standing.reserve(1)?;

@@ -106,7 +106,8 @@ pub fn lose_all(
 fn lose_on(alloc: Global, server: usize, core: &ServerCore, joined: &mut Joined, leading: &Leading)
     requires may { MayLose server core.now joined.old leading.now }
     ensures { (n : ℕ)
-        → (joined.old.server ≡ server → joined.old.lists.server_open ≡ true → Disconnects core.now (joined_of joined.old) leading.now n)
+        → (joined.old.server ≡ server → joined.old.lists.server_open ≡ true
+        → Disconnects core.now (joined_of joined.old) leading.now n)
         → joined_of joined.new ≡ lost_by server leading.now n (joined_of joined.old) }
 {
     if joined.server == server && joined.lists.server_open {
@@ -120,7 +121,8 @@ fn lose_open(alloc: Global, core: &ServerCore, joined: &mut Joined, leading: &Le
     requires room { vec_len joined.old.lists.down + length leading.now.channels.items ≤ vec_capacity joined.old.lists.down }
     requires seated { AreSeated (joined_of joined.old) }
     ensures { (n : ℕ) → Disconnects core.now (joined_of joined.old) leading.now n
-        → joined_of joined.new ≡ without_lost (take n leading.now.channels.items) (joined_of joined.old) }
+        → joined_of joined.new ≡ without_lost (take n leading.now.channels.items)
+        (joined_of joined.old) }
 {
     let sent = (bytes_of(core, joined.at_server).len() - leading.waited) / 16;
     let lost = &leading.channels[..sent];
