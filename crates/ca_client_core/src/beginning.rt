@@ -4,8 +4,7 @@ ghost use Rattle.ca_model.specs.ClientEnds.{ClientBegins};
 use crate::client::ClientCore;
 use crate::searches::Searches;
 use ca_beacon::BeaconTable;
-use ca_client_tables::{Address, count_names, name_circuits};
-use ca_ids::HeldTable;
+use ca_client_tables::{Address, Channels, count_names, name_circuits};
 use ca_monitor::Monitors;
 use ca_requests::Requests;
 use ca_text::{ARENA_SLOTS, PAYLOAD_LIMIT, Refusal};
@@ -50,7 +49,7 @@ impl ClientCore {
             host,
             servers,
             moment: now,
-            channels: HeldTable::new(alloc),
+            channels: Channels::new(alloc),
             requests: Requests::new(alloc),
             monitors: Monitors::new(alloc),
             circuits,

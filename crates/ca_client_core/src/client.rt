@@ -1,7 +1,7 @@
 use crate::searches::Searches;
 use ca_arena::Handle;
 use ca_beacon::BeaconTable;
-use ca_client_tables::{Address, Channel, Circuit, LiveChannels};
+use ca_client_tables::{Address, Channels, Circuit, LiveChannels};
 use ca_ids::HeldTable;
 use ca_monitor::Monitors;
 use ca_requests::Requests;
@@ -20,7 +20,7 @@ pub struct ClientCore {
     /// Where searches go in datagrams.
     pub(crate) servers: Vec<Address>,
     pub(crate) moment: u64,
-    pub(crate) channels: HeldTable<Channel>,
+    pub(crate) channels: Channels,
     pub(crate) requests: Requests,
     pub(crate) monitors: Monitors,
     pub(crate) circuits: HeldTable<Circuit>,

@@ -10,8 +10,7 @@ ghost use Rattle.ca_client_core.specs.ForHistories.{sending_of};
 use crate::client::ClientCore;
 use crate::for_histories::{Aim, Sending};
 use ca_arena::Handle;
-use ca_client_tables::{Channel, WantedCircuit};
-use ca_ids::HeldTable;
+use ca_client_tables::{Channels, WantedCircuit};
 use ca_text::{Command, PAYLOAD_LIMIT};
 use ca_wire::{Message, Priority, name_request, version_request};
 use std::alloc::{AllocError, Global};
@@ -98,7 +97,7 @@ fn of_circuit(circuit: Handle, message: Message) -> Sending
 // Puts the CREATE_CHAN of each channel that waits for this circuit behind what is sent, in order of index.
 fn list_creations(
     alloc: Global,
-    channels: &HeldTable<Channel>,
+    channels: &Channels,
     circuit: Handle,
     sent: &mut Vec<Sending>,
 ) -> Result<(), AllocError>
@@ -114,7 +113,7 @@ fn list_creations(
 // Puts that of the channel at this index behind it, if it waits for this circuit.
 fn list_creation(
     alloc: Global,
-    channels: &HeldTable<Channel>,
+    channels: &Channels,
     circuit: Handle,
     index: usize,
     sent: &mut Vec<Sending>,

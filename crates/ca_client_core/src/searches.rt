@@ -12,8 +12,7 @@ ghost use Rattle.ca_client_tables.specs.Sound.{IsClient};
 ghost use Rattle.ca_client_core.specs.Quiet.{AreQuiet, IsQuiet, is_anomaly};
 
 use ca_arena::Handle;
-use ca_client_tables::{Channel, Received};
-use ca_ids::HeldTable;
+use ca_client_tables::{Channels, Received};
 use ca_search::{Place, Search};
 use indexmap::IndexMap;
 use std::alloc::{AllocError, Global};
@@ -148,7 +147,7 @@ fn is_anomaly(received: &Received) -> bool
 
 /// The channels of a circuit that has ended: those that were cleared are gone, the others are searched for again.
 pub(crate) fn end_channels(
-    channels: &mut HeldTable<Channel>,
+    channels: &mut Channels,
     searches: &mut Searches,
     circuit: Handle,
     moment: u64,
@@ -183,7 +182,7 @@ pub(crate) fn due_in(
 /// The searches that are due once these circuits have ended, in order. It takes memory only if there is one.
 pub(crate) fn find_after(
     alloc: Global,
-    channels: &HeldTable<Channel>,
+    channels: &Channels,
     searches: &Searches,
     ends: &[Handle],
     moment: u64,

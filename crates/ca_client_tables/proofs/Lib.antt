@@ -16,3 +16,4 @@ pub mod Values
 pub mod Dues
 pub mod Foretold
 pub mod Noticed
+pub mod OnLists

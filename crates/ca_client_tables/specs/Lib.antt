@@ -9,6 +9,7 @@ pub mod Connecting
 pub mod Closings
 pub mod First
 pub mod Listed
+pub mod OnCircuits
 pub mod Receiving
 pub mod Marks
 pub mod Ahead

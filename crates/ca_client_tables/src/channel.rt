@@ -1,7 +1,7 @@
 ghost use Rattle.std.specs.Prelude.{◌≡◌, ◌≤◌, IfOk, option_map};
 ghost use Rattle.ca_text.specs.Limits.{channel_name_limit, priority_limit};
 ghost use Rattle.ca_text.specs.Name.{IsName};
-ghost use Rattle.ca_ids.specs.Table.{same_handle, with_changed};
+ghost use Rattle.ca_ids.specs.Table.{same_handle};
 ghost use Rattle.ca_ids.specs.Wire.{wire_of};
 ghost use Rattle.ca_wire.specs.Messages.{create_request};
 ghost use Rattle.ca_client_tables.specs.Ending.{is_kept};
@@ -10,7 +10,7 @@ ghost use Rattle.ca_model.specs.Client as client;
 ghost use Rattle.ca_model.specs.Client.{standing_unless_cleared, On};
 
 use ca_arena::Handle;
-use ca_ids::{HeldTable, WireId};
+use ca_ids::WireId;
 use ca_wire::{Cid, Message, create_request};
 use std::alloc::{AllocError, Global};
 use std::marker::Model;
@@ -184,13 +184,6 @@ impl Channel {
         self.standing = standing;
     }
 
-    /// It is searched for again.
-    pub(crate) fn search_again(&mut self)
-        ensures { self.new ≡ record self.old { standing = client.Searching } }
-    {
-        self.standing = Standing::Searching;
-    }
-
     /// Where it is, until its caller clears it.
     pub fn standing_unless_cleared(&self) -> Option<Standing>
         ensures { option_map standing_of result ≡ standing_unless_cleared self.now.standing }
@@ -215,18 +208,5 @@ impl Channel {
                 }
             }
         }
-    }
-}
-
-/// The channel of this handle is there now; a stale handle changes nothing.
-pub fn set_standing(channels: &mut HeldTable<Channel>, handle: Handle, standing: Standing)
-    ensures { channels.new
-        ≡ with_changed
-        (λ here. record here { standing = standing_of standing })
-        handle
-        channels.old }
-{
-    if let Some(channel) = channels.by_handle_mut(handle) {
-        channel.set_standing(standing);
     }
 }

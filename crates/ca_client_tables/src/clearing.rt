@@ -8,11 +8,11 @@ ghost use Rattle.ca_model.specs.Client.{On, is_on_in};
 ghost use Rattle.ca_client_tables.specs.Ending.{is_any, named_at, named_in};
 
 use crate::channel::{Channel, Standing, is_same};
+use crate::channels::Channels;
 use ca_arena::Handle;
-use ca_ids::HeldTable;
 
 /// Whether a channel is on this circuit.
-pub fn is_used(channels: &HeldTable<Channel>, circuit: Handle) -> bool
+pub fn is_used(channels: &Channels, circuit: Handle) -> bool
     ensures { nat_eq (length (named_in is_any circuit channels.now)) 0 ≡ not result }
 {
     for index in 0..channels.places() {
@@ -24,7 +24,7 @@ pub fn is_used(channels: &HeldTable<Channel>, circuit: Handle) -> bool
 }
 
 // Whether the channel at this index is on this circuit.
-fn is_on_at(channels: &HeldTable<Channel>, circuit: Handle, index: usize) -> bool
+fn is_on_at(channels: &Channels, circuit: Handle, index: usize) -> bool
     requires { index < length channels.now }
     ensures none { result ≡ false → named_at is_any circuit index channels.now ≡ [] }
     ensures some { result ≡ true → (h : handle.Handle) × (v : client.Channel)

@@ -1,18 +1,18 @@
 //! A circuit that is wanted is connected: what waits on it then.
-ghost use Rattle.std.specs.Prelude.{◌≡◌, ◌<◌, ◌≤◌, ◌∷◌, [], IfOk, OnOk, Some, length};
+ghost use Rattle.std.specs.Prelude.{◌≡◌, ◌≤◌, ◌∷◌, [], IfOk, OnOk, Some};
 ghost use Rattle.ca_text.specs.Limits.{priority_limit};
 ghost use Rattle.ca_arena.specs.Arena.{place_at};
-ghost use Rattle.ca_ids.specs.Table.{held_at, with_all, with_changed};
-ghost use Rattle.ca_ids.specs.Walks.{with_place};
+ghost use Rattle.ca_ids.specs.Table.{held_at, with_changed};
 ghost use Rattle.ca_link.specs.Calls.{IsOpen};
 ghost use Rattle.ca_monitor.specs.ReadRun.{no_reads};
 ghost use Rattle.ca_link.specs.Link.{new_link, with_sent};
 ghost use Rattle.ca_model.specs.Client as client;
-ghost use Rattle.ca_model.specs.ClientEnds.{creating, is_connecting};
+ghost use Rattle.ca_model.specs.ClientEnds.{is_connecting};
 ghost use Rattle.ca_client_tables.specs.Forms.{phase_of};
-ghost use Rattle.ca_client_tables.specs.Connecting.{creating_at, creations_at, creations_in, greeting};
+ghost use Rattle.ca_client_tables.specs.Connecting.{creations_at, creations_in, greeting};
 
-use crate::channel::{Channel, Phase, Standing, is_same, set_standing};
+use crate::channel::{Channel, Phase, Standing, is_same};
+use crate::channels::Channels;
 use crate::circuit::{Circuit, Connection};
 use ca_arena::Handle;
 use ca_ids::HeldTable;
@@ -43,7 +43,7 @@ pub fn new_connection(
     priority: u16,
     user: &[u8],
     host: &[u8],
-    channels: &HeldTable<Channel>,
+    channels: &Channels,
     circuit: Handle,
 ) -> Result<Connection, AllocError>
     requires { priority ≤ priority_limit }
@@ -93,14 +93,15 @@ fn set_up(
 fn create_all(
     alloc: Global,
     link: &mut Link,
-    channels: &HeldTable<Channel>,
+    channels: &Channels,
     circuit: Handle,
 ) -> Result<(), AllocError>
     requires { IsOpen link.old }
     ensures { OnOk result (link.new ≡ with_sent (creations_in circuit channels.now) link.old) }
 {
-    for index in 0..channels.places() {
-        create_at(alloc, link, channels, circuit, index)?;
+    let on = channels.on(circuit);
+    for place in 0..on.len() {
+        create_at(alloc, link, channels, circuit, on.at(place))?;
     }
     Ok(())
 }
@@ -109,18 +110,17 @@ fn create_all(
 fn create_at(
     alloc: Global,
     link: &mut Link,
-    channels: &HeldTable<Channel>,
+    channels: &Channels,
     circuit: Handle,
     index: usize,
 ) -> Result<(), AllocError>
-    requires open { IsOpen link.old }
-    requires within { index < length channels.now }
+    requires { IsOpen link.old }
     ensures { OnOk result (link.new
         ≡ with_sent
         (creations_at circuit (held_at index (place_at channels.now index)))
         link.old) }
 {
-    let Some((handle, channel)) = channels.at(index) else {
+    let Some((handle, channel)) = channels.any_at(index) else {
         return Ok(());
     };
     if !channel.is_connecting_on(circuit) {
@@ -151,30 +151,6 @@ impl Circuit {
     {
         self.connection = Some(connection);
     }
-}
-
-/// The channels that waited for this circuit are being created.
-pub fn begin_all(channels: &mut HeldTable<Channel>, circuit: Handle)
-    ensures { channels.new ≡ with_all (creating circuit) channels.old }
-{
-    let places = channels.places();
-    for index in 0..places {
-        begin_at(channels, circuit, index);
-    }
-}
-
-// The channel at this index is, if it waited for this circuit.
-fn begin_at(channels: &mut HeldTable<Channel>, circuit: Handle, index: usize)
-    requires { index < length channels.old }
-    ensures { channels.new ≡ with_place index (creating_at circuit) channels.old }
-{
-    let Some((handle, channel)) = channels.at(index) else {
-        return;
-    };
-    if !channel.is_connecting_on(circuit) {
-        return;
-    }
-    set_standing(channels, handle, Standing::On(circuit, Phase::Creating(0)));
 }
 
 impl Channel {

@@ -7,15 +7,16 @@ ghost use Rattle.ca_search.specs.Searcher.{with_one};
 ghost use Rattle.ca_search.specs.Searches.{resumed};
 ghost use Rattle.ca_model.specs.Client.{Searching, is_cleared};
 
-use crate::channel::Channel;
+use crate::channel::Standing;
+use crate::channels::{Channels, set_standing};
 use ca_arena::Handle;
-use ca_ids::{HeldTable, WireId};
+use ca_ids::WireId;
 use ca_search::Place;
 use indexmap::IndexMap;
 
 /// The channels of a circuit that has ended: those that were cleared are gone, the others are searched for again.
 pub fn end_channels(
-    channels: &mut HeldTable<Channel>,
+    channels: &mut Channels,
     searches: &mut IndexMap<u32, Place>,
     circuit: Handle,
     moment: u64,
@@ -33,11 +34,7 @@ pub fn end_channels(
 }
 
 // The channels on this circuit that were cleared are gone.
-fn let_cleared_go(
-    channels: &mut HeldTable<Channel>,
-    searches: &mut IndexMap<u32, Place>,
-    circuit: Handle,
-)
+fn let_cleared_go(channels: &mut Channels, searches: &mut IndexMap<u32, Place>, circuit: Handle)
     requires { IsClient channels.old searches.old.entries }
     ensures steps { StepsAll
         gone
@@ -56,7 +53,7 @@ fn let_cleared_go(
 
 // The channel at this index is gone, if it is one of those.
 fn let_go_at(
-    channels: &mut HeldTable<Channel>,
+    channels: &mut Channels,
     searches: &mut IndexMap<u32, Place>,
     circuit: Handle,
     index: usize,
@@ -85,7 +82,7 @@ fn let_go_at(
 
 // The others that were on this circuit are searched for again, as from the beginning.
 fn search_again(
-    channels: &mut HeldTable<Channel>,
+    channels: &mut Channels,
     searches: &mut IndexMap<u32, Place>,
     circuit: Handle,
     moment: u64,
@@ -108,7 +105,7 @@ fn search_again(
 
 // The channel at this index is searched for again, if it is one of those.
 fn search_again_at(
-    channels: &mut HeldTable<Channel>,
+    channels: &mut Channels,
     searches: &mut IndexMap<u32, Place>,
     circuit: Handle,
     moment: u64,
@@ -137,13 +134,11 @@ fn search_again_at(
 }
 
 /// The channel of this handle is searched for; a stale handle changes nothing.
-pub fn bring_back(channels: &mut HeldTable<Channel>, handle: Handle)
+pub fn bring_back(channels: &mut Channels, handle: Handle)
     ensures { channels.new
         ≡ with_changed (λ here. record here { standing = Searching }) handle channels.old }
 {
-    if let Some(channel) = channels.by_handle_mut(handle) {
-        channel.search_again();
-    }
+    set_standing(channels, handle, Standing::Searching);
 }
 
 /// The searches for this CID begin again, as from this moment.

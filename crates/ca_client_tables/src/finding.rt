@@ -10,7 +10,8 @@ ghost use Rattle.ca_model.specs.Hears.{found_at, is_searched};
 ghost use Rattle.ca_client_tables.specs.Finding.{CreatesIn, FindsIn, FindsNewIn, circuit_in, goes_to, searched_in};
 
 use crate::beginning::is_same;
-use crate::channel::{Channel, Phase, Standing, set_standing};
+use crate::channel::{Channel, Phase, Standing};
+use crate::channels::{Channels, set_standing};
 use crate::circuit::Circuit;
 use crate::ends::Address;
 use crate::queue::{queue_on, waiting_on};
@@ -50,7 +51,7 @@ pub enum How {
 /// still to be paused. Without memory nothing changes.
 pub fn find(
     alloc: Global,
-    channels: &mut HeldTable<Channel>,
+    channels: &mut Channels,
     circuits: &mut HeldTable<Circuit>,
     order: &mut Vec<Handle>,
     from: Address,
@@ -87,7 +88,7 @@ pub fn find(
 }
 
 // The channel of this CID, if it is searched for.
-pub(crate) fn searched_by(channels: &HeldTable<Channel>, cid: u32) -> Option<(Handle, &Channel)>
+pub(crate) fn searched_by(channels: &Channels, cid: u32) -> Option<(Handle, &Channel)>
     ensures { option_map (λ e. (e.0, e.1.now)) result ≡ searched_in cid channels.now }
 {
     match channels.by_wire(WireId::new(cid)) {
@@ -98,7 +99,7 @@ pub(crate) fn searched_by(channels: &HeldTable<Channel>, cid: u32) -> Option<(Ha
 
 // The channel waits for a new circuit, after the others. If no more circuits can be had, nothing happens; nor without memory.
 fn find_new(
-    channels: &mut HeldTable<Channel>,
+    channels: &mut Channels,
     circuits: &mut HeldTable<Circuit>,
     order: &mut Vec<Handle>,
     address: Address,
@@ -141,7 +142,7 @@ fn find_new(
 
 // The channel is created on this circuit, by this message. Without memory nothing happens.
 fn create_on(
-    channels: &mut HeldTable<Channel>,
+    channels: &mut Channels,
     circuits: &mut HeldTable<Circuit>,
     circuit: Handle,
     channel: Handle,
@@ -236,7 +237,7 @@ fn circuit_at(
 
 impl Channel {
     // Whether it is searched for.
-    fn is_searched(&self) -> bool
+    pub(crate) fn is_searched(&self) -> bool
         ensures { result ≡ is_searched self.now.standing }
     {
         match self.standing() {

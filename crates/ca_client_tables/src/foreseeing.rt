@@ -3,8 +3,9 @@ ghost use Rattle.std.specs.Prelude.{◌≡◌, ◌≢◌, [], IfOk, OnErr};
 ghost use Rattle.ca_client_tables.specs.Ahead.{due_after, is_due_after, is_in, sought_by, sought_in};
 
 use crate::channel::{Channel, Standing, is_same};
+use crate::channels::Channels;
 use ca_arena::Handle;
-use ca_ids::{HeldTable, WireId};
+use ca_ids::WireId;
 use ca_search::{Place, Search};
 use indexmap::IndexMap;
 use std::alloc::{AllocError, Global};
@@ -12,7 +13,7 @@ use std::alloc::{AllocError, Global};
 /// The searches that are due once these circuits have ended, in order. It takes memory only if there is one.
 pub fn find_after(
     alloc: Global,
-    channels: &HeldTable<Channel>,
+    channels: &Channels,
     searches: &IndexMap<u32, Place>,
     ends: &[Handle],
     moment: u64,
@@ -38,13 +39,7 @@ pub fn find_after(
 }
 
 // Whether the search for this CID is due once these circuits have ended.
-fn is_due_after(
-    channels: &HeldTable<Channel>,
-    ends: &[Handle],
-    moment: u64,
-    cid: u32,
-    place: &Place,
-) -> bool
+fn is_due_after(channels: &Channels, ends: &[Handle], moment: u64, cid: u32, place: &Place) -> bool
     ensures { result ≡ is_due_after (is_in ends.now) moment channels.now (cid, place.now) }
 {
     match is_sought(channels, ends, cid) {
@@ -54,7 +49,7 @@ fn is_due_after(
 }
 
 // Whether the channel of a CID is searched for once these circuits have ended, if it is on one of them.
-fn is_sought(channels: &HeldTable<Channel>, ends: &[Handle], cid: u32) -> Option<bool>
+fn is_sought(channels: &Channels, ends: &[Handle], cid: u32) -> Option<bool>
     ensures { result ≡ sought_by (is_in ends.now) channels.now cid }
 {
     match channels.by_wire(WireId::new(cid)) {

@@ -2,7 +2,7 @@
 ghost use Rattle.std.specs.Prelude.{◌≡◌, [], IfOk};
 ghost use Rattle.ca_client_tables.specs.Foretelling.{HeadsFirst, HeadsIn, creation_by};
 
-use crate::channel::Channel;
+use crate::channels::Channels;
 use crate::circuit::{Circuit, Connection};
 use crate::ends::Address;
 use crate::finding::{circuit_to, found_at, searched_by};
@@ -26,7 +26,7 @@ pub struct Creation {
 /// circuit to its server is connected.
 pub fn creation_by(
     alloc: Global,
-    channels: &HeldTable<Channel>,
+    channels: &Channels,
     circuits: &HeldTable<Circuit>,
     from: Address,
     reply: &Message,

@@ -5,8 +5,8 @@ ghost use Rattle.ca_client_tables.specs.Ending.{named_at, named_in};
 ghost use Rattle.ca_client_tables.specs.Listed.{Has, KeepsAll, KeepsLive, is_live_in, list_at, lives_in};
 
 use crate::channel::{Channel, Standing, is_same};
+use crate::channels::Channels;
 use ca_arena::Handle;
-use ca_ids::HeldTable;
 use std::alloc::{AllocError, Global};
 use std::marker::Model;
 use std::mem;
@@ -33,7 +33,7 @@ impl Model for LiveChannels {
 
 impl LiveChannels {
     // Lists one more, of which nothing is known if memory lacks.
-    fn note(&mut self, channels: &HeldTable<Channel>, channel: Handle) -> Result<(), AllocError>
+    fn note(&mut self, channels: &Channels, channel: Handle) -> Result<(), AllocError>
         ensures kept { KeepsLive channels.now self.old self.new }
         ensures own { OnOk result (Has self.new channel) }
     {
@@ -43,7 +43,7 @@ impl LiveChannels {
     }
 
     // Takes those that are not live any more out once it is long.
-    fn tidy(&mut self, channels: &HeldTable<Channel>)
+    fn tidy(&mut self, channels: &Channels)
         ensures { KeepsLive channels.now self.old self.new }
     {
         if self.listed.len() < self.limit {
@@ -64,7 +64,7 @@ impl LiveChannels {
 }
 
 // Takes those out of a list that are not live, and lists the others once each.
-fn forget(listed: &mut Vec<Handle>, channels: &HeldTable<Channel>)
+fn forget(listed: &mut Vec<Handle>, channels: &Channels)
     ensures { KeepsLive channels.now listed.old.items listed.new.items }
 {
     listed.retain(|handle| is_live(channels, *handle));
@@ -73,7 +73,7 @@ fn forget(listed: &mut Vec<Handle>, channels: &HeldTable<Channel>)
 }
 
 // Whether the channel of this handle is live.
-fn is_live(channels: &HeldTable<Channel>, handle: Handle) -> bool
+fn is_live(channels: &Channels, handle: Handle) -> bool
     ensures { result ≡ is_live_in channels.now handle }
 {
     match channels.by_handle(handle) {
@@ -98,7 +98,7 @@ impl Channel {
 pub fn note_live(
     alloc: Global,
     lists: &mut Vec<LiveChannels>,
-    channels: &HeldTable<Channel>,
+    channels: &Channels,
     circuit: Handle,
     channel: Handle,
 ) -> Result<(), AllocError>
@@ -140,7 +140,7 @@ pub fn take_live(alloc: Global, lists: &mut Vec<LiveChannels>, circuit: Handle) 
 }
 
 /// Lists the channels that are live on this circuit, in order of index. There is room for them.
-pub fn list_live(channels: &HeldTable<Channel>, circuit: Handle, room: &mut Vec<Handle>)
+pub fn list_live(channels: &Channels, circuit: Handle, room: &mut Vec<Handle>)
     requires { length (named_in is_live circuit channels.now) ≤ length room.old.items }
     ensures { room.new.items ≡ named_in is_live circuit channels.now }
 {
@@ -152,7 +152,7 @@ pub fn list_live(channels: &HeldTable<Channel>, circuit: Handle, room: &mut Vec<
 }
 
 // Puts the channel at this index after the others, if it is live on this circuit. There is room for it.
-fn push_live(channels: &HeldTable<Channel>, circuit: Handle, index: usize, room: &mut Vec<Handle>)
+fn push_live(channels: &Channels, circuit: Handle, index: usize, room: &mut Vec<Handle>)
     requires within { index < length channels.now }
     requires room { length (named_at is_live circuit index channels.now) + vec_len room.old
         ≤ vec_capacity room.old }

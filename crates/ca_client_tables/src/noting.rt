@@ -2,7 +2,7 @@
 ghost use Rattle.std.specs.Prelude.{◌≡◌, ◌+◌, ◌≤◌, IfOk, vec_capacity, vec_len};
 ghost use Rattle.ca_client_tables.specs.Noting.{NotesAll, NotesOne, told_by};
 
-use crate::channel::Channel;
+use crate::channels::Channels;
 use crate::circuit::Circuit;
 use crate::ends::Address;
 use crate::foretelling::{Creation, creation_by};
@@ -28,7 +28,7 @@ pub struct Noted {
 /// Without memory nothing changes.
 pub fn receive_all_noting(
     alloc: Global,
-    channels: &mut HeldTable<Channel>,
+    channels: &mut Channels,
     circuits: &mut HeldTable<Circuit>,
     order: &mut Vec<Handle>,
     beacons: &mut BeaconTable,
@@ -75,7 +75,7 @@ pub fn receive_all_noting(
 // changes.
 fn receive_noting(
     alloc: Global,
-    channels: &mut HeldTable<Channel>,
+    channels: &mut Channels,
     circuits: &mut HeldTable<Circuit>,
     order: &mut Vec<Handle>,
     beacons: &mut BeaconTable,
@@ -115,7 +115,7 @@ fn receive_noting(
 // The CREATE_CHAN that a message of a datagram from this address makes the client send, if any.
 fn sent_by(
     alloc: Global,
-    channels: &HeldTable<Channel>,
+    channels: &Channels,
     circuits: &HeldTable<Circuit>,
     from: Address,
     message: &Message,

@@ -4,7 +4,7 @@ ghost use Rattle.ca_text.specs.declared.command.Command.TheVariants as command;
 ghost use Rattle.ca_client_tables.specs.Receiving.{HearsIn, ReceivesAllIn, ReceivesIn, all_settled_in, boosted_if, settled_in};
 
 use crate::beacons::{Beacon, beacon_port, hear_beacon};
-use crate::channel::Channel;
+use crate::channels::Channels;
 use crate::circuit::Circuit;
 use crate::ends::Address;
 use crate::finding::{Found, find, pause_found};
@@ -33,7 +33,7 @@ pub enum Received {
 /// nothing changes.
 pub fn receive_all(
     alloc: Global,
-    channels: &mut HeldTable<Channel>,
+    channels: &mut Channels,
     circuits: &mut HeldTable<Circuit>,
     order: &mut Vec<Handle>,
     beacons: &mut BeaconTable,
@@ -75,7 +75,7 @@ pub fn receive_all(
 // A message of a datagram from this address was received; the searches are still to follow. Without memory nothing changes.
 pub(crate) fn receive(
     alloc: Global,
-    channels: &mut HeldTable<Channel>,
+    channels: &mut Channels,
     circuits: &mut HeldTable<Circuit>,
     order: &mut Vec<Handle>,
     beacons: &mut BeaconTable,

@@ -6,7 +6,7 @@ ghost use Rattle.ca_client_tables.specs.Finding.{found_undone};
 ghost use Rattle.ca_client_tables.specs.Receiving.{all_undone, received_undone};
 
 use crate::beacons::forget_beacon;
-use crate::channel::Channel;
+use crate::channels::Channels;
 use crate::circuit::Circuit;
 use crate::ending::bring_back;
 use crate::finding::{Found, How};
@@ -17,7 +17,7 @@ use ca_ids::HeldTable;
 
 // These are undone, the last one first.
 pub(crate) fn undo_all(
-    channels: &mut HeldTable<Channel>,
+    channels: &mut Channels,
     circuits: &mut HeldTable<Circuit>,
     order: &mut Vec<Handle>,
     beacons: &mut BeaconTable,
@@ -42,7 +42,7 @@ pub(crate) fn undo_all(
 
 // This one is undone.
 fn undo(
-    channels: &mut HeldTable<Channel>,
+    channels: &mut Channels,
     circuits: &mut HeldTable<Circuit>,
     order: &mut Vec<Handle>,
     beacons: &mut BeaconTable,
@@ -69,7 +69,7 @@ fn undo(
 
 // A channel was not found: it is searched for, and the circuit is as it was.
 fn lose(
-    channels: &mut HeldTable<Channel>,
+    channels: &mut Channels,
     circuits: &mut HeldTable<Circuit>,
     order: &mut Vec<Handle>,
     found: Found,
