@@ -29,6 +29,7 @@ mod Asked
 mod Marked
 mod Passing
 mod Quieted
+mod Outside
 mod Begun
 mod Prepared
 mod Rounds

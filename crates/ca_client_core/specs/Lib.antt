@@ -19,6 +19,7 @@ pub mod Marks
 pub mod Silences
 pub mod NameSearches
 pub mod Quiet
+pub mod Gone
 pub mod Ticked
 pub mod ForAccepts
 pub mod ForDatagrams

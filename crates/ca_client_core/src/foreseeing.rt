@@ -10,23 +10,24 @@ use ca_search::Search;
 use std::alloc::AllocError;
 
 impl ClientCore {
-    // The searches that are due once these circuits have ended, in order.
-    pub(crate) fn due_after(&self, ends: &[Handle]) -> Result<Vec<Search>, AllocError>
+    // The searches that are due once these circuits have ended, in order. Nothing changes.
+    pub(crate) fn due_after(&mut self, ends: &[Handle]) -> Result<Vec<Search>, AllocError>
+        ensures same { self.new ≡ self.old }
         ensures found { IfOk result (λ v. v.items
-            ≡ due_after (is_in ends.now) self.now.moment self.now.channels self.now.searches) }
+            ≡ due_after (is_in ends.now) self.old.moment self.old.channels self.old.searches) }
         ensures some { OnErr result (due_after
             (is_in ends.now)
-            self.now.moment
-            self.now.channels
-            self.now.searches ≢ []) }
+            self.old.moment
+            self.old.channels
+            self.old.searches ≢ []) }
     {
         if ends.is_empty() {
-            return due_in(self.alloc, &self.searches, self.moment);
+            return due_in(self.alloc, &mut self.searches, self.moment);
         }
         find_after(
             self.alloc,
             &self.channels,
-            &self.searches,
+            &mut self.searches,
             ends,
             self.moment,
         )

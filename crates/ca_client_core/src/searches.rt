@@ -1,5 +1,5 @@
 //! The searches of a client, and a moment before which none is due, so that a moment with nothing due looks at none of them.
-ghost use Rattle.std.specs.Prelude.{[], ◌≡◌, ◌≢◌, ◌≤◌, ◌++◌, ◌∷◌, ◌+◌, ◌<◌, IfOk, List, OnErr, OnOk, false, length, take, ℕ};
+ghost use Rattle.std.specs.Prelude.{[], ◌≡◌, ◌≢◌, ◌≤◌, ◌++◌, ◌∷◌, ◌+◌, ◌<◌, IfOk, List, OnErr, OnOk, false, length, not, take, ℕ};
 ghost use Rattle.std.specs.List.{list_any};
 ghost use Rattle.ca_ids.specs.Wire.{wire_of};
 ghost use Rattle.ca_search.specs.Searcher.{holds, with_all, with_one, without};
@@ -9,12 +9,14 @@ ghost use Rattle.ca_client_tables.specs.Ahead.{Once, due_after, is_in};
 ghost use Rattle.ca_client_tables.specs.Ending.{EndsAll, sought};
 ghost use Rattle.ca_client_tables.specs.Receiving.{all_settled_in};
 ghost use Rattle.ca_client_tables.specs.Sound.{IsClient};
+ghost use Rattle.ca_client_core.specs.Gone.{is_gone, outside};
 ghost use Rattle.ca_client_core.specs.Quiet.{AreQuiet, IsQuiet, is_anomaly};
+ghost use Rattle.indexmap.specs.IndexMap.{spare};
 
 use ca_arena::Handle;
 use ca_client_tables::{Channels, Received};
 use ca_search::{Place, Search};
-use indexmap::IndexMap;
+use indexmap::{IndexMap, IndexSet};
 use std::alloc::{AllocError, Global};
 use std::marker::Model;
 
@@ -27,9 +29,12 @@ const HALVINGS: usize = 20;
 /// The channels that are searched for, or were found, by CID, in the order in which they were opened.
 #[derive(Drop)]
 pub(crate) struct Searches {
+    // These, and those that were taken out and not yet moved together over.
     places: IndexMap<u32, Place>,
     // Before this moment no search is due.
     quiet: u64,
+    // The CIDs of those that were taken out.
+    gone: IndexSet<u32>,
 }
 
 impl Model for Searches {
@@ -38,9 +43,13 @@ impl Model for Searches {
     ghost Value = { Kept };
 
     ghost use Rattle.indexmap.specs.IndexMap.{spare};
+    ghost use Rattle.ca_client_core.specs.Gone.{outside};
     ghost use Rattle.ca_client_core.specs.Quiet.{AreQuiet};
 
-    ghost view = { λ s. record { entries = s.places.entries; room = spare s.places } };
+    ghost view = { λ s. record {
+      entries = outside s.gone.keys s.places.entries;
+      room = spare s.places;
+    } };
 
     ghost invariant = { λ s. AreQuiet s.quiet s.places.entries };
 }
@@ -53,6 +62,7 @@ impl Searches {
         Searches {
             places: IndexMap::new(alloc),
             quiet: 0,
+            gone: IndexSet::new(alloc),
         }
     }
 
@@ -71,6 +81,7 @@ impl Searches {
         ensures { self.new.entries ≡ self.old.entries ++ (cid, place) ∷ [] }
     {
         self.quiet = 0;
+        part_with(&mut self.places, &mut self.gone, cid);
         match self.places.insert(cid, place) {
             Ok(_) => {}
             Err(_) => unreachable!(),
@@ -81,16 +92,81 @@ impl Searches {
     pub(crate) fn know_once(&self)
         ensures { Once self.now.entries }
     {
-        let _count = self.places.len();
+        know_once(&self.places);
     }
 
-    // Takes the channel of this CID out. The others keep their order.
+    // Takes the channel of this CID out. The others keep their order. They are moved together only once half are out.
     pub(crate) fn remove(&mut self, cid: u32)
         ensures entries { self.new.entries ≡ without cid self.old.entries }
         ensures out { holds cid self.new.entries ≡ false }
     {
-        self.places.shift_remove(&cid);
+        note_gone(&mut self.places, &mut self.gone, cid);
+        tidy_half(&mut self.places, &mut self.gone);
     }
+}
+
+// Each CID is there once.
+fn know_once(places: &IndexMap<u32, Place>)
+    ensures { Once places.now.entries }
+{
+    let _count = places.len();
+}
+
+// Moves those together that were not taken out.
+fn tidy(places: &mut IndexMap<u32, Place>, gone: &mut IndexSet<u32>)
+    ensures entries { places.new.entries ≡ outside gone.old.keys places.old.entries }
+    ensures none { gone.new.keys ≡ [] }
+    ensures room { spare places.old ≤ spare places.new }
+{
+    if gone.is_empty() {
+        return;
+    }
+    places.retain(
+        |cid: &u32, place: &mut Place| -> bool
+            ensures { (result ≡ not (is_gone gone.now.keys cid.now)) × (place.new ≡ place.old) }
+        { !gone.contains(*cid) },
+    );
+    gone.clear();
+}
+
+// Does so if one of this CID was taken out.
+fn part_with(places: &mut IndexMap<u32, Place>, gone: &mut IndexSet<u32>, cid: u32)
+    ensures same { outside gone.new.keys places.new.entries
+        ≡ outside gone.old.keys places.old.entries }
+    ensures none { is_gone gone.new.keys cid ≡ false }
+    ensures room { spare places.old ≤ spare places.new }
+{
+    if !gone.contains(cid) {
+        return;
+    }
+    tidy(places, gone);
+}
+
+// Does so if half of them were.
+fn tidy_half(places: &mut IndexMap<u32, Place>, gone: &mut IndexSet<u32>)
+    ensures same { outside gone.new.keys places.new.entries
+        ≡ outside gone.old.keys places.old.entries }
+    ensures quiet { (q : ℕ) → AreQuiet q places.old.entries → AreQuiet q places.new.entries }
+{
+    if gone.len() < places.len() / 2 {
+        return;
+    }
+    tidy(places, gone);
+}
+
+// The one of this CID counts as taken out, or is, where there is no memory to note it.
+fn note_gone(places: &mut IndexMap<u32, Place>, gone: &mut IndexSet<u32>, cid: u32)
+    ensures entries { outside gone.new.keys places.new.entries
+        ≡ without cid (outside gone.old.keys places.old.entries) }
+    ensures out { holds cid (outside gone.new.keys places.new.entries) ≡ false }
+    ensures quiet { (q : ℕ) → AreQuiet q places.old.entries → AreQuiet q places.new.entries }
+{
+    know_once(places);
+    if gone.insert(cid).is_ok() {
+        return;
+    }
+    tidy(places, gone);
+    places.shift_remove(&cid);
 }
 
 /// There are no more searches for this channel.
@@ -161,21 +237,24 @@ pub(crate) fn end_channels(
     ensures client { IsClient channels.new searches.new.entries }
 {
     searches.quiet = 0;
+    tidy(&mut searches.places, &mut searches.gone);
     ca_client_tables::end_channels(channels, &mut searches.places, circuit, moment);
 }
 
 /// The searches that are due at a moment, in order. Out of memory only if there is one.
 pub(crate) fn due_in(
     alloc: Global,
-    searches: &Searches,
+    searches: &mut Searches,
     now: u64,
 ) -> Result<Vec<Search>, AllocError>
-    ensures found { IfOk result (λ v. v.items ≡ wanted_at now searches.now.entries) }
-    ensures some { OnErr result (wanted_at now searches.now.entries ≢ []) }
+    ensures same { searches.new.entries ≡ searches.old.entries }
+    ensures found { IfOk result (λ v. v.items ≡ wanted_at now searches.old.entries) }
+    ensures some { OnErr result (wanted_at now searches.old.entries ≢ []) }
 {
     if now < searches.quiet {
         return Ok(Vec::new(alloc));
     }
+    tidy(&mut searches.places, &mut searches.gone);
     ca_search::due_in(alloc, &searches.places, now)
 }
 
@@ -183,18 +262,20 @@ pub(crate) fn due_in(
 pub(crate) fn find_after(
     alloc: Global,
     channels: &Channels,
-    searches: &Searches,
+    searches: &mut Searches,
     ends: &[Handle],
     moment: u64,
 ) -> Result<Vec<Search>, AllocError>
+    ensures same { searches.new.entries ≡ searches.old.entries }
     ensures found { IfOk result (λ v. v.items
-        ≡ due_after (is_in ends.now) moment channels.now searches.now.entries) }
+        ≡ due_after (is_in ends.now) moment channels.now searches.old.entries) }
     ensures some { OnErr result (due_after
         (is_in ends.now)
         moment
         channels.now
-        searches.now.entries ≢ []) }
+        searches.old.entries ≢ []) }
 {
+    tidy(&mut searches.places, &mut searches.gone);
     ca_client_tables::find_after(alloc, channels, &searches.places, ends, moment)
 }
 

@@ -154,7 +154,10 @@ gone-thins c t = thins-map circuit_of (gone_at c) t refl (λ w v o there owned. 
 back-stays : (c : Handle) (v : Channel) → is_on_in is_kept c v ≡ false → back_at c (Some v) ≡ Some v
 back-stays c v other = rw other refl
 
-back-comes : (c : Handle) (v : Channel) → is_on_in is_kept c v ≡ true → let w : Channel = record v { standing = Searching } in back_at c (Some v) ≡ Some w
+abbrev searching : Channel → Channel
+searching v = record v { standing = Searching }
+
+back-comes : (c : Handle) (v : Channel) → is_on_in is_kept c v ≡ true → back_at c (Some v) ≡ Some (searching v)
 back-comes c v kept = rw kept refl
 
 pub back-only : (c : Handle) (v : Channel) → (back_at c (Some v) ≡ Some v) ⊎ (circuit_of v ≡ Some c.index)
@@ -173,7 +176,7 @@ back-twice c (Some v) = elim (cases_Bool (is_on_in is_kept c v)) [
 pub back-thins : (c : Handle) (t : Table Channel) → Thins circuit_of t (map (by_value (back_at c)) t)
 back-thins c t = thins-map circuit_of (back_at c) t refl (λ w v o there owned. elim (cases_Bool (is_on_in is_kept c w)) [
   | inl kept ↦
-      let is : (let x : Channel = record w { standing = Searching } in x) ≡ v = some_is (record w { standing = Searching }) v (sym (back-comes c w kept) ∙ there) in
+      let is : searching w ≡ v = some_is (searching w) v (sym (back-comes c w kept) ∙ there) in
       let bad : None ≡ Some o = ap circuit_of is ∙ owned in
       absurd cc
   | inr other ↦ ap circuit_of (some_is w v (sym (back-stays c w other) ∙ there)) ∙ owned

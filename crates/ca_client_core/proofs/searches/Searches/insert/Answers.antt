@@ -2,7 +2,9 @@ use Rattle.std.proofs.Common.{◌≡◌, ◌++◌, ◌∷◌, ◌∙◌, [], ap,
 use Rattle.indexmap.proofs.CallerLemmas.{insert_entry-new}
 use Rattle.ca_search.specs.Searcher.{holds}
 use Rattle.ca_search.proofs.Entries.{not-held}
+use Rattle.ca_client_core.specs.Gone.{outside}
 use Rattle.ca_client_core.specs.Quiet.{Kept}
+use Rattle.ca_client_core.proofs.Outside.{fresh-in, outside-push}
 use Rattle.ca_client_core.proofs.Quieted.{quiet-zero}
 use Rattle.ca_client_core.proofs.searches.Searches.insert.Goals as goal
 
@@ -11,8 +13,10 @@ invariant_of-self c = quiet-zero c.insert.new.self.entries
 
 pub returns : goal.returns
 returns c =
-    let k = c.self.inside.places in
-    let fresh : holds c.args.cid k.entries ≡ false = subst (λ (x : Kept). holds c.args.cid x.entries ≡ false) (sym c.self.view_is) c.requires.fresh in
-    c.in-Ok.ensures.entries
-    ∙ insert_entry-new nat_eq k c.args.cid c.args.place (not-held c.args.cid k.entries fresh)
-    ∙ ap (λ (x : Kept). x.entries ++ (c.args.cid, c.args.place) ∷ []) c.self.view_is
+    let k = c.part_with.new.places in
+    let gone = c.part_with.new.gone.keys in
+    let same : outside gone k.entries ≡ (c.self.now).entries = c.part_with.ensures.same ∙ ap (λ (x : Kept). x.entries) c.self.view_is in
+    let fresh : holds c.args.cid k.entries ≡ false = fresh-in gone c.args.cid k.entries c.part_with.ensures.none (ap (holds c.args.cid) same ∙ c.requires.fresh) in
+    ap (outside gone) (c.in-Ok.ensures.entries ∙ insert_entry-new nat_eq k c.args.cid c.args.place (not-held c.args.cid k.entries fresh))
+    ∙ outside-push gone k.entries (c.args.cid, c.args.place) c.part_with.ensures.none
+    ∙ ap (λ es. es ++ (c.args.cid, c.args.place) ∷ []) same
