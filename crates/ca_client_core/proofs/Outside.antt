@@ -50,8 +50,8 @@ outside-if gone e es b is = ap (λ (d : Bool). cond (not d) (e ∷ outside gone 
 -- ---- one of a CID
 
 not-either : (a b : Bool) → a ≡ false → b ≡ false → (a || b) ≡ false
-not-either true b no other = absurd cc
-not-either false b no other = other
+not-either true b fact other = absurd cc
+not-either false b fact other = other
 
 pub holds-outside : (gone : List ℕ) (cid : ℕ) (es : Entries) → is_gone gone cid ≡ true → holds cid (outside gone es) ≡ false
 holds-outside gone cid [] out = refl
@@ -69,12 +69,12 @@ fresh-in gone cid [] still fresh = refl
 fresh-in gone cid (e ∷ es) still fresh = go (is_gone gone e.0) refl (nat_eq cid e.0) refl (fresh-in gone cid es still)
   where
     first-not : (a b : Bool) → (a || b) ≡ false → a ≡ false
-    first-not true b no = absurd cc
-    first-not false b no = refl
+    first-not true b fact = absurd cc
+    first-not false b fact = refl
 
     last-not : (a b : Bool) → (a || b) ≡ false → b ≡ false
-    last-not true b no = absurd cc
-    last-not false b no = no
+    last-not true b fact = absurd cc
+    last-not false b fact = fact
 
     go : (b : Bool) → is_gone gone e.0 ≡ b → (d : Bool) → nat_eq cid e.0 ≡ d → (holds cid (outside gone es) ≡ false → holds cid es ≡ false) → (nat_eq cid e.0 || holds cid es) ≡ false
     go true is true same rest =
@@ -95,16 +95,16 @@ without-none cid [] none = refl
 without-none cid (e ∷ es) none = go (nat_eq cid e.0) none (without-none cid es)
   where
     go : (b : Bool) → (b || holds cid es) ≡ false → (holds cid es ≡ false → without cid es ≡ es) → cond b es (e ∷ without cid es) ≡ e ∷ es
-    go true no rest = absurd cc
-    go false no rest = ap (λ (t : Entries). e ∷ t) (rest no)
+    go true fact rest = absurd cc
+    go false fact rest = ap (λ (t : Entries). e ∷ t) (rest fact)
 
 with-none : (f : search.Channel → search.Channel) (cid : ℕ) (es : Entries) → holds cid es ≡ false → with_one f cid es ≡ es
 with-none f cid [] none = refl
 with-none f cid (e ∷ es) none = go (nat_eq cid e.0) none (with-none f cid es)
   where
     go : (b : Bool) → (b || holds cid es) ≡ false → (holds cid es ≡ false → with_one f cid es ≡ es) → cond b ((e.0, f e.1) ∷ es) (e ∷ with_one f cid es) ≡ e ∷ es
-    go true no rest = absurd cc
-    go false no rest = ap (λ (t : Entries). e ∷ t) (rest no)
+    go true fact rest = absurd cc
+    go false fact rest = ap (λ (t : Entries). e ∷ t) (rest fact)
 
 -- ---- what is done to them
 
@@ -219,9 +219,9 @@ none-outside gone cid [] none = refl
 none-outside gone cid (e ∷ es) none = go (is_gone gone e.0) (nat_eq cid e.0) refl none (none-outside gone cid es)
   where
     go : (b d : Bool) → nat_eq cid e.0 ≡ d → (d || holds cid es) ≡ false → (holds cid es ≡ false → holds cid (outside gone es) ≡ false) → holds cid (cond (not b) (e ∷ outside gone es) (outside gone es)) ≡ false
-    go b true same no rest = absurd cc
-    go true false other no rest = rest no
-    go false false other no rest = not-either (nat_eq cid e.0) (holds cid (outside gone es)) other (rest no)
+    go b true same fact rest = absurd cc
+    go true false other fact rest = rest fact
+    go false false other fact rest = not-either (nat_eq cid e.0) (holds cid (outside gone es)) other (rest fact)
 
 outside-more : (gone : List ℕ) (cid : ℕ) (es : Entries) → Once es → outside (gone ++ cid ∷ []) es ≡ without cid (outside gone es)
 outside-more gone cid [] once = refl

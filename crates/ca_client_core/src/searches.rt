@@ -123,8 +123,8 @@ fn tidy(places: &mut IndexMap<u32, Place>, gone: &mut IndexSet<u32>)
     }
     places.retain(
         |cid: &u32, place: &mut Place| -> bool
-            ensures { (result ≡ not (is_gone gone.now.keys cid.now)) × (place.new ≡ place.old) }
-        { !gone.contains(*cid) },
+            ensures { (result ≡ not (is_gone gone.entry.now.keys cid.now)) × (place.new ≡ place.old) }
+        { !gone.contains(cid) },
     );
     gone.clear();
 }
@@ -136,7 +136,7 @@ fn part_with(places: &mut IndexMap<u32, Place>, gone: &mut IndexSet<u32>, cid: u
     ensures none { is_gone gone.new.keys cid ≡ false }
     ensures room { spare places.old ≤ spare places.new }
 {
-    if !gone.contains(cid) {
+    if !gone.contains(&cid) {
         return;
     }
     tidy(places, gone);

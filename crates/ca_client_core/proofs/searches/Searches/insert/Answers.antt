@@ -15,7 +15,7 @@ pub returns : goal.returns
 returns c =
     let k = c.part_with.new.places in
     let gone = c.part_with.new.gone.keys in
-    let same : outside gone k.entries ≡ (c.self.now).entries = c.part_with.ensures.same ∙ ap (λ (x : Kept). x.entries) c.self.view_is in
+    let same : outside gone k.entries ≡ c.args.self.now.entries = c.part_with.ensures.same ∙ ap (λ (x : Kept). x.entries) c.self.view_is in
     let fresh : holds c.args.cid k.entries ≡ false = fresh-in gone c.args.cid k.entries c.part_with.ensures.none (ap (holds c.args.cid) same ∙ c.requires.fresh) in
     ap (outside gone) (c.in-Ok.ensures.entries ∙ insert_entry-new nat_eq k c.args.cid c.args.place (not-held c.args.cid k.entries fresh))
     ∙ outside-push gone k.entries (c.args.cid, c.args.place) c.part_with.ensures.none
