@@ -1,5 +1,7 @@
 -- Vocabulary: what whoever records histories asks of a client.
-use Rattle.std.specs.Prelude.{◌≡◌, ◌<◌, Bool, false, List, Option, Some, None, map, option_and_then}
+use Rattle.std.specs.Prelude.{◌≡◌, ◌≢◌, ◌<◌, Bool, false, List, [], Option, Some, None, Result, Ok, Err, Vec, map, option_and_then}
+use Rattle.std.specs.declared.alloc.AllocError.{AllocError}
+use Rattle.std.specs.declared.alloc.Global.{Global}
 use Rattle.ca_arena.specs.declared.handle.Handle.{Handle}
 use Rattle.ca_model.specs.Client.{Client, Connection, connection_at}
 use Rattle.ca_text.specs.declared.command.Command.{Command}
@@ -49,3 +51,13 @@ sending_of s = record { circuit = s.circuit; message = s.message; aim = aim_of s
 abbrev pub SendsNext : Client → Handle → List Sending → Type 0
 SendsNext x c foretold =
     (told : List answer.Notice) (sent : List answer.Sending) (new : Client) → ClientSteps x c (answer.Notices told) sent new → sent ≡ map sending_of foretold
+
+-- Whenever a step on this circuit reads a message, it sends something.
+abbrev pub SendsSome : Client → Handle → Type 0
+SendsSome x c =
+    (told : List answer.Notice) (sent : List answer.Sending) (new : Client) → ClientSteps x c (answer.Notices told) sent new → sent ≢ []
+
+-- What the next step on this circuit sends was told; or there was no memory to tell what it sends.
+abbrev pub TellsNext : Client → Handle → Result (Vec Sending Global) AllocError → Type 0
+TellsNext x c (Ok foretold) = SendsNext x c foretold.items
+TellsNext x c (Err _) = SendsSome x c

@@ -1,5 +1,5 @@
 //! What comes first on a circuit, and what a reply to a SEARCH makes a client send, told before it is taken.
-ghost use Rattle.std.specs.Prelude.{◌≡◌, [], IfOk};
+ghost use Rattle.std.specs.Prelude.{◌≡◌, ◌≢◌, [], IfOk, None, OnErr};
 ghost use Rattle.ca_client_tables.specs.Foretelling.{HeadsFirst, HeadsIn, creation_by};
 
 use crate::channel::Channel;
@@ -23,7 +23,7 @@ pub struct Creation {
 }
 
 /// The CREATE_CHAN that a reply to a SEARCH, which came from this address, makes a client send: that of the channel that was found, if the
-/// circuit to its server is connected.
+/// circuit to its server is connected. Only that takes memory.
 pub fn creation_by(
     alloc: Global,
     channels: &HeldTable<Channel>,
@@ -31,7 +31,8 @@ pub fn creation_by(
     from: Address,
     reply: &Message,
 ) -> Result<Option<Creation>, AllocError>
-    ensures { IfOk result (λ o. o ≡ creation_by channels.now circuits.now from reply.now) }
+    ensures ok { IfOk result (λ o. o ≡ creation_by channels.now circuits.now from reply.now) }
+    ensures some { OnErr result (creation_by channels.now circuits.now from reply.now ≢ None) }
 {
     let Some((channel, found)) = searched_by(channels, reply.p2()) else {
         return Ok(None);
