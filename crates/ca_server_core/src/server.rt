@@ -148,8 +148,16 @@ fn open_on(circuits: &mut HeldTable<Circuit>, circuit: Circuit) -> Result<Handle
 {
     match circuits.open(circuit) {
         Ok(handle) => Ok(handle),
-        Err((_, refusal)) => Err(refusal),
+        Err(refused) => Err(refusal_in(refused)),
     }
+}
+
+// Why a circuit was refused, which is let go.
+fn refusal_in(refused: (Circuit, Refusal)) -> Refusal
+    ensures { result ≡ refused.1 }
+{
+    let (_, refusal) = refused;
+    refusal
 }
 
 // Takes bytes that came on a circuit at this moment.
