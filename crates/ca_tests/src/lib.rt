@@ -7,6 +7,8 @@ mod arena;
 #[cfg(test)]
 mod dgram;
 #[cfg(test)]
+mod drawn;
+#[cfg(test)]
 mod ids;
 #[cfg(test)]
 mod link;
