@@ -104,7 +104,7 @@ impl<L: Listener> Context<L> {
 
     /// Asks for the value of a channel. Refused as NoCell if too many requests are in flight, and then as `ClientCore::read`.
     ///
-    /// Requests go out once a caller looks for an outcome, and 10 ms later at the latest: so many that are made at once share a few writes.
+    /// It may go out only once a caller looks for an outcome (`collect`, `wait`), some 10 ms later at the latest: so requests in a row share a few writes.
     pub fn get<R: Wait>(
         &self,
         rt: &R,
@@ -117,6 +117,8 @@ impl<L: Listener> Context<L> {
 
     /// Writes a value, with an outcome. Refused as NoCell if too many requests are in flight, and then as
     /// `ClientCore::write_notify`.
+    ///
+    /// It may go out only once a caller looks for an outcome (`collect`, `wait`), some 10 ms later at the latest.
     pub fn put_notify<R: Wait>(
         &self,
         rt: &R,
@@ -127,13 +129,19 @@ impl<L: Listener> Context<L> {
     }
 
     fn issue<R: Wait>(&self, rt: &R, request: &Request) -> Result<Ticket, Refusal> {
-        let issued = self.shared.locked.lock(rt).desk.issue(request);
+        let mut guard = self.shared.hold(rt);
+        let issued = guard.desk.issue(request);
+        let all = guard.note();
+        drop(guard);
         self.shared.ask();
+        if !all {
+            self.wake();
+        }
         let (_, ticket) = issued?;
         Ok(ticket)
     }
 
-    /// Writes a value, with no outcome. Refused as `ClientCore::write`.
+    /// Writes a value, with no outcome: it goes out at once. Refused as `ClientCore::write`.
     pub fn put<R: Wait>(&self, rt: &R, channel: Handle, value: &Value) -> Result<(), Refusal> {
         let written = self.shared.locked.lock(rt).desk.write(channel, value);
         self.wake();
@@ -195,7 +203,7 @@ impl<L: Listener> Context<L> {
             if let Some(outcome) = self.collect(caller, ticket) {
                 return Some(outcome);
             }
-            let seen = self.shared.turns(rt);
+            let seen = self.shared.turns();
             if let Some(outcome) = self.collect(caller, ticket) {
                 return Some(outcome);
             }
@@ -209,7 +217,7 @@ impl<L: Listener> Context<L> {
     /// Waits until a channel is live, for at most so many turns of the thread of input and output, and says whether it is.
     pub fn wait_live<R: Wait>(&self, rt: &R, channel: Handle, turns: u64) -> bool {
         for _ in 0..turns {
-            let seen = self.shared.turns(rt);
+            let seen = self.shared.turns();
             if self.is_live(rt, channel) {
                 return true;
             }
@@ -324,7 +332,10 @@ fn joined<R: Net + Clock + Copy + Drop, L: Listener>(
     } = parts;
     let locked = Locked {
         desk,
+        links: Vec::new(alloc),
+        told: Vec::new(alloc),
         changes: Vec::new(alloc),
+        unsent: 0,
         ending: false,
     };
     let shared = Arc::new(alloc, Shared::new(locked, waker))?;
@@ -334,7 +345,6 @@ fn joined<R: Net + Clock + Copy + Drop, L: Listener>(
         poll,
         events,
         datagrams,
-        links: Vec::new(alloc),
         tries: Tries::new(alloc),
         ears,
         told: Vec::new(alloc),

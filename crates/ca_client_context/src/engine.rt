@@ -1,14 +1,15 @@
 use crate::addresses::{from_system, to_system};
-use crate::links::{Link, Tries, close_all, connect, forget, serve};
+use crate::links::{Brought, Heard, Link, Tries, close_all, connect, forget, serve};
 use crate::listener::{Ears, Listener};
 use crate::shared::{Locked, Shared};
-use ca_client::{Answer, Ask, Desk, Told};
+use ca_client::{Answer, Ask, Desk};
 use ca_client_core::{Notice, Ticked};
 use ca_dbr::Outcome;
 use ca_text::Refusal;
 use mio::net::UdpSocket;
 use mio::{Events, Poll};
 use std::alloc::Global;
+use std::mem::swap;
 use std::net::Net;
 use std::sync::{Arc, Wait};
 use std::thread;
@@ -17,6 +18,9 @@ use std::time::{Clock, Duration, Instant};
 
 // A turn waits at most so many milliseconds.
 const TURN: u64 = 10;
+
+// While there is more to read, waits are ended only every so many milliseconds: each that ends finds more outcomes.
+const HURRY: u64 = 2;
 
 // At most so many datagrams are read in a turn.
 const DATAGRAMS: usize = 64;
@@ -48,10 +52,9 @@ pub struct Engine<N: Net + Drop, L: Listener> {
     pub(crate) poll: Poll,
     pub(crate) events: Events<Global>,
     pub(crate) datagrams: UdpSocket,
-    pub(crate) links: Vec<Link>,
     pub(crate) tries: Tries,
     pub(crate) ears: Ears<L>,
-    pub(crate) told: Vec<Told>,
+    pub(crate) told: Vec<Heard>,
     pub(crate) began: Instant,
 }
 
@@ -64,37 +67,42 @@ impl<N: Net + Drop, L: Listener> Work for Engine<N, L> {
             mut poll,
             mut events,
             datagrams,
-            mut links,
             mut tries,
             mut ears,
             mut told,
             began,
         } = self;
         let mut busy = false;
-        // When those that wait were last told that a turn is over.
+        // When those that wait were last told that a turn is over, and whether turns since then brought something.
         let mut passed = 0;
+        let mut owed = false;
         for _ in rt.forever() {
             let wait = if busy { 0 } else { TURN };
             let _ = poll.poll(&mut events, Some(Duration::from_millis(wait)));
+            shared.rise();
             let now = moment(rt, &began);
-            let mut guard = shared.locked.lock(rt);
+            shared.let_ask();
+            let mut guard = shared.hold(rt);
             let locked = &mut *guard;
-            busy = turn(
-                &net, locked, &poll, &datagrams, &mut links, &mut tries, &mut ears, &mut told, now,
-            );
+            let brought = turn(&net, locked, &poll, &datagrams, &mut tries, &mut ears, now);
+            busy = brought.any;
+            owed = owed || busy;
             if !busy {
                 shared.doze();
             }
             let ending = locked.ending;
             if ending {
-                close_all(&mut locked.desk, &mut links);
+                close_all(&mut locked.desk, &mut locked.links);
             }
+            swap(&mut locked.told, &mut told);
             drop(guard);
             tell_all(&mut ears, &mut told);
             // A turn that brought nothing ends no wait: it has sent what callers ask.
-            if busy || ending || now.saturating_sub(passed) >= TURN {
+            let since = now.saturating_sub(passed);
+            if ending || since >= TURN || owed && (!brought.more || since >= HURRY) {
                 passed = now;
-                shared.pass(rt, ending);
+                owed = false;
+                shared.pass(ending);
             }
             if ending {
                 break;
@@ -111,23 +119,28 @@ pub(crate) fn moment<R: Clock>(rt: &R, start: &Instant) -> u64 {
     }
 }
 
-// One turn, under the lock. It says whether messages came or circuits ended: then there may be more to do at once.
+// One turn, under the lock.
 fn turn<N: Net, L: Listener>(
     net: &N,
     locked: &mut Locked<L>,
     poll: &Poll,
     datagrams: &UdpSocket,
-    links: &mut Vec<Link>,
     tries: &mut Tries,
     ears: &mut Ears<L>,
-    told: &mut Vec<Told>,
     now: u64,
-) -> bool {
+) -> Brought {
+    // A caller found that a circuit ended.
+    let told_before = !locked.told.is_empty();
+    locked.unsent = 0;
     ears.follow(&mut locked.changes);
     hear(&mut locked.desk, datagrams, now);
-    let ended = tick(&mut locked.desk, datagrams, links, now);
-    connect(net, &mut locked.desk, poll, links, tries, now);
-    serve(&mut locked.desk, links, told) || ended
+    let ended = tick(&mut locked.desk, datagrams, &mut locked.links, now);
+    connect(net, &mut locked.desk, poll, &mut locked.links, tries, now);
+    let brought = serve(&mut locked.desk, &mut locked.links, &mut locked.told);
+    Brought {
+        any: brought.any || ended || told_before,
+        more: brought.more,
+    }
 }
 
 // Search replies and beacons.
@@ -165,15 +178,16 @@ fn tick(desk: &mut Desk, datagrams: &UdpSocket, links: &mut Vec<Link>, now: u64)
 }
 
 // Tells the listeners, in order.
-fn tell_all<L: Listener>(ears: &mut Ears<L>, told: &mut Vec<Told>) {
+fn tell_all<L: Listener>(ears: &mut Ears<L>, told: &mut Vec<Heard>) {
     for index in 0..told.len() {
         tell_each(ears, &mut told[index]);
     }
     told.clear();
 }
 
-fn tell_each<L: Listener>(ears: &mut Ears<L>, notices: &mut Told) {
-    while let Some(notice) = notices.next() {
+fn tell_each<L: Listener>(ears: &mut Ears<L>, heard: &mut Heard) {
+    tell(ears, &heard.first);
+    while let Some(notice) = heard.rest.next() {
         tell(ears, &notice);
     }
 }

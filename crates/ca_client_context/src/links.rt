@@ -1,14 +1,17 @@
+ghost use Rattle.std.specs.Prelude.{◌<◌};
+ghost use Rattle.std.specs.Vec.{vec_capacity, vec_len};
+
 use crate::addresses::to_system;
 use ca_arena::Handle;
 use ca_client::{Answer, Ask, Desk, Moved, Socket, Told, Wire};
-use ca_client_core::WantedCircuit;
+use ca_client_core::{Notice, WantedCircuit};
 use mio::net::TcpStream;
 use mio::{Interest, Poll, Token};
 use std::alloc::{AllocError, Global};
 use std::net::Net;
 
 // At most so many messages of a circuit are read in a turn.
-const STEPS: usize = 256;
+const STEPS: usize = 512;
 
 // A socket with so many faults is let go: `turn_over` asks for fewer.
 const MOST_FAULTS: u64 = 1 << 63;
@@ -34,16 +37,23 @@ struct Watched<S: Socket + Drop> {
     drained: bool,
     // The last write left something, and the system may have room for it.
     behind: bool,
+    // Nothing is read: a caller sends, and the thread of input and output reads.
+    sends_only: bool,
 }
 
 impl<S: Socket + Drop> Socket for Watched<S> {
-    ghost gives = { λ a bytes b. S.gives a.inner bytes b.inner };
+    ghost use Rattle.std.specs.Prelude.{⊤};
 
-    ghost takes = { λ a bytes b. S.takes a.inner bytes b.inner };
+    ghost gives = { λ _ _ _. ⊤ };
+
+    ghost takes = { λ _ _ _. ⊤ };
 
     ghost fault_count = { λ w. S.fault_count w.inner };
 
     fn read(&mut self, buffer: &mut [u8]) -> Moved {
+        if self.sends_only {
+            return Moved::Later;
+        }
         let moved = self.inner.read(buffer);
         self.drained = match moved {
             Moved::Count(_) => false,
@@ -152,63 +162,141 @@ fn reach<R: Net>(rt: &R, poll: &Poll, wanted: WantedCircuit) -> Option<Link> {
             inner: Wire::new(stream),
             drained: true,
             behind: false,
+            sends_only: false,
         },
     })
 }
 
-// Moves the bytes of all circuits, and reads their messages. It says whether messages came or circuits ended: then there may be more to do at
-// once.
-pub(crate) fn serve(desk: &mut Desk, links: &mut Vec<Link>, told: &mut Vec<Told>) -> bool {
-    let mut busy = false;
+// Notices that listeners are to be told: one at least.
+#[derive(Drop)]
+pub(crate) struct Heard {
+    pub(crate) first: Notice,
+    pub(crate) rest: Told,
+}
+
+// Keeps the notices for the listeners. There are none if a message completed requests alone.
+fn keep(told: &mut Vec<Heard>, notices: Told)
+    requires { vec_len told.old < vec_capacity told.old }
+{
+    let mut rest = notices;
+    if let Some(first) = rest.next() {
+        told.push_reserved(Heard { first, rest });
+    }
+}
+
+// What a turn brought.
+#[derive(Clone, Copy, Drop)]
+pub(crate) struct Brought {
+    // Messages came, or circuits ended: so there may be something to send at once.
+    pub(crate) any: bool,
+    // Messages, or bytes, are left for the next turn.
+    pub(crate) more: bool,
+}
+
+// Moves the bytes of all circuits, and reads their messages.
+pub(crate) fn serve(desk: &mut Desk, links: &mut Vec<Link>, told: &mut Vec<Heard>) -> Brought {
+    let mut any = false;
+    let mut more = false;
     for turn in 0..links.len() {
         // From the last to the first, so that one that ends can be taken out.
         let index = links.len().saturating_sub(turn + 1);
         match serve_at(desk, links, index, told) {
             Served::Idle => {}
-            Served::Busy => busy = true,
+            Served::Busy => any = true,
+            Served::Behind => {
+                any = true;
+                more = true;
+            }
             Served::Over => {
                 forget_at(links, index);
-                busy = true;
+                any = true;
             }
         }
     }
-    busy
+    Brought { any, more }
 }
 
-// What became of a circuit in a turn.
+// Sends what waits on all circuits, as far as that can be now. It says whether all went and no circuit ended.
+pub(crate) fn send_all(desk: &mut Desk, links: &mut Vec<Link>, told: &mut Vec<Heard>) -> bool {
+    let mut all = true;
+    for turn in 0..links.len() {
+        let index = links.len().saturating_sub(turn + 1);
+        match send_at(desk, links, index, told) {
+            Served::Idle => {}
+            Served::Busy | Served::Behind => all = false,
+            Served::Over => {
+                forget_at(links, index);
+                all = false;
+            }
+        }
+    }
+    all
+}
+
+// What became of a circuit.
 #[derive(Drop)]
 enum Served {
     Idle,
+    // Messages came.
     Busy,
+    // Something is left to be moved or read.
+    Behind,
     Over,
 }
 
-fn serve_at(desk: &mut Desk, links: &mut Vec<Link>, index: usize, told: &mut Vec<Told>) -> Served {
+fn serve_at(desk: &mut Desk, links: &mut Vec<Link>, index: usize, told: &mut Vec<Heard>) -> Served {
     match links.get_mut(index) {
         Some(link) => serve_one(desk, link, told),
         None => Served::Idle,
     }
 }
 
-fn serve_one(desk: &mut Desk, link: &mut Link, told: &mut Vec<Told>) -> Served {
+fn send_at(desk: &mut Desk, links: &mut Vec<Link>, index: usize, told: &mut Vec<Heard>) -> Served {
+    match links.get_mut(index) {
+        Some(link) => send_one(desk, link, told),
+        None => Served::Idle,
+    }
+}
+
+fn send_one(desk: &mut Desk, link: &mut Link, told: &mut Vec<Heard>) -> Served {
+    // Nothing is sent without room for what a fault tells.
+    if told.reserve(1).is_err() || link.wire.faults() >= MOST_FAULTS {
+        return Served::Behind;
+    }
+    link.wire.sends_only = true;
+    let ended = desk.turn(link.circuit, &mut link.wire);
+    link.wire.sends_only = false;
+    if let Some(ended) = ended {
+        keep(told, ended.told);
+        return Served::Over;
+    }
+    if link.wire.behind {
+        Served::Behind
+    } else {
+        Served::Idle
+    }
+}
+
+fn serve_one(desk: &mut Desk, link: &mut Link, told: &mut Vec<Heard>) -> Served {
     // Nothing is read without room for what it tells.
     if told.reserve(1).is_err() {
         return Served::Idle;
     }
     if link.wire.faults() >= MOST_FAULTS {
         if let Answer::Closed(ended) = desk.step(Ask::Cut(link.circuit)) {
-            told.push_reserved(ended.told);
+            keep(told, ended.told);
         }
         return Served::Over;
     }
     if let Some(ended) = desk.turn(link.circuit, &mut link.wire) {
-        told.push_reserved(ended.told);
+        keep(told, ended.told);
         return Served::Over;
     }
-    let mut served = if link.wire.drained && !link.wire.behind {
+    let is_done = link.wire.drained && !link.wire.behind;
+    let mut served = if is_done {
         Served::Idle
     } else {
-        Served::Busy
+        Served::Behind
     };
     for _ in 0..STEPS {
         if told.reserve(1).is_err() {
@@ -216,17 +304,19 @@ fn serve_one(desk: &mut Desk, link: &mut Link, told: &mut Vec<Told>) -> Served {
         }
         match desk.step(Ask::Step(link.circuit)) {
             Answer::Notices(notices) => {
-                told.push_reserved(notices);
-                served = Served::Busy;
+                keep(told, notices);
+                if is_done {
+                    served = Served::Busy;
+                }
             }
             Answer::Closed(ended) => {
-                told.push_reserved(ended.told);
+                keep(told, ended.told);
                 return Served::Over;
             }
             _ => return served,
         }
     }
-    served
+    Served::Behind
 }
 
 fn forget_at(links: &mut Vec<Link>, index: usize) {

@@ -1,53 +1,105 @@
+use crate::links::{Heard, Link, send_all};
 use crate::listener::{Change, Listener};
 use ca_client::Desk;
 use mio::Waker;
 use std::sync::atomic::{AtomicU64, Ordering};
-use std::sync::{Condvar, Mutex, Wait};
+use std::sync::{Mutex, MutexGuard, Wait};
+
+// Requests that callers make while none of them looks for an outcome go out so many at a time: then the server answers them while the next are made.
+const TOGETHER: u64 = 256;
+
+// A thread tries so often to have the lock before it sleeps: it is mostly held for as long as a few requests take, and to be woken takes longer.
+const TRIES: usize = 64;
+
+// Between two tries it pauses, so that whoever has the lock can make several requests with what lies under it in its processor's cache.
+const BACKOFF: usize = 200;
+
+// Before a turn the thread of input and output waits until no request was made in a pause, or for so many pauses.
+const QUIET: usize = 400;
+
+const PATIENCE: usize = 500;
 
 // What lies under the lock.
 #[derive(Drop)]
 pub(crate) struct Locked<L: Listener> {
     pub(crate) desk: Desk,
+    pub(crate) links: Vec<Link>,
+    // What listeners have not been told yet.
+    pub(crate) told: Vec<Heard>,
     // What became of listeners, in the order of the calls. The thread of input and output has not followed yet.
     pub(crate) changes: Vec<Change<L>>,
+    // How many requests were made since all were last sent.
+    pub(crate) unsent: u64,
     pub(crate) ending: bool,
 }
 
-// How many turns of the thread of input and output are over, and whether it has ended.
-#[derive(Drop)]
-pub(crate) struct Gate {
-    pub(crate) turns: u64,
-    pub(crate) ended: bool,
-    // Somebody began to wait since the last turn was over.
-    pub(crate) awaited: bool,
+impl<L: Listener> Locked<L> {
+    // A request was made. It says whether there is nothing more to be done for it now.
+    pub(crate) fn note(&mut self) -> bool {
+        self.unsent = self.unsent.saturating_add(1);
+        self.unsent < TOGETHER || self.send()
+    }
+
+    // Sends what waits on all circuits, as far as that can be now. It says whether nothing is left for the thread of input and output.
+    pub(crate) fn send(&mut self) -> bool {
+        self.unsent = 0;
+        send_all(&mut self.desk, &mut self.links, &mut self.told)
+    }
 }
 
 // What threads share.
 #[derive(Drop)]
 pub(crate) struct Shared<L: Listener> {
     pub(crate) locked: Mutex<Locked<L>>,
-    pub(crate) gate: Mutex<Gate>,
-    pub(crate) moved: Condvar,
-    pub(crate) waker: Waker,
+    waker: Waker,
     // 1 if the thread of input and output may be waiting, and was not woken since.
     asleep: AtomicU64,
-    // 1 if requests were made for which it was not woken, and which it may not have sent.
+    // How many requests were made that may not have been sent.
     asked: AtomicU64,
+    // How many turns of the thread of input and output ended the waits of callers.
+    turns: AtomicU64,
+    // How many callers wait.
+    waiting: AtomicU64,
+    // 1 if the thread of input and output has ended.
+    ended: AtomicU64,
 }
 
 impl<L: Listener> Shared<L> {
     pub(crate) fn new(locked: Locked<L>, waker: Waker) -> Shared<L> {
         Shared {
             locked: Mutex::new(locked),
-            gate: Mutex::new(Gate {
-                turns: 0,
-                ended: false,
-                awaited: false,
-            }),
-            moved: Condvar::new(),
             waker,
             asleep: AtomicU64::new(0),
             asked: AtomicU64::new(0),
+            turns: AtomicU64::new(0),
+            waiting: AtomicU64::new(0),
+            ended: AtomicU64::new(0),
+        }
+    }
+
+    // Takes the lock.
+    pub(crate) fn hold<R: Wait>(&self, rt: &R) -> MutexGuard<'_, Locked<L>> {
+        for _ in 0..TRIES {
+            if let Some(guard) = self.locked.try_lock() {
+                return guard;
+            }
+            pause(BACKOFF);
+        }
+        self.locked.lock(rt)
+    }
+
+    // Waits while requests are being made, for a short time at most: a turn holds the lock for as long as many requests take, so those that make
+    // them would sleep meanwhile. Those that make many send them themselves, so that the server need not wait.
+    pub(crate) fn let_ask(&self) {
+        for _ in 0..PATIENCE {
+            let before = self.asked();
+            if before == 0 {
+                return;
+            }
+            pause(QUIET);
+            if self.asked() == before {
+                return;
+            }
         }
     }
 
@@ -57,16 +109,46 @@ impl<L: Listener> Shared<L> {
         self.asleep.store(1, Ordering::SeqCst);
     }
 
+    // It has woken: its next turn begins after whatever was changed under the lock until now. So nobody need wake it before that turn is over.
+    pub(crate) fn rise(&self) {
+        self.asleep.store(0, Ordering::SeqCst);
+    }
+
     // A request was made, which goes out with the next turn.
     pub(crate) fn ask(&self) {
-        self.asked.store(1, Ordering::SeqCst);
+        self.asked.fetch_add(1, Ordering::SeqCst);
+    }
+
+    // How many requests were made that may not have been sent.
+    fn asked(&self) -> u64 {
+        self.asked.load(Ordering::SeqCst)
     }
 
     // Has the requests go out at once: somebody looks for an outcome.
+    //
+    // Whoever finds that there are some has those of all callers sent, so that the others need not. While others wait it leaves them to the thread of
+    // input and output, which sends those of several callers together. Else it sends them itself. If it cannot have the lock, they are left to that
+    // thread too: it has the lock, and its turn began with sending them; or another caller has it, and then it is woken, if it is not at work.
     pub(crate) fn flush(&self) {
-        if self.asked.swap(0, Ordering::SeqCst) == 1 {
+        if self.asked.swap(0, Ordering::SeqCst) != 0 && (self.is_awaited() || !self.send_now()) {
             self.wake();
         }
+    }
+
+    // Sends what waits on all circuits, if it can have the lock at once. It says whether nothing is left for the thread of input and output.
+    fn send_now(&self) -> bool {
+        match self.locked.try_lock() {
+            Some(guard) => {
+                let mut guard = guard;
+                guard.send()
+            }
+            None => false,
+        }
+    }
+
+    // Whether callers wait.
+    fn is_awaited(&self) -> bool {
+        self.waiting.load(Ordering::SeqCst) != 0
     }
 
     // Ends its wait, once for all that was changed under the lock meanwhile.
@@ -77,30 +159,47 @@ impl<L: Listener> Shared<L> {
     }
 
     // Tells those that wait that a turn is over.
-    pub(crate) fn pass<R: Wait>(&self, rt: &R, ended: bool) {
-        let mut gate = self.gate.lock(rt);
-        gate.turns = gate.turns.wrapping_add(1);
-        gate.ended = ended;
-        let awaited = gate.awaited;
-        gate.awaited = false;
-        drop(gate);
-        if awaited {
-            self.moved.notify_all();
+    //
+    // A caller says that it waits before it looks whether a turn is over. So whom this does not find among those that wait sees the new number, and
+    // whom it finds is woken.
+    pub(crate) fn pass(&self, ended: bool) {
+        if ended {
+            self.ended.store(1, Ordering::SeqCst);
+        }
+        self.turns.fetch_add(1, Ordering::SeqCst);
+        if self.is_awaited() {
+            self.turns.wake_all();
         }
     }
 
     // How many turns are over.
-    pub(crate) fn turns<R: Wait>(&self, rt: &R) -> u64 {
-        self.gate.lock(rt).turns
+    pub(crate) fn turns(&self) -> u64 {
+        self.turns.load(Ordering::SeqCst)
     }
 
     // Waits until another turn is over, and says whether the thread of input and output has ended.
     pub(crate) fn park<R: Wait>(&self, rt: &R, seen: u64) -> bool {
-        let mut gate = self.gate.lock(rt);
-        gate.awaited = true;
-        let gate = self
-            .moved
-            .wait_while(rt, gate, |g| g.turns == seen && !g.ended);
-        gate.ended
+        self.waiting.fetch_add(1, Ordering::SeqCst);
+        for _ in rt.forever() {
+            if self.turns() != seen || self.has_ended() {
+                break;
+            }
+            // It sleeps only while no other turn is over.
+            self.turns.park(rt, (seen % (1 << 32)) as u32);
+        }
+        self.waiting.fetch_sub(1, Ordering::SeqCst);
+        self.has_ended()
+    }
+
+    fn has_ended(&self) -> bool {
+        self.ended.load(Ordering::SeqCst) == 1
+    }
+}
+
+// Passes some nanoseconds a step, on no memory of others and with no call of the system, which could give a whole slice of time away.
+fn pause(steps: usize) {
+    let own = AtomicU64::new(0);
+    for _ in 0..steps {
+        own.fetch_add(1, Ordering::SeqCst);
     }
 }
