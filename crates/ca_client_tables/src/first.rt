@@ -37,6 +37,15 @@ impl Circuit {
         };
         connection.take_first(alloc)
     }
+
+    /// A message that was handled gives its memory to the next one.
+    pub fn recycle(&mut self, message: Message)
+        ensures { self.new ≡ self.old }
+    {
+        if let Some(connection) = &mut self.connection {
+            connection.link.recycle(message);
+        }
+    }
 }
 
 impl Connection {
