@@ -11,11 +11,22 @@ use crate::state::State;
 use crate::ticking::tick;
 use ca_arena::Handle;
 use ca_board::{Board, CoreSeat, Ticket};
-use ca_client_core::{Advanced, Closing};
+use ca_client_core::{Advanced, Closing, Notices};
 
 /// Makes one call of the core, hands the outcome of each request that it completes to the request's ticket, and hands back the other
 /// notices.
 pub fn step_under_lock(state: &mut State, asked: Ask) -> Answer
+    ensures { HasSteppedUnderLock state.old asked result state.new }
+{
+    match asked {
+        Ask::Step(circuit) => step(state, circuit),
+        other => step_otherwise(state, other),
+    }
+}
+
+// The other calls. What they answer is large, and a function pays for its locals when it begins.
+#[inline(never)]
+fn step_otherwise(state: &mut State, asked: Ask) -> Answer
     ensures { HasSteppedUnderLock state.old asked result state.new }
 {
     match asked {
@@ -37,17 +48,38 @@ fn step(state: &mut State, circuit: Handle) -> Answer
         seat,
         tickets,
     } = state;
-    let closing = match core.advance(circuit) {
-        Advanced::Notices(notices) => {
-            return Answer::Notices(fill_all(board, seat, tickets, notices));
-        }
+    match core.advance(circuit) {
         Advanced::Completed(request, outcome) => {
             fill_one(board, seat, tickets, request, outcome);
-            return Answer::Filled;
+            Answer::Filled
         }
-        Advanced::NeedBytes => return Answer::NeedBytes,
-        Advanced::Closed(closing) => closing,
-    };
+        Advanced::NeedBytes => Answer::NeedBytes,
+        Advanced::Notices(notices) => tell(board, seat, tickets, notices),
+        Advanced::Closed(closing) => tell_end(board, seat, tickets, closing),
+    }
+}
+
+#[inline(never)]
+fn tell(board: &Board, seat: &mut CoreSeat, tickets: &Vec<Ticket>, notices: Notices) -> Answer
+    requires board { seat.old.board ≡ board.now }
+    requires due { Fillable tickets.now.items seat.old (completions notices) }
+    requires first { AreFirst notices (completions notices) (others notices) }
+    ensures fills { FillsAll tickets.now.items seat.old (completions notices) seat.new }
+    ensures told { result ≡ answer.Notices (others notices) }
+    ensures board { seat.new.board ≡ board.now }
+{
+    Answer::Notices(fill_all(board, seat, tickets, notices))
+}
+
+#[inline(never)]
+fn tell_end(board: &Board, seat: &mut CoreSeat, tickets: &Vec<Ticket>, closing: Closing) -> Answer
+    requires board { seat.old.board ≡ board.now }
+    requires due { Fillable tickets.now.items seat.old (completions closing.notices) }
+    requires first { AreFirst closing.notices (completions closing.notices) (others closing.notices) }
+    ensures fills { FillsAll tickets.now.items seat.old (completions closing.notices) seat.new }
+    ensures told { result ≡ answer.Closed (record closing { notices = others closing.notices }) }
+    ensures board { seat.new.board ≡ board.now }
+{
     Answer::Closed(settle(board, seat, tickets, closing))
 }
 

@@ -175,6 +175,7 @@ pub(crate) struct Heard {
 }
 
 // Keeps the notices for the listeners. There are none if a message completed requests alone.
+#[inline(never)]
 fn keep(told: &mut Vec<Heard>, notices: Told)
     requires { vec_len told.old < vec_capacity told.old }
 {

@@ -1,10 +1,13 @@
-ghost use Rattle.std.specs.Prelude.{◌≡◌, IsTrue, List, Some};
+ghost use Rattle.std.specs.Prelude.{◌≡◌, [], IsTrue, List, Some};
 ghost use Rattle.ca_ids.specs.Table.{under};
+ghost use Rattle.ca_model.specs.Answers as answer;
 ghost use Rattle.ca_model.specs.Answers.{Sending};
 ghost use Rattle.ca_model.specs.ClientEnds.{ClientConnects, ClientSteps, gone};
-ghost use Rattle.ca_model.specs.Client.{ClientCircuit};
+ghost use Rattle.ca_model.specs.Client.{ClientCircuit, closing, ended};
+ghost use Rattle.ca_model.specs.Ends as why;
+ghost use Rattle.ca_client_tables.specs.Closings.{why_is};
 ghost use Rattle.ca_client_core.specs.Dispatch.{IsReply};
-ghost use Rattle.ca_client_core.specs.Stepping.{HearsOne, advanced_as, stepped_as};
+ghost use Rattle.ca_client_core.specs.Stepping.{AdvancesOver, HearsOne, advanced_as, stepped_as};
 
 use crate::client::ClientCore;
 use crate::closing::Closing;
@@ -67,49 +70,87 @@ impl ClientCore {
         ensures { (sent : List Sending)
             × ClientSteps self.old circuit (advanced_as result) sent self.new }
     {
-        let alloc = self.alloc;
         self.know_room();
         match self.take_first(circuit) {
-            First::Gone => Advanced::Closed(Closing::gone(alloc)),
+            First::Gone => self.advance_nowhere(),
             First::NeedBytes => Advanced::NeedBytes,
-            First::Message(message) => match self.hear_one(circuit, message) {
-                Ok(Heard::Reply(request, outcome)) => Advanced::Completed(request, outcome),
-                Ok(Heard::Others(told)) => Advanced::Notices(told),
-                Err(_) => Advanced::Closed(self.end(circuit, Why::OutOfMemory)),
-            },
-            First::OutOfMemory => Advanced::Closed(self.end(circuit, Why::OutOfMemory)),
-            First::Bad(why, left) => {
-                let ended = self.end(circuit, why);
-                Advanced::Closed(ended.with_left(left))
+            First::Message(message) => {
+                if !is_reply(&message) {
+                    return self.advance_over(circuit, &message);
+                }
+                match self.hear_completion(circuit, &message) {
+                    Ok(told) => {
+                        self.recycle(circuit, message);
+                        match told {
+                            Some((request, outcome)) => Advanced::Completed(request, outcome),
+                            None => self.advance_quietly(),
+                        }
+                    }
+                    Err(_) => self.advance_without_memory(circuit),
+                }
             }
+            First::OutOfMemory => self.advance_without_memory(circuit),
+            First::Bad(why, left) => self.advance_over_bad(circuit, why, left),
         }
     }
 
-    // A message was read on a circuit that is there. Without memory for it nothing changes. A reply gives its memory to the next message.
-    fn hear_one(&mut self, circuit: Handle, message: Message) -> Result<Heard, AllocError>
-        requires { (d : ClientCircuit) × (under self.old.circuits circuit ≡ Some d) }
-        ensures { HearsOne self.old circuit message result self.new }
+    // What follows is rare, and has large locals, for which a function pays when it begins.
+
+    #[inline(never)]
+    fn advance_nowhere(&self) -> Advanced
+        ensures { advanced_as result ≡ answer.Closed gone }
     {
-        if !is_reply(&message) {
-            let told = self.hear(circuit, &message)?;
-            return Ok(Heard::Others(told));
+        Advanced::Closed(Closing::gone(self.alloc))
+    }
+
+    #[inline(never)]
+    fn advance_quietly(&self) -> Advanced
+        ensures { advanced_as result ≡ answer.Notices [] }
+    {
+        Advanced::Notices(Notices::none(self.alloc))
+    }
+
+    #[inline(never)]
+    fn advance_over(&mut self, circuit: Handle, message: &Message) -> Advanced
+        requires { (d : ClientCircuit) × (under self.old.circuits circuit ≡ Some d) }
+        ensures { AdvancesOver self.old circuit message.now result self.new }
+    {
+        match self.hear(circuit, message) {
+            Ok(told) => Advanced::Notices(told),
+            Err(_) => self.advance_without_memory(circuit),
         }
-        let heard = self.hear_completion(circuit, &message)?;
-        self.recycle(circuit, message);
-        Ok(heard)
+    }
+
+    #[inline(never)]
+    fn advance_without_memory(&mut self, circuit: Handle) -> Advanced
+        ensures told { advanced_as result
+            ≡ answer.Closed (closing why.OutOfMemory circuit self.old) }
+        ensures ended { self.new ≡ ended circuit self.old }
+    {
+        Advanced::Closed(self.end(circuit, Why::OutOfMemory))
+    }
+
+    #[inline(never)]
+    fn advance_over_bad(&mut self, circuit: Handle, why: Why, left: Pipe) -> Advanced
+        ensures told { advanced_as result
+            ≡ answer.Closed (record (closing (why_is why) circuit self.old) { left = left }) }
+        ensures ended { self.new ≡ ended circuit self.old }
+    {
+        let ended = self.end(circuit, why);
+        Advanced::Closed(ended.with_left(left))
     }
 
     // READ_NOTIFY or WRITE_NOTIFY.
-    fn hear_completion(&mut self, circuit: Handle, message: &Message) -> Result<Heard, AllocError>
+    fn hear_completion(
+        &mut self,
+        circuit: Handle,
+        message: &Message,
+    ) -> Result<Option<(Handle, Outcome)>, AllocError>
         requires { IsReply message.now }
         ensures { HearsOne self.old circuit message.now result self.new }
     {
-        let alloc = self.alloc;
         know_message(message);
-        match self.hear_reply(circuit, message)? {
-            Some((request, outcome)) => Ok(Heard::Reply(request, outcome)),
-            None => Ok(Heard::Others(Notices::none(alloc))),
-        }
+        self.hear_reply(circuit, message)
     }
 
     /// A circuit that is wanted was connected: its set-up waits to be sent, and then the channels that waited for it are created.
@@ -128,14 +169,6 @@ impl ClientCore {
             Err(_) => Some(self.end(circuit, Why::OutOfMemory)),
         }
     }
-}
-
-// What was made of a message.
-#[derive(Debug, Drop)]
-pub(crate) enum Heard {
-    // A reply completed this request.
-    Reply(Handle, Outcome),
-    Others(Notices),
 }
 
 // Whether it is a READ_NOTIFY or a WRITE_NOTIFY.
