@@ -1,11 +1,10 @@
 -- What the messages of a datagram send is noted as they are received.
-use Rattle.std.proofs.Common.{◌≡◌, ◌∙◌, ℕ, suc, ◌+◌, ◌<◌, ◌≤◌, ◌^◌, ◌==◌, Bool, true, false, inl, inr, List, [], ◌∷◌, ◌++◌, Option, Some, None, Result, Ok, Err, append-nil, append_assoc, ap, arith, drop, get_or, if◌then◌else◌, length, refl, subst, sym}
+use Rattle.std.proofs.Common.{◌≡◌, ◌∙◌, ℕ, suc, ◌+◌, ◌<◌, ◌≤◌, ◌==◌, inl, inr, List, [], ◌∷◌, ◌++◌, Option, Some, None, Ok, append-nil, append_assoc, ap, arith, drop, get_or, if◌then◌else◌, length, refl, subst, sym}
 use Rattle.std.specs.Prelude.{is_some, map, option_map, option_to_list}
 use Rattle.std.proofs.Math.Numerals.{add-one}
 use Rattle.std.proofs.Math.Seq.{drop-cons}
 use Rattle.std.proofs.lemmas.Bool.{cases_eq, ne_eqb}
 use Rattle.std.proofs.lemmas.List.{length-append, map-append}
-use Rattle.std.specs.declared.alloc.AllocError.{AllocError}
 use Rattle.ca_arena.specs.declared.handle.Handle.{Handle}
 use Rattle.ca_text.specs.Command.{command_number}
 use Rattle.ca_text.specs.declared.command.Command.TheVariants as command
@@ -19,7 +18,7 @@ use Rattle.ca_model.specs.Hears.{Effect, FindsAt, PutsOn, becomes, found_at, put
 use Rattle.ca_client_tables.specs.Finding.{as_found}
 use Rattle.ca_client_tables.specs.Foretelling.{creation_at, creation_by, creation_on}
 use Rattle.ca_client_tables.specs.Noting.{HaveSent, NotesOne, as_sent, told_by}
-use Rattle.ca_client_tables.specs.Receiving.{HasReceived, Parts, ReceivesIn, all_settled, all_undone, parts_of, received_undone, with_parts}
+use Rattle.ca_client_tables.specs.Receiving.{HasReceived, Parts, all_settled, all_undone, parts_of, with_parts}
 use Rattle.ca_client_tables.specs.declared.foretelling.Creation.{Creation}
 use Rattle.ca_client_tables.specs.declared.receiving.Received.{Received}
 use Rattle.ca_client_tables.proofs.Arrivals.{undone-last}

@@ -1,5 +1,5 @@
 -- The channels that are listed of a circuit.
-use Rattle.std.proofs.Common.{◌≡◌, ◌≢◌, ◌⊎◌, ◌==◌, ◌&&◌, ◌++◌, ◌+◌, ◌<◌, ◌≤◌, drop, length, slice_index_or, ℕ, inl, inr, Bool, true, false, List, [], ◌∷◌, Option, Some, None, Result, Ok, Err, filter, if◌then◌else◌, map, option_map, refl, sym, ap, ◌∙◌, subst}
+use Rattle.std.proofs.Common.{◌≡◌, ◌≢◌, ◌⊎◌, ◌==◌, ◌++◌, ◌+◌, ◌<◌, ◌≤◌, drop, length, slice_index_or, ℕ, inl, inr, Bool, true, false, List, [], ◌∷◌, Option, Some, None, Result, Ok, Err, filter, if◌then◌else◌, map, option_map, refl, sym, ap, ◌∙◌, subst}
 use Rattle.std.specs.Prelude.{OnErr, OnOk, is_ok, unwrap_or}
 use Rattle.std.specs.declared.alloc.AllocError.{AllocError}
 use Rattle.std.proofs.lemmas.Bool.{and_parts, cases_Bool, cases_eq, cases_lt, eq-eqb, eqb-true}
@@ -8,7 +8,7 @@ use Rattle.std.proofs.lemmas.List.Elements.{filter-append}
 use Rattle.ca_text.proofs.Places.{some_is}
 use Rattle.ca_arena.specs.declared.handle.Handle.{Handle}
 use Rattle.ca_arena.specs.Arena.{Place, blank, place_at}
-use Rattle.ca_ids.specs.Table.{Table, held, held_at, same_handle}
+use Rattle.ca_ids.specs.Table.{Table, held_at, same_handle}
 use Rattle.ca_link.specs.Link.{LinkState, with_sent}
 use Rattle.ca_wire.specs.Fields.{Fields}
 use Rattle.ca_lists.specs.Lists.{Ascends, Has, added, list_of, upto}

@@ -1,4 +1,4 @@
-use Rattle.std.proofs.Common.{◌∙◌, ◌<◌, ◌≤◌, ◌+◌, ap, arith, drop, length, option_map, refl, subst}
+use Rattle.std.proofs.Common.{◌∙◌, ◌+◌, ap, arith, drop, option_map, refl, subst}
 use Rattle.std.proofs.lemmas.List.{drop_all, drop_more}
 use Rattle.ca_lists.specs.Walks.{IsLeft}
 use Rattle.ca_lists.proofs.Walked.{left-done, left-more}

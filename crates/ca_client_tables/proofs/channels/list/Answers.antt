@@ -1,4 +1,4 @@
-use Rattle.std.proofs.Common.{◌≡◌, ◌∙◌, Some, ap, sym}
+use Rattle.std.proofs.Common.{◌∙◌, ap, sym}
 use Rattle.ca_client_tables.specs.Forms.{standing_of}
 use Rattle.ca_client_tables.specs.OnCircuits.{stood_on}
 use Rattle.ca_client_tables.proofs.OnLists.{list-kept, list-own}

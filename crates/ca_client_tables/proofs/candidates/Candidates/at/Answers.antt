@@ -1,4 +1,4 @@
-use Rattle.std.proofs.Common.{◌≡◌, ◌<◌, ◌∙◌, ap, length, slice_index_or, subst, sym}
+use Rattle.std.proofs.Common.{◌<◌, ◌∙◌, ap, length, slice_index_or, subst, sym}
 use Rattle.ca_lists.proofs.Uptos.{upto-at, upto-length}
 use Rattle.ca_client_tables.specs.OnCircuits.{indices_of}
 use Rattle.ca_client_tables.proofs.candidates.Candidates.at.Goals as goal
