@@ -17,3 +17,4 @@ pub mod Dues
 pub mod Foretold
 pub mod Noticed
 pub mod OnLists
+pub mod ByCircuit

@@ -1,5 +1,5 @@
 //! Whether a circuit is used.
-ghost use Rattle.std.specs.Prelude.{◌≡◌, ◌<◌, [], Some, false, length, nat_eq, not, true};
+ghost use Rattle.std.specs.Prelude.{◌≡◌, [], Some, false, length, nat_eq, not, true};
 ghost use Rattle.ca_arena.specs.Arena.{place_at};
 ghost use Rattle.ca_arena.specs.declared.handle.Handle as handle;
 ghost use Rattle.ca_ids.specs.Table.{held_at};
@@ -15,8 +15,9 @@ use ca_arena::Handle;
 pub fn is_used(channels: &Channels, circuit: Handle) -> bool
     ensures { nat_eq (length (named_in is_any circuit channels.now)) 0 ≡ not result }
 {
-    for index in 0..channels.places() {
-        if is_on_at(channels, circuit, index) {
+    let on = channels.on(circuit);
+    for place in 0..on.len() {
+        if is_on_at(channels, circuit, on.at(place)) {
             return true;
         }
     }
@@ -25,13 +26,12 @@ pub fn is_used(channels: &Channels, circuit: Handle) -> bool
 
 // Whether the channel at this index is on this circuit.
 fn is_on_at(channels: &Channels, circuit: Handle, index: usize) -> bool
-    requires { index < length channels.now }
     ensures none { result ≡ false → named_at is_any circuit index channels.now ≡ [] }
     ensures some { result ≡ true → (h : handle.Handle) × (v : client.Channel)
         × (held_at index (place_at channels.now index) ≡ Some (h, v))
         × (is_on_in is_any circuit v ≡ true) }
 {
-    let Some((_, channel)) = channels.at(index) else {
+    let Some((_, channel)) = channels.any_at(index) else {
         return false;
     };
     channel.is_on(circuit)

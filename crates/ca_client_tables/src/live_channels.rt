@@ -145,22 +145,21 @@ pub fn list_live(channels: &Channels, circuit: Handle, room: &mut Vec<Handle>)
     ensures { room.new.items ≡ named_in is_live circuit channels.now }
 {
     room.clear();
-    let places = channels.places();
-    for index in 0..places {
-        push_live(channels, circuit, index, room);
+    let on = channels.on(circuit);
+    for place in 0..on.len() {
+        push_live(channels, circuit, on.at(place), room);
     }
 }
 
 // Puts the channel at this index after the others, if it is live on this circuit. There is room for it.
 fn push_live(channels: &Channels, circuit: Handle, index: usize, room: &mut Vec<Handle>)
-    requires within { index < length channels.now }
-    requires room { length (named_at is_live circuit index channels.now) + vec_len room.old
+    requires { length (named_at is_live circuit index channels.now) + vec_len room.old
         ≤ vec_capacity room.old }
     ensures items { room.new.items
         ≡ room.old.items ++ named_at is_live circuit index channels.now }
     ensures capacity { vec_capacity room.new ≡ vec_capacity room.old }
 {
-    let Some((handle, channel)) = channels.at(index) else {
+    let Some((handle, channel)) = channels.any_at(index) else {
         return;
     };
     if !channel.is_live_on(circuit) {
