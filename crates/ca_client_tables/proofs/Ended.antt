@@ -1,20 +1,19 @@
 -- The channels of a circuit that has ended: what becomes of each, and of all of them.
-use Rattle.std.proofs.Common.{◌≡◌, ◌≢◌, ℕ, zero, suc, ◌+◌, ◌<◌, ◌≤◌, inl, inr, Bool, true, false, not, nat_eq, List, [], ◌∷◌, ◌++◌, Option, Some, None, length, map, take, filter_map, fold, if◌then◌else◌, option_and_then, option_map, option_to_list, refl, sym, ap, ◌∙◌, subst, slice_set, take_all, unwrap_or}
+use Rattle.std.proofs.Common.{◌≡◌, ◌≢◌, ℕ, ◌+◌, inl, inr, Bool, true, false, not, nat_eq, List, [], ◌∷◌, ◌++◌, Option, Some, None, map, filter_map, fold, if◌then◌else◌, option_and_then, option_map, option_to_list, refl, sym, ap, ◌∙◌, subst, slice_set, unwrap_or}
 use Rattle.std.proofs.lemmas.Bool.{cases_eq, eq-eqb}
 use Rattle.std.proofs.lemmas.List.{get_or-set_other}
 use Rattle.std.proofs.lemmas.List.Elements.{filter_map-append}
-use Rattle.std.proofs.lemmas.List.Sums.{fold-append}
 use Rattle.ca_arena.specs.declared.handle.Handle.{Handle}
 use Rattle.ca_arena.specs.Arena.{Place, blank, place_at, value_for}
 use Rattle.ca_arena.proofs.Places.{value_for-some}
-use Rattle.ca_ids.specs.Table.{Table, held, held_at, held_from, same_handle, under, with_changed, with_freed}
-use Rattle.ca_ids.specs.Walks.{walked, with_place}
+use Rattle.ca_ids.specs.Table.{Table, held_at, held_from, same_handle, under, with_changed, with_freed}
+use Rattle.ca_ids.specs.Walks.{with_place}
 use Rattle.ca_ids.specs.Wire.{wire_of}
-use Rattle.ca_ids.proofs.Changes.{changed-at, freed-at, held-more, held-parts, left-at, vacant-at, walk-all, walk-more}
+use Rattle.ca_ids.proofs.Changes.{changed-at, freed-at, held-parts, left-at, vacant-at}
 use Rattle.ca_search.specs.Searcher.{holds, with_one, without}
 use Rattle.ca_search.specs.Searches as search
 use Rattle.ca_model.specs.Client.{Channel, Client, ClientCircuit, Connection, On, Phase, Searching, Standing, channels_ended, disconnected, ended, is_cleared, is_on_in, let_go, out_bytes, phase_on, searched_again, without_channel, without_circuit, without_ids}
-use Rattle.ca_client_tables.specs.Ending.{Sought, StepsAll, StepsAt, again, back_at, gone, gone_at, is_kept, named_at, named_by, named_in, sought}
+use Rattle.ca_client_tables.specs.Ending.{Sought, StepsAll, StepsAt, again, back_at, gone, gone_at, is_kept, named_by, named_in, sought}
 use Rattle.ca_client_tables.specs.Sound.{HasCid, IsClient}
 use Rattle.ca_client_tables.proofs.Circuits.{changed-found, found-changed}
 use Rattle.ca_requests.proofs.Tables.{true_or_false}
@@ -61,49 +60,6 @@ module _ (f : Sought → Handle → Sought) (test : Phase → Bool) (g : Option 
         ∙ ap (λ (hs : List Handle). fold f s hs) (sym (named-yes test c h v named))
         ∙ ap (λ (o : Option (Handle × Channel)). fold f s (named_of test c o)) (sym at);
     walks = ap (λ (z : Sought). z.channels) is ∙ walks;
-  }
-
-  -- ---- the first of them
-
-  pub record SoFar (i : ℕ) (s now : Sought) : Type 0 where
-    pub folds : now ≡ fold f s (named_in test c (take i s.channels))
-    pub walks : now.channels ≡ walked (λ (p : Place Channel). record p { value = g p.value }) i s.channels
-
-  pub none-yet : (s : Sought) → SoFar 0 s s
-  none-yet s = record { folds = refl; walks = refl }
-
-  place-ahead : (p : Place Channel → Place Channel) (t : Table Channel) (i : ℕ) → place_at (walked p i t) i ≡ place_at t i
-  place-ahead p [] zero = refl
-  place-ahead p [] (suc i) = refl
-  place-ahead p (x ∷ t) zero = refl
-  place-ahead p (x ∷ t) (suc i) = place-ahead p t i
-
-  pub named-more : (t : Table Channel) (i : ℕ) → i < length t → named_in test c (take (i + 1) t) ≡ named_in test c (take i t) ++ named_at test c i t
-  named-more t i within =
-      ap (λ (es : List (Handle × Channel)). filter_map (named_by test c) es) (held-more t i within)
-      ∙ filter_map-append (named_by test c) (held (take i t)) (option_to_list (held_at i (place_at t i)))
-
-  pub one-more : (i : ℕ) (s now next : Sought) → i < length s.channels → SoFar i s now → StepsAt f test g c i now next → SoFar (i + 1) s next
-  one-more i s now next within so step =
-      let p : Place Channel → Place Channel = λ (q : Place Channel). record q { value = g q.value } in
-      let there : place_at now.channels i ≡ place_at s.channels i =
-      ap (λ (t : Table Channel). place_at t i) so.walks ∙ place-ahead p s.channels i in
-      let first = named_in test c (take i s.channels) in
-      let last = named_at test c i s.channels in
-      record {
-        folds =
-            step.folds
-            ∙ ap (λ (q : Place Channel). fold f now (named_of test c (held_at i q))) there
-            ∙ ap (λ (z : Sought). fold f z last) so.folds
-            ∙ sym (fold-append f s first last)
-            ∙ ap (λ (hs : List Handle). fold f s hs) (sym (named-more s.channels i within));
-        walks = walk-more p s.channels now.channels next.channels i within so.walks step.walks;
-      }
-
-  pub all-taken : (i : ℕ) (s now : Sought) → length s.channels ≤ i → SoFar i s now → StepsAll f test g c s now
-  all-taken i s now past so = record {
-    folds = so.folds ∙ ap (λ (t : Table Channel). fold f s (named_in test c t)) (take_all i s.channels past);
-    walks = walk-all (λ (p : Place Channel). record p { value = g p.value }) s.channels now.channels i past so.walks;
   }
 
 pub under-at : (t : Table Channel) (i : ℕ) (h : Handle) (v : Channel) → held_at i (place_at t i) ≡ Some (h, v) → under t h ≡ Some v

@@ -1,5 +1,5 @@
 -- Lists of handles: what keeps some of them listed, and that there is room for those that a test names.
-use Rattle.std.proofs.Common.{◌≡◌, ◌∙◌, ℕ, suc, Bool, true, false, cond, List, [], ◌∷◌, Option, Some, None, ap, arith, filter, length, nat_eq, refl, subst, sym, ◌⊎◌, inl, inr, zero, ◌+◌, ◌≤◌, ◌++◌, Contains, filter_map, option_to_list, take}
+use Rattle.std.proofs.Common.{◌≡◌, ◌∙◌, ℕ, suc, Bool, true, false, cond, List, [], ◌∷◌, Option, Some, None, ap, arith, filter, length, nat_eq, refl, subst, sym, ◌⊎◌, inl, inr, zero, ◌+◌, ◌≤◌, ◌++◌, Contains, filter_map, option_to_list}
 use Rattle.std.proofs.lemmas.Bool.{ne_eqb}
 use Rattle.ca_text.specs.Place.{At}
 use Rattle.ca_arena.specs.declared.handle.Handle.{Handle}
@@ -8,11 +8,10 @@ use Rattle.ca_model.specs.Client.{Channel, Phase, is_on_in}
 use Rattle.ca_model.proofs.Handles.{same-is, same-itself}
 use Rattle.std.specs.List.{dedup, dedup_from}
 use Rattle.std.specs.List.Sorted.{IsPermutation}
-use Rattle.std.proofs.lemmas.List.{length-append}
 use Rattle.std.proofs.lemmas.List.Elements.{filter_map-append}
 use Rattle.std.proofs.lemmas.List.Sorted.{Contains-permutation}
 use Rattle.ca_arena.specs.Arena.{Place}
-use Rattle.ca_client_tables.specs.Ending.{named_by, named_in}
+use Rattle.ca_client_tables.specs.Ending.{named_by}
 use Rattle.ca_client_tables.specs.Listed.{Has, KeepsLive, is_live_in}
 use Rattle.ca_client_tables.proofs.Ended.{named_of, named-not, named-yes}
 
@@ -162,17 +161,3 @@ module _ (test : Phase → Bool) (c : Handle) where
         let l : length gs ≡ length (less h gs) + 1 = less-length h gs there in
         omega (arith, e, rest, l)
   ]
-
-  -- the first of them are not more than all
-  part-from : (i n : ℕ) (t : Table Channel) → length (from i (take n t)) ≤ length (from i t)
-  part-from i zero [] = omega arith
-  part-from i (suc n) [] = omega arith
-  part-from i zero (p ∷ t) = omega arith
-  part-from i (suc n) (p ∷ t) =
-      let a = ap (λ (hs : List Handle). length hs) (from-more i p (take n t)) ∙ length-append (named_of test c (held_at i p)) (from (i + 1) (take n t)) in
-      let b = ap (λ (hs : List Handle). length hs) (from-more i p t) ∙ length-append (named_of test c (held_at i p)) (from (i + 1) t) in
-      let rest = part-from (i + 1) n t in
-      omega (arith, a, b, rest)
-
-pub part-named : (test : Phase → Bool) (c : Handle) (n : ℕ) (t : Table Channel) → length (named_in test c (take n t)) ≤ length (named_in test c t)
-part-named test c n t = part-from test c 0 n t

@@ -10,15 +10,20 @@ ghost use Rattle.ca_lists.specs.Walks.{AreListed, Covers};
 ghost use Rattle.ca_model.specs.Client as client;
 ghost use Rattle.ca_model.specs.ClientEnds.{creating};
 ghost use Rattle.ca_client_tables.specs.Connecting.{creating_at};
+ghost use Rattle.ca_client_tables.specs.Ending.{EndsAll, sought};
 ghost use Rattle.ca_client_tables.specs.Forms.{standing_of};
 ghost use Rattle.ca_client_tables.specs.OnCircuits.{MayBeOn, circuit_of, indices_of, is_on_index, stood_on};
+ghost use Rattle.ca_client_tables.specs.Sound.{IsClient};
 
 use crate::candidates::Candidates;
 use crate::channel::{Channel, Phase, Standing};
+use crate::ending::{let_cleared_go, search_again};
 use ca_arena::Handle;
 use ca_ids::{HeldTable, WireId};
 use ca_lists::IndexLists;
+use ca_search::Place;
 use ca_text::Refusal;
+use indexmap::IndexMap;
 use std::alloc::Global;
 use std::marker::Model;
 
@@ -150,6 +155,27 @@ impl Channels {
         }
         self.circuits.remove(circuit, index);
     }
+
+    // Takes those out of the list of a circuit whose channels are not on that any more.
+    fn tidy(&mut self, circuit: u16)
+        ensures { self.new ≡ self.old }
+    {
+        for place in (0..self.circuits.of(circuit).len()).rev() {
+            self.tidy_at(circuit, place);
+        }
+    }
+
+    // Takes the one at this place out, if that is so of it.
+    fn tidy_at(&mut self, circuit: u16, place: usize)
+        ensures { self.new ≡ self.old }
+    {
+        let listed = self.circuits.of(circuit);
+        if place >= listed.len() {
+            return;
+        }
+        let index = listed[place];
+        self.leave(Some(circuit), index);
+    }
 }
 
 // Whether both hold.
@@ -159,8 +185,8 @@ fn both(a: bool, b: bool) -> bool
     a && b
 }
 
-// What has a CID of this index, if any does.
-fn any_at(table: &HeldTable<Channel>, index: usize) -> Option<(Handle, &Channel)>
+/// What has a CID of this index, if any does.
+pub(crate) fn any_at(table: &HeldTable<Channel>, index: usize) -> Option<(Handle, &Channel)>
     ensures { option_map (λ e. (e.0, e.1.now)) result
         ≡ held_at index (place_at table.now index) }
 {
@@ -232,8 +258,8 @@ fn list(circuits: &mut IndexLists, standing: Standing, index: u16) -> bool
     circuits.add(circuit.index, index).is_ok()
 }
 
-// The channel of this handle is there now.
-fn put(table: &mut HeldTable<Channel>, handle: Handle, standing: Standing)
+/// The channel of this handle is there now.
+pub(crate) fn put(table: &mut HeldTable<Channel>, handle: Handle, standing: Standing)
     ensures { table.new
         ≡ with_changed
         (λ here. record here { standing = standing_of standing })
@@ -243,6 +269,32 @@ fn put(table: &mut HeldTable<Channel>, handle: Handle, standing: Standing)
     if let Some(channel) = table.by_handle_mut(handle) {
         channel.set_standing(standing);
     }
+}
+
+/// The channels of a circuit that has ended: those that were cleared are gone, the others are searched for again.
+pub fn end_channels(
+    channels: &mut Channels,
+    searches: &mut IndexMap<u32, Place>,
+    circuit: Handle,
+    moment: u64,
+)
+    requires { IsClient channels.old searches.old.entries }
+    ensures steps { EndsAll
+        circuit
+        moment
+        (sought channels.old searches.old.entries)
+        (sought channels.new searches.new.entries) }
+    ensures client { IsClient channels.new searches.new.entries }
+{
+    let on = candidates(
+        &channels.table,
+        &channels.circuits,
+        channels.complete,
+        circuit,
+    );
+    let_cleared_go(&mut channels.table, searches, on, circuit);
+    search_again(&mut channels.table, searches, on, circuit, moment);
+    channels.tidy(circuit.index);
 }
 
 /// The channels that waited for this circuit are being created.

@@ -1,41 +1,30 @@
 //! What becomes of the channels of a circuit that has ended.
-ghost use Rattle.std.specs.Prelude.{◌≡◌, ◌<◌, length};
-ghost use Rattle.ca_client_tables.specs.Ending.{EndsAll, StepsAll, StepsAt, again, back_at, gone, gone_at, is_kept, sought};
+ghost use Rattle.std.specs.Prelude.{◌≡◌};
+ghost use Rattle.ca_client_tables.specs.Ending.{StepsAll, StepsAt, again, back_at, gone, gone_at, is_kept, sought};
+ghost use Rattle.ca_client_tables.specs.OnCircuits.{MayBeOn, indices_of};
 ghost use Rattle.ca_client_tables.specs.Sound.{IsClient};
 ghost use Rattle.ca_ids.specs.Table.{with_changed};
 ghost use Rattle.ca_search.specs.Searcher.{with_one};
 ghost use Rattle.ca_search.specs.Searches.{resumed};
 ghost use Rattle.ca_model.specs.Client.{Searching, is_cleared};
 
-use crate::channel::Standing;
-use crate::channels::{Channels, set_standing};
+use crate::candidates::Candidates;
+use crate::channel::{Channel, Standing};
+use crate::channels::{Channels, any_at, put, set_standing};
 use ca_arena::Handle;
-use ca_ids::WireId;
+use ca_ids::{HeldTable, WireId};
 use ca_search::Place;
 use indexmap::IndexMap;
 
-/// The channels of a circuit that has ended: those that were cleared are gone, the others are searched for again.
-pub fn end_channels(
-    channels: &mut Channels,
+/// The channels on this circuit that were cleared are gone. All on it are at these indices.
+pub(crate) fn let_cleared_go(
+    channels: &mut HeldTable<Channel>,
     searches: &mut IndexMap<u32, Place>,
+    on: Candidates,
     circuit: Handle,
-    moment: u64,
 )
-    requires { IsClient channels.old searches.old.entries }
-    ensures steps { EndsAll
-        circuit
-        moment
-        (sought channels.old searches.old.entries)
-        (sought channels.new searches.new.entries) }
-    ensures client { IsClient channels.new searches.new.entries }
-{
-    let_cleared_go(channels, searches, circuit);
-    search_again(channels, searches, circuit, moment);
-}
-
-// The channels on this circuit that were cleared are gone.
-fn let_cleared_go(channels: &mut Channels, searches: &mut IndexMap<u32, Place>, circuit: Handle)
-    requires { IsClient channels.old searches.old.entries }
+    requires on { MayBeOn circuit.index channels.old (indices_of on) }
+    requires client { IsClient channels.old searches.old.entries }
     ensures steps { StepsAll
         gone
         is_cleared
@@ -45,21 +34,19 @@ fn let_cleared_go(channels: &mut Channels, searches: &mut IndexMap<u32, Place>, 
         (sought channels.new searches.new.entries) }
     ensures client { IsClient channels.new searches.new.entries }
 {
-    let places = channels.places();
-    for index in 0..places {
-        let_go_at(channels, searches, circuit, index);
+    for place in 0..on.len() {
+        let_go_at(channels, searches, circuit, on.at(place));
     }
 }
 
 // The channel at this index is gone, if it is one of those.
 fn let_go_at(
-    channels: &mut Channels,
+    channels: &mut HeldTable<Channel>,
     searches: &mut IndexMap<u32, Place>,
     circuit: Handle,
     index: usize,
 )
-    requires within { index < length channels.old }
-    requires client { IsClient channels.old searches.old.entries }
+    requires { IsClient channels.old searches.old.entries }
     ensures steps { StepsAt
         gone
         is_cleared
@@ -70,7 +57,7 @@ fn let_go_at(
         (sought channels.new searches.new.entries) }
     ensures client { IsClient channels.new searches.new.entries }
 {
-    let Some((handle, channel)) = channels.at(index) else {
+    let Some((handle, channel)) = any_at(channels, index) else {
         return;
     };
     if !channel.is_cleared_on(circuit) {
@@ -80,14 +67,16 @@ fn let_go_at(
     searches.shift_remove(&WireId::of(handle).number());
 }
 
-// The others that were on this circuit are searched for again, as from the beginning.
-fn search_again(
-    channels: &mut Channels,
+/// The others that were on this circuit are searched for again, as from the beginning. All on it are at these indices.
+pub(crate) fn search_again(
+    channels: &mut HeldTable<Channel>,
     searches: &mut IndexMap<u32, Place>,
+    on: Candidates,
     circuit: Handle,
     moment: u64,
 )
-    requires { IsClient channels.old searches.old.entries }
+    requires on { MayBeOn circuit.index channels.old (indices_of on) }
+    requires client { IsClient channels.old searches.old.entries }
     ensures steps { StepsAll
         (again moment)
         is_kept
@@ -97,22 +86,20 @@ fn search_again(
         (sought channels.new searches.new.entries) }
     ensures client { IsClient channels.new searches.new.entries }
 {
-    let places = channels.places();
-    for index in 0..places {
-        search_again_at(channels, searches, circuit, moment, index);
+    for place in 0..on.len() {
+        search_again_at(channels, searches, circuit, moment, on.at(place));
     }
 }
 
 // The channel at this index is searched for again, if it is one of those.
 fn search_again_at(
-    channels: &mut Channels,
+    channels: &mut HeldTable<Channel>,
     searches: &mut IndexMap<u32, Place>,
     circuit: Handle,
     moment: u64,
     index: usize,
 )
-    requires within { index < length channels.old }
-    requires client { IsClient channels.old searches.old.entries }
+    requires { IsClient channels.old searches.old.entries }
     ensures steps { StepsAt
         (again moment)
         is_kept
@@ -123,13 +110,13 @@ fn search_again_at(
         (sought channels.new searches.new.entries) }
     ensures client { IsClient channels.new searches.new.entries }
 {
-    let Some((handle, channel)) = channels.at(index) else {
+    let Some((handle, channel)) = any_at(channels, index) else {
         return;
     };
     if !channel.is_kept_on(circuit) {
         return;
     }
-    bring_back(channels, handle);
+    put(channels, handle, Standing::Searching);
     resume(searches, WireId::of(handle).number(), moment);
 }
 

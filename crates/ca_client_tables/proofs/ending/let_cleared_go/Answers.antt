@@ -1,34 +1,30 @@
-use Rattle.std.proofs.Common.{ap, arith, length}
-use Rattle.ca_arena.specs.Arena.{Place}
-use Rattle.ca_ids.proofs.Changes.{length-walked}
-use Rattle.ca_model.specs.Client.{Channel, is_cleared}
+use Rattle.std.proofs.Common.{arith, refl}
+use Rattle.ca_model.specs.Client.{is_cleared}
 use Rattle.ca_client_tables.specs.Ending.{gone, gone_at, sought}
-use Rattle.ca_client_tables.proofs.Ended.{all-taken, none-yet, one-more}
+use Rattle.ca_client_tables.specs.OnCircuits.{indices_of}
+use Rattle.ca_client_tables.proofs.ByCircuit.{all-left, gone-only, gone-twice, next-left, none-left}
 use Rattle.ca_client_tables.proofs.ending.let_cleared_go.Goals as goal
 
-pub loop-index-init : goal.loop-index-init
-loop-index-init c = record {
-  so = none-yet gone is_cleared (gone_at c.args.circuit) c.args.circuit (sought c.args.channels.now c.args.searches.now.entries);
-  client = c.requires;
+pub loop-place-init : goal.loop-place-init
+loop-place-init c = record {
+  left =
+      all-left gone is_cleared (gone_at c.args.circuit) c.args.circuit (sought c.args.channels.now c.args.searches.now.entries) (indices_of c.args.on) refl (gone-only c.args.circuit) c.requires.on;
+  client = c.requires.client;
 }
 
-pub let_go_at-requires-clause-within : goal.let_go_at-requires-clause-within
-let_go_at-requires-clause-within c =
-    omega (arith, ap length c.loop-index.invariant.so.walks, length-walked (λ (p : Place Channel). record p { value = gone_at c.args.circuit p.value }) c.args.channels.now c.loop-index.index)
+pub let_go_at-requires : goal.let_go_at-requires
+let_go_at-requires c = c.loop-place.invariant.client
 
-pub let_go_at-requires-clause-client : goal.let_go_at-requires-clause-client
-let_go_at-requires-clause-client c = c.loop-index.invariant.client
-
-pub loop-index-preserved : goal.loop-index-preserved
-loop-index-preserved c = record {
-  so =
-      one-more gone is_cleared (gone_at c.args.circuit) c.args.circuit c.loop-index.index (sought c.args.channels.now c.args.searches.now.entries) (sought c.loop-index.channels c.loop-index.searches.entries) (sought c.let_go_at.new.channels c.let_go_at.new.searches.entries) (omega arith) c.loop-index.invariant.so c.let_go_at.ensures.steps;
+pub loop-place-preserved : goal.loop-place-preserved
+loop-place-preserved c = record {
+  left =
+      next-left gone is_cleared (gone_at c.args.circuit) c.args.circuit (sought c.args.channels.now c.args.searches.now.entries) (sought c.loop-place.channels c.loop-place.searches.entries) (sought c.let_go_at.new.channels c.let_go_at.new.searches.entries) (indices_of c.args.on) c.loop-place.place c.at.result (gone-twice c.args.circuit) refl (omega arith) c.at.ensures c.let_go_at.ensures.steps c.loop-place.invariant.left;
   client = c.let_go_at.ensures.client;
 }
 
 pub returns-clause-steps : goal.returns-clause-steps
 returns-clause-steps c =
-    all-taken gone is_cleared (gone_at c.args.circuit) c.args.circuit c.loop-index.index (sought c.args.channels.now c.args.searches.now.entries) (sought c.loop-index.channels c.loop-index.searches.entries) (omega arith) c.loop-index.invariant.so
+    none-left gone is_cleared (gone_at c.args.circuit) c.args.circuit (sought c.args.channels.now c.args.searches.now.entries) (sought c.loop-place.channels c.loop-place.searches.entries) (indices_of c.args.on) c.loop-place.place (omega arith) c.loop-place.invariant.left
 
 pub returns-clause-client : goal.returns-clause-client
-returns-clause-client c = c.loop-index.invariant.client
+returns-clause-client c = c.loop-place.invariant.client

@@ -31,4 +31,4 @@ returns-clause-client c =
     let out : ns ≡ without (wire_of h) es = c.shift_remove.ensures.entries ∙ one-removed c.number.result es ∙ ap (λ (n : ℕ). without n es) cid in
     let none : holds (wire_of h) ns ≡ false =
     ap (λ (n : ℕ). holds n ns) (sym cid) ∙ sym (held c.number.result ns) ∙ ap is_some c.shift_remove.ensures.updates.1 in
-    client-freed c.args.channels.now c.free.new.self es ns h v (under-at c.args.channels.now c.args.index h v at) c.free.ensures.after out none c.requires.client
+    client-freed c.args.channels.now c.free.new.self es ns h v (under-at c.args.channels.now c.args.index h v at) c.free.ensures.after out none c.requires

@@ -17,4 +17,4 @@ returns-clause-client c =
     let at : held_at c.args.index (place_at c.args.channels.now c.args.index) ≡ Some (h, v) = sym c.in-Some.ensures in
     let cid : c.number.result ≡ wire_of h = c.number.ensures ∙ c.of.ensures in
     let begins : ns ≡ with_one (resumed c.args.moment) (wire_of h) es = c.resume.ensures ∙ ap (λ (n : ℕ). with_one (resumed c.args.moment) n es) cid in
-    client-changed c.args.channels.now c.bring_back.new.channels es ns (λ (here : Channel). record here { standing = Searching }) (resumed c.args.moment) h v (under-at c.args.channels.now c.args.index h v at) c.bring_back.ensures begins c.requires.client
+    client-changed c.args.channels.now c.put.new.table es ns (λ (here : Channel). record here { standing = Searching }) (resumed c.args.moment) h v (under-at c.args.channels.now c.args.index h v at) c.put.ensures begins c.requires
