@@ -1,14 +1,12 @@
--- What the blocks and the marks stand for, before and after each change.
-use Rattle.std.proofs.Common.{◌≡◌, ◌≢◌, ℕ, zero, suc, ◌+◌, ◌*◌, ◌/◌, ◌%◌, ◌<◌, ◌≤◌, true, false, List, [], ◌∷◌, ◌++◌, length, get_or, set, Option, Some, None, is_some, IsSome, refl, sym, ap, ◌∙◌, subst, inl, inr, arith, length-set, length-take, replicate, take, get_or-take, ext_get_or, lit<}
+-- What the blocks stand for, before and after each change.
+use Rattle.std.proofs.Common.{◌≡◌, ◌≢◌, ℕ, zero, suc, ◌+◌, ◌*◌, ◌/◌, ◌%◌, ◌<◌, List, [], ◌∷◌, ◌++◌, length, get_or, set, slice_get, Option, Some, None, refl, sym, ap, ◌∙◌, subst, inl, inr, arith, length-set, replicate, ext_get_or, lit<}
 use Rattle.std.proofs.lemmas.Bool.{cases_eq, cases_lt}
 use Rattle.std.proofs.lemmas.List.{get_or_past, get_or_read, get_or-set_same, get_or-set_other, get_or_push, get_or_append_left, length_push, length-replicate}
 use Rattle.std.proofs.lemmas.Nat.{div-add-mod', mod_below, div_below}
-use Rattle.ca_arena.specs.declared.blocks.Mark.{Mark}
-use Rattle.ca_arena.specs.Arena.{Place, place_at, blank}
+use Rattle.std.proofs.lemmas.Option.{slice_get-get_or, slice_get_past}
 use Rattle.ca_arena.specs.Filled.{block_slots}
-use Rattle.ca_arena.specs.Stored.{changed, pushed, IsVacant}
-use Rattle.ca_arena.specs.StoredLayout.{unmarked, mark_at, cell_at, place_with, places_from, stored_of, IsStored}
-use Rattle.ca_arena.proofs.Places.{none_from_test}
+use Rattle.ca_arena.specs.Stored.{pushed, with_item}
+use Rattle.ca_arena.specs.StoredLayout.{cell_at, prepended, items_from, stored_of, IsStored}
 
 -- which block, and which of its places
 abbrev pub block_of : ℕ → ℕ
@@ -20,68 +18,87 @@ slot_of index = index % block_slots
 pub slot_below : (index : ℕ) → slot_of index < block_slots
 slot_below index = mod_below index block_slots (lit< tt)
 
+-- an index in a block that is there is within the room
+pub below_room : (index blocks : ℕ) → block_of index < blocks → index < blocks * block_slots
+below_room index blocks inside = omega (arith, div-add-mod' index block_slots, slot_below index)
+
 -- two indices in one place are one
 one_index : (i k : ℕ) → block_of i ≡ block_of k → slot_of i ≡ slot_of k → i ≡ k
 one_index i k blocks slots = omega (arith, div-add-mod' i block_slots, div-add-mod' k block_slots)
-
--- a mark that says that there is a value was given
-marked_within : (marks : List Mark) (k : ℕ) → (mark_at marks k).is_filled ≡ true → k < length marks
-marked_within marks k filled =
-    elim (cases_lt k (length marks)) [
-      | inl within ↦ within
-      | inr beyond ↦ let unknown = ap (λ (m : Mark). m.is_filled) (get_or_past marks k unmarked beyond) in absurd (cc)
-    ]
-
--- a mark after the others leaves them as they are
-push_other : (marks : List Mark) (mark : Mark) (k : ℕ) → k ≢ length marks → mark_at (marks ++ mark ∷ []) k ≡ mark_at marks k
-push_other marks mark k other =
-    elim (cases_lt k (length marks)) [
-      | inl within ↦ get_or_append_left marks (mark ∷ []) unmarked k within
-      | inr beyond ↦
-          let past : length (marks ++ mark ∷ []) ≤ k = omega (arith, length_push marks mark, other) in
-          get_or_past (marks ++ mark ∷ []) k unmarked past ∙ sym (get_or_past marks k unmarked beyond)
-    ]
-
--- a mark over itself changes nothing
-set-same : (marks : List Mark) (index : ℕ) → set marks index (mark_at marks index) ≡ marks
-set-same [] index = refl
-set-same (mark ∷ marks) zero = refl
-set-same (mark ∷ marks) (suc index) = ap (λ rest. mark ∷ rest) (set-same marks index)
 
 module _ {T : Type 0} where
   abbrev nothing_there : Option T
   nothing_there = None
 
-  pub length-places : (index : ℕ) (marks : List Mark) (blocks : List (List (Option T))) → length (places_from index marks blocks) ≡ length marks
-  length-places index [] blocks = refl
-  length-places index (mark ∷ marks) blocks = ap suc (length-places (suc index) marks blocks)
+  -- there is an item in each of so many places from this index on
+  abbrev AreFilled : ℕ → ℕ → List (List (Option T)) → Type 0
+  AreFilled index count blocks = (k : ℕ) → k < count → (item : T) × (cell_at blocks (index + k) ≡ Some item)
 
-  at-places : (index k : ℕ) (marks : List Mark) (blocks : List (List (Option T))) → k < length marks → get_or (places_from index marks blocks) k blank ≡ place_with (mark_at marks k) (cell_at blocks (index + k))
-  at-places index k [] blocks within = absurd (omega arith)
-  at-places index zero (mark ∷ marks) blocks within =
-      let same : index ≡ index + 0 = omega arith in ap (λ n. place_with mark (cell_at blocks n)) same
-  at-places index (suc k) (mark ∷ marks) blocks within =
-      let same : suc index + k ≡ index + suc k = omega arith in
-      at-places (suc index) k marks blocks (omega arith) ∙ ap (λ n. place_with (mark_at marks k) (cell_at blocks n)) same
+  later_filled : (index count : ℕ) (blocks : List (List (Option T))) → AreFilled index (suc count) blocks → AreFilled (suc index) count blocks
+  later_filled index count blocks filled k below =
+      let there = filled (suc k) (omega arith) in
+      let same : index + suc k ≡ suc index + k = omega arith in
+      (there.0, ap (cell_at blocks) (sym same) ∙ there.1)
 
-  at_first : (k : ℕ) (marks : List Mark) (blocks : List (List (Option T))) → k < length marks → get_or (places_from 0 marks blocks) k blank ≡ place_with (mark_at marks k) (cell_at blocks k)
-  at_first k marks blocks within = let same : 0 + k ≡ k = omega arith in at-places 0 k marks blocks within ∙ ap (λ n. place_with (mark_at marks k) (cell_at blocks n)) same
+  -- one item is read, and the others follow
+  first_item : (cell : Option T) (item : T) (rest : List T) → cell ≡ Some item → prepended cell rest ≡ item ∷ rest
+  first_item cell item rest is = ap (λ (c : Option T). prepended c rest) is
 
-  -- what stands at an index
-  pub stands : (marks : List Mark) (blocks : List (List (Option T))) (room : ℕ) → IsStored marks blocks room → (k : ℕ) → place_at (places_from 0 marks blocks) k ≡ place_with (mark_at marks k) (cell_at blocks k)
-  stands marks blocks room stored k =
-      elim (cases_lt k (length marks)) [
-        | inl within ↦ at_first k marks blocks within
-        | inr beyond ↦
-            let unknown : mark_at marks k ≡ unmarked = get_or_past marks k unmarked beyond in
-            let vacant : cell_at blocks k ≡ None = none_from_test (cell_at blocks k) (sym (stored.told k) ∙ ap (λ (m : Mark). m.is_filled) unknown) in
-            get_or_past (places_from 0 marks blocks) k blank (omega (arith, length-places 0 marks blocks)) ∙ (λ i. place_with (sym unknown i) (sym vacant i))
+  length-items : (index count : ℕ) (blocks : List (List (Option T))) → AreFilled index count blocks → length (items_from index count blocks) ≡ count
+  length-items index zero blocks filled = refl
+  length-items index (suc count) blocks filled =
+      let there = filled 0 (omega arith) in
+      let same : index + 0 ≡ index = omega arith in
+      ap length (first_item (cell_at blocks index) there.0 (items_from (suc index) count blocks) (ap (cell_at blocks) (sym same) ∙ there.1))
+      ∙ ap suc (length-items (suc index) count blocks (later_filled index count blocks filled))
+
+  item-at : (index count k : ℕ) (blocks : List (List (Option T))) → AreFilled index count blocks → k < count → slice_get (items_from index count blocks) k ≡ cell_at blocks (index + k)
+  item-at index zero k blocks filled below = absurd (omega arith)
+  item-at index (suc count) zero blocks filled below =
+      let there = filled 0 (omega arith) in
+      let same : index + 0 ≡ index = omega arith in
+      ap (λ (items : List T). slice_get items 0) (first_item (cell_at blocks index) there.0 (items_from (suc index) count blocks) (ap (cell_at blocks) (sym same) ∙ there.1)) ∙ sym there.1
+  item-at index (suc count) (suc k) blocks filled below =
+      let there = filled 0 (omega arith) in
+      let same : index + 0 ≡ index = omega arith in
+      let next : suc index + k ≡ index + suc k = omega arith in
+      ap (λ (items : List T). slice_get items (suc k)) (first_item (cell_at blocks index) there.0 (items_from (suc index) count blocks) (ap (cell_at blocks) (sym same) ∙ there.1))
+      ∙ item-at (suc index) count k blocks (later_filled index count blocks filled) (omega arith) ∙ ap (cell_at blocks) next
+
+  -- what stands in the places
+  abbrev pub items_of : List (List (Option T)) → ℕ → List T
+  items_of blocks len = items_from 0 len blocks
+
+  from_first : (blocks : List (List (Option T))) (len : ℕ) → IsStored blocks len → AreFilled 0 len blocks
+  from_first blocks len stored k below =
+      let same : 0 + k ≡ k = omega arith in
+      let there = stored.filled k below in
+      (there.0, ap (cell_at blocks) same ∙ there.1)
+
+  pub length-stored : (blocks : List (List (Option T))) (len : ℕ) → IsStored blocks len → length (items_of blocks len) ≡ len
+  length-stored blocks len stored = length-items 0 len blocks (from_first blocks len stored)
+
+  -- the item at an index is what lies in its place
+  pub stands : (blocks : List (List (Option T))) (len : ℕ) → IsStored blocks len → (k : ℕ) → slice_get (items_of blocks len) k ≡ cell_at blocks k
+  stands blocks len stored k =
+      elim (cases_lt k len) [
+        | inl below ↦ let same : 0 + k ≡ k = omega arith in item-at 0 len k blocks (from_first blocks len stored) below ∙ ap (cell_at blocks) same
+        | inr beyond ↦ slice_get_past (items_of blocks len) k (omega (arith, length-stored blocks len stored)) ∙ sym (stored.vacant k beyond)
       ]
 
-  -- the places are known index by index
-  same_places : (marks : List Mark) (blocks : List (List (Option T))) (places : List (Place T)) → length places ≡ length marks → ((k : ℕ) → k < length marks → get_or places k blank ≡ place_with (mark_at marks k) (cell_at blocks k)) → places_from 0 marks blocks ≡ places
-  same_places marks blocks places long at =
-      ext_get_or blank (places_from 0 marks blocks) places (length-places 0 marks blocks ∙ sym long) (λ k within. at_first k marks blocks (omega (arith, length-places 0 marks blocks)) ∙ sym (at k (omega (arith, length-places 0 marks blocks))))
+  -- two lists with the same items are one
+  same_list : (xs ys : List T) → ((k : ℕ) → slice_get xs k ≡ slice_get ys k) → xs ≡ ys
+  same_list [] [] same = refl
+  same_list [] (y ∷ ys) same = absurd (let first = same 0 in cc)
+  same_list (x ∷ xs) [] same = absurd (let first = same 0 in cc)
+  same_list (x ∷ xs) (y ∷ ys) same =
+      let first : Some x ≡ Some y = same 0 in
+      let rest : xs ≡ ys = same_list xs ys (λ k. same (suc k)) in
+      cc
+
+  -- the items are known index by index
+  same_items : (blocks : List (List (Option T))) (len : ℕ) (items : List T) → IsStored blocks len → ((k : ℕ) → slice_get items k ≡ cell_at blocks k) → items_of blocks len ≡ items
+  same_items blocks len items stored at = same_list (items_of blocks len) items (λ k. stands blocks len stored k ∙ sym (at k))
 
   -- the blocks with another block where this index lies
   abbrev pub with_block : List (List (Option T)) → ℕ → List (Option T) → List (List (Option T))
@@ -115,196 +132,174 @@ module _ {T : Type 0} where
   pub read_cell : (blocks : List (List (Option T))) (index : ℕ) (old : List (Option T)) → block_of index < length blocks → Reads blocks index old → get_or old (slot_of index) None ≡ cell_at blocks index
   read_cell blocks index old inside read = ap (λ (b : List (Option T)). get_or b (slot_of index) None) (get_or_read blocks (block_of index) old inside read [])
 
-  is_some_from : (o : Option T) → IsSome o → is_some o ≡ true
-  is_some_from (Some x) some = refl
-  is_some_from None some = absurd (cc)
-
-  value_from : (o : Option T) → is_some o ≡ true → (x : T) × (o ≡ Some x)
-  value_from (Some x) test = (x, refl)
-  value_from None test = absurd (cc)
-
-  -- what is known where there is a value
-  pub record Holds (marks : List Mark) (blocks : List (List (Option T))) (index : ℕ) : Type 0 where
-    pub within : index < length marks
+  -- the place of an index with an item
+  pub record Holds (blocks : List (List (Option T))) (index : ℕ) : Type 0 where
     pub inside : block_of index < length blocks
-    pub cell : (x : T) × (cell_at blocks index ≡ Some x)
+    pub cell : (item : T) × (cell_at blocks index ≡ Some item)
 
-  pub holds : (marks : List Mark) (blocks : List (List (Option T))) (room index : ℕ) → IsStored marks blocks room → is_some (place_at (places_from 0 marks blocks) index).value ≡ true → Holds marks blocks index
-  holds marks blocks room index stored test =
-      let cell = ap (λ (p : Place T). is_some p.value) (sym (stands marks blocks room stored index)) ∙ test in
-      let within = marked_within marks index (stored.told index ∙ cell) in
-      record {
-        within = within;
-        inside = block_below blocks index (omega (arith, stored.within));
-        cell = value_from (cell_at blocks index) cell;
-      }
+  pub holds : (blocks : List (List (Option T))) (len index : ℕ) → IsStored blocks len → index < len → Holds blocks index
+  holds blocks len index stored below =
+      record { inside = block_below blocks index (omega (arith, stored.within)); cell = stored.filled index below }
 
-  pub holds_some : (marks : List Mark) (blocks : List (List (Option T))) (room index : ℕ) → IsStored marks blocks room → IsSome (place_at (places_from 0 marks blocks) index).value → Holds marks blocks index
-  holds_some marks blocks room index stored some = holds marks blocks room index stored (is_some_from (place_at (places_from 0 marks blocks) index).value some)
+  -- what was read there is the item
+  pub item_read : (blocks : List (List (Option T))) (len index : ℕ) (old : List (Option T)) (item : Option T) → IsStored blocks len → index < len → Reads blocks index old → get_or old (slot_of index) None ≡ item → slice_get (items_of blocks len) index ≡ item
+  item_read blocks len index old item stored below read found =
+      stands blocks len stored index ∙ (sym (read_cell blocks index old (holds blocks len index stored below).inside read) ∙ found)
 
-  -- the value that was read is the one that stands there
-  pub value_read : (marks : List Mark) (blocks : List (List (Option T))) (room index : ℕ) (old : List (Option T)) (value : Option T) → IsStored marks blocks room → block_of index < length blocks → Reads blocks index old → get_or old (slot_of index) None ≡ value → (place_at (places_from 0 marks blocks) index).value ≡ value
-  value_read marks blocks room index old value stored inside read found =
-      ap (λ (p : Place T). p.value) (stands marks blocks room stored index) ∙ (sym (read_cell blocks index old inside read) ∙ found)
+  -- each block keeps its size where one place is written
+  sized-after : (blocks : List (List (Option T))) (index : ℕ) (value : Option T) → ((k : ℕ) → k < length blocks → length (get_or blocks k []) ≡ block_slots) → block_of index < length blocks → (k : ℕ) → k < length (with_block blocks index (set (get_or blocks (block_of index) []) (slot_of index) value)) → length (get_or (with_block blocks index (set (get_or blocks (block_of index) []) (slot_of index) value)) k []) ≡ block_slots
+  sized-after blocks index value sized inside k below =
+      let first = get_or blocks (block_of index) [] in
+      let next = set first (slot_of index) value in
+      let long = length-set blocks (block_of index) next in
+      elim (cases_eq k (block_of index)) [
+        | inl same ↦ subst (λ n. length (get_or (with_block blocks index next) n []) ≡ block_slots) (sym same) (ap length (get_or-set_same blocks (block_of index) next [] inside) ∙ (length-set first (slot_of index) value ∙ sized (block_of index) inside))
+        | inr other ↦ ap length (get_or-set_other blocks (block_of index) k next [] other) ∙ sized k (omega arith)
+      ]
 
-  -- an index with no value has an empty place
-  pub empty_cell : (marks : List Mark) (blocks : List (List (Option T))) (room index : ℕ) (old : List (Option T)) → IsStored marks blocks room → block_of index < length blocks → Reads blocks index old → (place_at (places_from 0 marks blocks) index).value ≡ None → get_or old (slot_of index) None ≡ None
-  empty_cell marks blocks room index old stored inside read vacant =
-      read_cell blocks index old inside read ∙ (ap (λ (p : Place T). p.value) (sym (stands marks blocks room stored index)) ∙ vacant)
+  -- what a write to one place leaves
+  record Changed (blocks after : List (List (Option T))) (index : ℕ) (value : Option T) : Type 0 where
+    sized : (k : ℕ) → k < length after → length (get_or after k []) ≡ block_slots
+    long : length after ≡ length blocks
+    here : cell_at after index ≡ value
+    others : (k : ℕ) → k ≢ index → cell_at after k ≡ cell_at blocks k
 
-  -- the place after the last has no value
-  pub empty_end : (marks : List Mark) (blocks : List (List (Option T))) (room : ℕ) (index : ℕ) → length marks ≤ index → (place_at (places_from 0 marks blocks) index).value ≡ None
-  empty_end marks blocks room index beyond =
-      ap (λ (p : Place T). p.value) (get_or_past (places_from 0 marks blocks) index blank (omega (arith, length-places 0 marks blocks)))
-
-  -- what a change of one place, and of the marks with it, leaves
-  pub record Changed (marks : List Mark) (blocks : List (List (Option T))) (room index : ℕ) (block : List (Option T)) (mark : Mark) (value : Option T) (before : List Mark) (was : List (List (Option T))) : Type 0 where
-    pub laid_out : IsStored marks (with_block blocks index block) room
-    pub places : (k : ℕ) → k ≢ index → place_with (mark_at marks k) (cell_at (with_block blocks index block) k) ≡ place_with (mark_at before k) (cell_at was k)
-    pub place : place_with (mark_at marks index) (cell_at (with_block blocks index block) index) ≡ place_with mark value
-
-  changes : (before marks : List Mark) (blocks : List (List (Option T))) (room index : ℕ) (mark : Mark) (old block : List (Option T)) (value : Option T) → IsStored before blocks room → index < length blocks * block_slots → length marks ≤ length blocks * block_slots → Reads blocks index old → block ≡ set old (slot_of index) value → mark.is_filled ≡ is_some value → mark_at marks index ≡ mark → ((k : ℕ) → k ≢ index → mark_at marks k ≡ mark_at before k) → Changed marks blocks room index block mark value before blocks
-  changes before marks blocks room index mark old block value stored within fewer read made filled now others =
-      let inside = block_below blocks index within in
+  changes : (blocks : List (List (Option T))) (len index : ℕ) (old block : List (Option T)) (value : Option T) → IsStored blocks len → block_of index < length blocks → Reads blocks index old → block ≡ set old (slot_of index) value → Changed blocks (with_block blocks index block) index value
+  changes blocks len index old block value stored inside read made =
       let was : old ≡ get_or blocks (block_of index) [] = get_or_read blocks (block_of index) old inside read [] in
       let block_is : block ≡ set (get_or blocks (block_of index) []) (slot_of index) value = made ∙ ap (λ (b : List (Option T)). set b (slot_of index) value) was in
-      subst (λ (b : List (Option T)). Changed marks blocks room index b mark value before blocks) (sym block_is) (on inside)
-    where
-      on : block_of index < length blocks → Changed marks blocks room index (set (get_or blocks (block_of index) []) (slot_of index) value) mark value before blocks
-      on inside =
-          let first = get_or blocks (block_of index) [] in
-          let next = set first (slot_of index) value in
-          let long = length-set blocks (block_of index) next in
-          let cell : cell_at (with_block blocks index next) index ≡ value = cell-same blocks index first value inside (stored.sized (block_of index) inside) in
-          record {
-            laid_out = record {
-              sized = λ k below. elim (cases_eq k (block_of index)) [
-                | inl same ↦ subst (λ n. length (get_or (with_block blocks index next) n []) ≡ block_slots) (sym same) (ap length (get_or-set_same blocks (block_of index) next [] inside) ∙ (length-set first (slot_of index) value ∙ stored.sized (block_of index) inside))
-                | inr other ↦ ap length (get_or-set_other blocks (block_of index) k next [] other) ∙ stored.sized k (omega arith)
-              ];
-              told = λ k. elim (cases_eq k index) [
-                | inl same ↦ subst (λ n. (mark_at marks n).is_filled ≡ is_some (cell_at (with_block blocks index next) n)) (sym same) (ap (λ (m : Mark). m.is_filled) now ∙ (filled ∙ ap is_some (sym cell)))
-                | inr other ↦ ap (λ (m : Mark). m.is_filled) (others k other) ∙ (stored.told k ∙ ap is_some (sym (cell-other blocks index k value inside other)))
-              ];
-              within = omega arith;
-              roomy = omega (arith, stored.roomy);
-            };
-            places = λ k other. λ i. place_with (others k other i) (cell-other blocks index k value inside other i);
-            place = λ i. place_with (now i) (cell i);
-          }
+      let first = get_or blocks (block_of index) [] in
+      let next = set first (slot_of index) value in
+      let on : Changed blocks (with_block blocks index next) index value = record {
+        sized = sized-after blocks index value stored.sized inside;
+        long = length-set blocks (block_of index) next;
+        here = cell-same blocks index first value inside (stored.sized (block_of index) inside);
+        others = λ k other. cell-other blocks index k value inside other;
+      } in
+      subst (λ (b : List (Option T)). Changed blocks (with_block blocks index b) index value) (sym block_is) on
 
-  -- what writing or emptying one place leaves
-  pub record Set (marks : List Mark) (blocks : List (List (Option T))) (room index : ℕ) (mark : Mark) (block : List (Option T)) (value : Option T) : Type 0 where
-    pub laid_out : IsStored (set marks index mark) (with_block blocks index block) room
-    pub contents : stored_of (set marks index mark) (with_block blocks index block) ≡ changed (stored_of marks blocks) index mark.generation value
+  -- the item at an index of a list that was changed there
+  pub get-set_same : (items : List T) (index : ℕ) (item : T) → index < length items → slice_get (set items index item) index ≡ Some item
+  get-set_same items index item within =
+      slice_get-get_or (set items index item) index item (omega (arith, length-set items index item)) ∙ ap Some (get_or-set_same items index item item within)
 
-  pub sets : (marks : List Mark) (blocks : List (List (Option T))) (room index : ℕ) (mark : Mark) (old block : List (Option T)) (value : Option T) → IsStored marks blocks room → index < length marks → Reads blocks index old → block ≡ set old (slot_of index) value → mark.is_filled ≡ is_some value → Set marks blocks room index mark block value
-  sets marks blocks room index mark old block value stored within read made filled =
-      let long = length-set marks index mark in
-      let longer = length-set blocks (block_of index) block in
-      let done = changes marks (set marks index mark) blocks room index mark old block value stored (omega (arith, stored.within)) (omega (arith, stored.within)) read made filled (get_or-set_same marks index mark unmarked within) (λ k other. get_or-set_other marks index k mark unmarked other) in
-      let place : Place T = place_with mark value in
-      let before = places_from 0 marks blocks in
-      let count = length-places 0 marks blocks in
-      let places : places_from 0 (set marks index mark) (with_block blocks index block) ≡ set before index place =
-      same_places (set marks index mark) (with_block blocks index block) (set before index place) (omega (arith, length-set before index place)) (λ k below. elim (cases_eq k index) [
-        | inl same ↦ subst (λ n. get_or (set before index place) n blank ≡ place_with (mark_at (set marks index mark) n) (cell_at (with_block blocks index block) n)) (sym same) (get_or-set_same before index place blank (omega arith) ∙ sym done.place)
-        | inr other ↦ get_or-set_other before index k place blank other ∙ (at_first k marks blocks (omega arith) ∙ sym (done.places k other))
+  pub get-set_other : (items : List T) (index k : ℕ) (item : T) → k ≢ index → slice_get (set items index item) k ≡ slice_get items k
+  get-set_other [] index k item other = refl
+  get-set_other (x ∷ items) zero zero item other = absurd (other refl)
+  get-set_other (x ∷ items) zero (suc k) item other = refl
+  get-set_other (x ∷ items) (suc index) zero item other = refl
+  get-set_other (x ∷ items) (suc index) (suc k) item other = get-set_other items index k item (λ same. other (ap suc same))
+
+  -- what writing over an item leaves
+  pub record Written (blocks after : List (List (Option T))) (len index : ℕ) (item : T) : Type 0 where
+    pub laid_out : IsStored after len
+    pub contents : stored_of after len ≡ with_item (stored_of blocks len) index item
+
+  pub writes : (blocks : List (List (Option T))) (len index : ℕ) (old : List (Option T)) (item : T) → IsStored blocks len → index < len → Reads blocks index old → Written blocks (with_block blocks index (set old (slot_of index) (Some item))) len index item
+  writes blocks len index old item stored below read =
+      let held = holds blocks len index stored below in
+      let block = set old (slot_of index) (Some item) in
+      let after = with_block blocks index block in
+      let done = changes blocks len index old block (Some item) stored held.inside read refl in
+      let long = done.long in
+      let laid_out : IsStored after len = record {
+        sized = done.sized;
+        filled = λ k less. elim (cases_eq k index) [
+          | inl same ↦ (item, ap (cell_at after) same ∙ done.here)
+          | inr other ↦ let there = stored.filled k less in (there.0, done.others k other ∙ there.1)
+        ];
+        vacant = λ k beyond. done.others k (λ same. omega arith) ∙ stored.vacant k beyond;
+        within = omega (arith, stored.within);
+      } in
+      let items = items_of blocks len in
+      let count = length-stored blocks len stored in
+      let same : items_of after len ≡ set items index item =
+      same_items after len (set items index item) laid_out (λ k. elim (cases_eq k index) [
+        | inl here ↦ ap (slice_get (set items index item)) here ∙ (get-set_same items index item (omega arith) ∙ (sym done.here ∙ ap (cell_at after) (sym here)))
+        | inr other ↦ get-set_other items index k item other ∙ (stands blocks len stored k ∙ sym (done.others k other))
       ]) in
-      record {
-        laid_out = done.laid_out;
-        contents = λ i. record { places = places i; room = longer i * block_slots };
-      }
+      record { laid_out = laid_out; contents = λ i. record { items = same i; room = long i * block_slots } }
+
+  -- the item after the others
+  get_push_end : (items : List T) (item : T) (k : ℕ) → k ≡ length items → slice_get (items ++ item ∷ []) k ≡ Some item
+  get_push_end [] item zero at = refl
+  get_push_end [] item (suc k) at = absurd (omega arith)
+  get_push_end (x ∷ items) item zero at = absurd (omega arith)
+  get_push_end (x ∷ items) item (suc k) at = get_push_end items item k (omega arith)
+
+  pub get_push_other : (items : List T) (item : T) (k : ℕ) → k ≢ length items → slice_get (items ++ item ∷ []) k ≡ slice_get items k
+  get_push_other [] item zero other = absurd (other refl)
+  get_push_other [] item (suc k) other = refl
+  get_push_other (x ∷ items) item zero other = refl
+  get_push_other (x ∷ items) item (suc k) other = get_push_other items item k (λ same. other (ap suc same))
 
   -- what writing to the place after the last leaves
-  pub record Push (marks : List Mark) (blocks : List (List (Option T))) (room : ℕ) (mark : Mark) (block : List (Option T)) (value : T) : Type 0 where
-    pub laid_out : IsStored (marks ++ mark ∷ []) (with_block blocks (length marks) block) room
-    pub contents : stored_of (marks ++ mark ∷ []) (with_block blocks (length marks) block) ≡ pushed (stored_of marks blocks) value
+  pub record Pushed (blocks after : List (List (Option T))) (len : ℕ) (item : T) : Type 0 where
+    pub laid_out : IsStored after (len + 1)
+    pub contents : stored_of after (len + 1) ≡ pushed (stored_of blocks len) item
 
-  pub pushes : (marks : List Mark) (blocks : List (List (Option T))) (room : ℕ) (mark : Mark) (old block : List (Option T)) (value : T) → IsStored marks blocks room → length marks < length blocks * block_slots → Reads blocks (length marks) old → block ≡ set old (slot_of (length marks)) (Some value) → mark ≡ record { generation = 1; is_filled = true } → Push marks blocks room mark block value
-  pushes marks blocks room mark old block value stored below read made is =
-      let index = length marks in
-      let long = length_push marks mark in
-      let longer = length-set blocks (block_of index) block in
-      let done = changes marks (marks ++ mark ∷ []) blocks room index mark old block (Some value) stored below (omega arith) read made (ap (λ (m : Mark). m.is_filled) is) (get_or_push marks mark unmarked index refl) (push_other marks mark) in
-      let place : Place T = record { generation = 1; value = Some value } in
-      let mine : place_with mark (Some value) ≡ place = ap (λ (m : Mark). place_with m (Some value)) is in
-      let before = places_from 0 marks blocks in
-      let count = length-places 0 marks blocks in
-      let places : places_from 0 (marks ++ mark ∷ []) (with_block blocks index block) ≡ before ++ place ∷ [] =
-      same_places (marks ++ mark ∷ []) (with_block blocks index block) (before ++ place ∷ []) (omega (arith, length_push before place)) (λ k within. elim (cases_eq k index) [
-        | inl same ↦ subst (λ n. get_or (before ++ place ∷ []) n blank ≡ place_with (mark_at (marks ++ mark ∷ []) n) (cell_at (with_block blocks index block) n)) (sym same) (get_or_push before place blank index count ∙ sym (done.place ∙ mine))
-        | inr other ↦
-            let inner : k < length marks = omega (arith, other) in
-            get_or_append_left before (place ∷ []) blank k (omega arith) ∙ (at_first k marks blocks inner ∙ sym (done.places k other))
+  pub pushes : (blocks : List (List (Option T))) (len : ℕ) (old block : List (Option T)) (item : T) → IsStored blocks len → len < length blocks * block_slots → Reads blocks len old → block ≡ set old (slot_of len) (Some item) → Pushed blocks (with_block blocks len block) len item
+  pushes blocks len old block item stored below read made =
+      let after = with_block blocks len block in
+      let done = changes blocks len len old block (Some item) stored (block_below blocks len below) read made in
+      let long = done.long in
+      let laid_out : IsStored after (len + 1) = record {
+        sized = done.sized;
+        filled = λ k less. elim (cases_eq k len) [
+          | inl same ↦ (item, ap (cell_at after) same ∙ done.here)
+          | inr other ↦ let there = stored.filled k (omega (arith, other)) in (there.0, done.others k other ∙ there.1)
+        ];
+        vacant = λ k beyond. done.others k (λ same. omega arith) ∙ stored.vacant k (omega arith);
+        within = omega arith;
+      } in
+      let items = items_of blocks len in
+      let count = length-stored blocks len stored in
+      let same : items_of after (len + 1) ≡ items ++ item ∷ [] =
+      same_items after (len + 1) (items ++ item ∷ []) laid_out (λ k. elim (cases_eq k len) [
+        | inl here ↦ get_push_end items item k (here ∙ sym count) ∙ (sym done.here ∙ ap (cell_at after) (sym here))
+        | inr other ↦ get_push_other items item k (λ end. other (end ∙ count)) ∙ (stands blocks len stored k ∙ sym (done.others k other))
       ]) in
-      record {
-        laid_out = done.laid_out;
-        contents = λ i. record { places = places i; room = longer i * block_slots };
-      }
+      record { laid_out = laid_out; contents = λ i. record { items = same i; room = long i * block_slots } }
 
-  -- an index that was given has a mark, and a place
-  pub given_within : (marks : List Mark) (blocks : List (List (Option T))) (index : ℕ) → index < length (places_from 0 marks blocks) → index < length marks
-  given_within marks blocks index given = omega (arith, length-places 0 marks blocks)
+  -- what emptying the last place leaves
+  pub record Popped (blocks after : List (List (Option T))) (len last : ℕ) (item : T) : Type 0 where
+    pub laid_out : IsStored after last
+    pub contents : stored_of blocks len ≡ pushed (stored_of after last) item
 
-  pub block_within : (marks : List Mark) (blocks : List (List (Option T))) (room index : ℕ) → IsStored marks blocks room → index < length (places_from 0 marks blocks) → block_of index < length blocks
-  block_within marks blocks room index stored given = block_below blocks index (omega (arith, length-places 0 marks blocks, stored.within))
+  pops_end : (blocks : List (List (Option T))) (last : ℕ) (old block : List (Option T)) (item : T) → IsStored blocks (last + 1) → Reads blocks last old → get_or old (slot_of last) None ≡ Some item → block ≡ set old (slot_of last) None → Popped blocks (with_block blocks last block) (last + 1) last item
+  pops_end blocks last old block item stored read found made =
+      let after = with_block blocks last block in
+      let below : last < last + 1 = omega arith in
+      let held = holds blocks (last + 1) last stored below in
+      let was : cell_at blocks last ≡ Some item = sym (read_cell blocks last old held.inside read) ∙ found in
+      let done = changes blocks (last + 1) last old block None stored held.inside read made in
+      let long = done.long in
+      let laid_out : IsStored after last = record {
+        sized = done.sized;
+        filled = λ k less. let there = stored.filled k (omega arith) in (there.0, done.others k (λ same. omega arith) ∙ there.1);
+        vacant = λ k beyond. elim (cases_eq k last) [
+          | inl same ↦ ap (cell_at after) same ∙ done.here
+          | inr other ↦ done.others k other ∙ stored.vacant k (omega (arith, other))
+        ];
+        within = omega (arith, stored.within);
+      } in
+      let items = items_of after last in
+      let count = length-stored after last laid_out in
+      let same : items_of blocks (last + 1) ≡ items ++ item ∷ [] =
+      same_items blocks (last + 1) (items ++ item ∷ []) stored (λ k. elim (cases_eq k last) [
+        | inl here ↦ get_push_end items item k (here ∙ sym count) ∙ (sym was ∙ ap (cell_at blocks) (sym here))
+        | inr other ↦ get_push_other items item k (λ end. other (end ∙ count)) ∙ (stands after last laid_out k ∙ done.others k other)
+      ]) in
+      record { laid_out = laid_out; contents = λ i. record { items = same i; room = sym long i * block_slots } }
 
-  -- what a write over a value leaves
-  pub record Overwritten (marks : List Mark) (blocks : List (List (Option T))) (room index : ℕ) (block : List (Option T)) (value : T) : Type 0 where
-    pub laid_out : IsStored marks (with_block blocks index block) room
-    pub contents : stored_of marks (with_block blocks index block) ≡ changed (stored_of marks blocks) index (place_at (places_from 0 marks blocks) index).generation (Some value)
-
-  pub overwrites : (marks : List Mark) (blocks : List (List (Option T))) (room index : ℕ) (old : List (Option T)) (value : T) → IsStored marks blocks room → IsSome (place_at (places_from 0 marks blocks) index).value → Reads blocks index old → Overwritten marks blocks room index (set old (slot_of index) (Some value)) value
-  overwrites marks blocks room index old value stored some read =
-      let held = holds_some marks blocks room index stored some in
-      let mark = mark_at marks index in
-      let filled : mark.is_filled ≡ true = stored.told index ∙ ap is_some held.cell.1 in
-      let done = sets marks blocks room index mark old (set old (slot_of index) (Some value)) (Some value) stored held.within read refl filled in
-      let same = set-same marks index in
-      let kept : (place_at (places_from 0 marks blocks) index).generation ≡ mark.generation = ap (λ (p : Place T). p.generation) (stands marks blocks room stored index) in
-      record {
-        laid_out = subst (λ (ms : List Mark). IsStored ms (with_block blocks index (set old (slot_of index) (Some value))) room) same done.laid_out;
-        contents = ap (λ (ms : List Mark). stored_of ms (with_block blocks index (set old (slot_of index) (Some value)))) (sym same) ∙ (done.contents ∙ ap (λ (n : ℕ). changed (stored_of marks blocks) index n (Some value)) (sym kept));
-      }
-
-  -- no value at the last index, and none after it
-  pub record Short (marks : List Mark) (blocks : List (List (Option T))) (room last : ℕ) : Type 0 where
-    pub laid_out : IsStored (take last marks) blocks room
-    pub places : places_from 0 (take last marks) blocks ≡ take last (places_from 0 marks blocks)
-
-  pub shortens : (marks : List Mark) (blocks : List (List (Option T))) (room last : ℕ) → IsStored marks blocks room → last + 1 ≡ length marks → (place_at (places_from 0 marks blocks) last).value ≡ None → Short marks blocks room last
-  shortens marks blocks room last stored end vacant =
-      let long : length (take last marks) ≡ last = omega (arith, length-take last marks) in
-      let empty : (k : ℕ) → last ≤ k → is_some (cell_at blocks k) ≡ false = λ k beyond.
-      elim (cases_eq k last) [
-        | inl same ↦ ap (λ n. is_some (cell_at blocks n)) same ∙ (ap (λ (p : Place T). is_some p.value) (sym (stands marks blocks room stored last)) ∙ ap is_some vacant)
-        | inr other ↦ sym (stored.told k) ∙ ap (λ (m : Mark). m.is_filled) (get_or_past marks k unmarked (omega (arith, other)))
-      ] in
-      let count = length-places 0 marks blocks in
-      record {
-        laid_out = record {
-          sized = stored.sized;
-          told = λ k. elim (cases_lt k last) [
-            | inl below ↦ ap (λ (m : Mark). m.is_filled) (get_or-take last marks k unmarked below) ∙ stored.told k
-            | inr beyond ↦ ap (λ (m : Mark). m.is_filled) (get_or_past (take last marks) k unmarked (omega arith)) ∙ sym (empty k beyond)
-          ];
-          within = omega (arith, stored.within);
-          roomy = stored.roomy;
-        };
-        places = same_places (take last marks) blocks (take last (places_from 0 marks blocks)) (omega (arith, length-take last (places_from 0 marks blocks))) (λ k below.
-            let less : k < last = omega arith in
-            get_or-take last (places_from 0 marks blocks) k blank less ∙ (at_first k marks blocks (omega arith) ∙ ap (λ (m : Mark). place_with m (cell_at blocks k)) (sym (get_or-take last marks k unmarked less))));
-      }
-
-  -- more room for marks
-  pub roomier : (marks : List Mark) (blocks : List (List (Option T))) (room more : ℕ) → IsStored marks blocks room → room ≤ more → IsStored marks blocks more
-  roomier marks blocks room more stored wider = record { sized = stored.sized; told = stored.told; within = stored.within; roomy = omega (arith, stored.roomy) }
+  pub pops : (blocks : List (List (Option T))) (len last : ℕ) (old block : List (Option T)) (item : T) → IsStored blocks len → len ≡ last + 1 → Reads blocks last old → get_or old (slot_of last) None ≡ Some item → block ≡ set old (slot_of last) None → Popped blocks (with_block blocks last block) len last item
+  pops blocks len last old block item stored end read found made =
+      subst (λ (n : ℕ). IsStored blocks n → Popped blocks (with_block blocks last block) n last item) (sym end) (λ at_end. pops_end blocks last old block item at_end read found made) stored
 
   -- a further block
-  pub record Grown (marks : List Mark) (blocks : List (List (Option T))) (room : ℕ) (block : List (Option T)) : Type 0 where
-    pub laid_out : IsStored marks (blocks ++ block ∷ []) room
-    pub places : places_from 0 marks (blocks ++ block ∷ []) ≡ places_from 0 marks blocks
+  pub record Grown (blocks : List (List (Option T))) (len : ℕ) (block : List (Option T)) : Type 0 where
+    pub laid_out : IsStored (blocks ++ block ∷ []) len
+    pub items : items_of (blocks ++ block ∷ []) len ≡ items_of blocks len
 
   empty_slot : (n k : ℕ) → ◌≡◌ {A = Option T} (get_or (replicate n None) k None) None
   empty_slot zero k = refl
@@ -324,33 +319,34 @@ module _ {T : Type 0} where
             ]
       ]
 
-  pub grows : (marks : List Mark) (blocks : List (List (Option T))) (room more : ℕ) (block : List (Option T)) → IsStored marks blocks room → block ≡ replicate block_slots None → length blocks * block_slots + block_slots ≤ more → Grown marks blocks more block
-  grows marks blocks room more block stored is wide = subst (Grown marks blocks more) (sym is) on
+  pub grows : (blocks : List (List (Option T))) (len : ℕ) (block : List (Option T)) → IsStored blocks len → block ≡ replicate block_slots None → Grown blocks len block
+  grows blocks len block stored is = subst (Grown blocks len) (sym is) on
     where
-      on : Grown marks blocks more (replicate block_slots None)
+      on : Grown blocks len (replicate block_slots None)
       on =
           let empty : List (Option T) = replicate block_slots None in
           let long = length_push blocks empty in
+          let laid_out : IsStored (blocks ++ empty ∷ []) len = record {
+            sized = λ k below. elim (cases_lt k (length blocks)) [
+              | inl within ↦ ap length (get_or_append_left blocks (empty ∷ []) [] k within) ∙ stored.sized k within
+              | inr beyond ↦ ap length (get_or_push blocks empty [] k (omega arith)) ∙ length-replicate block_slots nothing_there
+            ];
+            filled = λ k less. let there = stored.filled k less in (there.0, cell-grown blocks k ∙ there.1);
+            vacant = λ k beyond. cell-grown blocks k ∙ stored.vacant k beyond;
+            within = omega (arith, stored.within);
+          } in
           record {
-            laid_out = record {
-              sized = λ k below. elim (cases_lt k (length blocks)) [
-                | inl within ↦ ap length (get_or_append_left blocks (empty ∷ []) [] k within) ∙ stored.sized k within
-                | inr beyond ↦ ap length (get_or_push blocks empty [] k (omega arith)) ∙ length-replicate block_slots nothing_there
-              ];
-              told = λ k. stored.told k ∙ ap is_some (sym (cell-grown blocks k));
-              within = omega (arith, stored.within);
-              roomy = omega arith;
-            };
-            places = same_places marks (blocks ++ empty ∷ []) (places_from 0 marks blocks) (length-places 0 marks blocks) (λ k below. at_first k marks blocks below ∙ ap (place_with (mark_at marks k)) (sym (cell-grown blocks k)));
+            laid_out = laid_out;
+            items = same_items (blocks ++ empty ∷ []) len (items_of blocks len) laid_out (λ k. stands blocks len stored k ∙ sym (cell-grown blocks k));
           }
 
-  -- where no value is left, each block is empty
-  pub all_empty : (marks : List Mark) (blocks : List (List (Option T))) (room : ℕ) → IsStored marks blocks room → IsVacant (places_from 0 marks blocks) → (j : ℕ) → j < length blocks → get_or blocks j [] ≡ replicate block_slots None
-  all_empty marks blocks room stored vacant j below =
+  -- where no item is left, each block is empty
+  pub all_empty : (blocks : List (List (Option T))) (len : ℕ) → IsStored blocks len → items_of blocks len ≡ [] → (j : ℕ) → j < length blocks → get_or blocks j [] ≡ replicate block_slots None
+  all_empty blocks len stored none j below =
       ext_get_or None (get_or blocks j []) (replicate block_slots None) (stored.sized j below ∙ sym (length-replicate block_slots nothing_there)) (λ k less.
       let inside : k < block_slots = omega (arith, stored.sized j below) in
       let index = j * block_slots + k in
       let in_block : block_of index ≡ j = omega (arith, div-add-mod' index block_slots, slot_below index) in
       let in_slot : slot_of index ≡ k = omega (arith, div-add-mod' index block_slots, slot_below index) in
-      let none : cell_at blocks index ≡ None = ap (λ (p : Place T). p.value) (sym (stands marks blocks room stored index)) ∙ vacant index in
-      (λ i. get_or (get_or blocks (sym in_block i) []) (sym in_slot i) None) ∙ (none ∙ sym (empty_slot block_slots k)))
+      let nothing : cell_at blocks index ≡ None = sym (stands blocks len stored index) ∙ ap (λ (items : List T). slice_get items index) none in
+      (λ i. get_or (get_or blocks (sym in_block i) []) (sym in_slot i) None) ∙ (nothing ∙ sym (empty_slot block_slots k)))

@@ -1,17 +1,26 @@
 -- What the fields of an arena stand for. No clause of a caller needs it.
-use Rattle.std.specs.Prelude.{ℕ, ◌≡◌, ◌+◌, ◌≤◌, List, length, reverse}
-use Rattle.ca_arena.specs.Arena.{Place, Contents, live_count}
+use Rattle.std.specs.Prelude.{ℕ, ◌≡◌, ◌+◌, zero, suc, List, [], ◌∷◌, length, map, slice_get, Option, Some, None}
+use Rattle.ca_arena.specs.declared.slot.Slot.{Slot}
+use Rattle.ca_arena.specs.Arena.{Contents, live_count}
+use Rattle.ca_arena.specs.Slot.{link_of, place_of}
 use Rattle.ca_arena.specs.Sound.{IsSound}
 
 module _ {T : Type 0} where
-  -- what the fields stand for: the stack of freed indices has the one freed last at its end
-  abbrev pub contents_of : List (Place T) → List ℕ → Contents T
-  contents_of places freed = record { given = places; freed = reverse freed }
+  -- the link of a slot that was read
+  abbrev pub link_read : Option (Slot T) → ℕ
+  link_read None = 0
+  link_read (Some slot) = link_of slot
 
-  -- the fields stand for something sound; each index has a value, is free or is retired; and each index with memory, given or not,
-  -- finds room where it comes to be freed
-  pub record IsLaidOut (places : List (Place T)) (freed : List ℕ) (retired room freed_room : ℕ) : Type 0 where
-    pub sound : IsSound (contents_of places freed)
-    pub counted : live_count places + length freed + retired ≡ length places
-    pub within : length places ≤ room
-    pub roomy : room ≤ freed_room
+  -- so many free indices, from this one on: the slot of each names the one that was freed before it
+  abbrev pub freed_from : List (Slot T) → ℕ → ℕ → List ℕ
+  freed_from slots zero index = []
+  freed_from slots (suc count) index = index ∷ freed_from slots count (link_read (slice_get slots index))
+
+  -- what the fields stand for: the slots, how many indices are free again, and which one was freed last
+  abbrev pub contents_of : List (Slot T) → ℕ → ℕ → Contents T
+  contents_of slots freed first = record { given = map place_of slots; freed = freed_from slots freed first }
+
+  -- the fields stand for something sound; and each index has a value, is free or is retired
+  pub record IsLaidOut (slots : List (Slot T)) (freed first retired : ℕ) : Type 0 where
+    pub sound : IsSound (contents_of slots freed first)
+    pub counted : live_count (map place_of slots) + freed + retired ≡ length slots

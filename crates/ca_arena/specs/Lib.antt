@@ -4,6 +4,8 @@ pub mod BlockLending
 pub mod Cells
 pub mod Filled
 pub mod Sound
+pub mod Slot
+pub mod SlotLending
 pub mod Stored
 pub mod StoredLayout
 pub mod StoredLending

@@ -1,39 +1,30 @@
--- What the blocks and the marks stand for.
-use Rattle.std.specs.Prelude.{ℕ, ◌≡◌, ◌*◌, ◌/◌, ◌%◌, ◌<◌, ◌≤◌, suc, false, List, [], ◌∷◌, length, Option, None, is_some, get_or}
-use Rattle.ca_arena.specs.declared.blocks.Mark.{Mark}
-use Rattle.ca_arena.specs.Arena.{Place}
+-- What the blocks stand for.
+use Rattle.std.specs.Prelude.{ℕ, ◌≡◌, ◌*◌, ◌/◌, ◌%◌, ◌<◌, ◌≤◌, zero, suc, List, [], ◌∷◌, length, Option, Some, None, get_or}
 use Rattle.ca_arena.specs.Filled.{block_slots}
 use Rattle.ca_arena.specs.Stored.{Stored}
-
--- the mark of an index that was never given
-abbrev pub unmarked : Mark
-unmarked = record { generation = 0; is_filled = false }
-
--- the mark of an index
-abbrev pub mark_at : List Mark → ℕ → Mark
-mark_at marks index = get_or marks index unmarked
 
 module _ {T : Type 0} where
   -- what lies in the place of an index: index 64 is the first of the second block
   abbrev pub cell_at : List (List (Option T)) → ℕ → Option T
   cell_at blocks index = get_or (get_or blocks (index / block_slots) []) (index % block_slots) None
 
-  -- a place with this mark
-  abbrev pub place_with : Mark → Option T → Place T
-  place_with mark value = record { generation = mark.generation; value = value }
+  -- what lies in a place, before other items
+  abbrev pub prepended : Option T → List T → List T
+  prepended None items = items
+  prepended (Some item) items = item ∷ items
 
-  -- the places from this index on, one for each mark
-  abbrev pub places_from : ℕ → List Mark → List (List (Option T)) → List (Place T)
-  places_from index [] blocks = []
-  places_from index (mark ∷ marks) blocks = place_with mark (cell_at blocks index) ∷ places_from (suc index) marks blocks
+  -- the items in so many places from this index on
+  abbrev pub items_from : ℕ → ℕ → List (List (Option T)) → List T
+  items_from index zero blocks = []
+  items_from index (suc count) blocks = prepended (cell_at blocks index) (items_from (suc index) count blocks)
 
   -- what they stand for
-  abbrev pub stored_of : List Mark → List (List (Option T)) → Stored T
-  stored_of marks blocks = record { places = places_from 0 marks blocks; room = length blocks * block_slots }
+  abbrev pub stored_of : List (List (Option T)) → ℕ → Stored T
+  stored_of blocks len = record { items = items_from 0 len blocks; room = length blocks * block_slots }
 
-  -- each block has its 64 places; the marks tell which places hold a value; and there is room for a mark of each place
-  pub record IsStored (marks : List Mark) (blocks : List (List (Option T))) (marks_room : ℕ) : Type 0 where
+  -- each block has its 64 places, and the first `len` places of all hold an item, and no other
+  pub record IsStored (blocks : List (List (Option T))) (len : ℕ) : Type 0 where
     pub sized : (k : ℕ) → k < length blocks → length (get_or blocks k []) ≡ block_slots
-    pub told : (index : ℕ) → (mark_at marks index).is_filled ≡ is_some (cell_at blocks index)
-    pub within : length marks ≤ length blocks * block_slots
-    pub roomy : length blocks * block_slots ≤ marks_room
+    pub filled : (index : ℕ) → index < len → (item : T) × (cell_at blocks index ≡ Some item)
+    pub vacant : (index : ℕ) → len ≤ index → cell_at blocks index ≡ None
+    pub within : len ≤ length blocks * block_slots

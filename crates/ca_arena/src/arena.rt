@@ -1,12 +1,13 @@
-ghost use Rattle.std.specs.Prelude.{◌≡◌, ◌+◌, ◌-◌, ◌<◌, ◌==◌, ◌↔◌, ℕ, IsTrue, IfOk, OnOk, Some, None, if◌then◌else◌, length, option_copied, []};
+ghost use Rattle.std.specs.Prelude.{◌≡◌, ◌+◌, ◌-◌, ◌<◌, ◌≤◌, ◌==◌, ◌↔◌, ℕ, IsTrue, IfOk, OnOk, Some, None, if◌then◌else◌, length, option_copied, is_some, []};
 ghost use Rattle.std.specs.Option.{option_copied_mut};
 ghost use Rattle.std.specs.Borrow.{sem};
-ghost use Rattle.ca_text.specs.Limits.{last_generation};
+ghost use Rattle.ca_text.specs.Limits.{arena_slots, last_generation};
 ghost use Rattle.ca_arena.specs.Sound.{IsSound};
-ghost use Rattle.ca_arena.specs.Arena.{empty, find, live_count, free_slots, IsLive, Inserts, InsertsAt, Removes, IsFresh, IsFirstFrom, IsHandleAt, next_handle, taken_back, walk_start};
+ghost use Rattle.ca_arena.specs.Arena.{empty, find, live_count, free_slots, IsLive, Inserts, InsertsAt, Removes, IsFresh, IsFirstFrom, IsHandleAt, next_handle, taken_back, walk_start, place_at};
 
 use crate::blocks::Blocks;
 use crate::handle::Handle;
+use crate::slot::Slot;
 use ca_text::{ARENA_SLOTS, LAST_GENERATION, Refusal};
 use std::alloc::Global;
 use std::marker::Model;
@@ -17,16 +18,17 @@ use std::marker::Model;
 /// next generation; at its last generation it is retired.
 #[derive(Drop)]
 pub struct Arena<T> {
-    // The values, and the generation given last at each index.
-    blocks: Blocks<T>,
-    // The indices that are free again. The one freed last stands at the end. It has room for each index with memory.
-    freed: Vec<u16>,
+    // A slot for each index that was given. Those of the free indices name each other, from the one freed last on.
+    slots: Blocks<Slot<T>>,
+    // How many indices are free again.
+    freed: usize,
+    // The one of these that was freed last.
+    first_freed: u16,
     // How many indices are never given again.
     retired: usize,
 }
 
 impl<T> Model for Arena<T> {
-    ghost use Rattle.std.specs.Vec.{vec_capacity};
     ghost use Rattle.ca_arena.specs.Arena.{Contents, contents_code};
 
     ghost Value = { Contents T };
@@ -35,10 +37,9 @@ impl<T> Model for Arena<T> {
 
     ghost use Rattle.ca_arena.specs.Layout.{contents_of, IsLaidOut};
 
-    ghost view = { λ a. contents_of a.blocks.places a.freed.items };
+    ghost view = { λ a. contents_of a.slots.items a.freed a.first_freed };
 
-    ghost invariant = { λ a.
-        IsLaidOut a.blocks.places a.freed.items a.retired a.blocks.room (vec_capacity a.freed) };
+    ghost invariant = { λ a. IsLaidOut a.slots.items a.freed a.first_freed a.retired };
 }
 
 impl<T> Arena<T> {
@@ -49,8 +50,9 @@ impl<T> Arena<T> {
         ensures { result ≡ empty }
     {
         Arena {
-            blocks: Blocks::new(alloc),
-            freed: Vec::new(alloc),
+            slots: Blocks::new(alloc),
+            freed: 0,
+            first_freed: 0,
             retired: 0,
         }
     }
@@ -60,7 +62,7 @@ impl<T> Arena<T> {
         ensures count { result ≡ live_count self.now.given }
         ensures sound { IsSound self.now }
     {
-        self.blocks.len() - self.freed.len() - self.retired
+        self.slots.len() - self.freed - self.retired
     }
 
     /// Whether there is no value.
@@ -74,7 +76,15 @@ impl<T> Arena<T> {
     pub fn free_slots(&self) -> usize
         ensures { result ≡ free_slots self.now }
     {
-        self.freed.len() + (ARENA_SLOTS - self.blocks.len())
+        self.freed + (ARENA_SLOTS - self.given())
+    }
+
+    // How many indices were given.
+    fn given(&self) -> usize
+        ensures count { result ≡ length self.now.given }
+        ensures few { result ≤ arena_slots }
+    {
+        self.slots.len()
     }
 
     /// The handle that `insert` gives next. None if no index is free.
@@ -92,16 +102,36 @@ impl<T> Arena<T> {
         requires { 0 < free_slots self.now }
         ensures { result ≡ next_handle self.now }
     {
-        match self.freed.last() {
-            None => Handle {
-                index: self.blocks.len() as u16,
+        if self.freed == 0 {
+            return Handle {
+                index: self.given() as u16,
                 generation: 1,
-            },
-            Some(freed) => {
-                let index = *freed;
-                let generation = self.blocks.generation(usize::from(index)) + 1;
-                Handle { index, generation }
-            }
+            };
+        }
+        let index = self.first_freed;
+        Handle {
+            index,
+            generation: self.generation(usize::from(index)) + 1,
+        }
+    }
+
+    // The generation given last at an index.
+    fn generation(&self, index: usize) -> u32
+        ensures { result ≡ (place_at self.now.given index).generation }
+    {
+        match self.slots.get(index) {
+            Some(slot) => slot.generation(),
+            None => 0,
+        }
+    }
+
+    // Whether there is a value at an index.
+    fn is_filled(&self, index: usize) -> bool
+        ensures { result ≡ is_some (place_at self.now.given index).value }
+    {
+        match self.slots.get(index) {
+            Some(slot) => slot.is_filled(),
+            None => false,
         }
     }
 
@@ -109,11 +139,10 @@ impl<T> Arena<T> {
     pub fn get(&self, handle: Handle) -> Option<&T>
         ensures { option_copied result ≡ find self.now handle }
     {
-        let index = usize::from(handle.index);
-        if self.blocks.generation(index) != handle.generation {
-            return None;
+        match self.slots.get(usize::from(handle.index)) {
+            Some(slot) => slot.value_for(handle.generation),
+            None => None,
         }
-        self.blocks.lend(index)
     }
 
     /// The value of this handle for writing, unless it is stale.
@@ -133,7 +162,7 @@ impl<T> Arena<T> {
         ensures* writes_back { sem 𝓛 (lends_live T.row self.entry handle result) }
         ensures value { find self.old handle ≡ Some result.now }
     {
-        self.blocks.lend_mut(usize::from(handle.index))
+        self.slots.item_mut(usize::from(handle.index)).value_mut()
     }
 
     /// The live handle with the least index, or with the least one above that of `after`.
@@ -144,11 +173,11 @@ impl<T> Arena<T> {
             Some(handle) => usize::from(handle.index) + 1,
             None => 0,
         };
-        for index in start..self.blocks.len() {
-            if self.blocks.is_filled(index) {
+        for index in start..self.given() {
+            if self.is_filled(index) {
                 return Some(Handle {
                     index: index as u16,
-                    generation: self.blocks.generation(index),
+                    generation: self.generation(index),
                 });
             }
         }
@@ -160,13 +189,14 @@ impl<T> Arena<T> {
         ensures found { IsHandleAt self.now index result }
         ensures sound { IsSound self.now }
     {
+        let _ = &self.slots;
         let place = usize::from(index);
-        if !self.blocks.is_filled(place) {
+        if !self.is_filled(place) {
             return None;
         }
         Some(Handle {
             index,
-            generation: self.blocks.generation(place),
+            generation: self.generation(place),
         })
     }
 
@@ -178,15 +208,15 @@ impl<T> Arena<T> {
         ensures fresh { IfOk result (IsFresh self.old) }
         ensures sound { IsSound self.new }
     {
-        match self.freed.pop() {
-            None => self.append(value),
-            Some(index) => {
-                let place = usize::from(index);
-                let generation = self.blocks.generation(place) + 1;
-                self.blocks.write(place, generation, value);
-                Ok(Handle { index, generation })
-            }
+        if self.freed == 0 {
+            return self.append(value);
         }
+        let index = self.first_freed;
+        let slot = self.slots.item_mut(usize::from(index));
+        let generation = slot.generation() + 1;
+        self.first_freed = slot.fill(generation, value);
+        self.freed -= 1;
+        Ok(Handle { index, generation })
     }
 
     /// `insert` under the handle that `vacant` tells, for whoever has to know it before.
@@ -218,14 +248,17 @@ impl<T> Arena<T> {
         ensures fresh { IfOk result (IsFresh self.old) }
         ensures sound { IsSound self.new }
     {
-        let index = self.blocks.len();
+        let index = self.given();
         if index == ARENA_SLOTS {
             return Err((value, Refusal::ArenaFull));
         }
-        if self.blocks.make_room(&mut self.freed).is_err() {
+        if self.slots.make_room().is_err() {
             return Err((value, Refusal::OutOfMemory));
         }
-        self.blocks.push(value);
+        self.slots.push(Slot::Filled {
+            generation: 1,
+            value,
+        });
         Ok(Handle {
             index: index as u16,
             generation: 1,
@@ -234,21 +267,21 @@ impl<T> Arena<T> {
 
     /// Takes the value of this handle out. The handle is stale from then on.
     ///
-    /// A stale handle is refused. No memory is asked for: `insert` made the room.
+    /// A stale handle is refused. No memory is asked for: the slot itself says which index was freed before.
     pub fn remove(&mut self, handle: Handle) -> Result<T, Refusal>
         ensures { Removes self.old handle result self.new }
     {
         if !self.is_live(handle) {
             return Err(Refusal::StaleHandle);
         }
-        let value = self
-            .blocks
-            .take_out(usize::from(handle.index), handle.generation);
+        let slot = self.slots.item_mut(usize::from(handle.index));
+        let value = slot.vacate(handle.generation, self.first_freed);
         if handle.generation == LAST_GENERATION {
             self.retired += 1;
             return Ok(value);
         }
-        self.freed.push_reserved(handle.index);
+        self.freed += 1;
+        self.first_freed = handle.index;
         Ok(value)
     }
 
@@ -263,13 +296,27 @@ impl<T> Arena<T> {
     {
         let index = usize::from(handle.index);
         if index == given {
-            return self.blocks.pop(index);
+            return self.take_last(handle);
         }
-        let value = self
-            .blocks
-            .take_out(index, handle.generation.saturating_sub(1));
-        self.freed.push_reserved(handle.index);
+        let slot = self.slots.item_mut(index);
+        let value = slot.vacate(handle.generation.saturating_sub(1), self.first_freed);
+        self.freed += 1;
+        self.first_freed = handle.index;
         value
+    }
+
+    // Takes the value at the last index out, as if that index had not been given.
+    fn take_last(&mut self, handle: Handle) -> T
+        requires live { IsLive self.old handle }
+        requires last { handle.index + 1 ≡ length self.old.given }
+        ensures value { find self.old handle ≡ Some result }
+        ensures after { self.new ≡ taken_back self.old handle handle.index }
+        ensures sound { IsSound self.new }
+    {
+        match self.slots.pop() {
+            Slot::Filled { value, .. } => value,
+            Slot::Vacant { .. } => unreachable!(),
+        }
     }
 
     fn is_live(&self, handle: Handle) -> bool

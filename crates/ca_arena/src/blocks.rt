@@ -1,31 +1,22 @@
-//! Values by index, in blocks that never move, and the generation given last at each index.
-ghost use Rattle.std.specs.Prelude.{◌≡◌, ◌+◌, ◌<◌, ◌≤◌, [], IsSome, None, Some, OnOk, is_some, length, option_copied};
+//! Items by index, in blocks that never move.
+ghost use Rattle.std.specs.Prelude.{◌≡◌, ◌<◌, ◌≤◌, [], Some, OnOk, length, option_copied, slice_get};
 ghost use Rattle.std.specs.Borrow.{sem};
-ghost use Rattle.ca_arena.specs.Arena.{place_at};
-ghost use Rattle.std.specs.Vec.{vec_capacity};
-ghost use Rattle.ca_arena.specs.Stored.{changed, IsVacant, nothing, popped, pushed};
-ghost use Rattle.ca_arena.specs.StoredLayout.{mark_at};
+ghost use Rattle.ca_text.specs.Limits.{arena_slots};
+ghost use Rattle.ca_arena.specs.Stored.{nothing, pushed};
 
 use crate::block::{BLOCK_SLOTS, Block};
 use std::alloc::{AllocError, Global};
 use std::marker::Model;
 
-/// The blocks of an arena, and the mark of each index that was given.
+/// Items by index from 0 on, in blocks of 64 that never move.
 pub struct Blocks<T> {
     blocks: Vec<Block<T>>,
-    marks: Vec<Mark>,
+    // How many items there are. They stand in the first places.
+    len: usize,
     alloc: Global,
 }
 
-// What is known of an index: the generation given last, and whether its place holds a value.
-#[derive(Clone, Copy)]
-struct Mark {
-    generation: u32,
-    is_filled: bool,
-}
-
 impl<T> Model for Blocks<T> {
-    ghost use Rattle.std.specs.Vec.{vec_capacity};
     ghost use Rattle.ca_arena.specs.Stored.{Stored, stored_code};
 
     ghost Value = { Stored T };
@@ -34,161 +25,106 @@ impl<T> Model for Blocks<T> {
 
     ghost use Rattle.ca_arena.specs.StoredLayout.{stored_of, IsStored};
 
-    ghost view = { λ b. stored_of b.marks.items b.blocks.items };
+    ghost view = { λ b. stored_of b.blocks.items b.len };
 
-    ghost invariant = { λ b.
-        IsStored b.marks.items b.blocks.items (vec_capacity b.marks) };
+    ghost invariant = { λ b. IsStored b.blocks.items b.len };
 }
 
 impl<T> Blocks<T> {
-    ghost use Rattle.ca_arena.specs.StoredLending.{lends_stored};
+    ghost use Rattle.ca_arena.specs.StoredLending.{lends_item};
 
-    // No block, and no index. It does not allocate yet.
+    // No block, and no item. It does not allocate yet.
     pub(crate) fn new(alloc: Global) -> Self
         ensures { result ≡ nothing }
     {
         Blocks {
             blocks: Vec::new(alloc),
-            marks: Vec::new(alloc),
+            len: 0,
             alloc,
         }
     }
 
-    // How many indices were given.
+    // How many items there are.
     pub(crate) fn len(&self) -> usize
-        ensures { result ≡ length self.now.places }
+        ensures { result ≡ length self.now.items }
     {
-        self.marks.len()
+        self.len
     }
 
-    // The generation given last at an index.
-    pub(crate) fn generation(&self, index: usize) -> u32
-        ensures { result ≡ (place_at self.now.places index).generation }
+    // The item at an index, if there is one.
+    pub(crate) fn get(&self, index: usize) -> Option<&T>
+        ensures { option_copied result ≡ slice_get self.now.items index }
     {
-        mark_of(&self.marks, index).generation
-    }
-
-    // Whether there is a value at an index.
-    pub(crate) fn is_filled(&self, index: usize) -> bool
-        ensures { result ≡ is_some (place_at self.now.places index).value }
-    {
-        mark_of(&self.marks, index).is_filled
-    }
-
-    // The value at an index.
-    pub(crate) fn lend(&self, index: usize) -> Option<&T>
-        ensures { option_copied result ≡ (place_at self.now.places index).value }
-    {
-        if !self.is_filled(index) {
+        if index >= self.len {
             return None;
         }
         Some(self.blocks[index / BLOCK_SLOTS].lend(index % BLOCK_SLOTS))
     }
 
-    // The value at an index for writing.
-    pub(crate) fn lend_mut(&mut self, index: usize) -> &mut T
-        requires { IsSome (place_at self.old.places index).value }
-        ensures* writes_back { sem 𝓛 (lends_stored T.row self.entry index result) }
-        ensures value { (place_at self.old.places index).value ≡ Some result.now }
+    // The item at an index for writing.
+    pub(crate) fn item_mut(&mut self, index: usize) -> &mut T
+        requires { index < length self.old.items }
+        ensures* writes_back { sem 𝓛 (lends_item T.row self.entry index result) }
+        ensures value { slice_get self.old.items index ≡ Some result.now }
     {
         self.blocks[index / BLOCK_SLOTS].lend_mut(index % BLOCK_SLOTS)
     }
 
-    // Puts a value at an index that has none, under this generation.
-    pub(crate) fn write(&mut self, index: usize, generation: u32, value: T)
-        requires given { index < length self.old.places }
-        requires vacant { (place_at self.old.places index).value ≡ None }
-        ensures { self.new ≡ changed self.old index generation (Some value) }
+    // Puts an item after the others.
+    pub(crate) fn push(&mut self, item: T)
+        requires room { length self.old.items < self.old.room }
+        requires few { length self.old.items < arena_slots }
+        ensures { self.new ≡ pushed self.old item }
     {
-        self.blocks[index / BLOCK_SLOTS].write(index % BLOCK_SLOTS, value);
-        self.marks[index] = Mark {
-            generation,
-            is_filled: true,
-        };
+        let index = self.len;
+        self.blocks[index / BLOCK_SLOTS].write(index % BLOCK_SLOTS, item);
+        self.len = index + 1;
     }
 
-    // Takes the value at an index out, and leaves this generation.
-    pub(crate) fn take_out(&mut self, index: usize, generation: u32) -> T
-        requires { IsSome (place_at self.old.places index).value }
-        ensures value { (place_at self.old.places index).value ≡ Some result }
-        ensures left { self.new ≡ changed self.old index generation None }
+    // Takes the last item out.
+    pub(crate) fn pop(&mut self) -> T
+        requires { 0 < length self.old.items }
+        ensures { self.old ≡ pushed self.new result }
     {
-        let value = self.blocks[index / BLOCK_SLOTS].take_out(index % BLOCK_SLOTS);
-        self.marks[index] = Mark {
-            generation,
-            is_filled: false,
-        };
-        value
+        let index = self.len - 1;
+        self.len = index;
+        self.blocks[index / BLOCK_SLOTS].take_out(index % BLOCK_SLOTS)
     }
 
-    // Puts a value at the next index, in the first generation.
-    pub(crate) fn push(&mut self, value: T)
-        requires { length self.old.places < self.old.room }
-        ensures { self.new ≡ pushed self.old value }
-    {
-        let index = self.marks.len();
-        self.blocks[index / BLOCK_SLOTS].write(index % BLOCK_SLOTS, value);
-        self.marks.push_reserved(Mark {
-            generation: 1,
-            is_filled: true,
-        });
-    }
-
-    // Takes the value at the last index out, as if that index had not been given.
-    pub(crate) fn pop(&mut self, last: usize) -> T
-        requires last { last + 1 ≡ length self.old.places }
-        requires value { IsSome (place_at self.old.places last).value }
-        ensures value { (place_at self.old.places last).value ≡ Some result }
-        ensures left { self.new ≡ popped self.old last }
-    {
-        let value = self.take_out(last, 0);
-        self.marks.pop();
-        value
-    }
-
-    // Makes a block where each place was given, and the room for its marks, and in `freed` for its indices. It makes all room before
-    // it changes anything.
+    // Makes a block where each place is taken. It makes all room before it changes anything.
     #[inline(never)]
-    pub(crate) fn make_room(&mut self, freed: &mut Vec<u16>) -> Result<(), AllocError>
-        requires { (freed.old.items ≡ []) × (self.old.room ≤ vec_capacity freed.old) }
-        ensures places { self.new.places ≡ self.old.places }
-        ensures freed { freed.new.items ≡ freed.old.items }
-        ensures more { self.old.room ≤ self.new.room }
-        ensures room { self.new.room ≤ vec_capacity freed.new }
-        ensures ok { OnOk result (length self.new.places < self.new.room) }
+    pub(crate) fn make_room(&mut self) -> Result<(), AllocError>
+        ensures items { self.new.items ≡ self.old.items }
+        ensures ok { OnOk result (length self.new.items < self.new.room) }
     {
-        let room = self.blocks.len() * BLOCK_SLOTS;
-        if self.marks.len() < room {
+        let full = self.len / BLOCK_SLOTS;
+        if full < self.blocks.len() {
             return Ok(());
         }
-        freed.reserve(room + BLOCK_SLOTS)?;
-        self.marks.reserve(BLOCK_SLOTS)?;
         self.blocks.reserve(1)?;
         let block = Block::new(&self.alloc)?;
         self.blocks.push_reserved(block);
         Ok(())
     }
 
-    // Drops each value.
+    // Drops each item.
     fn clear(&mut self)
     where
         T: Drop,
-        ensures { IsVacant self.new.places }
+        ensures { self.new.items ≡ [] }
     {
-        for index in 0..self.len() {
-            if self.is_filled(index) {
-                drop(self.take_out(index, 0));
-            }
+        for _dropped in 0..self.len() {
+            drop(self.pop());
         }
     }
 
-    // Frees the blocks, which have no value any more.
+    // Frees the blocks, which have no item any more.
     fn free(self)
-        requires { IsVacant self.places }
+        requires { self.items ≡ [] }
     {
         let Blocks {
             mut blocks,
-            marks: _,
+            len: _,
             alloc,
         } = self;
         for _freed in 0..blocks.len() {
@@ -204,18 +140,5 @@ impl<T: Drop> Drop for Blocks<T> {
     fn drop(mut self) {
         self.clear();
         self.free();
-    }
-}
-
-// The mark of an index: of one that was never given, generation 0 and no value.
-fn mark_of(marks: &[Mark], index: usize) -> Mark
-    ensures { result ≡ mark_at marks.now index }
-{
-    match marks.get(index) {
-        Some(mark) => *mark,
-        None => Mark {
-            generation: 0,
-            is_filled: false,
-        },
     }
 }

@@ -10,6 +10,7 @@ mod blocks;
 mod cells;
 mod handle;
 mod laws;
+mod slot;
 
 pub use arena::Arena;
 pub use handle::Handle;

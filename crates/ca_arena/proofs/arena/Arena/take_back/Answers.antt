@@ -1,31 +1,29 @@
-use Rattle.std.proofs.Common.{◌≡◌, ◌∙◌, ◌+◌, ap, length, sym}
-use Rattle.ca_arena.specs.Arena.{Contents}
-use Rattle.ca_arena.proofs.Slots.{lowered, shortened}
+use Rattle.std.proofs.Common.{◌+◌, ◌∙◌, arith}
+use Rattle.ca_arena.proofs.Slots.{lowers, read_live}
 use Rattle.ca_arena.proofs.arena.Arena.take_back.Goals as goal
 
 pub invariant_of-self : goal.invariant_of-self
 invariant_of-self g c =
     let alive = rw (← c.self.view_is) at c.requires.live in
-    let places = c.self.inside.blocks.places in
-    let freed = c.self.inside.freed.items in
-    let had = rw c.from-index.ensures at c.pop.ensures.value in
-    let same : c.args.handle.index ≡ c.from-index.result = sym c.from-index.ensures in
-    let end : c.from-index.result + 1 ≡ length places =
-    ap (λ n. n + 1) c.if-index-given.true ∙ (c.requires.last (same ∙ c.if-index-given.true) ∙ ap (λ (a : Contents g.row.T.Denot). length a.given) (sym c.self.view_is)) in
-    rw c.pop.ensures.left
-    (shortened places freed c.args.handle c.from-index.result c.self.inside.retired _ _ c.pop.result c.self.invariant alive same end had).laid_out
+    let read = rw c.from-index.ensures at c.item_mut-slot.ensures.value in
+    let inside = c.self.inside in
+    let after = lowers inside.slots.items inside.freed inside.first_freed inside.retired (inside.freed + 1) c.args.handle _ c.args.given c.saturating_sub.result _ c.self.invariant alive read c.vacate-value.ensures.value c.saturating_sub.ensures (λ same. c.if-index-given.false (c.from-index.ensures ∙ same)) (omega arith) in
+    rw (c.vacate-value.ensures.vacated, c.from-index.ensures) after.laid_out
 
-pub returns-then-index-given-clause-sound : goal.returns-then-index-given-clause-sound
-returns-then-index-given-clause-sound g c = (invariant_of-self g c).sound
-
-pub invariant_of-self-2 : goal.invariant_of-self-2
-invariant_of-self-2 g c =
+pub returns-clause-value : goal.returns-clause-value
+returns-clause-value g c =
     let alive = rw (← c.self.view_is) at c.requires.live in
-    let had = rw c.from-index.ensures at c.take_out-value.ensures.value in
-    let places = c.self.inside.blocks.places in
-    let freed = c.self.inside.freed.items in
-    let after = lowered places freed c.push_reserved.new.self.items c.args.handle c.args.given c.saturating_sub.result c.self.inside.retired _ _ c.take_out-value.result c.self.invariant alive had c.saturating_sub.ensures (λ same. c.if-index-given.false (c.from-index.ensures ∙ same)) c.push_reserved.ensures.items in
-    rw (c.take_out-value.ensures.left, c.from-index.ensures, c.push_reserved.ensures.capacity) after.laid_out
+    let read = rw c.from-index.ensures at c.item_mut-slot.ensures.value in
+    let inside = c.self.inside in
+    rw (← c.self.view_is) (read_live inside.slots.items inside.freed inside.first_freed c.args.handle _ _ alive read c.vacate-value.ensures.value).found
+
+pub returns-clause-after : goal.returns-clause-after
+returns-clause-after g c =
+    let alive = rw (← c.self.view_is) at c.requires.live in
+    let read = rw c.from-index.ensures at c.item_mut-slot.ensures.value in
+    let inside = c.self.inside in
+    let after = lowers inside.slots.items inside.freed inside.first_freed inside.retired (inside.freed + 1) c.args.handle _ c.args.given c.saturating_sub.result _ c.self.invariant alive read c.vacate-value.ensures.value c.saturating_sub.ensures (λ same. c.if-index-given.false (c.from-index.ensures ∙ same)) (omega arith) in
+    rw (c.vacate-value.ensures.vacated, c.from-index.ensures, ← c.self.view_is) after.contents
 
 pub returns-clause-sound : goal.returns-clause-sound
-returns-clause-sound g c = (invariant_of-self-2 g c).sound
+returns-clause-sound g c = (invariant_of-self g c).sound

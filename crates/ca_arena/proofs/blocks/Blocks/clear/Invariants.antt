@@ -1,7 +1,5 @@
-use Rattle.std.proofs.Common.{◌≡◌, ℕ, ◌<◌, None, length}
-use Rattle.ca_arena.specs.Arena.{place_at}
+use Rattle.std.proofs.Common.{◌≡◌, ◌+◌, length}
 use Rattle.ca_arena.proofs.blocks.Blocks.clear.Given as goal
 
-abbrev pub invariant-loop-index : goal.invariant-loop-index
-invariant-loop-index g l =
-    (length l.self.places ≡ l.index-end) × ((k : ℕ) → k < l.index → (place_at l.self.places k).value ≡ None)
+abbrev pub invariant-loop-dropped : goal.invariant-loop-dropped
+invariant-loop-dropped g l = l._dropped + length l.self.items ≡ l._dropped-end

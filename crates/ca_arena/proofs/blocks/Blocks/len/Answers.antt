@@ -1,8 +1,6 @@
-use Rattle.std.proofs.Common.{◌∙◌, sym}
-use Rattle.ca_arena.proofs.Stored.{length-places}
+use Rattle.std.proofs.Common.{sym}
+use Rattle.ca_arena.proofs.Stored.{length-stored}
 use Rattle.ca_arena.proofs.blocks.Blocks.len.Goals as goal
 
 pub returns : goal.returns
-returns g c =
-    let marks = c.self.inside.marks in
-    rw (← c.self.view_is) (c.len.ensures ∙ (marks.ok.0 ∙ sym (length-places 0 marks.items c.self.inside.blocks.items)))
+returns g c = rw (← c.self.view_is) (sym (length-stored c.self.inside.blocks.items c.self.inside.len c.self.invariant))

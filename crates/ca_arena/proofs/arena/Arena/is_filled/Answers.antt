@@ -1,0 +1,8 @@
+use Rattle.std.proofs.Common.{◌∙◌, sym, ap, is_some}
+use Rattle.ca_arena.specs.Arena.{Place}
+use Rattle.ca_arena.proofs.Slots.{place_read, stands_at}
+use Rattle.ca_arena.proofs.arena.Arena.is_filled.Goals as goal
+
+pub returns-in-None : goal.returns-in-None
+returns-in-None g c =
+    rw (← c.self.view_is) (ap (λ (p : Place g.row.T.Denot). is_some p.value) (sym (stands_at c.self.inside.slots.items c.args.index ∙ ap place_read (sym c.in-None.ensures))))
