@@ -1,12 +1,12 @@
 -- The fields of an event queue that is a ring, after each call.
-use Rattle.std.proofs.Common.{◌≡◌, ℕ, zero, suc, ◌+◌, ◌-◌, ◌<◌, ◌≤◌, Bool, true, false, not, ◌&&◌, ◌||◌, cond, List, [], ◌∷◌, ◌++◌, length, map, take, drop, get_or, set, Option, None, Some, is_some, refl, sym, ap, ◌∙◌, subst, inl, inr, arith, ltb, leb, eqb, add-one}
-use Rattle.std.specs.List.{list_any, filter, count_by, sum_by}
+use Rattle.std.proofs.Common.{◌≡◌, ℕ, zero, suc, ◌+◌, ◌-◌, ◌%◌, ◌^◌, ◌<◌, ◌≤◌, Bool, true, false, not, ◌&&◌, ◌||◌, cond, List, [], ◌∷◌, ◌++◌, length, map, take, drop, get_or, set, Option, None, Some, is_some, refl, sym, ap, ◌∙◌, subst, inl, inr, arith, ltb, leb, add-one}
+use Rattle.std.specs.List.{list_any, filter, count_by, sum_by, position}
 use Rattle.std.specs.Option.{option_map}
-use Rattle.std.specs.Prelude.{IfSome, slice_get, unwrap_or}
-use Rattle.std.proofs.lemmas.Bool.{cases_Bool, both_ways, and_parts, and_from, or_parts, or_from, or_left, or_right, leb-true, le-leb, ltb-true, ltb-false, lt-ltb, eqb-true, eq-eqb}
+use Rattle.std.specs.Prelude.{slice_get, unwrap_or}
+use Rattle.std.proofs.lemmas.Bool.{cases_Bool, both_ways, and_parts, and_from, or_parts, or_cases, or_from, or_left, or_right, leb-true, le-leb, ltb-true, ltb-false, lt-ltb}
 use Rattle.std.proofs.lemmas.List.{append-nil, append_assoc, drop_all, length-append, length-drop, length-map, length-take, length_push, get_or-map, map-append, map_more, take_all}
 use Rattle.std.proofs.lemmas.List.Quantifiers.{position-Some}
-use Rattle.std.proofs.lemmas.List.Sums.{sum_by-set, sum_by-cons, sum_by_push, length-filter, count_by-le-length}
+use Rattle.std.proofs.lemmas.List.Sums.{sum_by-cons, sum_by_push, length-filter, count_by-le-length}
 use Rattle.indexmap.specs.IndexSet.{insert_key}
 use Rattle.circular_buffer.specs.Buffer.{Buffer, buffer}
 use Rattle.ca_text.specs.Limits.{queue_places, queue_low_places, queue_subscriptions}
@@ -16,10 +16,10 @@ use Rattle.ca_queue.specs.Keys.{AreApart, same, is_among}
 use Rattle.ca_queue.specs.Waiting.{is_of, has_entry, count_of, free_places, replaces, with_last, after_cancel, front, is_crowded, may_take, taken}
 use Rattle.ca_queue.specs.Queue.{Queue, no_queue, added, posted, with_front_taken, cancelled}
 use Rattle.ca_queue.specs.Sound.{IsSound}
-use Rattle.ca_queue.specs.Ring.{AreInPlaces, HasPlace, HasPlaces, IsAt, IsIndexed, IsMade, IsRing, IsRound, has_room_for_all, keys_of_lasts, last_at, last_in, last_index, lasts_of, later, left_of, made, ring_queue, unplaced, unwrapped, waits, with_back, with_entry_at, with_items, without_front, wrapped}
-use Rattle.ca_queue.proofs.Keys.{same_itself, same_is, other_sym, number_of, count_by-cons, counts_more, apart_push, apart_without}
-use Rattle.ca_queue.proofs.Entries.{keys_in, keys_with_last, with_last_at, has_behind, has_count, has_without, length_without}
-use Rattle.ca_queue.proofs.Counts.{map_step}
+use Rattle.ca_text.specs.Place.{At}
+use Rattle.ca_queue.specs.Ring.{AreInPlaces, AreNoted, HasPlace, HasPlaces, IsAt, IsIndexed, IsMade, IsNoted, IsRing, IsRound, has_room_for_all, having, key_at, keys_of_lasts, last_at, last_index, later, made, next_put, no_key, no_last, puts_after, ring_queue, unplaced, waits, with_back, with_entry_at, with_items, without_front}
+use Rattle.ca_queue.proofs.Keys.{same_itself, same_is, other_sym, number_of, count_by-cons, counts_agree, counts_more, apart_push, apart_without}
+use Rattle.ca_queue.proofs.Entries.{keys_in, keys_with_last, with_last_at, has_alike, has_behind, has_count, has_push, has_without, length_alike, length_without}
 use Rattle.ca_queue.proofs.Crowds.{crowded_keys}
 use Rattle.ca_queue.proofs.Soundness.{sound_none, sound_added, sound_posted, finds_place, sound_taken, sound_cancelled, sound_switched}
 
@@ -59,7 +59,7 @@ grown key keys lasts_keys indexed indexed' b is fresh b_is more =
     more ∙ ap (λ (t : Bool). indexed + cond t 1 0) new
 
 -- those that are left once one was taken out
-pub keys-left : (key : SubKey) (lasts : List Last) → keys_of_lasts (map (λ l. unplaced l.key) (filter (λ l. not (same key l.key)) lasts)) ≡ filter (λ k. not (same key k)) (keys_of_lasts lasts)
+pub keys-left : (key : SubKey) (lasts : List Last) → keys_of_lasts (filter (λ l. not (same key l.key)) lasts) ≡ filter (λ k. not (same key k)) (keys_of_lasts lasts)
 keys-left key [] = refl
 keys-left key (l ∷ lasts) =
     elim (cases_Bool (same key l.key)) [
@@ -67,21 +67,16 @@ keys-left key (l ∷ lasts) =
       | inr other ↦ rw other (ap (λ (ks : List SubKey). l.key ∷ ks) (keys-left key lasts))
     ]
 
-pub apart-left : (key : SubKey) (lasts : List Last) → AreApart (keys_of_lasts lasts) → AreApart (keys_of_lasts (map (λ l. unplaced l.key) (filter (λ l. not (same key l.key)) lasts)))
+pub apart-left : (key : SubKey) (lasts : List Last) → AreApart (keys_of_lasts lasts) → AreApart (keys_of_lasts (filter (λ l. not (same key l.key)) lasts))
 apart-left key lasts apart = subst AreApart (sym (keys-left key lasts)) (apart_without key (keys_of_lasts lasts) apart)
 
--- one more place was forgotten
-pub forgot-more : (lasts now : List Last) (i : ℕ) (d : Last) → i < length lasts → now ≡ map (λ l. unplaced l.key) (take i lasts) ++ drop i lasts → set now i (unplaced (get_or now i d).key) ≡ map (λ l. unplaced l.key) (take (i + 1) lasts) ++ drop (i + 1) lasts
-forgot-more lasts now i d less is =
-    rw add-one (ap (λ (ls : List Last). set ls i (unplaced (get_or ls i d).key)) is ∙ map_step (λ l. unplaced l.key) lasts i d less)
-
-length-left : (key : SubKey) (lasts : List Last) → length (map (λ l. unplaced l.key) (filter (λ l. not (same key l.key)) lasts)) ≤ length lasts
+length-left : (key : SubKey) (lasts : List Last) → length (filter (λ l. not (same key l.key)) lasts) ≤ length lasts
 length-left key lasts =
     let p : Last → Bool = λ l. not (same key l.key) in
-    omega (arith, length-map (filter p lasts) (λ l. unplaced l.key), length-filter p lasts, count_by-le-length p lasts)
+    omega (arith, length-filter p lasts, count_by-le-length p lasts)
 
 -- one was taken out, and the index was made anew
-pub indexed-left : (key : SubKey) (lasts left : List Last) (keys new : List SubKey) (room indexed spare room' indexed' spare' cleared : ℕ) → IsIndexed lasts keys room indexed spare → left ≡ map (λ l. unplaced l.key) (filter (λ l. not (same key l.key)) lasts) → room' ≡ room → indexed + spare ≤ cleared → new ≡ keys_of_lasts left → indexed' ≡ length left → cleared ≤ indexed' + spare' → IsIndexed left new room' indexed' spare'
+pub indexed-left : (key : SubKey) (lasts left : List Last) (keys new : List SubKey) (room indexed spare room' indexed' spare' cleared : ℕ) → IsIndexed lasts keys room indexed spare → left ≡ filter (λ l. not (same key l.key)) lasts → room' ≡ room → indexed + spare ≤ cleared → new ≡ keys_of_lasts left → indexed' ≡ length left → cleared ≤ indexed' + spare' → IsIndexed left new room' indexed' spare'
 indexed-left key lasts left keys new room indexed spare room' indexed' spare' cleared had left_is room_is more new_is counted kept =
     let few : length left ≤ length lasts = omega (arith, ap length left_is, length-left key lasts) in
     record {
@@ -91,24 +86,23 @@ indexed-left key lasts left keys new room indexed spare room' indexed' spare' cl
       roomy = λ some. room-kept room indexed spare room' indexed' spare' (had.roomy (omega (arith, some, few))) (omega (arith, room_is)) (omega (arith, more, kept));
     }
 
-pub room-left : (key : SubKey) (lasts left : List Last) (keys : List SubKey) (room indexed spare cleared : ℕ) → IsIndexed lasts keys room indexed spare → left ≡ map (λ l. unplaced l.key) (filter (λ l. not (same key l.key)) lasts) → indexed + spare ≤ cleared → length left ≤ cleared
+pub room-left : (key : SubKey) (lasts left : List Last) (keys : List SubKey) (room indexed spare cleared : ℕ) → IsIndexed lasts keys room indexed spare → left ≡ filter (λ l. not (same key l.key)) lasts → indexed + spare ≤ cleared → length left ≤ cleared
 room-left key lasts left keys room indexed spare cleared had left_is more =
     omega (arith, ap length left_is, length-left key lasts, had.counted, more)
 
--- the key that has this number
-at-key : (key : SubKey) (keys : List SubKey) (number : ℕ) (d : SubKey) → IsAt key keys number → key ≡ get_or keys number d
-at-key key keys number d at = same_is key (get_or keys number d) ((position-Some (same key) keys number d at.0).1)
+-- the index found it
+pub at-position : (key : SubKey) (keys : List SubKey) (number : ℕ) → position (same key) keys ≡ Some number → IsAt key keys number
+at-position key keys number is =
+    let first = position-Some (same key) keys number no_key is in
+    (same_is key (get_or keys number no_key) first.1, first.0)
 
-abbrev no_key : SubKey
-no_key = record { sid = 0; sub = 0 }
+pub at-in : (key : SubKey) (keys keys' : List SubKey) (number : ℕ) → keys ≡ keys' → IsAt key keys number → IsAt key keys' number
+at-in key keys keys' number is at = subst (λ (ks : List SubKey). IsAt key ks number) is at
 
-abbrev no_last : Last
-no_last = unplaced (record { sid = 0; sub = 0 })
-
-keys-set : (key : SubKey) (place : Option ℕ) (lasts : List Last) (number : ℕ) → IsAt key (keys_of_lasts lasts) number → keys_of_lasts (set lasts number (record { key = key; place = place })) ≡ keys_of_lasts lasts
-keys-set key place lasts number at = go lasts number (at-key key (keys_of_lasts lasts) number no_key at) at.1
+keys-set : (key : SubKey) (put : ℕ) (lasts : List Last) (number : ℕ) → IsAt key (keys_of_lasts lasts) number → keys_of_lasts (set lasts number (record { key = key; put = put })) ≡ keys_of_lasts lasts
+keys-set key put lasts number at = go lasts number at.0 at.1
   where
-    go : (ls : List Last) (n : ℕ) → key ≡ get_or (keys_of_lasts ls) n no_key → n < length (keys_of_lasts ls) → keys_of_lasts (set ls n (record { key = key; place = place })) ≡ keys_of_lasts ls
+    go : (ls : List Last) (n : ℕ) → key ≡ get_or (keys_of_lasts ls) n no_key → n < length (keys_of_lasts ls) → keys_of_lasts (set ls n (record { key = key; put = put })) ≡ keys_of_lasts ls
     go [] n is less = refl
     go (l ∷ ls) zero is less = ap (λ (k : SubKey). k ∷ keys_of_lasts ls) is
     go (l ∷ ls) (suc n) is less = ap (λ (ks : List SubKey). l.key ∷ ks) (go ls n is (omega (arith, less)))
@@ -118,11 +112,11 @@ length-set-lasts [] n l = refl
 length-set-lasts (x ∷ ls) zero l = refl
 length-set-lasts (x ∷ ls) (suc n) l = ap suc (length-set-lasts ls n l)
 
-pub indexed-set : (key : SubKey) (number : ℕ) (place : Option ℕ) (lasts : List Last) (keys : List SubKey) (room indexed spare : ℕ) → IsIndexed lasts keys room indexed spare → IsAt key (keys_of_lasts lasts) number → IsIndexed (set lasts number (record { key = key; place = place })) keys room indexed spare
-indexed-set key number place lasts keys room indexed spare had at =
-    let new : List Last = set lasts number (record { key = key; place = place }) in
-    let alike : keys_of_lasts new ≡ keys_of_lasts lasts = keys-set key place lasts number at in
-    let long : length new ≡ length lasts = length-set-lasts lasts number (record { key = key; place = place }) in
+pub indexed-set : (key : SubKey) (number : ℕ) (put : ℕ) (lasts : List Last) (keys : List SubKey) (room indexed spare : ℕ) → IsIndexed lasts keys room indexed spare → IsAt key (keys_of_lasts lasts) number → IsIndexed (set lasts number (record { key = key; put = put })) keys room indexed spare
+indexed-set key number put lasts keys room indexed spare had at =
+    let new : List Last = set lasts number (record { key = key; put = put }) in
+    let alike : keys_of_lasts new ≡ keys_of_lasts lasts = keys-set key put lasts number at in
+    let long : length new ≡ length lasts = length-set-lasts lasts number (record { key = key; put = put }) in
     record {
       keyed = had.keyed ∙ sym alike;
       counted = had.counted ∙ sym long;
@@ -148,61 +142,18 @@ pub indexed-more : (lasts : List Last) (i : ℕ) (d : Last) (keys new : List Sub
 indexed-more lasts i d keys new apart less is new_is =
     new_is ∙ inserted keys (keys_of_lasts (take i lasts)) (get_or lasts i d).key is (fresh-key lasts i d apart less) ∙ sym (map_more (λ l. l.key) lasts i d less)
 
--- ---- places in the ring
+-- ---- puts
 
-place-in : (start n : ℕ) → start < queue_places → n ≤ queue_places → wrapped start n < queue_places
-place-in start n begins within =
-    elim (cases_Bool (ltb (start + n) queue_places)) [
-      | inl less ↦ rw less (ltb-true (start + n) queue_places less)
-      | inr more ↦ rw more (omega (arith, ltb-false (start + n) queue_places more, begins, within))
-    ]
+pub next-goes : (puts puts' : ℕ) → puts' ≡ next_put puts → puts' < 2 ^ 64
+next-goes puts puts' is = omega (arith, is)
 
-place-back : (start i : ℕ) → start < queue_places → i < queue_places → unwrapped start (wrapped start i) ≡ i
-place-back start i begins within =
-    elim (cases_Bool (ltb (start + i) queue_places)) [
-      | inl less ↦ rw less (rw (le-leb start (start + i) (omega arith)) (omega arith))
-      | inr more ↦
-          rw more (elim (cases_Bool (leb start (start + i - queue_places))) [
-            | inl low ↦ absurd (omega (arith, leb-true start (start + i - queue_places) low, ltb-false (start + i) queue_places more, begins, within))
-            | inr high ↦ rw high (omega (arith, ltb-false (start + i) queue_places more, begins, within))
-          ])
-    ]
+-- there was none after the last one
+none-after : (puts : ℕ) → puts < 2 ^ 64 → puts_after puts puts ≡ 0
+none-after puts goes = omega (arith, goes)
 
-place-first : (start : ℕ) → start < queue_places → wrapped start 0 ≡ start
-place-first start begins = rw (lt-ltb (start + 0) queue_places (omega (arith, begins))) (omega arith)
-
-place-next : (start i : ℕ) → start < queue_places → i + 1 < queue_places → wrapped (wrapped start 1) i ≡ wrapped start (i + 1)
-place-next start i begins within =
-    elim (cases_Bool (ltb (start + 1) queue_places)) [
-      | inl less ↦ rw less (ap (λ (m : ℕ). cond (ltb m queue_places) m (m - queue_places)) (the-sum (start + 1) (omega arith)))
-      | inr more ↦
-          rw more (
-          let at_end : start + 1 - queue_places ≡ 0 = omega (arith, ltb-false (start + 1) queue_places more, begins) in
-          rw at_end (
-          let low : ltb (0 + i) queue_places ≡ true = lt-ltb (0 + i) queue_places (omega (arith, within)) in
-          rw low (elim (cases_Bool (ltb (start + (i + 1)) queue_places)) [
-            | inl less ↦ absurd (omega (arith, ltb-true (start + (i + 1)) queue_places less, ltb-false (start + 1) queue_places more))
-            | inr over ↦ rw over (omega (arith, ltb-false (start + 1) queue_places more, begins))
-          ]))
-          )
-    ]
-  where
-    the-sum : (m : ℕ) → m ≡ start + 1 → m + i ≡ start + (i + 1)
-    the-sum m is = omega (arith, is)
-
-place-other : (start i : ℕ) → start < queue_places → i + 1 < queue_places → eqb (wrapped start (i + 1)) start ≡ false
-place-other start i begins within =
-    elim (cases_Bool (eqb (wrapped start (i + 1)) start)) [
-      | inl is ↦ absurd (differ (eqb-true (wrapped start (i + 1)) start is))
-      | inr other ↦ other
-    ]
-  where
-    differ : wrapped start (i + 1) ≡ start → ⊥
-    differ =
-        elim (cases_Bool (ltb (start + (i + 1)) queue_places)) [
-          | inl less ↦ rw less (λ e. omega (arith, e))
-          | inr more ↦ rw more (λ e. omega (arith, e, ltb-false (start + (i + 1)) queue_places more, within))
-        ]
+-- one more after each other one
+one-after : (puts put : ℕ) → puts < 2 ^ 64 → puts_after puts put < queue_places → puts_after (next_put puts) put ≡ puts_after puts put + 1
+one-after puts put goes few = omega (arith, goes, few)
 
 -- ---- where last entries are
 
@@ -287,78 +238,113 @@ module _ {E : Type 0} where
 
 -- ---- the subscriptions
 
-map-set : (f g : SubKey → Last) (key : SubKey) (keys : List SubKey) (number : ℕ) → AreApart keys → key ≡ get_or keys number no_key → number < length keys → ((k : SubKey) → same key k ≡ false → f k ≡ g k) → set (map f keys) number (g key) ≡ map g keys
-map-set f g key [] number apart is less others = absurd (omega (arith, less))
-map-set f g key (k ∷ keys) zero apart is less others =
-    ap (λ (x : SubKey). g x ∷ map f keys) is
-    ∙ ap (λ (ls : List Last). g k ∷ ls) (all keys (subst (λ (x : SubKey). is_among x keys ≡ false) (sym is) apart.0))
+-- where nothing waits there is nothing to note
+pub noted-none : (Z : Type 0) (puts : ℕ) (lasts : List Last) → AreNoted {E = Z} puts [] lasts
+noted-none Z puts [] = tt
+noted-none Z puts (l ∷ lasts) = (λ i is. absurd (nothing i is), noted-none Z puts lasts)
   where
-    all : (ks : List SubKey) → is_among key ks ≡ false → map f ks ≡ map g ks
-    all [] none = refl
-    all (x ∷ ks) none =
-        let parts = or_parts (same key x) (is_among key ks) none in
-        ap (λ (l : Last). l ∷ map f ks) (others x parts.0) ∙ ap (λ (ls : List Last). g x ∷ ls) (all ks parts.1)
-map-set f g key (k ∷ keys) (suc n) apart is less others =
-    let it : same k key ≡ false = subst (λ (x : SubKey). same k x ≡ false) (sym is) (not-it keys n apart.0 (omega (arith, less))) in
-    ap (λ (l : Last). l ∷ set (map f keys) n (g key)) (others k (other_sym k key it))
-    ∙ ap (λ (ls : List Last). g k ∷ ls) (map-set f g key keys n apart.1 is (omega (arith, less)) others)
-  where
-    not-it : (ks : List SubKey) (m : ℕ) → is_among k ks ≡ false → m < length ks → same k (get_or ks m no_key) ≡ false
-    not-it [] m none less = absurd (omega (arith, less))
-    not-it (x ∷ ks) zero none less = (or_parts (same k x) (is_among k ks) none).0
-    not-it (x ∷ ks) (suc m) none less = not-it ks m ((or_parts (same k x) (is_among k ks) none).1) (omega (arith, less))
+    nothing : (i : ℕ) → None ≡ Some i → ⊥
+    nothing i e = cc
+
+-- one that stands behind another one is another one
+not-it : (k : SubKey) (ks : List SubKey) (m : ℕ) → is_among k ks ≡ false → m < length ks → same k (get_or ks m no_key) ≡ false
+not-it k [] m none less = absurd (omega (arith, less))
+not-it k (x ∷ ks) zero none less = (or_parts (same k x) (is_among k ks) none).0
+not-it k (x ∷ ks) (suc m) none less = not-it k ks m ((or_parts (same k x) (is_among k ks) none).1) (omega (arith, less))
 
 module _ {E : Type 0} where
-  -- the place that stands with a subscription
-  placed-at : (key : SubKey) (number start : ℕ) (lasts : List Last) (entries : List (SubKey × E)) → lasts ≡ lasts_of start (keys_of_lasts lasts) entries → IsAt key (keys_of_lasts lasts) number → get_or lasts number no_last ≡ last_in start entries key
-  placed-at key number start lasts entries placed at =
-      ap (λ (ls : List Last). get_or ls number no_last) placed
-      ∙ get_or-map (last_in start entries) (keys_of_lasts lasts) number no_key no_last at.1
-      ∙ ap (last_in start entries) (sym (at-key key (keys_of_lasts lasts) number no_key at))
+  pub noted-all : (puts puts' : ℕ) (entries left : List (SubKey × E)) (lasts : List Last) → ((l : Last) → IsNoted puts entries l → IsNoted puts' left l) → AreNoted puts entries lasts → AreNoted puts' left lasts
+  noted-all puts puts' entries left [] each noted = tt
+  noted-all puts puts' entries left (l ∷ lasts) each noted = (each l noted.0, noted-all puts puts' entries left lasts each noted.1)
 
-  -- other entries, and another start, and what is written of one subscription
-  placed-set : (key : SubKey) (number start start' : ℕ) (place : Option ℕ) (lasts : List Last) (entries left : List (SubKey × E)) → lasts ≡ lasts_of start (keys_of_lasts lasts) entries → AreApart (keys_of_lasts lasts) → IsAt key (keys_of_lasts lasts) number → place ≡ option_map (wrapped start') (last_index key left) → ((k : SubKey) → same key k ≡ false → option_map (wrapped start) (last_index k entries) ≡ option_map (wrapped start') (last_index k left)) → set lasts number (record { key = key; place = place }) ≡ lasts_of start' (keys_of_lasts lasts) left
-  placed-set key number start start' place lasts entries left placed apart at is others =
-      ap (λ (ls : List Last). set ls number (record { key = key; place = place })) placed
-      ∙ ap (λ (o : Option ℕ). let l : Last = record { key = key; place = o } in set (lasts_of start (keys_of_lasts lasts) entries) number l) is
-      ∙ map-set (last_in start entries) (last_in start' left) key (keys_of_lasts lasts) number apart (at-key key (keys_of_lasts lasts) number no_key at) at.1
-      (λ k other. ap (λ (o : Option ℕ). let l : Last = record { key = k; place = o } in l) (others k other))
+  pub noted-at : (puts : ℕ) (entries : List (SubKey × E)) (lasts : List Last) (n : ℕ) → n < length lasts → AreNoted puts entries lasts → IsNoted puts entries (get_or lasts n no_last)
+  noted-at puts entries [] n less noted = absurd (omega (arith, less))
+  noted-at puts entries (l ∷ lasts) zero less noted = noted.0
+  noted-at puts entries (l ∷ lasts) (suc n) less noted = noted-at puts entries lasts n (omega (arith, less)) noted.1
 
--- how many have an entry, once one place was written
-count-set : (lasts : List Last) (number : ℕ) (l : Last) → number < length lasts → count_by (λ x. is_some x.place) (set lasts number l) + number_of (is_some (last_at lasts number)) ≡ count_by (λ x. is_some x.place) lasts + number_of (is_some l.place)
-count-set lasts number l less = sum_by-set (λ x. number_of (is_some x.place)) lasts number l no_last less
+  pub noted-push : (puts : ℕ) (entries : List (SubKey × E)) (lasts : List Last) (l : Last) → AreNoted puts entries lasts → IsNoted puts entries l → AreNoted puts entries (lasts ++ l ∷ [])
+  noted-push puts entries [] l noted it = (it, tt)
+  noted-push puts entries (x ∷ lasts) l noted it = (noted.0, noted-push puts entries lasts l noted.1 it)
+
+  -- one subscription was written anew, of which alone there is another entry
+  noted-set : (key : SubKey) (l : Last) (puts puts' : ℕ) (entries left : List (SubKey × E)) (lasts : List Last) (number : ℕ) → AreNoted puts entries lasts → AreApart (keys_of_lasts lasts) → key ≡ get_or (keys_of_lasts lasts) number no_key → number < length (keys_of_lasts lasts) → IsNoted puts' left l → ((x : Last) → same key x.key ≡ false → IsNoted puts entries x → IsNoted puts' left x) → AreNoted puts' left (set lasts number l)
+  noted-set key l puts puts' entries left [] number noted apart is less it others = tt
+  noted-set key l puts puts' entries left (x ∷ lasts) zero noted apart is less it others =
+      (it, all lasts (subst (λ (k : SubKey). is_among k (keys_of_lasts lasts) ≡ false) (sym is) apart.0) noted.1)
+    where
+      all : (ls : List Last) → is_among key (keys_of_lasts ls) ≡ false → AreNoted puts entries ls → AreNoted puts' left ls
+      all [] none noted = tt
+      all (y ∷ ls) none noted =
+          let parts = or_parts (same key y.key) (is_among key (keys_of_lasts ls)) none in
+          (others y parts.0 noted.0, all ls parts.1 noted.1)
+  noted-set key l puts puts' entries left (x ∷ lasts) (suc n) noted apart is less it others =
+      let it_not : same x.key key ≡ false = subst (λ (k : SubKey). same x.key k ≡ false) (sym is) (not-it x.key (keys_of_lasts lasts) n apart.0 (omega (arith, less))) in
+      (others x (other_sym x.key key it_not) noted.0, noted-set key l puts puts' entries left lasts n noted.1 apart.1 is (omega (arith, less)) it others)
+
+  -- an entry was put to the back, and its number noted
+  pub noted-put : (key : SubKey) (entry : E) (number puts puts' : ℕ) (entries : List (SubKey × E)) (lasts lasts' : List Last) → AreNoted puts entries lasts → AreApart (keys_of_lasts lasts) → IsAt key (keys_of_lasts lasts) number → puts < 2 ^ 64 → length entries ≤ queue_places → puts' ≡ next_put puts → lasts' ≡ set lasts number (record { key = key; put = next_put puts }) → AreNoted puts' (entries ++ (key, entry) ∷ []) lasts'
+  noted-put key entry number puts puts' entries lasts lasts' noted apart at goes fits puts_is lasts_is =
+      let left : List (SubKey × E) = entries ++ (key, entry) ∷ [] in
+      let l : Last = record { key = key; put = next_put puts } in
+      let longer : length left ≡ length entries + 1 = length_push entries (key, entry) in
+      let it : IsNoted (next_put puts) left l =
+      λ i is.
+      let place : i ≡ length entries = some-is i (length entries) (sym is ∙ last-push key key entry entries ∙ ap (λ (b : Bool). cond b (Some (length entries)) (last_index key entries)) (same_itself key)) in
+      omega (arith, place, longer, none-after (next_put puts) (next-goes puts (next_put puts) refl)) in
+      let others : (x : Last) → same key x.key ≡ false → IsNoted puts entries x → IsNoted (next_put puts) left x =
+      λ x other was i is.
+      let old = was i (sym (last-push x.key key entry entries ∙ ap (λ (b : Bool). cond b (Some (length entries)) (last_index x.key entries)) (other_sym key x.key other)) ∙ is) in
+      omega (arith, old, longer, one-after puts x.put goes (omega (arith, old, fits))) in
+      subst (λ (m : ℕ). AreNoted m left lasts') (sym puts_is)
+      (subst (λ (ls : List Last). AreNoted (next_put puts) left ls) (sym lasts_is)
+      (noted-set key l puts (next_put puts) entries left lasts number noted apart at.0 at.1 it others))
+    where
+      some-is : (m n : ℕ) → Some m ≡ Some n → m ≡ n
+      some-is m n e = ap (λ (o : Option ℕ). unwrap_or o 0) e
+
+  -- the front was taken
+  pub noted-rest : (puts : ℕ) (entries : List (SubKey × E)) (lasts : List Last) → AreNoted puts entries lasts → AreNoted puts (drop 1 entries) lasts
+  noted-rest puts [] lasts noted = noted
+  noted-rest puts (w ∷ rest) lasts noted =
+      noted-all puts puts (w ∷ rest) rest lasts
+      (λ l was i is.
+      let old = was (i + 1) (ap (λ (o : Option ℕ). later o (is_of l.key w)) is) in
+      omega (arith, old)) noted
 
 -- ---- whether an entry may be taken
 
--- of these subscriptions some have two entries or more, where fewer have one than there are entries
+-- of these subscriptions no more have an entry than there are entries, and some have two or more where fewer do
+both-tell : (d : SubKey → ℕ) (ks : List SubKey) → (count_by (λ k. ltb 0 (d k)) ks ≤ sum_by d ks) × (list_any (λ k. ltb 1 (d k)) ks ≡ ltb (count_by (λ k. ltb 0 (d k)) ks) (sum_by d ks))
+both-tell d [] = (omega arith, refl)
+both-tell d (k ∷ ks) =
+    let rest = both-tell d ks in
+    let a = count_by-cons (λ j. ltb 0 (d j)) k ks in
+    let b = sum_by-cons d k ks in
+    more (d k) (count_by (λ j. ltb 0 (d j)) ks) (sum_by d ks) (list_any (λ j. ltb 1 (d j)) ks) _ _ a b rest.0 rest.1
+  where
+    more : (n i m : ℕ) (some : Bool) (i' m' : ℕ) → i' ≡ number_of (ltb 0 n) + i → m' ≡ n + m → i ≤ m → some ≡ ltb i m → (i' ≤ m') × ((ltb 1 n || some) ≡ ltb i' m')
+    more zero i m some i' m' i_is m_is fewer is = (omega (arith, i_is, m_is, fewer), is ∙ ap (λ (x : ℕ). ltb x m) (omega (arith, i_is)) ∙ ap (λ (x : ℕ). ltb i' x) (omega (arith, m_is)))
+    more (suc zero) i m some i' m' i_is m_is fewer is = (omega (arith, i_is, m_is, fewer), is ∙ one)
+      where
+        one : ltb i m ≡ ltb i' m'
+        one =
+            elim (cases_Bool (ltb i m)) [
+              | inl less ↦ less ∙ sym (lt-ltb i' m' (omega (arith, i_is, m_is, ltb-true i m less)))
+              | inr not_less ↦
+                  not_less ∙ elim (cases_Bool (ltb i' m')) [
+                    | inl less ↦ absurd (omega (arith, i_is, m_is, ltb-true i' m' less, ltb-false i m not_less))
+                    | inr other ↦ sym other
+                  ]
+            ]
+    more (suc (suc n)) i m some i' m' i_is m_is fewer is =
+        let one : number_of (ltb 0 (suc (suc n))) ≡ 1 = ap number_of (lt-ltb 0 (suc (suc n)) (omega arith)) in
+        (omega (arith, i_is, m_is, fewer, one), or_left (ltb 1 (suc (suc n))) some (lt-ltb 1 (suc (suc n)) (omega arith)) ∙ sym (lt-ltb i' m' (omega (arith, i_is, m_is, fewer, one))))
+
 tells : (c : SubKey → ℕ) (keys : List SubKey) → list_any (λ k. ltb 1 (c k)) keys ≡ ltb (count_by (λ k. ltb 0 (c k)) keys) (sum_by c keys)
 tells c keys = (both-tell c keys).1
-  where
-    both-tell : (d : SubKey → ℕ) (ks : List SubKey) → (count_by (λ k. ltb 0 (d k)) ks ≤ sum_by d ks) × (list_any (λ k. ltb 1 (d k)) ks ≡ ltb (count_by (λ k. ltb 0 (d k)) ks) (sum_by d ks))
-    both-tell d [] = (omega arith, refl)
-    both-tell d (k ∷ ks) =
-        let rest = both-tell d ks in
-        let a = count_by-cons (λ j. ltb 0 (d j)) k ks in
-        let b = sum_by-cons d k ks in
-        more (d k) (count_by (λ j. ltb 0 (d j)) ks) (sum_by d ks) (list_any (λ j. ltb 1 (d j)) ks) _ _ a b rest.0 rest.1
-      where
-        more : (n i m : ℕ) (some : Bool) (i' m' : ℕ) → i' ≡ number_of (ltb 0 n) + i → m' ≡ n + m → i ≤ m → some ≡ ltb i m → (i' ≤ m') × ((ltb 1 n || some) ≡ ltb i' m')
-        more zero i m some i' m' i_is m_is fewer is = (omega (arith, i_is, m_is, fewer), is ∙ ap (λ (x : ℕ). ltb x m) (omega (arith, i_is)) ∙ ap (λ (x : ℕ). ltb i' x) (omega (arith, m_is)))
-        more (suc zero) i m some i' m' i_is m_is fewer is = (omega (arith, i_is, m_is, fewer), is ∙ one)
-          where
-            one : ltb i m ≡ ltb i' m'
-            one =
-                elim (cases_Bool (ltb i m)) [
-                  | inl less ↦ less ∙ sym (lt-ltb i' m' (omega (arith, i_is, m_is, ltb-true i m less)))
-                  | inr not_less ↦
-                      not_less ∙ elim (cases_Bool (ltb i' m')) [
-                        | inl less ↦ absurd (omega (arith, i_is, m_is, ltb-true i' m' less, ltb-false i m not_less))
-                        | inr other ↦ sym other
-                      ]
-                ]
-        more (suc (suc n)) i m some i' m' i_is m_is fewer is =
-            let one : number_of (ltb 0 (suc (suc n))) ≡ 1 = ap number_of (lt-ltb 0 (suc (suc n)) (omega arith)) in
-            (omega (arith, i_is, m_is, fewer, one), or_left (ltb 1 (suc (suc n))) some (lt-ltb 1 (suc (suc n)) (omega arith)) ∙ sym (lt-ltb i' m' (omega (arith, i_is, m_is, fewer, one))))
+
+fewer : (c : SubKey → ℕ) (keys : List SubKey) → count_by (λ k. ltb 0 (c k)) keys ≤ sum_by c keys
+fewer c keys = (both-tell c keys).0
 
 module _ {E : Type 0} where
   -- each entry counts at one of the subscriptions
@@ -382,51 +368,62 @@ module _ {E : Type 0} where
       none [] = refl
       none (k ∷ ks) = omega (arith, none ks, count_by-cons (λ (j : SubKey). false) k ks)
 
-  -- how many subscriptions have an entry
-  counts-placed : (start : ℕ) (keys : List SubKey) (q : List (SubKey × E)) → count_by (λ l. is_some l.place) (lasts_of start keys q) ≡ count_by (λ k. ltb 0 (count_of k q)) keys
-  counts-placed start [] q = refl
-  counts-placed start (k ∷ keys) q =
-      let here : is_some (option_map (wrapped start) (last_index k q)) ≡ ltb 0 (count_of k q) = still (last_index k q) ∙ last-has k q ∙ has_count k q in
-      omega (arith, counts-placed start keys q, count_by-cons (λ l. is_some l.place) (last_in start q k) (lasts_of start keys q), count_by-cons (λ j. ltb 0 (count_of j q)) k keys, ap number_of here)
-    where
-      still : (o : Option ℕ) → is_some (option_map (wrapped start) o) ≡ is_some o
-      still None = refl
-      still (Some i) = refl
+  -- how many subscriptions have an entry, by how many entries they have
+  having-counts : (keys : List SubKey) (q : List (SubKey × E)) → having q keys ≡ count_by (λ k. ltb 0 (count_of k q)) keys
+  having-counts keys q = counts_agree (λ k. has_entry k q) (λ k. ltb 0 (count_of k q)) keys (λ k. has_count k q)
 
-  pub may-tell : (b on : Bool) (n occupied start : ℕ) (lasts : List Last) (entries : List (SubKey × E)) → IsRound entries lasts on start occupied → n ≡ length entries → b ≡ (on || ltb occupied n) → may_take on entries ≡ b
-  may-tell b on n occupied start lasts entries round n_is b_is =
+  -- they are no more than the entries
+  pub having-within : (keys : List SubKey) (q : List (SubKey × E)) → AreApart keys → ((k : SubKey) → has_entry k q ≡ true → is_among k keys ≡ true) → having q keys ≤ length q
+  having-within keys q apart known =
+      omega (arith, having-counts keys q, fewer (λ k. count_of k q) keys, length-counts keys q apart known)
+
+  -- some subscription has two entries or more, where entries wait besides one of each
+  pub crowd-tells : (extra puts : ℕ) (lasts : List Last) (on : Bool) (entries : List (SubKey × E)) → IsRound entries lasts on puts extra → on ≡ false → may_take on entries ≡ ltb 0 extra
+  crowd-tells extra puts lasts on entries round off =
       let keys = keys_of_lasts lasts in
-      let count : occupied ≡ count_by (λ k. ltb 0 (count_of k entries)) keys =
-      round.counted ∙ ap (λ (ls : List Last). count_by (λ l. is_some l.place) ls) round.placed ∙ counts-placed start keys entries in
-      let long : sum_by (λ k. count_of k entries) keys ≡ n = length-counts keys entries round.sound.apart round.sound.known ∙ sym n_is in
-      let crowd : is_crowded entries ≡ ltb occupied n =
-      sym (crowded_keys keys entries round.sound.known) ∙ tells (λ k. count_of k entries) keys
-      ∙ ap (λ (i : ℕ). ltb i (sum_by (λ k. count_of k entries) keys)) (sym count) ∙ ap (λ (m : ℕ). ltb occupied m) long in
-      ap (λ (t : Bool). on || t) crowd ∙ sym b_is
+      let count = having-counts keys entries in
+      let long = length-counts keys entries round.sound.apart round.sound.known in
+      let crowd : is_crowded entries ≡ ltb (count_by (λ k. ltb 0 (count_of k entries)) keys) (sum_by (λ k. count_of k entries) keys) =
+      sym (crowded_keys keys entries round.sound.known) ∙ tells (λ k. count_of k entries) keys in
+      ap (λ (b : Bool). b || is_crowded entries) off ∙ crowd
+      ∙ besides (count_by (λ k. ltb 0 (count_of k entries)) keys) (sum_by (λ k. count_of k entries) keys) extra (omega (arith, count, long, round.counted off))
+    where
+      besides : (n m e : ℕ) → e + n ≡ m → ltb n m ≡ ltb 0 e
+      besides n m e is =
+          elim (cases_Bool (ltb n m)) [
+            | inl less ↦ less ∙ sym (lt-ltb 0 e (omega (arith, is, ltb-true n m less)))
+            | inr not_less ↦
+                not_less ∙ elim (cases_Bool (ltb 0 e)) [
+                  | inl some ↦ absurd (omega (arith, is, ltb-true 0 e some, ltb-false n m not_less))
+                  | inr none ↦ sym none
+                ]
+          ]
 
--- subscriptions without places are those of a ring with no entry
-pub unplaced-all : (Z : Type 0) (lasts : List Last) → map (λ l. unplaced l.key) lasts ≡ lasts_of {E = Z} 0 (keys_of_lasts (map (λ l. unplaced l.key) lasts)) []
-unplaced-all Z [] = refl
-unplaced-all Z (l ∷ lasts) = ap (λ (ls : List Last). unplaced l.key ∷ ls) (unplaced-all Z lasts)
+module _ {E : Type 0} where
+  pub crowd-some : (extra puts : ℕ) (lasts : List Last) (on : Bool) (entries : List (SubKey × E)) → IsRound entries lasts on puts extra → on ≡ false → 0 < extra → may_take on entries ≡ true
+  crowd-some extra puts lasts on entries round off some = crowd-tells extra puts lasts on entries round off ∙ lt-ltb 0 extra some
+
+  pub crowd-none : (extra puts : ℕ) (lasts : List Last) (on : Bool) (entries : List (SubKey × E)) → IsRound entries lasts on puts extra → on ≡ false → extra ≡ 0 → may_take on entries ≡ false
+  crowd-none extra puts lasts on entries round off none = crowd-tells extra puts lasts on entries round off ∙ ap (λ (n : ℕ). ltb 0 n) none
 
 -- ---- each call
 
 module _ {E : Type 0} where
   -- these fields are right, and stand for this queue
-  pub record AreRing (ring : Option (Buffer (SubKey × E))) (lasts : List Last) (room on : Bool) (start occupied : ℕ) (q : Queue E) : Type 0 where
-    pub kept : IsRing ring lasts room on start occupied
+  pub record AreRing (ring : Option (Buffer (SubKey × E))) (lasts : List Last) (room on : Bool) (puts extra : ℕ) (q : Queue E) : Type 0 where
+    pub kept : IsRing ring lasts room on puts extra
     pub is : ring_queue (waits ring) lasts on ≡ q
 
-  are-ring : (ring : Option (Buffer (SubKey × E))) (lasts : List Last) (room on : Bool) (start occupied : ℕ) (entries : List (SubKey × E)) (q : Queue E) → waits ring ≡ entries → ring_queue entries lasts on ≡ q → IsSound q → start < queue_places → lasts ≡ lasts_of start (keys_of_lasts lasts) entries → occupied ≡ count_by (λ l. is_some l.place) lasts → IsMade ring lasts room → AreRing ring lasts room on start occupied q
-  are-ring ring lasts room on start occupied entries q waits_is is sound begins placed counted made =
+  are-ring : (ring : Option (Buffer (SubKey × E))) (lasts : List Last) (room on : Bool) (puts extra : ℕ) (entries : List (SubKey × E)) (q : Queue E) → waits ring ≡ entries → ring_queue entries lasts on ≡ q → IsSound q → puts < 2 ^ 64 → AreNoted puts entries lasts → (on ≡ false → extra + having entries (keys_of_lasts lasts) ≡ length entries) → IsMade ring lasts room → AreRing ring lasts room on puts extra q
+  are-ring ring lasts room on puts extra entries q waits_is is sound goes noted counted made =
       let all : ring_queue (waits ring) lasts on ≡ q = ap (λ (es : List (SubKey × E)). ring_queue es lasts on) waits_is ∙ is in
       record {
         kept = record {
           round = record {
             sound = subst IsSound (sym all) sound;
-            begins = begins;
-            placed = placed ∙ ap (λ (es : List (SubKey × E)). lasts_of start (keys_of_lasts lasts) es) (sym waits_is);
-            counted = counted;
+            goes_round = goes;
+            noted = subst (λ (es : List (SubKey × E)). AreNoted puts es lasts) (sym waits_is) noted;
+            counted = λ off. ap (λ (es : List (SubKey × E)). extra + having es (keys_of_lasts lasts)) waits_is ∙ counted off ∙ sym (ap length waits_is);
           };
           made = made;
         };
@@ -461,48 +458,116 @@ module _ {E : Type 0} where
 
   pub none-added : (on : Bool) → IsRing {E = E} None [] false on 0 0
   none-added on = record {
-    round = record { sound = sound_switched on no_queue sound_none; begins = omega arith; placed = refl; counted = refl };
+    round = record { sound = sound_switched on no_queue sound_none; goes_round = omega arith; noted = tt; counted = λ off. refl };
     made = record { places = tt; made = λ some. absurd (omega (arith, some)); roomy = λ some. absurd (both_ways false refl some) };
   }
 
-  pub added-one : (key : SubKey) (ring : Option (Buffer (SubKey × E))) (lasts new : List Last) (room room' on : Bool) (start occupied : ℕ) → IsRing ring lasts room on start occupied → length lasts < queue_subscriptions → is_among key (keys_of_lasts lasts) ≡ false → new ≡ lasts ++ unplaced key ∷ [] → room' ≡ true → AreRing (made ring) new room' on start occupied (added key (ring_queue (waits ring) lasts on))
-  added-one key ring lasts new room room' on start occupied had few fresh new_is room_is =
+  -- a subscription with no entry counts for none
+  having-push : (key : SubKey) (keys : List SubKey) (entries : List (SubKey × E)) → has_entry key entries ≡ false → having entries (keys ++ key ∷ []) ≡ having entries keys
+  having-push key keys entries none =
+      let nothing : number_of (has_entry key entries) ≡ 0 = ap number_of none in
+      omega (arith, nothing, sum_by_push (λ k. number_of (has_entry k entries)) keys key)
+
+  pub added-one : (key : SubKey) (ring : Option (Buffer (SubKey × E))) (lasts new : List Last) (room room' on : Bool) (puts extra : ℕ) → IsRing ring lasts room on puts extra → length lasts < queue_subscriptions → is_among key (keys_of_lasts lasts) ≡ false → new ≡ lasts ++ unplaced key ∷ [] → room' ≡ true → AreRing (made ring) new room' on puts extra (added key (ring_queue (waits ring) lasts on))
+  added-one key ring lasts new room room' on puts extra had few fresh new_is room_is =
       let entries = waits ring in
       let keys : keys_of_lasts new ≡ keys_of_lasts lasts ++ key ∷ [] = ap keys_of_lasts new_is ∙ keys-push lasts key in
-      let none : last_index key entries ≡ None = none-last key entries (no-entry key lasts on entries had.round.sound fresh) in
-      let it : unplaced key ≡ last_in start entries key = ap (λ (o : Option ℕ). let l : Last = record { key = key; place = option_map (wrapped start) o } in l) (sym none) in
-      let placed : lasts ++ unplaced key ∷ [] ≡ lasts_of start (keys_of_lasts lasts ++ key ∷ []) entries =
-      ap (λ (ls : List Last). ls ++ unplaced key ∷ []) had.round.placed
-      ∙ ap (λ (l : Last). lasts_of start (keys_of_lasts lasts) entries ++ l ∷ []) it
-      ∙ sym (map-append (last_in start entries) (keys_of_lasts lasts) (key ∷ [])) in
+      let none = no-entry key lasts on entries had.round.sound fresh in
+      let nowhere : last_index key entries ≡ None = none-last key entries none in
       let shorter : length (keys_of_lasts lasts) ≡ length lasts = length-map lasts (λ l. l.key) in
-      are-ring (made ring) new room' on start occupied entries (added key (ring_queue entries lasts on)) (waits-made ring)
+      let count : having entries (keys_of_lasts new) ≡ having entries (keys_of_lasts lasts) = ap (having entries) keys ∙ having-push key (keys_of_lasts lasts) entries none in
+      are-ring (made ring) new room' on puts extra entries (added key (ring_queue entries lasts on)) (waits-made ring)
       (ap (λ (ks : List SubKey). let q : Queue E = record { waiting = entries; subscriptions = ks; events_on = on } in q) keys)
       (sound_added key (ring_queue entries lasts on) (omega (arith, few, shorter)) fresh had.round.sound)
-      had.round.begins
-      (new_is ∙ placed ∙ ap (λ (ks : List SubKey). lasts_of start ks entries) (sym keys))
-      (had.round.counted ∙ sym (ap (λ (ls : List Last). count_by (λ l. is_some l.place) ls) new_is ∙ more))
+      had.round.goes_round
+      (subst (λ (ls : List Last). AreNoted puts entries ls) (sym new_is) (noted-push puts entries lasts (unplaced key) had.round.noted (λ i is. absurd (nothing i (sym nowhere ∙ is)))))
+      (λ off. omega (arith, count, had.round.counted off))
       (record { places = places-made ring had.made.places; made = λ some. some-made ring; roomy = λ some. room_is })
     where
-      more : count_by (λ (l : Last). is_some l.place) (lasts ++ unplaced key ∷ []) ≡ count_by (λ (l : Last). is_some l.place) lasts
-      more = omega (arith, sum_by_push (λ (l : Last). number_of (is_some l.place)) lasts (unplaced key))
+      nothing : (i : ℕ) → None ≡ Some i → ⊥
+      nothing i e = cc
 
-  -- the place of a subscription's last entry, as it stands with it
-  stands : (key : SubKey) (number start occupied : ℕ) (last : Option ℕ) (lasts : List Last) (on : Bool) (entries : List (SubKey × E)) → IsRound entries lasts on start occupied → IsAt key (keys_of_lasts lasts) number → last ≡ last_at lasts number → last ≡ option_map (wrapped start) (last_index key entries)
-  stands key number start occupied last lasts on entries round at last_is =
-      last_is ∙ ap (λ (l : Last). l.place) (placed-at key number start lasts entries round.placed at)
+  -- ---- where the last entry of a subscription is
 
-  small : (key : SubKey) (i start occupied : ℕ) (lasts : List Last) (on : Bool) (entries : List (SubKey × E)) → IsRound entries lasts on start occupied → last_index key entries ≡ Some i → i < queue_places
-  small key i start occupied lasts on entries round is =
-      omega (arith, (last-is key entries i is).within, round.sound.fits)
+  -- as many puts after its last one as entries behind its last one
+  pub behind-at : (key : SubKey) (number puts put behind : ℕ) (lasts : List Last) (entries : List (SubKey × E)) → AreNoted puts entries lasts → number < length lasts → key ≡ key_at lasts number → put ≡ last_at lasts number → behind ≡ puts_after puts put → (i : ℕ) → last_index key entries ≡ Some i → i + 1 + behind ≡ length entries
+  behind-at key number puts put behind lasts entries noted less it put_is behind_is i is =
+      ap (λ (n : ℕ). i + 1 + n) (behind_is ∙ ap (puts_after puts) put_is)
+      ∙ noted-at puts entries lasts number less noted i (ap (λ (k : SubKey). last_index k entries) (sym it) ∙ is)
 
-  pub place-of : (key : SubKey) (number start occupied : ℕ) (last : Option ℕ) (lasts : List Last) (on : Bool) (entries : List (SubKey × E)) → IsRound entries lasts on start occupied → IsAt key (keys_of_lasts lasts) number → last ≡ last_at lasts number → IfSome last (λ place. place < queue_places)
-  place-of key number start occupied last lasts on entries round at last_is =
-      subst (λ (o : Option ℕ). IfSome o (λ place. place < queue_places)) (sym (stands key number start occupied last lasts on entries round at last_is)) (by (last_index key entries) refl)
+  pub behind-is : (key : SubKey) (number puts put behind : ℕ) (lasts : List Last) (entries : List (SubKey × E)) → AreNoted puts entries lasts → IsAt key (keys_of_lasts lasts) number → put ≡ last_at lasts number → behind ≡ puts_after puts put → (i : ℕ) → last_index key entries ≡ Some i → i + 1 + behind ≡ length entries
+  behind-is key number puts put behind lasts entries noted at put_is behind_is =
+      let less : number < length lasts = omega (arith, at.1, length-map lasts (λ l. l.key)) in
+      behind-at key number puts put behind lasts entries noted less (at.0 ∙ get_or-map (λ l. l.key) lasts number no_last no_key less) put_is behind_is
+
+  -- with so many behind it, it would be before the front
+  pub last-before : (key : SubKey) (behind : ℕ) (entries : List (SubKey × E)) → ((i : ℕ) → last_index key entries ≡ Some i → i + 1 + behind ≡ length entries) → length entries ≤ behind → None ≡ last_index key entries
+  last-before key behind entries is_behind more = by (last_index key entries) refl
     where
-      by : (o : Option ℕ) → last_index key entries ≡ o → IfSome (option_map (wrapped start) o) (λ place. place < queue_places)
-      by None is = tt
-      by (Some i) is = place-in start i round.begins (omega (arith, small key i start occupied lasts on entries round is))
+      by : (o : Option ℕ) → last_index key entries ≡ o → None ≡ last_index key entries
+      by None is = sym is
+      by (Some i) is = absurd (omega (arith, is_behind i is, more))
+
+  key-there : (key : SubKey) (q : List (SubKey × E)) (n : ℕ) (w : SubKey × E) → At q n w → same key w.0 ≡ true → has_entry key q ≡ true
+  key-there key [] n w at is = absurd (nothing at)
+    where
+      nothing : None ≡ Some w → ⊥
+      nothing e = cc
+  key-there key (v ∷ q) zero w at is =
+      or_left (same key v.0) (has_entry key q) (ap (λ (o : Option (SubKey × E)). same key (unwrap_or o v).0) at ∙ is)
+  key-there key (v ∷ q) (suc n) w at is = or_right (same key v.0) (has_entry key q) (key-there key q n w at is)
+
+  -- the last entry is one of its subscription
+  last-same : (key : SubKey) (q : List (SubKey × E)) (n : ℕ) (w : SubKey × E) → At q n w → has_entry key (drop n q) ≡ true → has_entry key (drop (suc n) q) ≡ false → same key w.0 ≡ true
+  last-same key [] n w at here behind = absurd (nothing at)
+    where
+      nothing : None ≡ Some w → ⊥
+      nothing e = cc
+  last-same key (v ∷ q) zero w at here behind =
+      elim (or_cases (same key v.0) (has_entry key q) here) [
+        | inl is ↦ ap (λ (o : Option (SubKey × E)). same key (unwrap_or o v).0) (sym at) ∙ is
+        | inr more ↦ absurd (both_ways (has_entry key q) behind more)
+      ]
+  last-same key (v ∷ q) (suc n) w at here behind = last-same key q n w at here behind
+
+  -- an entry of it stands there
+  pub last-there : (key : SubKey) (behind n : ℕ) (w : SubKey × E) (entries : List (SubKey × E)) → ((i : ℕ) → last_index key entries ≡ Some i → i + 1 + behind ≡ length entries) → n + 1 + behind ≡ length entries → At entries n w → same key w.0 ≡ true → Some n ≡ last_index key entries
+  last-there key behind n w entries is_behind n_is at is = by (last_index key entries) refl
+    where
+      by : (o : Option ℕ) → last_index key entries ≡ o → Some n ≡ last_index key entries
+      by None none = absurd (both_ways (has_entry key entries) (sym (last-has key entries) ∙ ap is_some none) (key-there key entries n w at is))
+      by (Some i) it = ap (λ (m : ℕ). Some m) (omega (arith, is_behind i it, n_is)) ∙ sym it
+
+  -- one of another stands there
+  pub last-nowhere : (key : SubKey) (behind n : ℕ) (w : SubKey × E) (entries : List (SubKey × E)) → ((i : ℕ) → last_index key entries ≡ Some i → i + 1 + behind ≡ length entries) → n + 1 + behind ≡ length entries → At entries n w → same key w.0 ≡ false → None ≡ last_index key entries
+  last-nowhere key behind n w entries is_behind n_is at other = by (last_index key entries) refl
+    where
+      by : (o : Option ℕ) → last_index key entries ≡ o → None ≡ last_index key entries
+      by None none = sym none
+      by (Some i) it =
+          let last : IsLast key entries n = subst (λ (m : ℕ). IsLast key entries m) (omega (arith, is_behind i it, n_is)) (last-is key entries i it) in
+          absurd (both_ways (same key w.0) other (last-same key entries n w at last.here last.behind))
+
+  -- one more was counted, if it has an entry
+  pub having-step : (entries : List (SubKey × E)) (lasts : List Last) (n : ℕ) (last : Option ℕ) → n < length lasts → last ≡ last_index (key_at lasts n) entries → having entries (take (suc n) (keys_of_lasts lasts)) ≡ having entries (take n (keys_of_lasts lasts)) + cond (is_some last) 1 0
+  having-step entries [] n last less is = absurd (omega (arith, less))
+  having-step entries (l ∷ lasts) zero last less is =
+      let it : number_of (has_entry l.key entries) ≡ cond (is_some last) 1 0 = ap number_of (sym (ap is_some is ∙ last-has l.key entries)) in
+      omega (arith, it, count_by-cons (λ k. has_entry k entries) l.key [])
+  having-step entries (l ∷ lasts) (suc n) last less is =
+      omega (arith, having-step entries lasts n last (omega (arith, less)) is, count_by-cons (λ k. has_entry k entries) l.key (take (suc n) (keys_of_lasts lasts)), count_by-cons (λ k. has_entry k entries) l.key (take n (keys_of_lasts lasts)))
+
+  pub having-next : (entries : List (SubKey × E)) (lasts : List Last) (n counted more : ℕ) (last : Option ℕ) (key : SubKey) → n < length lasts → key ≡ key_at lasts n → last ≡ last_index key entries → counted ≡ having entries (take n (keys_of_lasts lasts)) → more ≡ cond (is_some last) 1 0 → counted + more ≡ having entries (take (n + 1) (keys_of_lasts lasts))
+  having-next entries lasts n counted more last key less key_is is count more_is =
+      let step = having-step entries lasts n last less (is ∙ ap (λ (k : SubKey). last_index k entries) key_is) in
+      let next : having entries (take (n + 1) (keys_of_lasts lasts)) ≡ having entries (take (suc n) (keys_of_lasts lasts)) = ap (λ (m : ℕ). having entries (take m (keys_of_lasts lasts))) (add-one n) in
+      omega (arith, step, next, count, more_is)
+
+  pub having-all : (entries : List (SubKey × E)) (lasts : List Last) (n : ℕ) → n ≡ length lasts → having entries (take n (keys_of_lasts lasts)) ≡ having entries (keys_of_lasts lasts)
+  having-all entries lasts n is =
+      ap (having entries) (take_all n (keys_of_lasts lasts) (omega (arith, is, length-map lasts (λ l. l.key))))
+
+  -- ---- posts
 
   pub record Replaces (key : SubKey) (on : Bool) (entries : List (SubKey × E)) (i : ℕ) : Type 0 where
     pub within : i < length entries
@@ -510,10 +575,8 @@ module _ {E : Type 0} where
     pub behind : has_entry key (drop (suc i) entries) ≡ false
     pub goes : replaces on key entries ≡ true
 
-  pub post-replaces : (key : SubKey) (number n i start occupied : ℕ) (last : Option ℕ) (lasts : List Last) (on : Bool) (entries : List (SubKey × E)) → IsRound entries lasts on start occupied → IsAt key (keys_of_lasts lasts) number → last ≡ last_at lasts number → n ≡ length entries → Some i ≡ cond (leb (queue_places - n) queue_low_places || not on) (option_map (unwrapped start) last) None → Replaces key on entries i
-  post-replaces key number n i start occupied last lasts on entries round at last_is n_is is =
-      by (leb (queue_places - n) queue_low_places || not on) (last_index key entries) refl refl
-      (is ∙ ap (λ (o : Option ℕ). cond (leb (queue_places - n) queue_low_places || not on) (option_map (unwrapped start) o) None) (stands key number start occupied last lasts on entries round at last_is))
+  pub post-replaces : (key : SubKey) (i : ℕ) (on : Bool) (entries : List (SubKey × E)) → Some i ≡ cond (leb (queue_places - length entries) queue_low_places || not on) (last_index key entries) None → Replaces key on entries i
+  post-replaces key i on entries is = by (leb (queue_places - length entries) queue_low_places || not on) (last_index key entries) refl refl is
     where
       nothing : Some i ≡ None → ⊥
       nothing e = cc
@@ -521,35 +584,28 @@ module _ {E : Type 0} where
       the : (m : ℕ) → Some i ≡ Some m → m ≡ i
       the m e = ap (λ (o : Option ℕ). unwrap_or o 0) (sym e)
 
-      by : (b : Bool) (o : Option ℕ) → (leb (queue_places - n) queue_low_places || not on) ≡ b → last_index key entries ≡ o → Some i ≡ cond b (option_map (unwrapped start) (option_map (wrapped start) o)) None → Replaces key on entries i
+      by : (b : Bool) (o : Option ℕ) → (leb (queue_places - length entries) queue_low_places || not on) ≡ b → last_index key entries ≡ o → Some i ≡ cond b o None → Replaces key on entries i
       by false o b_is o_is e = absurd (nothing e)
       by true None b_is o_is e = absurd (nothing e)
       by true (Some j) b_is o_is e =
-          let same_place : j ≡ i = sym (place-back start j round.begins (small key j start occupied lasts on entries round o_is)) ∙ the (unwrapped start (wrapped start j)) e in
-          let last_one : IsLast key entries i = subst (λ (m : ℕ). IsLast key entries m) same_place (last-is key entries j o_is) in
+          let last_one : IsLast key entries i = subst (λ (m : ℕ). IsLast key entries m) (the j e) (last-is key entries j o_is) in
           let has : has_entry key entries ≡ true = sym (last-has key entries) ∙ ap is_some o_is in
-          let low : (leb (free_places entries) queue_low_places || not on) ≡ true = ap (λ (m : ℕ). leb (queue_places - m) queue_low_places || not on) (sym n_is) ∙ b_is in
-          record { within = last_one.within; here = last_one.here; behind = last_one.behind; goes = and_from (has_entry key entries) (leb (free_places entries) queue_low_places || not on) has low }
+          record { within = last_one.within; here = last_one.here; behind = last_one.behind; goes = and_from (has_entry key entries) (leb (free_places entries) queue_low_places || not on) has b_is }
 
-  pub post-appends : (key : SubKey) (number n start occupied : ℕ) (last : Option ℕ) (lasts : List Last) (on : Bool) (entries : List (SubKey × E)) → IsRound entries lasts on start occupied → IsAt key (keys_of_lasts lasts) number → last ≡ last_at lasts number → n ≡ length entries → None ≡ cond (leb (queue_places - n) queue_low_places || not on) (option_map (unwrapped start) last) None → replaces on key entries ≡ false
-  post-appends key number n start occupied last lasts on entries round at last_is n_is is =
-      by (leb (queue_places - n) queue_low_places || not on) (last_index key entries) refl refl
-      (is ∙ ap (λ (o : Option ℕ). cond (leb (queue_places - n) queue_low_places || not on) (option_map (unwrapped start) o) None) (stands key number start occupied last lasts on entries round at last_is))
+  pub post-appends : (key : SubKey) (on : Bool) (entries : List (SubKey × E)) → None ≡ cond (leb (queue_places - length entries) queue_low_places || not on) (last_index key entries) None → replaces on key entries ≡ false
+  post-appends key on entries is = by (leb (queue_places - length entries) queue_low_places || not on) (last_index key entries) refl refl is
     where
       something : (m : ℕ) → None ≡ Some m → ⊥
       something m e = cc
-
-      low : (b : Bool) → (leb (queue_places - n) queue_low_places || not on) ≡ b → (leb (free_places entries) queue_low_places || not on) ≡ b
-      low b b_is = ap (λ (m : ℕ). leb (queue_places - m) queue_low_places || not on) (sym n_is) ∙ b_is
 
       not-and : (a b : Bool) → b ≡ false → (a && b) ≡ false
       not-and true b none = none
       not-and false b none = refl
 
-      by : (b : Bool) (o : Option ℕ) → (leb (queue_places - n) queue_low_places || not on) ≡ b → last_index key entries ≡ o → None ≡ cond b (option_map (unwrapped start) (option_map (wrapped start) o)) None → replaces on key entries ≡ false
-      by true (Some j) b_is o_is e = absurd (something (unwrapped start (wrapped start j)) e)
+      by : (b : Bool) (o : Option ℕ) → (leb (queue_places - length entries) queue_low_places || not on) ≡ b → last_index key entries ≡ o → None ≡ cond b o None → replaces on key entries ≡ false
+      by true (Some j) b_is o_is e = absurd (something j e)
       by true None b_is o_is e = ap (λ (b : Bool). b && (leb (free_places entries) queue_low_places || not on)) (sym (last-has key entries) ∙ ap is_some o_is)
-      by false o b_is o_is e = not-and (has_entry key entries) (leb (free_places entries) queue_low_places || not on) (low false b_is)
+      by false o b_is o_is e = not-and (has_entry key entries) (leb (free_places entries) queue_low_places || not on) b_is
 
   waits-at : (i : ℕ) (w : SubKey × E) (ring : Option (Buffer (SubKey × E))) → waits (option_map (with_entry_at i w) ring) ≡ set (waits ring) i w
   waits-at i w None = refl
@@ -570,72 +626,83 @@ module _ {E : Type 0} where
   made-still f (Some b) lasts new room room' same_capacity had fewer room_is =
       record { places = same_capacity b ∙ had.places; made = λ some. had.made (omega (arith, some, fewer)); roomy = λ some. room_is ∙ had.roomy some }
 
-  lasts-alike : (start : ℕ) (keys : List SubKey) (q r : List (SubKey × E)) → ((k : SubKey) → last_index k q ≡ last_index k r) → lasts_of start keys q ≡ lasts_of start keys r
-  lasts-alike start [] q r alike = refl
-  lasts-alike start (k ∷ keys) q r alike =
-      ap (λ (o : Option ℕ). let l : Last = record { key = k; place = option_map (wrapped start) o } in l ∷ lasts_of start keys q) (alike k)
-      ∙ ap (λ (ls : List Last). last_in start r k ∷ ls) (lasts-alike start keys q r alike)
-
-  pub replaced-one : (key : SubKey) (entry : E) (i : ℕ) (ring new : Option (Buffer (SubKey × E))) (lasts : List Last) (room on : Bool) (start occupied : ℕ) → IsRing ring lasts room on start occupied → is_among key (keys_of_lasts lasts) ≡ true → Replaces key on (waits ring) i → new ≡ option_map (with_entry_at i (key, entry)) ring → AreRing new lasts room on start occupied (posted key entry (ring_queue (waits ring) lasts on))
-  replaced-one key entry i ring new lasts room on start occupied had there goes new_is =
+  pub replaced-one : (key : SubKey) (entry : E) (i : ℕ) (ring new : Option (Buffer (SubKey × E))) (lasts : List Last) (room on : Bool) (puts extra : ℕ) → IsRing ring lasts room on puts extra → is_among key (keys_of_lasts lasts) ≡ true → Replaces key on (waits ring) i → new ≡ option_map (with_entry_at i (key, entry)) ring → AreRing new lasts room on puts extra (posted key entry (ring_queue (waits ring) lasts on))
+  replaced-one key entry i ring new lasts room on puts extra had there goes new_is =
       let entries = waits ring in
       let q : Queue E = ring_queue entries lasts on in
       let left : List (SubKey × E) = with_last key entry entries in
+      let alike : keys_in entries ≡ keys_in left = sym (keys_with_last key entry entries) in
+      let long : length left ≡ length entries = length_alike left entries (sym alike) in
+      let count : having left (keys_of_lasts lasts) ≡ having entries (keys_of_lasts lasts) =
+      counts_agree (λ k. has_entry k left) (λ k. has_entry k entries) (keys_of_lasts lasts) (λ k. has_alike k left entries (sym alike)) in
       let waits_is : waits new ≡ left = ap waits new_is ∙ waits-at i (key, entry) ring ∙ with_last_at key entry entries i goes.here goes.behind in
-      are-ring new lasts room on start occupied left (posted key entry q) waits_is
+      are-ring new lasts room on puts extra left (posted key entry q) waits_is
       (ap (λ (b : Bool). let r : Queue E = record { waiting = cond b left (entries ++ (key, entry) ∷ []); subscriptions = keys_of_lasts lasts; events_on = on } in r) (sym goes.goes))
       (sound_posted key entry q there had.round.sound)
-      had.round.begins
-      (had.round.placed ∙ lasts-alike start (keys_of_lasts lasts) entries left (λ k. last-alike k entries left (sym (keys_with_last key entry entries))))
-      had.round.counted
+      had.round.goes_round
+      (noted-all puts puts entries left lasts (λ l was j is. omega (arith, was j (last-alike l.key entries left alike ∙ is), long)) had.round.noted)
+      (λ off. omega (arith, count, long, had.round.counted off))
       (subst (λ (r : Option (Buffer (SubKey × E))). IsMade r lasts room) (sym new_is) (made-still (with_entry_at i (key, entry)) ring lasts lasts room room (λ b. refl) had.made (omega arith) refl))
 
   -- a queue with a subscription has its ring
-  has-ring : (key : SubKey) (ring : Option (Buffer (SubKey × E))) (lasts : List Last) (room : Bool) → IsMade ring lasts room → is_among key (keys_of_lasts lasts) ≡ true → is_some ring ≡ true
+  pub has-ring : (key : SubKey) (ring : Option (Buffer (SubKey × E))) (lasts : List Last) (room : Bool) → IsMade ring lasts room → is_among key (keys_of_lasts lasts) ≡ true → is_some ring ≡ true
   has-ring key ring [] room made there = absurd (both_ways false refl there)
   has-ring key ring (l ∷ lasts) room made there = made.made (omega arith)
 
-  pub has-place : (key : SubKey) (ring : Option (Buffer (SubKey × E))) (lasts : List Last) (room on : Bool) (start occupied : ℕ) → IsRing ring lasts room on start occupied → is_among key (keys_of_lasts lasts) ≡ true → replaces on key (waits ring) ≡ false → HasPlace ring
-  has-place key ring lasts room on start occupied had there goes =
+  pub has-place : (key : SubKey) (ring : Option (Buffer (SubKey × E))) (lasts : List Last) (room on : Bool) (puts extra : ℕ) → IsRing ring lasts room on puts extra → is_among key (keys_of_lasts lasts) ≡ true → replaces on key (waits ring) ≡ false → HasPlace ring
+  has-place key ring lasts room on puts extra had there goes =
       by ring (has-ring key ring lasts room had.made there) had.made.places (finds_place key (ring_queue (waits ring) lasts on) there goes had.round.sound)
     where
       by : (r : Option (Buffer (SubKey × E))) → is_some r ≡ true → HasPlaces r → length (waits r) < queue_places → HasPlace r
       by None some places less = absurd (both_ways false refl some)
       by (Some b) some places less = omega (arith, places, less)
 
-  pub appended-one : (key : SubKey) (entry : E) (number n start occupied occupied' : ℕ) (last : Option ℕ) (ring new : Option (Buffer (SubKey × E))) (lasts lasts' : List Last) (room room' on : Bool) → IsRing ring lasts room on start occupied → is_among key (keys_of_lasts lasts) ≡ true → IsAt key (keys_of_lasts lasts) number → last ≡ last_at lasts number → n ≡ length (waits ring) → replaces on key (waits ring) ≡ false → new ≡ option_map (with_back (key, entry)) ring → lasts' ≡ set lasts number (record { key = key; place = Some (wrapped start n) }) → room' ≡ room → occupied' ≡ occupied + cond (is_some last) 0 1 → AreRing new lasts' room' on start occupied' (posted key entry (ring_queue (waits ring) lasts on))
-  appended-one key entry number n start occupied occupied' last ring new lasts lasts' room room' on had there at last_is n_is goes new_is lasts_is room_is occupied_is =
+  -- while events are off a post goes to the back only where its subscription has no entry
+  none-before : (key : SubKey) (on : Bool) (entries : List (SubKey × E)) → on ≡ false → replaces on key entries ≡ false → has_entry key entries ≡ false
+  none-before key on entries off goes =
+      elim (cases_Bool (has_entry key entries)) [
+        | inl has ↦
+            absurd (both_ways (replaces on key entries) goes (and_from (has_entry key entries) (leb (free_places entries) queue_low_places || not on) has (or_right (leb (free_places entries) queue_low_places) (not on) (ap not off))))
+        | inr none ↦ none
+      ]
+
+  having-more : (key : SubKey) (entry : E) (keys : List SubKey) (entries : List (SubKey × E)) → AreApart keys → is_among key keys ≡ true → has_entry key entries ≡ false → having (entries ++ (key, entry) ∷ []) keys ≡ having entries keys + 1
+  having-more key entry keys entries apart there none =
+      counts_more (λ k. has_entry k entries) (λ k. has_entry k (entries ++ (key, entry) ∷ [])) key keys apart
+      (λ k other. sym (has_push k key entry entries ∙ or_same (has_entry k entries) (same k key) (other_sym key k other)))
+      there none (has_push key key entry entries ∙ or_right (has_entry key entries) (same key key) (same_itself key))
+    where
+      or_same : (a b : Bool) → b ≡ false → (a || b) ≡ a
+      or_same true b none = refl
+      or_same false b none = none
+
+  pub appended-one : (key : SubKey) (entry : E) (number puts puts' extra : ℕ) (ring new : Option (Buffer (SubKey × E))) (lasts lasts' : List Last) (room room' on : Bool) → IsRing ring lasts room on puts extra → is_among key (keys_of_lasts lasts) ≡ true → IsAt key (keys_of_lasts lasts) number → replaces on key (waits ring) ≡ false → new ≡ option_map (with_back (key, entry)) ring → lasts' ≡ set lasts number (record { key = key; put = next_put puts }) → room' ≡ room → puts' ≡ next_put puts → AreRing new lasts' room' on puts' extra (posted key entry (ring_queue (waits ring) lasts on))
+  appended-one key entry number puts puts' extra ring new lasts lasts' room room' on had there at goes new_is lasts_is room_is puts_is =
       let entries = waits ring in
       let q : Queue E = ring_queue entries lasts on in
       let left : List (SubKey × E) = entries ++ (key, entry) ∷ [] in
-      let l : Last = record { key = key; place = Some (wrapped start n) } in
+      let l : Last = record { key = key; put = next_put puts } in
       let waits_is : waits new ≡ left = ap waits new_is ∙ waits-back (key, entry) ring (has-ring key ring lasts room had.made there) in
-      let keys : keys_of_lasts lasts' ≡ keys_of_lasts lasts = ap keys_of_lasts lasts_is ∙ keys-set key (Some (wrapped start n)) lasts number at in
+      let keys : keys_of_lasts lasts' ≡ keys_of_lasts lasts = ap keys_of_lasts lasts_is ∙ keys-set key (next_put puts) lasts number at in
       let long : length lasts' ≡ length lasts = ap length lasts_is ∙ length-set-lasts lasts number l in
-      let is_last : last_index key left ≡ Some (length entries) =
-      last-push key key entry entries ∙ ap (λ (b : Bool). cond b (Some (length entries)) (last_index key entries)) (same_itself key) in
-      let place_is : Some (wrapped start n) ≡ option_map (wrapped start) (last_index key left) =
-      ap (λ (m : ℕ). Some (wrapped start m)) n_is ∙ ap (λ (o : Option ℕ). option_map (wrapped start) o) (sym is_last) in
-      let others : (k : SubKey) → same key k ≡ false → option_map (wrapped start) (last_index k entries) ≡ option_map (wrapped start) (last_index k left) =
-      λ k other. ap (λ (o : Option ℕ). option_map (wrapped start) o) (sym (last-push k key entry entries ∙ ap (λ (b : Bool). cond b (Some (length entries)) (last_index k entries)) (other_sym key k other))) in
-      let placed : set lasts number l ≡ lasts_of start (keys_of_lasts lasts) left =
-      placed-set key number start start (Some (wrapped start n)) lasts entries left had.round.placed had.round.sound.apart at place_is others in
-      let within : number < length lasts = omega (arith, at.1, length-map lasts (λ l. l.key)) in
-      let count : count_by (λ l. is_some l.place) (set lasts number l) + number_of (is_some (last_at lasts number)) ≡ count_by (λ l. is_some l.place) lasts + 1 = count-set lasts number l within in
-      are-ring new lasts' room' on start occupied' left (posted key entry q) waits_is
+      let count : having left (keys_of_lasts lasts') ≡ having left (keys_of_lasts lasts) = ap (having left) keys in
+      are-ring new lasts' room' on puts' extra left (posted key entry q) waits_is
       (ap (λ (ks : List SubKey). let r : Queue E = record { waiting = left; subscriptions = ks; events_on = on } in r) keys
       ∙ ap (λ (b : Bool). let r : Queue E = record { waiting = cond b (with_last key entry entries) left; subscriptions = keys_of_lasts lasts; events_on = on } in r) (sym goes))
       (sound_posted key entry q there had.round.sound)
-      had.round.begins
-      (lasts_is ∙ placed ∙ ap (λ (ks : List SubKey). lasts_of start ks left) (sym keys))
-      (counts-now (is_some last) (is_some (last_at lasts number)) (ap is_some last_is) occupied_is had.round.counted count (ap (λ (ls : List Last). count_by (λ l. is_some l.place) ls) lasts_is))
+      (next-goes puts puts' puts_is)
+      (noted-put key entry number puts puts' entries lasts lasts' had.round.noted had.round.sound.apart at had.round.goes_round had.round.sound.fits puts_is lasts_is)
+      (λ off. omega (arith, count, having-more key entry (keys_of_lasts lasts) entries had.round.sound.apart there (none-before key on entries off goes), length_push entries (key, entry), had.round.counted off))
       (subst (λ (r : Option (Buffer (SubKey × E))). IsMade r lasts' room') (sym new_is) (made-still (with_back (key, entry)) ring lasts lasts' room room' (λ b. refl) had.made (omega (arith, long)) room_is))
-    where
-      counts-now : (a b : Bool) {m m' m'' : ℕ} → a ≡ b → occupied' ≡ occupied + cond a 0 1 → occupied ≡ m → m' + number_of b ≡ m + 1 → m'' ≡ m' → occupied' ≡ m''
-      counts-now true true same_one more is count is' = omega (arith, more, is, count, is')
-      counts-now false false same_one more is count is' = omega (arith, more, is, count, is')
-      counts-now true false same_one more is count is' = absurd (both_ways true (same_one) refl)
-      counts-now false true same_one more is count is' = absurd (both_ways false refl (same_one))
+
+  -- the same, of the number that a look-up found
+  pub appended-found : (key : SubKey) (entry : E) (number puts puts' extra : ℕ) (ring new : Option (Buffer (SubKey × E))) (lasts found lasts' : List Last × Bool) (on : Bool) → IsRing ring lasts.0 lasts.1 on puts extra → is_among key (keys_of_lasts lasts.0) ≡ true → found ≡ lasts → IsAt key (keys_of_lasts found.0) number → replaces on key (waits ring) ≡ false → new ≡ option_map (with_back (key, entry)) ring → lasts' ≡ (set found.0 number (record { key = key; put = next_put puts }), found.1) → puts' ≡ next_put puts → AreRing new lasts'.0 lasts'.1 on puts' extra (posted key entry (ring_queue (waits ring) lasts.0 on))
+  appended-found key entry number puts puts' extra ring new lasts found lasts' on had there found_is at goes new_is lasts_is puts_is =
+      let l : Last = record { key = key; put = next_put puts } in
+      appended-one key entry number puts puts' extra ring new lasts.0 lasts'.0 lasts.1 lasts'.1 on had there
+      (subst (λ (ls : List Last × Bool). IsAt key (keys_of_lasts ls.0) number) found_is at) goes new_is
+      (ap (λ (p : List Last × Bool). p.0) lasts_is ∙ ap (λ (ls : List Last × Bool). set ls.0 number l) found_is)
+      (ap (λ (p : List Last × Bool). p.1) lasts_is ∙ ap (λ (ls : List Last × Bool). ls.1) found_is) puts_is
 
   -- ---- takes
 
@@ -647,80 +714,85 @@ module _ {E : Type 0} where
   head-is w (v ∷ q) e = ap (λ (x : SubKey × E). x ∷ q) (sym (ap (λ (o : Option (SubKey × E)). unwrap_or o v) e))
 
   -- the front's subscription was added
-  pub front-known : (w : SubKey × E) (lasts : List Last) (on : Bool) (start occupied : ℕ) (entries : List (SubKey × E)) → IsRound entries lasts on start occupied → Some w ≡ slice_get entries 0 → is_among w.0 (keys_of_lasts lasts) ≡ true
-  front-known w lasts on start occupied entries round front_is =
+  pub front-known : (w : SubKey × E) (lasts : List Last) (on : Bool) (puts extra : ℕ) (entries : List (SubKey × E)) → IsRound entries lasts on puts extra → Some w ≡ slice_get entries 0 → is_among w.0 (keys_of_lasts lasts) ≡ true
+  front-known w lasts on puts extra entries round front_is =
       round.sound.known w.0 (ap (has_entry w.0) (head-is w entries front_is) ∙ or_left (same w.0 w.0) (has_entry w.0 (drop 1 entries)) (same_itself w.0))
 
-  -- the place of a subscription's last entry moves with the start
-  moves : (w : SubKey × E) (rest : List (SubKey × E)) (start : ℕ) (k : SubKey) → start < queue_places → length rest < queue_places → left_of start (option_map (wrapped start) (last_index k (w ∷ rest))) ≡ option_map (wrapped (wrapped start 1)) (last_index k rest)
-  moves w rest start k begins fits = by (last_index k rest) (is_of k w) refl
+  -- how many entries wait besides one of each subscription, once the front was taken
+  pub extra-left : (w : SubKey × E) (extra extra' : ℕ) (last : Option ℕ) (keys : List SubKey) (rest : List (SubKey × E)) → AreApart keys → is_among w.0 keys ≡ true → last ≡ last_index w.0 rest → extra + having (w ∷ rest) keys ≡ length (w ∷ rest) → 0 < extra → extra' ≡ extra - cond (is_some last) 1 0 → extra' + having rest keys ≡ length rest
+  extra-left w extra extra' last keys rest apart there last_is was some extra_is =
+      elim (cases_Bool (has_entry w.0 rest)) [
+        | inl has ↦
+            let one : cond (is_some last) 1 0 ≡ 1 = ap number_of (ap is_some last_is ∙ last-has w.0 rest ∙ has) in
+            let same_count : having (w ∷ rest) keys ≡ having rest keys =
+            counts_agree (λ k. has_entry k (w ∷ rest)) (λ k. has_entry k rest) keys (λ k. still k has) in
+            omega (arith, one, same_count, was, some, extra_is)
+        | inr none ↦
+            let zero_left : cond (is_some last) 1 0 ≡ 0 = ap number_of (ap is_some last_is ∙ last-has w.0 rest ∙ none) in
+            let one_less : having (w ∷ rest) keys ≡ having rest keys + 1 =
+            counts_more (λ k. has_entry k rest) (λ k. has_entry k (w ∷ rest)) w.0 keys apart
+            (λ k other. sym (ap (λ (b : Bool). b || has_entry k rest) (other_sym w.0 k other))) there none (or_left (same w.0 w.0) (has_entry w.0 rest) (same_itself w.0)) in
+            omega (arith, zero_left, one_less, was, extra_is)
+      ]
     where
-      by : (o : Option ℕ) (b : Bool) → last_index k rest ≡ o → left_of start (option_map (wrapped start) (later o b)) ≡ option_map (wrapped (wrapped start 1)) o
-      by None false is = refl
-      by None true is =
-          ap (λ (b : Bool). cond b None (Some (wrapped start 0))) (ap (λ (n : ℕ). eqb n start) (place-first start begins) ∙ eq-eqb start start refl)
-      by (Some i) b is =
-          let within : i + 1 < queue_places = omega (arith, (last-is k rest i is).within, fits) in
-          ap (λ (t : Bool). cond t None (Some (wrapped start (i + 1)))) (place-other start i begins within)
-          ∙ ap (λ (n : ℕ). Some n) (sym (place-next start i begins within))
+      still : (k : SubKey) → has_entry w.0 rest ≡ true → has_entry k (w ∷ rest) ≡ has_entry k rest
+      still k has =
+          elim (cases_Bool (same k w.0)) [
+            | inl is ↦
+                let there : has_entry k rest ≡ true = ap (λ (s : SubKey). has_entry s rest) (same_is k w.0 is) ∙ has in
+                or_left (same k w.0) (has_entry k rest) is ∙ sym there
+            | inr other ↦ ap (λ (b : Bool). b || has_entry k rest) other
+          ]
 
-  stays-put : (w : SubKey × E) (rest : List (SubKey × E)) (start : ℕ) (k : SubKey) → start < queue_places → length rest < queue_places → same k w.0 ≡ false → option_map (wrapped start) (last_index k (w ∷ rest)) ≡ option_map (wrapped (wrapped start 1)) (last_index k rest)
-  stays-put w rest start k begins fits other = ap (λ (b : Bool). option_map (wrapped start) (later (last_index k rest) b)) other ∙ by (last_index k rest) refl
-    where
-      by : (o : Option ℕ) → last_index k rest ≡ o → option_map (wrapped start) (later o false) ≡ option_map (wrapped (wrapped start 1)) o
-      by None is = refl
-      by (Some i) is = ap (λ (n : ℕ). Some n) (sym (place-next start i begins (omega (arith, (last-is k rest i is).within, fits))))
+  pub may-on : (on : Bool) (entries : List (SubKey × E)) → on ≡ true → may_take on entries ≡ true
+  may-on on entries is_on = or_left on (is_crowded entries) is_on
 
-  -- the subscription of the front has an entry
-  front-has : (w : SubKey × E) (number start occupied : ℕ) (last : Option ℕ) (lasts : List Last) (on : Bool) (entries : List (SubKey × E)) → IsRound entries lasts on start occupied → IsAt w.0 (keys_of_lasts lasts) number → last ≡ last_at lasts number → Some w ≡ slice_get entries 0 → is_some last ≡ true
-  front-has w number start occupied last lasts on entries round at last_is front_is =
-      ap is_some (stands w.0 number start occupied last lasts on entries round at last_is)
-      ∙ still (last_index w.0 entries) ∙ last-has w.0 entries
-      ∙ ap (has_entry w.0) (head-is w entries front_is) ∙ or_left (same w.0 w.0) (has_entry w.0 (drop 1 entries)) (same_itself w.0)
-    where
-      still : (o : Option ℕ) → is_some (option_map (wrapped start) o) ≡ is_some o
-      still None = refl
-      still (Some i) = refl
-
-  -- so some subscription has one
-  pub some-occupied : (w : SubKey × E) (number start occupied : ℕ) (last : Option ℕ) (lasts : List Last) (on : Bool) (entries : List (SubKey × E)) → IsRound entries lasts on start occupied → IsAt w.0 (keys_of_lasts lasts) number → last ≡ last_at lasts number → Some w ≡ slice_get entries 0 → 0 < occupied
-  some-occupied w number start occupied last lasts on entries round at last_is front_is =
-      let one : number_of (is_some (last_at lasts number)) ≡ 1 = ap number_of (sym (ap is_some last_is) ∙ front-has w number start occupied last lasts on entries round at last_is front_is) in
-      omega (arith, one, round.counted, count-set lasts number (unplaced no_key) (omega (arith, at.1, length-map lasts (λ l. l.key))))
-
-  pub taken-one : (w : SubKey × E) (number start start' occupied occupied' : ℕ) (last left : Option ℕ) (ring new : Option (Buffer (SubKey × E))) (lasts lasts' : List Last) (room room' on : Bool) → IsRing ring lasts room on start occupied → Some w ≡ slice_get (waits ring) 0 → may_take on (waits ring) ≡ true → IsAt w.0 (keys_of_lasts lasts) number → last ≡ last_at lasts number → left ≡ left_of start last → start' ≡ wrapped start 1 → new ≡ option_map without_front ring → lasts' ≡ set lasts number (record { key = w.0; place = left }) → room' ≡ room → occupied' ≡ occupied - cond (is_some left) 0 1 → AreRing new lasts' room' on start' occupied' (with_front_taken (ring_queue (waits ring) lasts on))
-  taken-one w number start start' occupied occupied' last left ring new lasts lasts' room room' on had front_is may at last_is left_is start_is new_is lasts_is room_is occupied_is =
+  -- the front was taken, or there was none
+  pub taken-one : (puts extra extra' : ℕ) (ring new : Option (Buffer (SubKey × E))) (lasts : List Last) (room on : Bool) → IsRing ring lasts room on puts extra → may_take on (waits ring) ≡ true → new ≡ option_map without_front ring → (on ≡ false → extra' + having (drop 1 (waits ring)) (keys_of_lasts lasts) ≡ length (drop 1 (waits ring))) → AreRing new lasts room on puts extra' (with_front_taken (ring_queue (waits ring) lasts on))
+  taken-one puts extra extra' ring new lasts room on had may new_is counted =
       let entries = waits ring in
       let q : Queue E = ring_queue entries lasts on in
+      are-ring new lasts room on puts extra' (drop 1 entries) (with_front_taken q) (ap waits new_is ∙ waits-front ring)
+      (ap (λ (b : Bool). let r : Queue E = record { waiting = cond b (drop 1 entries) entries; subscriptions = keys_of_lasts lasts; events_on = on } in r) (sym may))
+      (sound_taken q had.round.sound)
+      had.round.goes_round
+      (noted-rest puts entries lasts had.round.noted)
+      counted
+      (subst (λ (r : Option (Buffer (SubKey × E))). IsMade r lasts room) (sym new_is) (made-still without_front ring lasts lasts room room (λ b. refl) had.made (omega arith) refl))
+
+  -- one was taken while events are on
+  pub taken-on : (puts extra : ℕ) (ring new : Option (Buffer (SubKey × E))) (lasts : List Last) (room on : Bool) → IsRing ring lasts room on puts extra → on ≡ true → new ≡ option_map without_front ring → AreRing new lasts room on puts extra (with_front_taken (ring_queue (waits ring) lasts on))
+  taken-on puts extra ring new lasts room on had is_on new_is =
+      taken-one puts extra extra ring new lasts room on had (may-on on (waits ring) is_on) new_is (λ off. absurd (both_ways on off is_on))
+
+  -- one was taken while events are off
+  pub taken-off : (w : SubKey × E) (puts extra extra' : ℕ) (last : Option ℕ) (ring new : Option (Buffer (SubKey × E))) (lasts found : List Last × Bool) (on : Bool) → IsRing ring lasts.0 lasts.1 on puts extra → found ≡ lasts → on ≡ false → 0 < extra → Some w ≡ slice_get (waits ring) 0 → new ≡ option_map without_front ring → last ≡ last_index w.0 (waits new) → extra' ≡ extra - cond (is_some last) 1 0 → AreRing new found.0 found.1 on puts extra' (with_front_taken (ring_queue (waits ring) lasts.0 on))
+  taken-off w puts extra extra' last ring new lasts found on had found_is off some front_is new_is last_is extra_is =
+      let entries = waits ring in
       let rest : List (SubKey × E) = drop 1 entries in
       let front : entries ≡ w ∷ rest = head-is w entries front_is in
-      let fits : length rest < queue_places = omega (arith, ap length front, had.round.sound.fits) in
-      let l : Last = record { key = w.0; place = left } in
-      let waits_is : waits new ≡ rest = ap waits new_is ∙ waits-front ring in
-      let keys : keys_of_lasts lasts' ≡ keys_of_lasts lasts = ap keys_of_lasts lasts_is ∙ keys-set w.0 left lasts number at in
-      let long : length lasts' ≡ length lasts = ap length lasts_is ∙ length-set-lasts lasts number l in
-      let within : number < length lasts = omega (arith, at.1, length-map lasts (λ l. l.key)) in
-      let stood : last ≡ option_map (wrapped start) (last_index w.0 (w ∷ rest)) =
-      stands w.0 number start occupied last lasts on entries had.round at last_is ∙ ap (λ (es : List (SubKey × E)). option_map (wrapped start) (last_index w.0 es)) front in
-      let place_is : left ≡ option_map (wrapped (wrapped start 1)) (last_index w.0 rest) =
-      left_is ∙ ap (left_of start) stood ∙ moves w rest start w.0 had.round.begins fits in
-      let others : (k : SubKey) → same w.0 k ≡ false → option_map (wrapped start) (last_index k entries) ≡ option_map (wrapped (wrapped start 1)) (last_index k rest) =
-      λ k other. ap (λ (es : List (SubKey × E)). option_map (wrapped start) (last_index k es)) front ∙ stays-put w rest start k had.round.begins fits (other_sym w.0 k other) in
-      let placed : set lasts number l ≡ lasts_of (wrapped start 1) (keys_of_lasts lasts) rest =
-      placed-set w.0 number start (wrapped start 1) left lasts entries rest had.round.placed had.round.sound.apart at place_is others in
-      let one : number_of (is_some (last_at lasts number)) ≡ 1 = ap number_of (sym (ap is_some last_is) ∙ front-has w number start occupied last lasts on entries had.round at last_is front_is) in
-      are-ring new lasts' room' on start' occupied' rest (with_front_taken q) waits_is
-      (ap (λ (ks : List SubKey). let r : Queue E = record { waiting = rest; subscriptions = ks; events_on = on } in r) keys
-      ∙ ap (λ (b : Bool). let r : Queue E = record { waiting = cond b rest entries; subscriptions = keys_of_lasts lasts; events_on = on } in r) (sym may))
-      (sound_taken q had.round.sound)
-      (subst (λ (n : ℕ). n < queue_places) (sym start_is) (place-in start 1 had.round.begins (omega arith)))
-      (lasts_is ∙ placed ∙ ap (λ (ks : List SubKey). lasts_of (wrapped start 1) ks rest) (sym keys) ∙ ap (λ (n : ℕ). lasts_of n (keys_of_lasts lasts') rest) (sym start_is))
-      (counts-now (is_some left) occupied_is had.round.counted (count-set lasts number l within) one (ap (λ (ls : List Last). count_by (λ l. is_some l.place) ls) lasts_is))
-      (subst (λ (r : Option (Buffer (SubKey × E))). IsMade r lasts' room') (sym new_is) (made-still without_front ring lasts lasts' room room' (λ b. refl) had.made (omega (arith, long)) room_is))
-    where
-      counts-now : (a : Bool) {n m m' m'' : ℕ} → occupied' ≡ occupied - cond a 0 1 → occupied ≡ m → m' + n ≡ m + number_of a → n ≡ 1 → m'' ≡ m' → occupied' ≡ m''
-      counts-now true less is count one is' = omega (arith, less, is, count, one, is')
-      counts-now false less is count one is' = omega (arith, less, is, count, one, is')
+      let there : is_among w.0 (keys_of_lasts lasts.0) ≡ true = front-known w lasts.0 on puts extra entries had.round front_is in
+      let last_left : last ≡ last_index w.0 rest = last_is ∙ ap (λ (es : List (SubKey × E)). last_index w.0 es) (ap waits new_is ∙ waits-front ring) in
+      let was : extra + having (w ∷ rest) (keys_of_lasts lasts.0) ≡ length (w ∷ rest) =
+      subst (λ (es : List (SubKey × E)). extra + having es (keys_of_lasts lasts.0) ≡ length es) front (had.round.counted off) in
+      subst (λ (ls : List Last × Bool). AreRing new ls.0 ls.1 on puts extra' (with_front_taken (ring_queue (waits ring) lasts.0 on))) (sym found_is)
+      (taken-one puts extra extra' ring new lasts.0 lasts.1 on had
+      (crowd-some extra puts lasts.0 on entries had.round off some) new_is
+      (λ _. extra-left w extra extra' last (keys_of_lasts lasts.0) rest had.round.sound.apart there last_left was some extra_is))
+
+  -- the numbers are right for those that are left
+  pub noted-left : (puts : ℕ) (ring new : Option (Buffer (SubKey × E))) (lasts found : List Last × Bool) → AreNoted puts (waits ring) lasts.0 → found ≡ lasts → new ≡ option_map without_front ring → AreNoted puts (waits new) found.0
+  noted-left puts ring new lasts found noted found_is new_is =
+      subst (λ (ls : List Last × Bool). AreNoted puts (waits new) ls.0) (sym found_is)
+      (subst (λ (es : List (SubKey × E)). AreNoted puts es lasts.0) (sym (ap waits new_is ∙ waits-front ring)) (noted-rest puts (waits ring) lasts.0 noted))
+
+  front-is : (entries : List (SubKey × E)) → slice_get entries 0 ≡ front entries
+  front-is [] = refl
+  front-is (w ∷ entries) = refl
+
+  pub gives-on : (on : Bool) (entries : List (SubKey × E)) → on ≡ true → slice_get entries 0 ≡ taken on entries
+  gives-on on entries is_on =
+      front-is entries ∙ ap (λ (b : Bool). cond b (front entries) None) (sym (may-on on entries is_on))
 
   pub gives-front : (w : SubKey × E) (on : Bool) (entries : List (SubKey × E)) → Some w ≡ slice_get entries 0 → may_take on entries ≡ true → Some w ≡ taken on entries
   gives-front w on entries front_is may =
@@ -729,7 +801,7 @@ module _ {E : Type 0} where
   -- ---- cancels
 
   -- the subscriptions of the entries that stay are left
-  pub known-left : (key : SubKey) (lasts left : List Last) (on : Bool) (entries : List (SubKey × E)) → IsSound (ring_queue entries lasts on) → left ≡ map (λ l. unplaced l.key) (filter (λ l. not (same key l.key)) lasts) → (k : SubKey) → has_entry k (after_cancel key entries) ≡ true → is_among k (keys_of_lasts left) ≡ true
+  pub known-left : (key : SubKey) (lasts left : List Last) (on : Bool) (entries : List (SubKey × E)) → IsSound (ring_queue entries lasts on) → left ≡ filter (λ l. not (same key l.key)) lasts → (k : SubKey) → has_entry k (after_cancel key entries) ≡ true → is_among k (keys_of_lasts left) ≡ true
   known-left key lasts left on entries sound left_is k has =
       ap (λ (ls : List Last). is_among k (keys_of_lasts ls)) left_is ∙ ap (is_among k) (keys-left key lasts)
       ∙ (sound_cancelled key (ring_queue entries lasts on) sound).known k has
@@ -756,31 +828,49 @@ module _ {E : Type 0} where
       let rest = split-at es i w more (omega (arith, less)) e in
       (rest.0, ap (λ (xs : List (SubKey × E)). v ∷ xs) rest.1)
 
-  keys-of-all : (start : ℕ) (keys : List SubKey) (q : List (SubKey × E)) → keys_of_lasts (lasts_of start keys q) ≡ keys
-  keys-of-all start [] q = refl
-  keys-of-all start (k ∷ keys) q = ap (λ (ks : List SubKey). k ∷ ks) (keys-of-all start keys q)
-
   waits-left : (key : SubKey) (ring : Option (Buffer (SubKey × E))) → waits (option_map (with_items (after_cancel key (waits ring))) ring) ≡ after_cancel key (waits ring)
   waits-left key None = refl
   waits-left key (Some b) = refl
 
-  pub cancelled-one : (key : SubKey) (ring new : Option (Buffer (SubKey × E))) (lasts left lasts' : List Last) (room room' room'' on : Bool) (start occupied occupied' : ℕ) → IsRing ring lasts room on start occupied → left ≡ map (λ l. unplaced l.key) (filter (λ l. not (same key l.key)) lasts) → (room ≡ true → room' ≡ true) → new ≡ option_map (with_items (after_cancel key (waits ring))) ring → lasts' ≡ lasts_of 0 (keys_of_lasts left) (after_cancel key (waits ring)) → room'' ≡ room' → occupied' ≡ count_by (λ l. is_some l.place) lasts' → AreRing new lasts' room'' on 0 occupied' (cancelled key (ring_queue (waits ring) lasts on))
-  cancelled-one key ring new lasts left lasts' room room' room'' on start occupied occupied' had left_is roomy new_is lasts_is room_is occupied_is =
+  pub cancelled-one : (key : SubKey) (ring new : Option (Buffer (SubKey × E))) (lasts left lasts' : List Last) (room room' room'' on : Bool) (puts puts' extra extra' : ℕ) → IsRing ring lasts room on puts extra → left ≡ filter (λ l. not (same key l.key)) lasts → (room ≡ true → room' ≡ true) → new ≡ option_map (with_items (after_cancel key (waits ring))) ring → keys_of_lasts lasts' ≡ keys_of_lasts left → room'' ≡ room' → AreNoted puts' (after_cancel key (waits ring)) lasts' → puts' < 2 ^ 64 → extra' + having (waits new) (keys_of_lasts lasts') ≡ length (waits new) → AreRing new lasts' room'' on puts' extra' (cancelled key (ring_queue (waits ring) lasts on))
+  cancelled-one key ring new lasts left lasts' room room' room'' on puts puts' extra extra' had left_is roomy new_is keys room_is noted goes counted =
       let entries = waits ring in
       let rest : List (SubKey × E) = after_cancel key entries in
       let q : Queue E = ring_queue entries lasts on in
-      let keys : keys_of_lasts lasts' ≡ keys_of_lasts left = ap keys_of_lasts lasts_is ∙ keys-of-all 0 (keys_of_lasts left) rest in
+      let waits_is : waits new ≡ rest = ap waits new_is ∙ waits-left key ring in
       let those : keys_of_lasts lasts' ≡ filter (λ k. not (same key k)) (keys_of_lasts lasts) = keys ∙ ap keys_of_lasts left_is ∙ keys-left key lasts in
-      let fewer : length lasts' ≤ length lasts =
+      let fewer_lasts : length lasts' ≤ length lasts =
       omega (arith, ap length keys, length-map lasts' (λ l. l.key), length-map left (λ l. l.key), ap length left_is, length-left key lasts) in
       let was : IsMade ring lasts room' = record { places = had.made.places; made = had.made.made; roomy = λ some. roomy (had.made.roomy some) } in
-      are-ring new lasts' room'' on 0 occupied' rest (cancelled key q) (ap waits new_is ∙ waits-left key ring)
+      are-ring new lasts' room'' on puts' extra' rest (cancelled key q) waits_is
       (ap (λ (ks : List SubKey). let r : Queue E = record { waiting = rest; subscriptions = ks; events_on = on } in r) those)
       (sound_cancelled key q had.round.sound)
-      (omega arith)
-      (lasts_is ∙ ap (λ (ks : List SubKey). lasts_of 0 ks rest) (sym keys))
-      occupied_is
-      (subst (λ (r : Option (Buffer (SubKey × E))). IsMade r lasts' room'') (sym new_is) (made-still (with_items rest) ring lasts lasts' room' room'' (λ b. refl) was fewer room_is))
+      goes
+      noted
+      (λ off. subst (λ (es : List (SubKey × E)). extra' + having es (keys_of_lasts lasts') ≡ length es) waits_is counted)
+      (subst (λ (r : Option (Buffer (SubKey × E))). IsMade r lasts' room'') (sym new_is) (made-still (with_items rest) ring lasts lasts' room' room'' (λ b. refl) was fewer_lasts room_is))
+
+  -- what is left is known as it was
+  pub known-now : (key : SubKey) (ring new : Option (Buffer (SubKey × E))) (keys keys' : List SubKey) → new ≡ option_map (with_items (after_cancel key (waits ring))) ring → keys' ≡ keys → ((k : SubKey) → has_entry k (after_cancel key (waits ring)) ≡ true → is_among k keys ≡ true) → (k : SubKey) → has_entry k (waits new) ≡ true → is_among k keys' ≡ true
+  known-now key ring new keys keys' new_is keys_is known k has =
+      ap (is_among k) keys_is ∙ known k (sym (ap (has_entry k) (ap waits new_is ∙ waits-left key ring)) ∙ has)
+
+  pub noted-now : (key : SubKey) (puts : ℕ) (ring new : Option (Buffer (SubKey × E))) (lasts : List Last) → new ≡ option_map (with_items (after_cancel key (waits ring))) ring → AreNoted puts (after_cancel key (waits ring)) lasts → AreNoted puts (waits new) lasts
+  noted-now key puts ring new lasts new_is noted =
+      subst (λ (es : List (SubKey × E)). AreNoted puts es lasts) (sym (ap waits new_is ∙ waits-left key ring)) noted
+
+  -- ---- events
+
+  pub switched-one : (ring : Option (Buffer (SubKey × E))) (lasts : List Last) (room on now : Bool) (puts extra extra' : ℕ) → IsRing ring lasts room on puts extra → extra' + having (waits ring) (keys_of_lasts lasts) ≡ length (waits ring) → IsRing ring lasts room now puts extra'
+  switched-one ring lasts room on now puts extra extra' had counted = record {
+    round = record {
+      sound = sound_switched now (ring_queue (waits ring) lasts on) had.round.sound;
+      goes_round = had.round.goes_round;
+      noted = had.round.noted;
+      counted = λ off. counted;
+    };
+    made = had.made;
+  }
 
   -- ---- once round the ring
 
@@ -842,18 +932,6 @@ module _ {E : Type 0} where
       twice None = refl
       twice (Some b) = refl
 
-  -- the place of one more entry was noted
-  pub noted-is : (key : SubKey) (number kept : ℕ) (keys : List SubKey) (w : SubKey × E) (done more : List (SubKey × E)) (lasts new : List Last) → AreApart keys → IsAt w.0 keys number → lasts ≡ lasts_of 0 keys done → more ≡ done ++ w ∷ [] → kept ≡ length done → kept < queue_places → new ≡ set lasts number (record { key = w.0; place = Some kept }) → new ≡ lasts_of 0 keys more
-  noted-is key number kept keys w done more lasts new apart at lasts_is more_is kept_is less new_is =
-      let it : record { key = w.0; place = Some kept } ≡ last_in 0 (done ++ w ∷ []) w.0 =
-      ap (λ (n : ℕ). let l : Last = record { key = w.0; place = Some n } in l) (sym (rw (lt-ltb (0 + kept) queue_places (omega (arith, less))) (omega arith)) ∙ ap (wrapped 0) kept_is)
-      ∙ ap (λ (o : Option ℕ). let l : Last = record { key = w.0; place = option_map (wrapped 0) o } in l) (sym (last-push w.0 w.0 w.1 done ∙ ap (λ (b : Bool). cond b (Some (length done)) (last_index w.0 done)) (same_itself w.0))) in
-      new_is ∙ ap (λ (ls : List Last). set ls number (record { key = w.0; place = Some kept })) lasts_is
-      ∙ ap (λ (l : Last). set (lasts_of 0 keys done) number l) it
-      ∙ map-set (last_in 0 done) (last_in 0 (done ++ w ∷ [])) w.0 keys number apart (at-key w.0 keys number no_key at) at.1
-      (λ k other. ap (λ (o : Option ℕ). let l : Last = record { key = k; place = option_map (wrapped 0) o } in l) (sym (last-push k w.0 w.1 done ∙ ap (λ (b : Bool). cond b (Some (length done)) (last_index k done)) (other_sym w.0 k other))))
-      ∙ ap (λ (es : List (SubKey × E)). lasts_of 0 keys es) (sym more_is)
-
   pub turn-ends : (key : SubKey) (n : ℕ) (es : List (SubKey × E)) → n ≡ length es → (turned key n es ≡ after_cancel key es) × (after_cancel key (take n es) ≡ after_cancel key es)
   turn-ends key n es is =
       let all : take n es ≡ es = ap (λ (m : ℕ). take m es) is ∙ take_all (length es) es (omega arith) in
@@ -875,53 +953,50 @@ module _ {E : Type 0} where
       one (v ∷ es) (suc m) less e = one es m (omega (arith, less)) e
 
   -- its subscription is left
-  pub known-one : (key : SubKey) (n : ℕ) (w : SubKey × E) (es done : List (SubKey × E)) (keys : List SubKey) (lasts : List Last) → ((k : SubKey) → has_entry k (after_cancel key es) ≡ true → is_among k keys ≡ true) → drop n es ≡ w ∷ drop (suc n) es → same key w.0 ≡ false → lasts ≡ lasts_of 0 keys done → is_among w.0 (keys_of_lasts lasts) ≡ true
-  known-one key n w es done keys lasts known next other lasts_is =
+  pub known-one : (key : SubKey) (n : ℕ) (w : SubKey × E) (es : List (SubKey × E)) (keys keys' : List SubKey) → ((k : SubKey) → has_entry k (after_cancel key es) ≡ true → is_among k keys ≡ true) → drop n es ≡ w ∷ drop (suc n) es → same key w.0 ≡ false → keys' ≡ keys → is_among w.0 keys' ≡ true
+  known-one key n w es keys keys' known next other keys_is =
       let here : has_entry w.0 (drop n es) ≡ true = ap (has_entry w.0) next ∙ or_left (same w.0 w.0) (has_entry w.0 (drop (suc n) es)) (same_itself w.0) in
       let left : has_entry w.0 (after_cancel key es) ≡ true = has_without w.0 key es other ∙ has_behind w.0 es n here in
-      ap (λ (ls : List Last). is_among w.0 (keys_of_lasts ls)) lasts_is ∙ ap (is_among w.0) (keys-of-all 0 keys done) ∙ known w.0 left
+      ap (is_among w.0) keys_is ∙ known w.0 left
 
-  -- the number of a subscription, by the keys that there were
-  pub at-first : (key : SubKey) (number : ℕ) (keys : List SubKey) (done : List (SubKey × E)) (lasts : List Last) → lasts ≡ lasts_of 0 keys done → IsAt key (keys_of_lasts lasts) number → IsAt key keys number
-  at-first key number keys done lasts lasts_is at =
-      subst (λ (ks : List SubKey). IsAt key ks number) (ap keys_of_lasts lasts_is ∙ keys-of-all 0 keys done) at
-
-  -- one more entry came round: what the ring has, where last entries are, and how many stayed
-  pub record Turned (key : SubKey) (n : ℕ) (ring now : Option (Buffer (SubKey × E))) (old lasts : List Last × Bool) (kept : ℕ) : Type 0 where
+  -- one more entry came round: what the ring has, and the numbers of the last puts
+  pub record Turned (key : SubKey) (n : ℕ) (ring now : Option (Buffer (SubKey × E))) (old lasts : List Last × Bool) (puts : ℕ) : Type 0 where
     pub in_ring : now ≡ option_map (with_items (turned key n (waits ring))) ring
-    pub noted : lasts ≡ (lasts_of 0 (keys_of_lasts old.0) (after_cancel key (take n (waits ring))), old.1)
-    pub counted : kept ≡ length (after_cancel key (take n (waits ring)))
+    pub keys : keys_of_lasts lasts.0 ≡ keys_of_lasts old.0
+    pub room : lasts.1 ≡ old.1
+    pub noted : AreNoted puts (after_cancel key (take n (waits ring))) lasts.0
+    pub goes : puts < 2 ^ 64
 
-  pub turn-stays : (key : SubKey) (n number kept kept' : ℕ) (w : SubKey × E) (ring now popped new : Option (Buffer (SubKey × E))) (old lasts lasts' : List Last × Bool) → Turned key n ring now old lasts kept → n < length (waits ring) → AreInPlaces ring → AreApart (keys_of_lasts old.0) → Some w ≡ slice_get (waits now) 0 → popped ≡ option_map without_front now → same key w.0 ≡ false → IsAt w.0 (keys_of_lasts lasts.0) number → lasts' ≡ (set lasts.0 number (record { key = w.0; place = Some kept }), lasts.1) → new ≡ option_map (with_back w) popped → kept' ≡ kept + 1 → Turned key (n + 1) ring new old lasts' kept'
-  turn-stays key n number kept kept' w ring now popped new old lasts lasts' had less fits apart front_is popped_is other at lasts_is new_is more =
+  pub turn-stays : (key : SubKey) (n number puts puts' : ℕ) (w : SubKey × E) (ring now popped new : Option (Buffer (SubKey × E))) (old lasts lasts' : List Last × Bool) → Turned key n ring now old lasts puts → n < length (waits ring) → AreInPlaces ring → AreApart (keys_of_lasts old.0) → Some w ≡ slice_get (waits now) 0 → popped ≡ option_map without_front now → same key w.0 ≡ false → IsAt w.0 (keys_of_lasts lasts.0) number → puts' ≡ next_put puts → lasts' ≡ (set lasts.0 number (record { key = w.0; put = next_put puts }), lasts.1) → new ≡ option_map (with_back w) popped → Turned key (n + 1) ring new old lasts' puts'
+  turn-stays key n number puts puts' w ring now popped new old lasts lasts' had less fits apart front_is popped_is other at puts_is lasts_is new_is =
       let es = waits ring in
-      let keys = keys_of_lasts old.0 in
+      let done : List (SubKey × E) = after_cancel key (take n es) in
       let next = next-is key n w ring now less had.in_ring front_is in
-      let stays : after_cancel key (take (suc n) es) ≡ after_cancel key (take n es) ++ w ∷ [] = stays-one key false n w es next.1 other in
-      let few : kept < queue_places = omega (arith, had.counted, less, fits.1, length-after key n es) in
-      let first : lasts.0 ≡ lasts_of 0 keys (after_cancel key (take n es)) = ap (λ (p : List Last × Bool). p.0) had.noted in
-      let noted : lasts'.0 ≡ lasts_of 0 keys (after_cancel key (take (suc n) es)) =
-      noted-is key number kept keys w (after_cancel key (take n es)) (after_cancel key (take (suc n) es)) lasts.0 lasts'.0 apart (at-first w.0 number keys (after_cancel key (take n es)) lasts.0 first at) first stays had.counted few (ap (λ (p : List Last × Bool). p.0) lasts_is) in
-      let room : lasts'.1 ≡ old.1 = ap (λ (p : List Last × Bool). p.1) lasts_is ∙ ap (λ (p : List Last × Bool). p.1) had.noted in
-      let all : Turned key (suc n) ring new old lasts' kept' = record {
+      let stays : after_cancel key (take (suc n) es) ≡ done ++ w ∷ [] = stays-one key false n w es next.1 other in
+      let few : length done ≤ queue_places = omega (arith, less, fits.1, length-after key n es) in
+      let lasts_are : lasts'.0 ≡ set lasts.0 number (record { key = w.0; put = next_put puts }) = ap (λ (p : List Last × Bool). p.0) lasts_is in
+      let apart_now : AreApart (keys_of_lasts lasts.0) = subst AreApart (sym had.keys) apart in
+      let noted : AreNoted puts' (done ++ w ∷ []) lasts'.0 =
+      noted-put w.0 w.1 number puts puts' done lasts.0 lasts'.0 had.noted apart_now at had.goes few puts_is lasts_are in
+      let all : Turned key (suc n) ring new old lasts' puts' = record {
         in_ring = pushed-is key n w ring popped new (popped-is key n w ring now popped had.in_ring next.0 popped_is) new_is stays;
-        noted = ap (λ (ls : List Last). (ls, lasts'.1)) noted ∙ ap (λ (b : Bool). (lasts_of 0 keys (after_cancel key (take (suc n) es)), b)) room;
-        counted = omega (arith, more, had.counted, ap length stays, length_push (after_cancel key (take n es)) w);
+        keys = ap keys_of_lasts lasts_are ∙ keys-set w.0 (next_put puts) lasts.0 number at ∙ had.keys;
+        room = ap (λ (p : List Last × Bool). p.1) lasts_is ∙ had.room;
+        noted = subst (λ (xs : List (SubKey × E)). AreNoted puts' xs lasts'.0) (sym stays) noted;
+        goes = next-goes puts puts' puts_is;
       } in
-      subst (λ (m : ℕ). Turned key m ring new old lasts' kept') (sym (add-one n)) all
+      subst (λ (m : ℕ). Turned key m ring new old lasts' puts') (sym (add-one n)) all
 
-  pub turn-goes : (key : SubKey) (n kept : ℕ) (w : SubKey × E) (ring now popped : Option (Buffer (SubKey × E))) (old lasts : List Last × Bool) → Turned key n ring now old lasts kept → n < length (waits ring) → Some w ≡ slice_get (waits now) 0 → popped ≡ option_map without_front now → same key w.0 ≡ true → Turned key (n + 1) ring popped old lasts kept
-  turn-goes key n kept w ring now popped old lasts had less front_is popped_is is =
+  pub turn-goes : (key : SubKey) (n puts : ℕ) (w : SubKey × E) (ring now popped : Option (Buffer (SubKey × E))) (old lasts : List Last × Bool) → Turned key n ring now old lasts puts → n < length (waits ring) → Some w ≡ slice_get (waits now) 0 → popped ≡ option_map without_front now → same key w.0 ≡ true → Turned key (n + 1) ring popped old lasts puts
+  turn-goes key n puts w ring now popped old lasts had less front_is popped_is is =
       let es = waits ring in
       let next = next-is key n w ring now less had.in_ring front_is in
       let goes : after_cancel key (take (suc n) es) ≡ after_cancel key (take n es) = stays-one key true n w es next.1 is ∙ append-nil (after_cancel key (take n es)) in
-      let all : Turned key (suc n) ring popped old lasts kept = record {
+      let all : Turned key (suc n) ring popped old lasts puts = record {
         in_ring = popped-is key n w ring now popped had.in_ring next.0 popped_is ∙ ap (λ (xs : List (SubKey × E)). option_map (with_items (drop (suc n) es ++ xs)) ring) (sym goes);
-        noted = had.noted ∙ ap (λ (xs : List (SubKey × E)). (lasts_of 0 (keys_of_lasts old.0) xs, old.1)) (sym goes);
-        counted = had.counted ∙ ap length (sym goes);
+        keys = had.keys;
+        room = had.room;
+        noted = subst (λ (xs : List (SubKey × E)). AreNoted puts xs lasts.0) (sym goes) had.noted;
+        goes = had.goes;
       } in
-      subst (λ (m : ℕ). Turned key m ring popped old lasts kept) (sym (add-one n)) all
-
-pub at-most-one : (b : Bool) → cond b 0 1 ≤ 1
-at-most-one true = omega arith
-at-most-one false = omega arith
+      subst (λ (m : ℕ). Turned key m ring popped old lasts puts) (sym (add-one n)) all

@@ -1,14 +1,13 @@
 -- What the fields of an event queue stand for that is a ring. No clause of a caller needs it.
-use Rattle.std.specs.Prelude.{ℕ, ◌≡◌, ◌≤◌, ◌<◌, ◌+◌, ◌-◌, ◌&&◌, nat_le, nat_lt, nat_eq, Bool, true, false, if◌then◌else◌, List, [], ◌∷◌, ◌++◌, length, map, drop, position, count_by, slice_set, get_or, is_some, Option, Some, None, IfSome}
-use Rattle.std.specs.Option.{option_map}
+use Rattle.std.specs.Prelude.{ℕ, ◌≡◌, ◌≤◌, ◌<◌, ◌+◌, ◌-◌, ◌%◌, ◌^◌, ◌&&◌, nat_le, Bool, true, false, List, [], ◌∷◌, ◌++◌, length, map, drop, count_by, slice_set, get_or, is_some, Option, Some, None, IfSome}
 use Rattle.circular_buffer.specs.Buffer.{Buffer, buffer}
 use Rattle.ca_text.specs.Limits.{queue_places, queue_subscriptions}
 use Rattle.ca_queue.specs.declared.entry.SubKey.{SubKey}
 use Rattle.ca_queue.specs.declared.lasts.Last.{Last}
-use Rattle.ca_queue.specs.Keys.{AreApart, same}
+use Rattle.ca_queue.specs.Keys.{AreApart}
 use Rattle.ca_queue.specs.Queue.{Queue}
 use Rattle.ca_queue.specs.Sound.{IsSound}
-use Rattle.ca_queue.specs.Waiting.{is_of}
+use Rattle.ca_queue.specs.Waiting.{has_entry, is_of}
 
 -- ---- the ring
 
@@ -48,35 +47,41 @@ module _ {W : Type 0} where
   abbrev pub without_front : Buffer W → Buffer W
   without_front b = with_items (drop 1 b.items) b
 
--- the place of the n-th entry after this place
-abbrev pub wrapped : ℕ → ℕ → ℕ
-wrapped start n = if nat_lt (start + n) queue_places then start + n else start + n - queue_places
+-- ---- puts
 
--- how far after the start a place is
-abbrev pub unwrapped : ℕ → ℕ → ℕ
-unwrapped start place = if nat_le start place then place - start else place + queue_places - start
+-- The number of the put after this one. Numbers of puts go round, so that there is always a next one.
+abbrev pub next_put : ℕ → ℕ
+next_put put = (put + 1) % 2 ^ 64
 
--- the place of a last entry, once the entry at a place was taken
-abbrev pub left_of : ℕ → Option ℕ → Option ℕ
-left_of taken None = None
-left_of taken (Some place) = if nat_eq place taken then None else Some place
+-- how many puts there were after this one, once that one was the last
+abbrev pub puts_after : ℕ → ℕ → ℕ
+puts_after last put = (last + (2 ^ 64 - put)) % 2 ^ 64
 
 -- ---- the subscriptions
 
 abbrev pub keys_of_lasts : List Last → List SubKey
 keys_of_lasts lasts = map (λ l. l.key) lasts
 
--- a subscription that has no entry
+-- a subscription that was just added
 abbrev pub unplaced : SubKey → Last
-unplaced key = record { key = key; place = None }
+unplaced key = record { key = key; put = 0 }
 
--- the place of the last entry of the subscription of this number
-abbrev pub last_at : List Last → ℕ → Option ℕ
-last_at lasts number = (get_or lasts number (unplaced (record { sid = 0; sub = 0 }))).place
+abbrev pub no_key : SubKey
+no_key = record { sid = 0; sub = 0 }
 
--- the first of these keys that is this one has this number
+abbrev pub no_last : Last
+no_last = unplaced no_key
+
+-- the number of the last put of the subscription of this number, and its key
+abbrev pub last_at : List Last → ℕ → ℕ
+last_at lasts number = (get_or lasts number no_last).put
+
+abbrev pub key_at : List Last → ℕ → SubKey
+key_at lasts number = (get_or lasts number no_last).key
+
+-- this key has this number among these
 abbrev pub IsAt : SubKey → List SubKey → ℕ → Type 0
-IsAt key keys number = (position (same key) keys ≡ Some number) × (number < length keys)
+IsAt key keys number = (key ≡ get_or keys number no_key) × (number < length keys)
 
 -- there is room for all subscriptions that come
 abbrev pub has_room_for_all : ℕ → ℕ → ℕ → Bool
@@ -106,19 +111,26 @@ module _ {E : Type 0} where
   last_index key [] = None
   last_index key (w ∷ q) = later (last_index key q) (is_of key w)
 
-  -- a subscription with the place of its last entry
-  abbrev pub last_in : ℕ → List (SubKey × E) → SubKey → Last
-  last_in start entries key = record { key = key; place = option_map (wrapped start) (last_index key entries) }
+  -- The number that stands with a subscription is that of its last put, if it has an entry: there were as many puts after it as
+  -- entries wait behind that entry.
+  abbrev pub IsNoted : ℕ → List (SubKey × E) → Last → Type 0
+  IsNoted puts entries l = (i : ℕ) → last_index l.key entries ≡ Some i → i + 1 + puts_after puts l.put ≡ length entries
 
-  abbrev pub lasts_of : ℕ → List SubKey → List (SubKey × E) → List Last
-  lasts_of start keys entries = map (last_in start entries) keys
+  abbrev pub AreNoted : ℕ → List (SubKey × E) → List Last → Type 0
+  AreNoted puts entries [] = Unit {0}
+  AreNoted puts entries (l ∷ lasts) = IsNoted puts entries l × AreNoted puts entries lasts
 
-  -- the fields stand for something sound, and the places and the count are right
-  pub record IsRound (entries : List (SubKey × E)) (lasts : List Last) (on : Bool) (start occupied : ℕ) : Type 0 where
+  -- how many of these subscriptions have an entry
+  abbrev pub having : List (SubKey × E) → List SubKey → ℕ
+  having entries keys = count_by (λ key. has_entry key entries) keys
+
+  -- The fields stand for something sound, and the numbers are right. While events are off, so are those entries counted that wait
+  -- besides one of each subscription that has one.
+  pub record IsRound (entries : List (SubKey × E)) (lasts : List Last) (on : Bool) (puts extra : ℕ) : Type 0 where
     pub sound : IsSound (ring_queue entries lasts on)
-    pub begins : start < queue_places
-    pub placed : lasts ≡ lasts_of start (keys_of_lasts lasts) entries
-    pub counted : occupied ≡ count_by (λ l. is_some l.place) lasts
+    pub goes_round : puts < 2 ^ 64
+    pub noted : AreNoted puts entries lasts
+    pub counted : on ≡ false → extra + having entries (keys_of_lasts lasts) ≡ length entries
 
   -- The ring has a place for each entry. It was made before the first subscription was added, and all other room before it.
   pub record IsMade (ring : Option (Buffer (SubKey × E))) (lasts : List Last) (room : Bool) : Type 0 where
@@ -126,6 +138,6 @@ module _ {E : Type 0} where
     pub made : 0 < length lasts → is_some ring ≡ true
     pub roomy : is_some ring ≡ true → room ≡ true
 
-  pub record IsRing (ring : Option (Buffer (SubKey × E))) (lasts : List Last) (room on : Bool) (start occupied : ℕ) : Type 0 where
-    pub round : IsRound (waits ring) lasts on start occupied
+  pub record IsRing (ring : Option (Buffer (SubKey × E))) (lasts : List Last) (room on : Bool) (puts extra : ℕ) : Type 0 where
+    pub round : IsRound (waits ring) lasts on puts extra
     pub made : IsMade ring lasts room

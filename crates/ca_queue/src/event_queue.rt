@@ -1,14 +1,14 @@
-ghost use Rattle.std.specs.Prelude.{◌≡◌, ◌<◌, ◌≤◌, ◌-◌, [], true, Some, None, IsTrue, IfSome, length, is_some, nat_le, nat_lt, not, ◌||◌, if◌then◌else◌};
+ghost use Rattle.std.specs.Prelude.{ℕ, ◌≡◌, ◌<◌, ◌≤◌, ◌+◌, ◌-◌, ◌^◌, [], true, Some, None, IsTrue, length, is_some, nat_le, slice_set, not, ◌||◌, if◌then◌else◌};
 ghost use Rattle.std.specs.Option.{option_map};
 ghost use Rattle.ca_text.specs.Limits.{queue_low_places, queue_places};
 ghost use Rattle.ca_queue.specs.Keys.{AreApart, is_among};
 ghost use Rattle.ca_queue.specs.Waiting.{after_cancel, has_entry};
-ghost use Rattle.ca_queue.specs.Ring.{AreInPlaces, keys_of_lasts, lasts_of, left_of, unwrapped, waits, with_items, wrapped};
+ghost use Rattle.ca_queue.specs.Ring.{AreInPlaces, AreNoted, HasPlace, IsAt, having, keys_of_lasts, last_index, next_put, puts_after, waits, with_back, with_items};
 
 use crate::entry::{SubKey, is_same};
 use crate::lasts::Lasts;
 use crate::queues::Queues;
-use crate::ring::{make, pop, put, replace, waiting};
+use crate::ring::{key_of, make, pop, put, replace, waiting, waiting_in};
 use ca_text::{QUEUE_LOW_PLACES, QUEUE_PLACES, QUEUE_SUBSCRIPTIONS, Refusal};
 use circular_buffer::HeapCircularBuffer;
 use std::alloc::Global;
@@ -16,16 +16,18 @@ use std::marker::Model;
 
 /// An event queue of any entries as a ring. Contracts see it as the queue that it is, and whether its room was made.
 ///
-/// It keeps the place of each subscription's last entry, and how many subscriptions have one. So a post and a take look at no entry but
-/// the one that they write or take.
+/// Each put at the back has a number, and with each subscription stands that of its last one. How many puts there were since tells
+/// where its last entry is, so a post looks at no entry but the one whose place it takes, and a take at none but the front.
 #[derive(Drop)]
 pub struct EventQueue<E> {
     alloc: Global,
     ring: Option<HeapCircularBuffer<(SubKey, E)>>,
     lasts: Lasts,
-    start: usize,
-    occupied: usize,
+    // The number of the last put.
+    puts: usize,
     events_on: bool,
+    // While events are off: how many entries wait besides one of each subscription that has one.
+    extra: usize,
 }
 
 impl<E> Model for EventQueue<E> {
@@ -41,7 +43,7 @@ impl<E> Model for EventQueue<E> {
 
     ghost view = { λ q. (ring_queue (waits q.ring) q.lasts.0 q.events_on, is_some q.ring) };
 
-    ghost invariant = { λ q. IsRing q.ring q.lasts.0 q.lasts.1 q.events_on q.start q.occupied };
+    ghost invariant = { λ q. IsRing q.ring q.lasts.0 q.lasts.1 q.events_on q.puts q.extra };
 }
 
 impl<E: Drop> Queues<E> for EventQueue<E> {
@@ -54,9 +56,9 @@ impl<E: Drop> Queues<E> for EventQueue<E> {
             alloc,
             ring: None,
             lasts: Lasts::new(alloc),
-            start: 0,
-            occupied: 0,
+            puts: 0,
             events_on: true,
+            extra: 0,
         }
     }
 
@@ -76,145 +78,179 @@ impl<E: Drop> Queues<E> for EventQueue<E> {
 
     fn post(&mut self, key: SubKey, entry: E) {
         let number = self.lasts.find(key);
-        let last = self.lasts.last(number);
-        let length = waiting(&self.ring);
-        if let Some(index) = replaced(last, self.start, length, self.events_on) {
+        let behind = puts_since(self.puts, self.lasts.last(number));
+        if let Some(index) = replaced(&self.ring, key, behind, self.events_on) {
             replace(&mut self.ring, index, key, entry);
             return;
         }
-        self.occupied += one_if_none(last);
-        let place = wrap(self.start, length);
-        self.lasts.set(number, key, Some(place));
-        put(&mut self.ring, key, entry);
+        append(
+            &mut self.ring,
+            &mut self.lasts,
+            &mut self.puts,
+            number,
+            key,
+            entry,
+        );
     }
 
     fn take(&mut self) -> Option<(SubKey, E)> {
-        if !may_take(self.events_on, self.occupied, waiting(&self.ring)) {
+        if self.events_on {
+            return pop(&mut self.ring);
+        }
+        if self.extra == 0 {
             return None;
         }
         let (key, entry) = pop(&mut self.ring)?;
-        let start = self.start;
-        self.start = wrap(start, 1);
         let number = self.lasts.find(key);
-        let left = without(self.lasts.last(number), start);
-        self.occupied -= one_if_none(left);
-        self.lasts.set(number, key, left);
+        let behind = puts_since(self.puts, self.lasts.last(number));
+        self.extra -= one_if_some(last_of(&self.ring, key, behind));
         Some((key, entry))
     }
 
     fn cancel(&mut self, key: SubKey) {
         self.lasts.forget(key);
-        self.start = 0;
-        go_round(&mut self.ring, &mut self.lasts, key);
-        self.occupied = self.lasts.occupied();
+        go_round(&mut self.ring, &mut self.lasts, &mut self.puts, key);
+        self.extra = waiting(&self.ring) - occupied(&self.ring, &self.lasts, self.puts);
     }
 
     fn set_events(&mut self, on: bool) {
+        self.extra = waiting(&self.ring) - occupied(&self.ring, &self.lasts, self.puts);
         self.events_on = on;
     }
 }
 
-// The place of the n-th entry after this place of the ring.
-fn wrap(start: usize, n: usize) -> usize
-    requires start { start < queue_places }
-    requires within { n ≤ queue_places }
-    ensures { result ≡ wrapped start n }
+// The number of the next put.
+fn next(puts: usize) -> usize
+    ensures { result ≡ next_put puts }
 {
-    let place = start + n;
-    if place < QUEUE_PLACES {
-        place
-    } else {
-        place - QUEUE_PLACES
-    }
+    puts.wrapping_add(1)
 }
 
-// How far after the start this place of the ring is.
-fn unwrap(start: usize, place: usize) -> usize
-    requires start { start < queue_places }
-    requires place { place < queue_places }
-    ensures { result ≡ unwrapped start place }
+// How many puts there were after this one.
+fn puts_since(puts: usize, put: usize) -> usize
+    ensures { result ≡ puts_after puts put }
 {
-    if start <= place {
-        place - start
-    } else {
-        place + QUEUE_PLACES - start
-    }
+    puts.wrapping_sub(put)
 }
 
-// Where the entry is that a post takes the place of, if it does: its subscription's last one is at this place, and n wait.
-fn replaced(last: Option<usize>, start: usize, n: usize, events_on: bool) -> Option<usize>
-    requires start { start < queue_places }
-    requires place { IfSome last (λ place. place < queue_places) }
-    requires within { n ≤ queue_places }
-    ensures { result ≡ (if nat_le (queue_places - n) queue_low_places || not events_on
-        then option_map (unwrapped start) last else None) }
+// Puts an entry of this subscription, which has this number, to the back.
+fn append<E: Drop>(
+    ring: &mut Option<HeapCircularBuffer<(SubKey, E)>>,
+    lasts: &mut Lasts,
+    puts: &mut usize,
+    number: usize,
+    key: SubKey,
+    entry: E,
+)
+    requires place { HasPlace ring.old }
+    requires at { IsAt key (keys_of_lasts lasts.old.0) number }
+    ensures puts { puts.new ≡ next_put puts.old }
+    ensures lasts { lasts.new ≡ (
+      slice_set lasts.old.0 number (record { key = key; put = next_put puts.old }),
+      lasts.old.1,
+    ) }
+    ensures ring { ring.new ≡ option_map (with_back (key, entry)) ring.old }
 {
-    if QUEUE_PLACES - n > QUEUE_LOW_PLACES && events_on {
+    *puts = next(*puts);
+    lasts.set(number, key, *puts);
+    put(ring, key, entry);
+}
+
+// Where the entry is that a post takes the place of, if it does: its subscription's last one, behind which so many wait.
+fn replaced<E>(
+    ring: &Option<HeapCircularBuffer<(SubKey, E)>>,
+    key: SubKey,
+    behind: usize,
+    events_on: bool,
+) -> Option<usize>
+    requires made { is_some ring.now ≡ true }
+    requires within { length (waits ring.now) ≤ queue_places }
+    requires behind { (i : ℕ) → last_index key (waits ring.now) ≡ Some i
+        → i + 1 + behind ≡ length (waits ring.now) }
+    ensures { result
+        ≡ (if nat_le (queue_places - length (waits ring.now)) queue_low_places || not events_on
+        then last_index key (waits ring.now) else None) }
+{
+    if QUEUE_PLACES - waiting_in(ring) > QUEUE_LOW_PLACES && events_on {
         return None;
     }
+    last_of(ring, key, behind)
+}
+
+// Where the last entry of a subscription is, behind which so many wait, if it has one.
+fn last_of<E>(
+    ring: &Option<HeapCircularBuffer<(SubKey, E)>>,
+    key: SubKey,
+    behind: usize,
+) -> Option<usize>
+    requires { (i : ℕ) → last_index key (waits ring.now) ≡ Some i
+        → i + 1 + behind ≡ length (waits ring.now) }
+    ensures { result ≡ last_index key (waits ring.now) }
+{
+    let length = waiting(ring);
+    if behind >= length {
+        return None;
+    }
+    let index = length - 1 - behind;
+    if is_same(key, key_of(ring, index)) {
+        return Some(index);
+    }
+    None
+}
+
+// One for a subscription that has an entry, else none.
+fn one_if_some(last: Option<usize>) -> usize
+    ensures one { result ≡ (if is_some last then 1 else 0) }
+    ensures most { result ≤ 1 }
+{
     match last {
-        None => None,
-        Some(place) => Some(unwrap(start, place)),
+        None => 0,
+        Some(_) => 1,
     }
 }
 
-// One for a subscription that has no entry, else none.
-fn one_if_none(last: Option<usize>) -> usize
-    ensures { result ≡ (if is_some last then 0 else 1) }
+// How many subscriptions have an entry.
+fn occupied<E>(ring: &Option<HeapCircularBuffer<(SubKey, E)>>, lasts: &Lasts, puts: usize) -> usize
+    requires noted { AreNoted puts (waits ring.now) lasts.now.0 }
+    requires apart { AreApart (keys_of_lasts lasts.now.0) }
+    requires known { (k : SubKey) → IsTrue (has_entry k (waits ring.now))
+        → is_among k (keys_of_lasts lasts.now.0) ≡ true }
+    ensures count { result ≡ having (waits ring.now) (keys_of_lasts lasts.now.0) }
+    ensures within { result ≤ length (waits ring.now) }
 {
-    match last {
-        None => 1,
-        Some(_) => 0,
+    let mut occupied = 0;
+    for number in 0..lasts.len() {
+        let behind = puts_since(puts, lasts.last(number));
+        occupied += one_if_some(last_of(ring, lasts.key(number), behind));
     }
+    occupied
 }
 
-// Whether an entry may be taken of n that wait: with events off, only while some subscription has two entries or more, so that fewer
-// subscriptions have one than entries wait.
-fn may_take(events_on: bool, occupied: usize, n: usize) -> bool
-    ensures { result ≡ (events_on || nat_lt occupied n) }
-{
-    events_on || occupied < n
-}
-
-// The place of a subscription's last entry, once the entry at this place was taken.
-fn without(last: Option<usize>, taken: usize) -> Option<usize>
-    ensures { result ≡ left_of taken last }
-{
-    match last {
-        None => None,
-        Some(place) if place == taken => None,
-        Some(place) => Some(place),
-    }
-}
-
-// Takes out all entries of this subscription, which goes once round the ring, and notes the new places of the others.
+// Takes out all entries of this subscription, which goes once round the ring: each other one is put again.
 fn go_round<E: Drop>(
     ring: &mut Option<HeapCircularBuffer<(SubKey, E)>>,
     lasts: &mut Lasts,
+    puts: &mut usize,
     key: SubKey,
 )
     requires fits { AreInPlaces ring.old }
+    requires goes_round { puts.old < 2 ^ 64 }
     requires apart { AreApart (keys_of_lasts lasts.old.0) }
     requires known { (k : SubKey) → IsTrue (has_entry k (after_cancel key (waits ring.old)))
         → is_among k (keys_of_lasts lasts.old.0) ≡ true }
-    requires empty { lasts.old.0 ≡ lasts_of {E = E} 0 (keys_of_lasts lasts.old.0) [] }
     ensures ring { ring.new ≡ option_map (with_items (after_cancel key (waits ring.old))) ring.old }
-    ensures lasts { lasts.new ≡ (
-      lasts_of 0 (keys_of_lasts lasts.old.0)
-          (after_cancel key (waits ring.old)),
-      lasts.old.1,
-    ) }
+    ensures keys { keys_of_lasts lasts.new.0 ≡ keys_of_lasts lasts.old.0 }
+    ensures room { lasts.new.1 ≡ lasts.old.1 }
+    ensures noted { AreNoted puts.new (after_cancel key (waits ring.old)) lasts.new.0 }
+    ensures goes_round { puts.new < 2 ^ 64 }
 {
-    let mut kept = 0;
     for _ in 0..waiting(ring) {
         let Some((of, entry)) = pop(ring) else {
             unreachable!()
         };
         if !is_same(key, of) {
             let number = lasts.find(of);
-            lasts.set(number, of, Some(kept));
-            put(ring, of, entry);
-            kept += 1;
+            append(ring, lasts, puts, number, of, entry);
         }
     }
 }

@@ -1,8 +1,8 @@
-ghost use Rattle.std.specs.Prelude.{◌≡◌, ◌<◌, ◌≤◌, ◌+◌, ◌++◌, ◌∷◌, [], true, false, Some, OnOk, OnErr, length, map, filter, not, count_by, is_some, slice_set, vec_capacity};
+ghost use Rattle.std.specs.Prelude.{◌≡◌, ◌<◌, ◌≤◌, ◌+◌, ◌++◌, ◌∷◌, [], true, false, Some, OnOk, OnErr, length, filter, not, position, slice_set, vec_capacity};
 ghost use Rattle.ca_text.specs.Limits.{queue_subscriptions};
 ghost use Rattle.indexmap.specs.IndexSet.{index_set_len, spare, IsEmpty};
 ghost use Rattle.ca_queue.specs.Keys.{AreApart, same, is_among};
-ghost use Rattle.ca_queue.specs.Ring.{IsAt, keys_of_lasts, last_at, unplaced};
+ghost use Rattle.ca_queue.specs.Ring.{IsAt, key_at, keys_of_lasts, last_at, unplaced};
 
 use crate::entry::{SubKey, is_same};
 use ca_text::QUEUE_SUBSCRIPTIONS;
@@ -10,19 +10,24 @@ use indexmap::IndexSet;
 use std::alloc::{AllocError, Global};
 use std::marker::Model;
 
-/// The subscriptions of a queue in the order of their adds, each with the place of its last entry in the ring, and an index by key.
+// How many guesses are kept.
+const GUESSES: usize = 64;
+
+/// The subscriptions of a queue in the order of their adds, each with the number of its last put, and an index by key.
 /// Contracts see the subscriptions, and whether room for all that come was made.
 #[derive(Drop)]
 pub(crate) struct Lasts {
     index: IndexSet<SubKey>,
     lasts: Vec<Last>,
+    // By a few bits of a key, the number of the subscription that was found there last. Most are found again without the index.
+    guesses: [u8; GUESSES],
 }
 
-/// A subscription, and the place of its last entry in the ring, if it has one.
+/// A subscription, and the number of the put of its last entry, if it has one.
 #[derive(Clone, Copy)]
 pub(crate) struct Last {
     pub(crate) key: SubKey,
-    pub(crate) place: Option<usize>,
+    pub(crate) put: usize,
 }
 
 impl Model for Lasts {
@@ -53,6 +58,7 @@ impl Lasts {
         Lasts {
             index: IndexSet::new(alloc),
             lasts: Vec::new(alloc),
+            guesses: [0; GUESSES],
         }
     }
 
@@ -83,7 +89,7 @@ impl Lasts {
         requires new { is_among key (keys_of_lasts self.old.0) ≡ false }
         ensures { self.new ≡ (self.old.0 ++ unplaced key ∷ [], true) }
     {
-        self.lasts.push_reserved(Last { key, place: None });
+        self.lasts.push_reserved(Last { key, put: 0 });
         match self.index.insert_full(key) {
             Ok(_) => {}
             Err(_) => unreachable!(),
@@ -91,62 +97,87 @@ impl Lasts {
     }
 
     /// The number of a subscription in the order of adds.
-    pub(crate) fn find(&self, key: SubKey) -> usize
-        requires { is_among key (keys_of_lasts self.now.0) ≡ true }
-        ensures { IsAt key (keys_of_lasts self.now.0) result }
+    pub(crate) fn find(&mut self, key: SubKey) -> usize
+        requires { is_among key (keys_of_lasts self.old.0) ≡ true }
+        ensures at { IsAt key (keys_of_lasts self.new.0) result }
+        ensures same { self.new ≡ self.old }
     {
-        match self.index.get_index_of(&key) {
-            None => unreachable!(),
-            Some(number) => number,
+        let slot = slot_of(key);
+        let guess = usize::from(self.guesses[slot]);
+        if self.is_at(guess, key) {
+            return guess;
         }
+        let number = look_up(&self.index, key);
+        self.guesses[slot] = u8::try_from(number).unwrap_or(0);
+        number
     }
 
-    /// The place of the last entry of the subscription that has this number.
-    pub(crate) fn last(&self, number: usize) -> Option<usize>
+    // Whether there is a subscription of this number, and it has this key.
+    fn is_at(&self, number: usize, key: SubKey) -> bool
+        ensures { result ≡ true → IsAt key (keys_of_lasts self.now.0) number }
+    {
+        if number >= self.lasts.len() {
+            return false;
+        }
+        is_same(key, self.key(number))
+    }
+
+    /// The key of the subscription that has this number.
+    pub(crate) fn key(&self, number: usize) -> SubKey
+        requires { number < length self.now.0 }
+        ensures { result ≡ key_at self.now.0 number }
+    {
+        self.lasts[number].key
+    }
+
+    /// The number of the last put of the subscription that has this number.
+    pub(crate) fn last(&self, number: usize) -> usize
         requires { number < length self.now.0 }
         ensures { result ≡ last_at self.now.0 number }
     {
-        self.lasts[number].place
+        self.lasts[number].put
     }
 
-    /// Writes the place of the last entry of this subscription, which has this number.
-    pub(crate) fn set(&mut self, number: usize, key: SubKey, place: Option<usize>)
+    /// Writes the number of the last put of this subscription, which has this number.
+    pub(crate) fn set(&mut self, number: usize, key: SubKey, put: usize)
         requires { IsAt key (keys_of_lasts self.old.0) number }
         ensures { self.new ≡ (
-          slice_set self.old.0 number (record { key = key; place = place }),
+          slice_set self.old.0 number (record { key = key; put = put }),
           self.old.1,
         ) }
     {
-        self.lasts[number] = Last { key, place };
+        self.lasts[number] = Last { key, put };
     }
 
-    /// Takes this subscription out. Of the others none has a place any more.
+    /// Takes this subscription out.
     pub(crate) fn forget(&mut self, key: SubKey)
-        ensures lasts { self.new.0 ≡ map (λ l. unplaced l.key)
-            (filter (λ l. not (same key l.key)) self.old.0) }
+        ensures lasts { self.new.0 ≡ filter (λ l. not (same key l.key)) self.old.0 }
         ensures room { self.old.1 ≡ true → self.new.1 ≡ true }
     {
-        take_out(&mut self.lasts, key);
+        retain_others(&mut self.lasts, key);
         self.index.clear();
         index_all(&mut self.index, &self.lasts);
     }
-
-    /// How many have an entry.
-    pub(crate) fn occupied(&self) -> usize
-        ensures { result ≡ count_by (λ l. is_some l.place) self.now.0 }
-    {
-        self.lasts.iter().filter(|l| l.place.is_some()).count()
-    }
 }
 
-// Takes this subscription out, and forgets the places of the others.
-fn take_out(lasts: &mut Vec<Last>, key: SubKey)
-    ensures items { lasts.new.items ≡ map (λ l. unplaced l.key)
-        (filter (λ l. not (same key l.key)) lasts.old.items) }
-    ensures capacity { vec_capacity lasts.new ≡ vec_capacity lasts.old }
+// Where the guess for a key is kept.
+fn slot_of(key: SubKey) -> usize
+    ensures { result < 64 }
 {
-    retain_others(lasts, key);
-    forget_places(lasts);
+    (key.sid ^ key.sub) as usize % GUESSES
+}
+
+// The number of a key in the index.
+#[cold]
+#[inline(never)]
+fn look_up(index: &IndexSet<SubKey>, key: SubKey) -> usize
+    requires { is_among key index.now.keys ≡ true }
+    ensures { position (same key) index.now.keys ≡ Some result }
+{
+    match index.get_index_of(&key) {
+        None => unreachable!(),
+        Some(number) => number,
+    }
 }
 
 // Takes this subscription out.
@@ -155,15 +186,6 @@ fn retain_others(lasts: &mut Vec<Last>, key: SubKey)
     ensures capacity { vec_capacity lasts.new ≡ vec_capacity lasts.old }
 {
     lasts.retain(|l| !is_same(key, l.key));
-}
-
-// Forgets all places.
-fn forget_places(lasts: &mut [Last])
-    ensures { lasts.new ≡ map (λ l. unplaced l.key) lasts.old }
-{
-    for l in lasts.iter_mut() {
-        l.place = None;
-    }
 }
 
 // Puts the keys of these subscriptions into the index, which is empty and has room.

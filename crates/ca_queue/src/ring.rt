@@ -1,5 +1,6 @@
-ghost use Rattle.std.specs.Prelude.{◌≡◌, ◌<◌, None, OnOk, OnErr, length, slice_get};
+ghost use Rattle.std.specs.Prelude.{◌≡◌, ◌<◌, true, None, OnOk, OnErr, is_some, length, slice_get};
 ghost use Rattle.std.specs.Option.{option_map};
+ghost use Rattle.ca_text.specs.Place.{At};
 ghost use Rattle.ca_queue.specs.Ring.{HasPlace, made, waits, with_back, with_entry_at, without_front};
 
 use crate::entry::SubKey;
@@ -31,6 +32,31 @@ pub(crate) fn waiting<E>(ring: &Option<HeapCircularBuffer<(SubKey, E)>>) -> usiz
     match ring {
         None => 0,
         Some(ring) => ring.len(),
+    }
+}
+
+/// How many entries wait in a ring that was made.
+pub(crate) fn waiting_in<E>(ring: &Option<HeapCircularBuffer<(SubKey, E)>>) -> usize
+    requires { is_some ring.now ≡ true }
+    ensures { result ≡ length (waits ring.now) }
+{
+    match ring {
+        None => unreachable!(),
+        Some(ring) => ring.len(),
+    }
+}
+
+/// The subscription of the entry that has this number from the front.
+pub(crate) fn key_of<E>(ring: &Option<HeapCircularBuffer<(SubKey, E)>>, index: usize) -> SubKey
+    requires { index < length (waits ring.now) }
+    ensures { (w : SubKey × E) × At (waits ring.now) index w × (result ≡ w.0) }
+{
+    match ring {
+        None => unreachable!(),
+        Some(ring) => match ring.get(index) {
+            None => unreachable!(),
+            Some(entry) => entry.0,
+        },
     }
 }
 
