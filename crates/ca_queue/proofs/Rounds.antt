@@ -1,5 +1,5 @@
 -- The fields of an event queue that is a ring, after each call.
-use Rattle.std.proofs.Common.{◌≡◌, ℕ, zero, suc, ◌+◌, ◌-◌, ◌%◌, ◌^◌, ◌<◌, ◌≤◌, Bool, true, false, not, ◌&&◌, ◌||◌, cond, List, [], ◌∷◌, ◌++◌, length, map, take, drop, get_or, set, Option, None, Some, is_some, refl, sym, ap, ◌∙◌, subst, inl, inr, arith, ltb, leb, add-one}
+use Rattle.std.proofs.Common.{◌≡◌, ℕ, zero, suc, ◌+◌, ◌-◌, ◌^◌, ◌<◌, ◌≤◌, Bool, true, false, not, ◌&&◌, ◌||◌, cond, List, [], ◌∷◌, ◌++◌, length, take, drop, get_or, set, Option, None, Some, is_some, refl, sym, ap, ◌∙◌, subst, inl, inr, arith, ltb, leb, add-one}
 use Rattle.std.specs.List.{list_any, filter, count_by, sum_by, position}
 use Rattle.std.specs.Option.{option_map}
 use Rattle.std.specs.Prelude.{slice_get, unwrap_or}

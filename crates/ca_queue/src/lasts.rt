@@ -164,7 +164,7 @@ impl Lasts {
 fn slot_of(key: SubKey) -> usize
     ensures { result < 64 }
 {
-    (key.sid ^ key.sub) as usize % GUESSES
+    key.sid.wrapping_add(key.sub) as usize % GUESSES
 }
 
 // The number of a key in the index.
