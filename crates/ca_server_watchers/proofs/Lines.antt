@@ -1,5 +1,5 @@
 -- Lists of watchers, as the maps that have them leave them.
-use Rattle.std.proofs.Common.{◌≡◌, ℕ, zero, suc, ◌-◌, ◌<◌, ◌≤◌, Bool, true, false, cond, nat_eq, List, [], ◌∷◌, length, take, slice_get, slice_set, slice_index_or, Option, Some, None, refl, sym, ap, ◌∙◌, subst, arith}
+use Rattle.std.proofs.Common.{◌≡◌, ◌⊎◌, inl, inr, ℕ, zero, suc, ◌-◌, ◌<◌, ◌≤◌, Bool, true, false, cond, nat_eq, List, [], ◌∷◌, length, take, slice_get, slice_set, slice_index_or, Option, Some, None, refl, sym, ap, ◌∙◌, subst, arith}
 use Rattle.std.specs.Prelude.{Err, IfNone, IfSome, IsSome, Ok, OnErr, Result, map, option_map, unwrap_or}
 use Rattle.std.specs.HashMap as hash
 use Rattle.std.specs.HashMap.{HashMap}
@@ -76,10 +76,28 @@ join-others (e ∷ es) h g i at other = by (nat_eq h.index e.0) refl i at (λ j 
     by false miss zero a rest = (0, a)
     by false miss (suc j) a rest = (let r = rest j a in (suc r.0, r.1))
 
+-- no other came
+join-only : (es : Entries) (h g : Handle) (i : ℕ) → At (handles_in (insert_entry nat_eq es h.index h.generation)) i g → (g ≡ h) ⊎ IsAmong (handles_in es) g
+join-only [] h g zero at = inl (sym (some_is h g at))
+join-only [] h g (suc i) at = absurd cc
+join-only (e ∷ es) h g i at = by (nat_eq h.index e.0) refl i at (λ j a. join-only es h g j a)
+  where
+    next : (g ≡ h) ⊎ IsAmong (handles_in es) g → (g ≡ h) ⊎ IsAmong (handles_in (e ∷ es)) g
+    next (inl is) = inl is
+    next (inr there) = inr (suc there.0, there.1)
+
+    by : (b : Bool) → nat_eq h.index e.0 ≡ b → (i : ℕ) → At (handles_in (cond b ((e.0, h.generation) ∷ es) (e ∷ insert_entry nat_eq es h.index h.generation))) i g → ((j : ℕ) → At (handles_in (insert_entry nat_eq es h.index h.generation)) j g → (g ≡ h) ⊎ IsAmong (handles_in es) g) → (g ≡ h) ⊎ IsAmong (handles_in (e ∷ es)) g
+    by true hit zero a rest =
+        inl (sym (some_is (handle_of (e.0, h.generation)) g a) ∙ ap (λ (n : ℕ). let x : Handle = record { index = n; generation = h.generation } in x) (sym (eqb-true h.index e.0 hit)))
+    by true hit (suc j) a rest = inr (suc j, a)
+    by false miss zero a rest = inr (0, a)
+    by false miss (suc j) a rest = next (rest j a)
+
 pub joined : (es ns : Entries) (h : Handle) → ns ≡ insert_entry nat_eq es h.index h.generation → Joins h (handles_in es) (handles_in ns)
 joined es ns h is = record {
   own = subst (λ (xs : Entries). IsAmong (handles_in xs) h) (sym is) (join-own es h);
   others = λ g there other. subst (λ (xs : Entries). IsAmong (handles_in xs) g) (sym is) (join-others es h g there.0 there.1 other);
+  only = λ g there. join-only es h g there.0 (subst (λ (xs : Entries). At (handles_in xs) there.0 g) is there.1);
 }
 
 -- one is taken out, and the last comes there
@@ -149,8 +167,29 @@ get-mapped f [] i = refl
 get-mapped f (x ∷ xs) zero = refl
 get-mapped f (x ∷ xs) (suc i) = get-mapped f xs i
 
-pub left-out : (es ns : Entries) (k : ℕ) (o : Option (ℕ × ℕ)) → o ≡ slice_get es k → IfSome o (λ p. ns ≡ swap_remove es k p) → IfNone o (ns ≡ es) → Leaves k (handles_in es) (handles_in ns)
-left-out es ns k (Some p) found taken same =
+-- a key that was taken out
+pub keyless : {S : Type 0} (m n : HashMap ℕ ℕ S) (o : Option (ℕ × ℕ)) → IfSome o (λ p. hash.UpdatesBy nat_eq (nat_eq p.0) m n None) → IfSome o (λ p. let none : Option ℕ = None in lookup (nat_eq p.0) n.entries ≡ none)
+keyless m n (Some p) u = u.1
+keyless m n None u = tt
+
+-- no entry has it then
+unkeyed : (es : Entries) (n i : ℕ) (g : Handle) → (let none : Option ℕ = None in lookup (nat_eq n) es ≡ none) → At (handles_in es) i g → g.index ≡ n → ⊥
+unkeyed [] n i g out at is = cc
+unkeyed (e ∷ es) n zero g out at is =
+    let key : n ≡ e.0 = sym is ∙ sym (ap (λ (x : Handle). x.index) (some_is (handle_of e) g at)) in
+    absent e.1 (cond (nat_eq n e.0) (Some e.1) (lookup (nat_eq n) es)) (ap (λ (b : Bool). cond b (Some e.1) (lookup (nat_eq n) es)) (eq-eqb n e.0 key)) out
+  where
+    absent : (x : ℕ) (o : Option ℕ) → o ≡ Some x → (let none : Option ℕ = None in o ≡ none) → ⊥
+    absent x None is lacks = cc
+    absent x (Some y) is lacks = cc
+unkeyed (e ∷ es) n (suc i) g out at is = by (nat_eq n e.0) out (λ lacks. unkeyed es n i g lacks at is)
+  where
+    by : (b : Bool) → (let none : Option ℕ = None in cond b (Some e.1) (lookup (nat_eq n) es) ≡ none) → ((let none : Option ℕ = None in lookup (nat_eq n) es ≡ none) → ⊥) → ⊥
+    by true lacks rest = cc
+    by false lacks rest = rest lacks
+
+pub left-out : (es ns : Entries) (k : ℕ) (o : Option (ℕ × ℕ)) → o ≡ slice_get es k → IfSome o (λ p. ns ≡ swap_remove es k p) → IfSome o (λ p. let none : Option ℕ = None in lookup (nat_eq p.0) ns ≡ none) → IfNone o (ns ≡ es) → Leaves k (handles_in es) (handles_in ns)
+left-out es ns k (Some p) found taken out same =
     let in_it : k < length es = At-within es k p (sym found) in
     record {
       before = λ i lt.
@@ -159,11 +198,18 @@ left-out es ns k (Some p) found taken same =
           let m = At-mapped handle_of es i g at in
           let r = swap-others es k i m.0 p in_it m.1 other in
           (r.0, subst (λ (xs : Entries). At (handles_in xs) r.0 g) (sym taken) (get-mapped handle_of (swap_remove es k p) r.0 ∙ ap (λ (q : Option (ℕ × ℕ)). option_map handle_of q) r.1 ∙ ap (λ (h : Handle). Some h) (sym m.2)));
+      gone = λ g at there.
+          unkeyed ns p.0 there.0 g out there.1
+          (sym (ap (λ (x : Handle). x.index) (some_is (handle_of p) g (sym (get-mapped handle_of es k ∙ ap (λ (q : Option (ℕ × ℕ)). option_map handle_of q) (sym found)) ∙ at))));
     }
-left-out es ns k None found taken same = record {
+left-out es ns k None found taken out same = record {
   before = λ i lt. ap (λ (xs : Entries). slice_get (handles_in xs) i) same;
   others = λ i g at other. (i, subst (λ (xs : Entries). At (handles_in xs) i g) (sym same) at);
+  gone = λ g at there. nothing g (sym (get-mapped handle_of es k ∙ ap (λ (q : Option (ℕ × ℕ)). option_map handle_of q) (sym found)) ∙ at);
 }
+  where
+    nothing : (g : Handle) → (let none : Option Handle = None in none ≡ Some g) → ⊥
+    nothing g is = cc
 
 -- ---- all lists
 
@@ -255,6 +301,7 @@ module _ {K : Type 0} (bytes : K → List ℕ) where
         leaves = record {
           before = λ i lt. refl;
           others = λ i g at other. absurd (nothing-there i g (subst (λ (hs : List Handle). At hs i g) (unwatched name m.entries found) at));
+          gone = λ g at there. nothing-there k g (subst (λ (hs : List Handle). At hs k g) (unwatched name m.entries found) at);
         };
         stay = λ other miss. refl;
       })

@@ -1,5 +1,5 @@
 -- Working: the circuits that watch records, each by its handle.
-use Rattle.std.specs.Prelude.{ℕ, ◌≡◌, ◌<◌, false, List, [], map, slice_get, unwrap_or}
+use Rattle.std.specs.Prelude.{ℕ, ◌≡◌, ◌<◌, ◌⊎◌, false, List, [], map, slice_get, unwrap_or}
 use Rattle.std.specs.Map.{lookup}
 use Rattle.std.specs.Str.{bytes_eq}
 use Rattle.ca_arena.specs.declared.handle.Handle.{Handle}
@@ -34,15 +34,17 @@ lines_in bytes es = map (λ e. (bytes e.0, e.1)) es
 abbrev pub AreApart : List Handle → Type 0
 AreApart hs = (i j : ℕ) (g h : Handle) → At hs i g → At hs j h → g.index ≡ h.index → i ≡ j
 
--- This one is in the list now, and all others are that are not of its index.
+-- This one is in the list now, and all others are that are not of its index. No other came.
 pub record Joins (h : Handle) (old new : List Handle) : Type 0 where
   pub own : IsAmong new h
   pub others : (g : Handle) → IsAmong old g → (g.index ≡ h.index → ⊥) → IsAmong new g
+  pub only : (g : Handle) → IsAmong new g → (g ≡ h) ⊎ IsAmong old g
 
--- The one at a place was taken out: the others are there, and those before it at their places.
+-- The one at a place was taken out: it is there no more, the others are, and those before it at their places.
 pub record Leaves (k : ℕ) (old new : List Handle) : Type 0 where
   pub before : (i : ℕ) → i < k → slice_get new i ≡ slice_get old i
   pub others : (i : ℕ) (g : Handle) → At old i g → (i ≡ k → ⊥) → IsAmong new g
+  pub gone : (g : Handle) → At old k g → IsAmong new g → ⊥
 
 -- all other records are watched as before
 abbrev pub OthersStay : List ℕ → Watched → Watched → Type 0
