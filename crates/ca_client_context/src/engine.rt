@@ -73,9 +73,10 @@ impl<N: Net + Drop, L: Listener> Work for Engine<N, L> {
             began,
         } = self;
         let mut busy = false;
-        // When those that wait were last told that a turn is over, and whether turns since then brought something.
-        let mut passed = 0;
-        let mut owed = false;
+        let mut waits = Waits {
+            told: 0,
+            owed: false,
+        };
         for _ in rt.forever() {
             let wait = if busy { 0 } else { TURN };
             let _ = poll.poll(&mut events, Some(Duration::from_millis(wait)));
@@ -86,7 +87,6 @@ impl<N: Net + Drop, L: Listener> Work for Engine<N, L> {
             let locked = &mut *guard;
             let brought = turn(&net, locked, &poll, &datagrams, &mut tries, &mut ears, now);
             busy = brought.any;
-            owed = owed || busy;
             if !busy {
                 shared.doze();
             }
@@ -97,17 +97,37 @@ impl<N: Net + Drop, L: Listener> Work for Engine<N, L> {
             swap(&mut locked.told, &mut told);
             drop(guard);
             tell_all(&mut ears, &mut told);
-            // A turn that brought nothing ends no wait: it has sent what callers ask.
-            let since = now.saturating_sub(passed);
-            if ending || since >= TURN || owed && (!brought.more || since >= HURRY) {
-                passed = now;
-                owed = false;
-                shared.pass(ending);
-            }
             if ending {
+                shared.pass(true);
                 break;
             }
+            if waits.end(brought, now) {
+                shared.pass(false);
+            }
         }
+    }
+}
+
+// Those that wait for an outcome.
+#[derive(Drop)]
+struct Waits {
+    // When they were last told that a turn is over.
+    told: u64,
+    // Whether turns since then brought something.
+    owed: bool,
+}
+
+impl Waits {
+    // Whether waits end now. A turn that brought nothing ends none: it has sent what callers ask.
+    fn end(&mut self, brought: Brought, now: u64) -> bool {
+        self.owed = self.owed || brought.any;
+        let since = now.saturating_sub(self.told);
+        let over = since >= TURN || self.owed && (!brought.more || since >= HURRY);
+        if over {
+            self.told = now;
+            self.owed = false;
+        }
+        over
     }
 }
 

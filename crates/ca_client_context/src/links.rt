@@ -42,11 +42,12 @@ struct Watched<S: Socket + Drop> {
 }
 
 impl<S: Socket + Drop> Socket for Watched<S> {
-    ghost use Rattle.std.specs.Prelude.{⊤};
+    ghost use Rattle.std.specs.Prelude.{◌≡◌, ◌⊎◌, []};
 
-    ghost gives = { λ _ _ _. ⊤ };
+    // The inner socket's bytes. None while nothing is read.
+    ghost gives = { λ v bytes w. S.gives v.inner bytes w.inner ⊎ ((bytes ≡ []) × (w.inner ≡ v.inner)) };
 
-    ghost takes = { λ _ _ _. ⊤ };
+    ghost takes = { λ v bytes w. S.takes v.inner bytes w.inner };
 
     ghost fault_count = { λ w. S.fault_count w.inner };
 
