@@ -110,7 +110,10 @@ fn clear(state: &mut State, channel: Handle) -> Answer
 fn settle(board: &Board, seat: &mut CoreSeat, tickets: &Vec<Ticket>, closing: Closing) -> Ended
     requires board { seat.old.board ≡ board.now }
     requires due { Fillable tickets.now.items seat.old (completions closing.notices) }
-    requires first { AreFirst closing.notices (completions closing.notices) (others closing.notices) }
+    requires first { AreFirst
+        closing.notices
+        (completions closing.notices)
+        (others closing.notices) }
     ensures fills { FillsAll tickets.now.items seat.old (completions closing.notices) seat.new }
     ensures ended { result ≡ record closing { notices = others closing.notices } }
     ensures board { seat.new.board ≡ board.now }

@@ -19,8 +19,8 @@ pub fn what_a_client_sends_is_legal()
 /// A step in a row of calls is a step as the statement defines it, of which it is said which message it read;
 /// and each step is one.
 pub fn a_clients_steps_are_those_of_rows()
-    ensures every { (old : Client) (c : Handle) (answer : Stepped) (sent : List Sending) (new : Client)
-        → ClientSteps old c answer sent new
+    ensures every { (old : Client) (c : Handle) (answer : Stepped) (sent : List Sending)
+        (new : Client) → ClientSteps old c answer sent new
         → (read : Option Fields) × Reads old c read answer sent new }
     ensures only { (old : Client) (c : Handle) (read : Option Fields) (answer : Stepped)
         (sent : List Sending) (new : Client) → Reads old c read answer sent new

@@ -39,8 +39,8 @@ pub fn what_was_sent_shows_its_posts()
 ///
 /// The setting is well-formed; nothing else is asked for.
 pub fn follows_record_in_runs()
-    ensures each { (s : Setting) (es : List Event) (stopped : Option Event) (w : World) → IsSetting s
-        → Runs s es stopped w → AllFollowRecord w }
+    ensures each { (s : Setting) (es : List Event) (stopped : Option Event) (w : World)
+        → IsSetting s → Runs s es stopped w → AllFollowRecord w }
     ensures clause { (s : Setting) (es : List Event) (stopped : Option Event) (w : World)
         → IsSetting s → Runs s es stopped w → FollowRecord w }
 {}

@@ -3,6 +3,11 @@ ghost use Rattle.ca_records.specs.Rules.{meets, rights, rule_bits, rule_meets};
 
 use std::marker::Model;
 
+// The right to read a record's value, and the right to write it.
+const MAY_READ: u32 = 1;
+
+const MAY_WRITE: u32 = 2;
+
 /// A rule of access: whom and which record it meets, where none stands for all, and what it lets them do.
 #[derive(Debug, Drop)]
 pub struct Rule {
@@ -67,7 +72,7 @@ impl Rule {
     fn bits(&self) -> u32
         ensures { result ≡ rule_bits self.now }
     {
-        u32::from(self.reads) + 2 * u32::from(self.writes)
+        MAY_READ * u32::from(self.reads) + MAY_WRITE * u32::from(self.writes)
     }
 }
 
@@ -90,5 +95,5 @@ pub(crate) fn rights(rules: &[Rule], user: &[u8], host: &[u8], name: &[u8]) -> u
             return rule.bits();
         }
     }
-    3
+    MAY_READ + MAY_WRITE
 }

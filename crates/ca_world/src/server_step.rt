@@ -510,7 +510,8 @@ fn note(
 )
     requires within { circuit < vec_len circuits.old }
     requires done { (before : Server) × (h : handle.Handle) × (action : Action)
-        × WasDone before h (map record_of side.old.records.items) prepared.deed write parting action }
+        × WasDone before h (map record_of side.old.records.items) prepared.deed write parting
+        action }
     requires alike { (busies : Bool) → prepared.deed ≡ did.Applies busies
         → AllAlike server side.old.core (map joined_of circuits.old.items) }
     requires counts { (busies : Bool) → prepared.deed ≡ did.Applies busies
@@ -522,7 +523,8 @@ fn note(
         server }
     requires space { MayWaitFor write side.old.records.items }
     requires room { HasRoomFor (waits side.old.records.items + 2) side.old.life logs.old.items }
-    requires down { vec_len prepared.down + length prepared.told.items ≤ vec_capacity prepared.down }
+    requires down { vec_len prepared.down + length prepared.told.items
+        ≤ vec_capacity prepared.down }
     requires handled { vec_len prepared.handled + 1 ≤ vec_capacity prepared.handled }
     ensures { (before : Server) (h : handle.Handle) (action : Action)
         → WasDone before h (map record_of side.old.records.items) prepared.deed write parting action

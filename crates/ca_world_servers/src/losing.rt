@@ -118,7 +118,8 @@ fn lose_on(alloc: Global, server: usize, core: &ServerCore, joined: &mut Joined,
 // The same for a circuit that is open at this server.
 fn lose_open(alloc: Global, core: &ServerCore, joined: &mut Joined, leading: &Leading)
     requires sent { (n : ℕ) × Disconnects core.now (joined_of joined.old) leading.now n }
-    requires room { vec_len joined.old.lists.down + length leading.now.channels.items ≤ vec_capacity joined.old.lists.down }
+    requires room { vec_len joined.old.lists.down + length leading.now.channels.items
+        ≤ vec_capacity joined.old.lists.down }
     requires seated { AreSeated (joined_of joined.old) }
     ensures { (n : ℕ) → Disconnects core.now (joined_of joined.old) leading.now n
         → joined_of joined.new ≡ without_lost (take n leading.now.channels.items)
