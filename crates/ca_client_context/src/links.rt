@@ -33,31 +33,32 @@ pub(crate) struct Link {
 #[derive(Drop)]
 struct Watched<S: Socket + Drop> {
     inner: S,
-    // The last read left nothing.
+    // Nothing more is read in this turn: the last read left nothing, or a caller sends.
+    //
+    // What came is handled before the next read, which may find that the server has closed the circuit.
     drained: bool,
     // The last write left something, and the system may have room for it.
     behind: bool,
-    // Nothing is read: a caller sends, and the thread of input and output reads.
-    sends_only: bool,
 }
 
 impl<S: Socket + Drop> Socket for Watched<S> {
     ghost use Rattle.std.specs.Prelude.{◌≡◌, ◌⊎◌, []};
 
-    // The inner socket's bytes. None while nothing is read.
-    ghost gives = { λ v bytes w. S.gives v.inner bytes w.inner ⊎ ((bytes ≡ []) × (w.inner ≡ v.inner)) };
+    // The inner socket's bytes, or none where it is not read.
+    ghost gives = { λ v bytes w.
+        S.gives v.inner bytes w.inner ⊎ ((bytes ≡ []) × (w.inner ≡ v.inner)) };
 
     ghost takes = { λ v bytes w. S.takes v.inner bytes w.inner };
 
     ghost fault_count = { λ w. S.fault_count w.inner };
 
     fn read(&mut self, buffer: &mut [u8]) -> Moved {
-        if self.sends_only {
+        if self.drained {
             return Moved::Later;
         }
         let moved = self.inner.read(buffer);
         self.drained = match moved {
-            Moved::Count(_) => false,
+            Moved::Count(count) => count < buffer.len(),
             _ => true,
         };
         moved
@@ -163,7 +164,6 @@ fn reach<R: Net>(rt: &R, poll: &Poll, wanted: WantedCircuit) -> Option<Link> {
             inner: Wire::new(stream),
             drained: true,
             behind: false,
-            sends_only: false,
         },
     })
 }
@@ -264,10 +264,8 @@ fn send_one(desk: &mut Desk, link: &mut Link, told: &mut Vec<Heard>) -> Served {
     if told.reserve(1).is_err() || link.wire.faults() >= MOST_FAULTS {
         return Served::Behind;
     }
-    link.wire.sends_only = true;
-    let ended = desk.turn(link.circuit, &mut link.wire);
-    link.wire.sends_only = false;
-    if let Some(ended) = ended {
+    link.wire.drained = true;
+    if let Some(ended) = desk.turn(link.circuit, &mut link.wire) {
         keep(told, ended.told);
         return Served::Over;
     }
@@ -289,6 +287,7 @@ fn serve_one(desk: &mut Desk, link: &mut Link, told: &mut Vec<Heard>) -> Served 
         }
         return Served::Over;
     }
+    link.wire.drained = false;
     if let Some(ended) = desk.turn(link.circuit, &mut link.wire) {
         keep(told, ended.told);
         return Served::Over;
