@@ -12,7 +12,7 @@ use Rattle.ca_text.specs.Limits.{arena_slots, last_generation}
 use Rattle.ca_arena.specs.Arena.{Place, place_at, find, value_for, IsFresh, IsLive, blank, free_slots, next_handle, inserted, inserted_from, live_count, removed, taken_back, written}
 use Rattle.ca_arena.specs.Slot.{link_of, place_of}
 use Rattle.ca_arena.specs.Sound.{IsSound, IsFree}
-use Rattle.ca_arena.specs.Layout.{contents_of, freed_from, link_read, IsLaidOut}
+use Rattle.ca_arena.specs.Layout.{contents_of, freed_end, freed_from, link_read, IsLaidOut}
 use Rattle.ca_arena.proofs.Places.{one_if, value_for-some, within_from_value, live_count-set, live_value, apart_from_value, IsSound-appended, IsSound-filled, IsSound-lowered, IsSound-removed, IsSound-shorter, IsSound-written}
 use Rattle.ca_arena.proofs.Stored.{get-set_same, get-set_other, get_push_other}
 
@@ -79,6 +79,38 @@ module _ {T : Type 0} where
       let same : slice_get (slots ++ slot ∷ []) first ≡ slice_get slots first = get_push_other slots slot first apart.0 in
       ap (λ (o : Option (Slot T)). first ∷ freed_from slots count (link_read o)) (sym same)
       ∙ ap (λ (rest : List ℕ). first ∷ rest) (freed_from-shorter slots slot count (link_read (slice_get (slots ++ slot ∷ []) first)) apart.1)
+
+  -- the same of what comes after the last of them
+  freed_end-set : (slots : List (Slot T)) (count first index : ℕ) (slot : Slot T) → AllByRecursion (λ other. other ≢ index) (freed_from slots count first) → freed_end (set slots index slot) count first ≡ freed_end slots count first
+  freed_end-set slots zero first index slot apart = refl
+  freed_end-set slots (suc count) first index slot apart =
+      let same : slice_get (set slots index slot) first ≡ slice_get slots first = get-set_other slots index first slot apart.0 in
+      ap (λ (o : Option (Slot T)). freed_end (set slots index slot) count (link_read o)) same
+      ∙ freed_end-set slots count (link_read (slice_get slots first)) index slot apart.1
+
+  freed_end-shorter : (slots : List (Slot T)) (slot : Slot T) (count first : ℕ) → AllByRecursion (λ other. other ≢ length slots) (freed_from (slots ++ slot ∷ []) count first) → freed_end slots count first ≡ freed_end (slots ++ slot ∷ []) count first
+  freed_end-shorter slots slot zero first apart = refl
+  freed_end-shorter slots slot (suc count) first apart =
+      let same : slice_get (slots ++ slot ∷ []) first ≡ slice_get slots first = get_push_other slots slot first apart.0 in
+      ap (λ (o : Option (Slot T)). freed_end slots count (link_read o)) (sym same)
+      ∙ freed_end-shorter slots slot count (link_read (slice_get (slots ++ slot ∷ []) first)) apart.1
+
+  freed_end-more : (slots : List (Slot T)) (count more first index generation : ℕ) → index < length slots → more ≡ suc count → AllByRecursion (λ other. other ≢ index) (freed_from slots count first) → freed_end (set slots index (Vacant generation first)) more index ≡ freed_end slots count first
+  freed_end-more slots count more first index generation within one_more apart =
+      let after = set slots index (Vacant generation first) in
+      let link : link_read (slice_get after index) ≡ first = ap link_read (get-set_same slots index (Vacant generation first) within) in
+      ap (λ (n : ℕ). freed_end after n index) one_more
+      ∙ (ap (freed_end after count) link
+      ∙ freed_end-set slots count first index (Vacant generation first) apart)
+
+  -- there is one to be named, unless none is free
+  pub none_named : (slots : List (Slot T)) (freed first retired : ℕ) → IsLaidOut slots freed first retired → first ≡ arena_slots → freed_from slots freed first ≡ []
+  none_named slots zero first retired laid_out past = refl
+  none_named slots (suc fewer) first retired laid_out past = absurd (omega (arith, past, laid_out.sound.free.0.within, laid_out.sound.limit))
+
+  pub some_named : (slots : List (Slot T)) (freed first retired : ℕ) → IsLaidOut slots freed first retired → first ≢ arena_slots → freed ≢ 0
+  some_named slots zero first retired laid_out named = absurd (named laid_out.ended)
+  some_named slots (suc fewer) first retired laid_out named = λ none. absurd (omega (arith, none))
 
   -- no index is listed
   pub none_freed : (slots : List (Slot T)) (count first : ℕ) → freed_from slots count first ≡ [] → count ≡ 0
@@ -153,6 +185,7 @@ module _ {T : Type 0} where
         laid_out = record {
           sound = subst IsSound (sym contents) (IsSound-filled given first rest value sound);
           counted = omega (arith, length-set slots first new);
+          ended = freed_end-set slots fewer next first new apart ∙ (ap (freed_end slots fewer) (sym link) ∙ laid_out.ended);
         };
         contents = contents;
         free = omega arith;
@@ -186,6 +219,7 @@ module _ {T : Type 0} where
         laid_out = record {
           sound = subst IsSound (sym contents) (IsSound-appended given value below laid_out.sound);
           counted = omega (arith, length_push slots new);
+          ended = laid_out.ended;
         };
         contents = contents;
         free = omega arith;
@@ -265,6 +299,7 @@ module _ {T : Type 0} where
         laid_out = record {
           sound = subst IsSound (sym contents) (IsSound-removed (contents_of slots freed first) handle alive laid_out.sound);
           counted = omega (arith, length-set slots handle.index new);
+          ended = freed_end-set slots freed first handle.index new (live_apart slots freed first retired handle.index value laid_out known.there) ∙ laid_out.ended;
         };
         contents = contents;
       }
@@ -285,6 +320,7 @@ module _ {T : Type 0} where
         laid_out = record {
           sound = subst IsSound (sym contents) (IsSound-removed (contents_of slots freed first) handle alive laid_out.sound);
           counted = omega (arith, length-set slots handle.index new);
+          ended = freed_end-more slots freed more first handle.index handle.generation known.within one_more (live_apart slots freed first retired handle.index value laid_out known.there) ∙ laid_out.ended;
         };
         contents = contents;
       }
@@ -312,6 +348,7 @@ module _ {T : Type 0} where
         laid_out = record {
           sound = subst IsSound (sym contents) (IsSound-written (contents_of slots freed first) handle new alive laid_out.sound);
           counted = omega (arith, length-set slots handle.index over);
+          ended = freed_end-set slots freed first handle.index over (live_apart slots freed first retired handle.index value laid_out known.there) ∙ laid_out.ended;
         };
         contents = contents;
       }
@@ -346,6 +383,7 @@ module _ {T : Type 0} where
         laid_out = record {
           sound = subst (λ (indices : List ℕ). IsSound (record { given = places rest; freed = indices })) (sym chain) shorter;
           counted = omega arith;
+          ended = freed_end-shorter rest slot freed first (live_apart slots freed first retired (length rest) value laid_out read) ∙ laid_out.ended;
         };
         contents = after ∙ rw (eq-eqb handle.index handle.index refl) refl;
       }
@@ -375,6 +413,7 @@ module _ {T : Type 0} where
         laid_out = record {
           sound = subst IsSound (sym after) (IsSound-lowered (places slots) (freed_from slots freed first) handle.index handle.generation value below known.there laid_out.sound);
           counted = omega (arith, length-set slots handle.index new);
+          ended = freed_end-more slots freed more first handle.index generation known.within one_more (live_apart slots freed first retired handle.index value laid_out known.there) ∙ laid_out.ended;
         };
         contents = after ∙ rw (ne_eqb handle.index n other) refl;
       }

@@ -22,8 +22,8 @@ pub struct Arena<T> {
     slots: Blocks<Slot<T>>,
     // How many indices are free again.
     freed: usize,
-    // The one of these that was freed last.
-    first_freed: u16,
+    // The one of these that was freed last, or `ARENA_SLOTS`, which is no index, if there is none.
+    first_freed: usize,
     // How many indices are never given again.
     retired: usize,
 }
@@ -52,7 +52,7 @@ impl<T> Arena<T> {
         Arena {
             slots: Blocks::new(alloc),
             freed: 0,
-            first_freed: 0,
+            first_freed: ARENA_SLOTS,
             retired: 0,
         }
     }
@@ -110,8 +110,8 @@ impl<T> Arena<T> {
         }
         let index = self.first_freed;
         Handle {
-            index,
-            generation: self.generation(usize::from(index)) + 1,
+            index: index as u16,
+            generation: self.generation(index) + 1,
         }
     }
 
@@ -208,15 +208,21 @@ impl<T> Arena<T> {
         ensures fresh { IfOk result (IsFresh self.old) }
         ensures sound { IsSound self.new }
     {
-        if self.freed == 0 {
-            return self.append(value);
+        // Not a test of `freed`: after a removal the compiler knows that this one fails.
+        if self.first_freed == ARENA_SLOTS {
+            // Built here on both paths, the handle stays in registers on the one that makes no call.
+            let Handle { index, generation } = self.append(value)?;
+            return Ok(Handle { index, generation });
         }
         let index = self.first_freed;
-        let slot = self.slots.item_mut(usize::from(index));
+        let slot = self.slots.item_mut(index);
         let generation = slot.generation() + 1;
         self.first_freed = slot.fill(generation, value);
         self.freed -= 1;
-        Ok(Handle { index, generation })
+        Ok(Handle {
+            index: index as u16,
+            generation,
+        })
     }
 
     /// `insert` under the handle that `vacant` tells, for whoever has to know it before.
@@ -242,6 +248,9 @@ impl<T> Arena<T> {
     }
 
     // `insert` at the first index that was never given. It makes all room before it changes anything.
+    //
+    // Inlined, it would make `insert` save registers also where an index is free again.
+    #[inline(never)]
     fn append(&mut self, value: T) -> Result<Handle, (T, Refusal)>
         requires { self.old.freed ≡ [] }
         ensures inserts { Inserts self.old value result self.new }
@@ -274,14 +283,15 @@ impl<T> Arena<T> {
         if !self.is_live(handle) {
             return Err(Refusal::StaleHandle);
         }
-        let slot = self.slots.item_mut(usize::from(handle.index));
+        let index = usize::from(handle.index);
+        let slot = self.slots.item_mut(index);
         let value = slot.vacate(handle.generation, self.first_freed);
         if handle.generation == LAST_GENERATION {
             self.retired += 1;
             return Ok(value);
         }
         self.freed += 1;
-        self.first_freed = handle.index;
+        self.first_freed = index;
         Ok(value)
     }
 
@@ -301,7 +311,7 @@ impl<T> Arena<T> {
         let slot = self.slots.item_mut(index);
         let value = slot.vacate(handle.generation.saturating_sub(1), self.first_freed);
         self.freed += 1;
-        self.first_freed = handle.index;
+        self.first_freed = index;
         value
     }
 

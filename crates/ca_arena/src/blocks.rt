@@ -92,7 +92,6 @@ impl<T> Blocks<T> {
     }
 
     // Makes a block where each place is taken. It makes all room before it changes anything.
-    #[inline(never)]
     pub(crate) fn make_room(&mut self) -> Result<(), AllocError>
         ensures items { self.new.items ≡ self.old.items }
         ensures ok { OnOk result (length self.new.items < self.new.room) }

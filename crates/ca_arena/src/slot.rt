@@ -7,10 +7,11 @@ ghost use Rattle.ca_arena.specs.declared.slot.Slot.TheVariants.{Filled, Vacant};
 
 use std::mem;
 
-/// What there is at an index that was given: the generation given last, and a value, or the index that was freed before this one.
+/// What there is at an index that was given: the generation given last, and a value, or the index that was freed before this one, which
+/// is `ARENA_SLOTS` if there is none.
 #[derive(Drop)]
 pub enum Slot<T> {
-    Vacant { generation: u32, next: u16 },
+    Vacant { generation: u32, next: usize },
     Filled { generation: u32, value: T },
 }
 
@@ -57,7 +58,7 @@ impl<T> Slot<T> {
     }
 
     // Puts a value under this generation into a vacant slot, and returns the index that was freed before.
-    pub(crate) fn fill(&mut self, generation: u32, value: T) -> u16
+    pub(crate) fn fill(&mut self, generation: u32, value: T) -> usize
         requires { (place_of self.old).value ≡ None }
         ensures next { result ≡ link_of self.old }
         ensures filled { self.new ≡ Filled generation value }
@@ -69,7 +70,7 @@ impl<T> Slot<T> {
     }
 
     // Takes the value out, and leaves this generation, and the index that was freed before.
-    pub(crate) fn vacate(&mut self, generation: u32, next: u16) -> T
+    pub(crate) fn vacate(&mut self, generation: u32, next: usize) -> T
         requires { IsSome (place_of self.old).value }
         ensures value { (place_of self.old).value ≡ Some result }
         ensures vacated { self.new ≡ Vacant generation next }
