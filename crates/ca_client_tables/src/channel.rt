@@ -55,9 +55,10 @@ pub enum Standing {
 /// A channel as its caller opened it, and where it is.
 #[derive(Debug, Drop)]
 pub struct Channel {
-    name: Vec<u8>,
-    priority: u16,
+    // Each message on it looks there, so it is first, beside what its slot says.
     standing: Standing,
+    priority: u16,
+    name: Vec<u8>,
 }
 
 impl Model for Channel {
@@ -109,9 +110,9 @@ impl Channel {
             ≡ record { name = name.items; priority = priority; standing = client.Searching } }
     {
         Channel {
-            name,
-            priority,
             standing: Standing::Searching,
+            priority,
+            name,
         }
     }
 

@@ -8,12 +8,12 @@ use std::marker::Model;
 #[derive(Debug, Drop)]
 pub(crate) struct Channel {
     cid: Cid,
+    // Its record was removed.
+    retired: bool,
     // The name of its record.
     name: Vec<u8>,
     // Where its record was as the channel was created. The record is mostly there still; its name decides.
     place: usize,
-    // Its record was removed.
-    retired: bool,
 }
 
 impl Model for Channel {
@@ -31,9 +31,9 @@ impl Channel {
     {
         Channel {
             cid,
+            retired: false,
             name,
             place,
-            retired: false,
         }
     }
 

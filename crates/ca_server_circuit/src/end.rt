@@ -16,14 +16,14 @@ use std::marker::Model;
 pub(crate) struct End {
     pub(crate) alloc: Global,
     pub(crate) link: Link,
-    // Whether the peer sent a VERSION.
-    pub(crate) greeted: bool,
-    // How the peer named itself.
+    // How the peer named itself. A request looks at the names and at the channels, so they are beside the bytes.
     pub(crate) user: Vec<u8>,
     pub(crate) host: Vec<u8>,
+    pub(crate) channels: Channels,
+    // Whether the peer sent a VERSION.
+    pub(crate) greeted: bool,
     // Whether a channel was created, so that the names count for good.
     pub(crate) settled: bool,
-    pub(crate) channels: Channels,
     pub(crate) subscriptions: Subscriptions,
 }
 
@@ -53,11 +53,11 @@ impl End {
         Ok(End {
             alloc,
             link: Link::new(alloc, now),
-            greeted: false,
             user: Vec::new(alloc),
             host: Vec::new(alloc),
-            settled: false,
             channels: Channels::new(alloc),
+            greeted: false,
+            settled: false,
             subscriptions,
         })
     }
