@@ -31,6 +31,7 @@ use ca_world_data::history::{Cause, Entry, Stored, Told};
 use ca_world_data::joined::Joined;
 use ca_world_data::numbering::{check_counts, post_numbers};
 use ca_world_data::reporting::{report_ends, reserve_reports};
+use ca_world_data::room::reserve_list;
 use ca_world_data::server::{PutPlace, RecordSide, ServerSide};
 use std::alloc::{AllocError, Global};
 
@@ -139,7 +140,7 @@ fn reserve_down(joined: &mut Joined) -> Result<(), AllocError>
     ensures room { OnOk result (vec_len joined.new.lists.down
         < vec_capacity joined.new.lists.down) }
 {
-    joined.lists.down.reserve(1)
+    reserve_list(&mut joined.lists.down, 1)
 }
 
 // All of it, in room that was made.

@@ -36,6 +36,7 @@ use crate::closing::close_client;
 use crate::history::{Cause, Intent, Line, Sent};
 use crate::joined::{Circuit, Joined};
 use crate::logs::reserve_lines;
+use crate::room::reserve_list;
 use crate::sending::intent_for;
 use crate::server::ServerSide;
 use crate::telling::tell_all;
@@ -172,6 +173,7 @@ fn stamp_all(alloc: Global, names: &Names, sendings: Vec<Sending>) -> Result<Vec
         ≡ map (stamped (names_of names.now)) (map sending_of sendings.items)) }
 {
     let mut up = Vec::new(alloc);
+    reserve_list(&mut up, sendings.len())?;
     for sending in sendings {
         up.push(stamp(names, sending))?;
     }
@@ -273,14 +275,14 @@ fn begin_circuit(
         at_client,
         at_server,
         lists: Circuit {
-            client: client_life,
-            server: server_life,
+            client_open: true,
+            server_open: true,
             up: Vec::new(alloc),
             down: Vec::new(alloc),
             handled: Vec::new(alloc),
             heard: Vec::new(alloc),
-            client_open: true,
-            server_open: true,
+            client: client_life,
+            server: server_life,
         },
         left_up: Pipe::new(alloc),
         left_down: Pipe::new(alloc),

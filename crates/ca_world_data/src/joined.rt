@@ -6,16 +6,16 @@ use ca_wire::Pipe;
 /// A circuit as what happened on it: the lives that it joins, what each end sent, the steps of each, and which ends are open.
 #[derive(Drop)]
 pub struct Circuit {
-    /// The life of the client.
-    pub client: usize,
-    /// The life of the server.
-    pub server: usize,
+    pub client_open: bool,
+    pub server_open: bool,
     pub up: Vec<Sent>,
     pub down: Vec<Told>,
     pub handled: Vec<Step>,
     pub heard: Vec<Step>,
-    pub client_open: bool,
-    pub server_open: bool,
+    /// The life of the client.
+    pub client: usize,
+    /// The life of the server.
+    pub server: usize,
 }
 
 /// Where a channel that is open at a server's end was created: its SID, and the place of its CREATE_CHAN.

@@ -22,6 +22,7 @@ pub mod opening;
 pub mod payloads;
 pub mod replies;
 pub mod reporting;
+pub mod room;
 pub mod sending;
 pub mod server;
 pub mod settings;

@@ -20,6 +20,7 @@ use crate::found::circuit_of;
 use crate::history::{Ask, Intent, Sent};
 use crate::joined::Joined;
 use crate::naming::{channel_number, meant_by};
+use crate::room::reserve_list;
 use ca_arena::Handle;
 use ca_client_core::for_histories::{Aim, Sending};
 use std::alloc::AllocError;
@@ -114,7 +115,7 @@ fn reserve_in(joined: &mut Joined, messages: usize) -> Result<(), AllocError>
     ensures len { vec_len joined.new.lists.up ≡ vec_len joined.old.lists.up }
     ensures capacity { vec_capacity joined.old.lists.up ≤ vec_capacity joined.new.lists.up }
 {
-    joined.lists.up.reserve(messages)
+    reserve_list(&mut joined.lists.up, messages)
 }
 
 /// Puts these messages behind those of the client on its circuits, which it has by these numbers. There is room for them.

@@ -15,6 +15,7 @@ use crate::closing::close_client;
 use crate::history::{Intent, Line, Step};
 use crate::joined::Joined;
 use crate::logs::reserve_lines;
+use crate::room::reserve_list;
 use crate::sending::{push_sendings, reserve_sendings};
 use crate::telling::{tell_all, tell_heard};
 use ca_client_core::for_histories::{Sending, sent_by_step};
@@ -205,7 +206,7 @@ fn reserve_heard_in(joined: &mut Joined) -> Result<(), AllocError>
         ≤ vec_capacity joined.new.lists.heard) }
     ensures up { joined.new.lists.up ≡ joined.old.lists.up }
 {
-    joined.lists.heard.reserve(1)
+    reserve_list(&mut joined.lists.heard, 1)
 }
 
 // The client's end of this circuit made this step. There is room for it; the client has as much room for its messages.

@@ -8,6 +8,7 @@ ghost use Rattle.ca_world_data.specs.Updates.{AreSpelled, BeginsSpelled, ReadsFi
 
 use crate::history::{Cause, Told};
 use crate::joined::Joined;
+use crate::room::reserve_list;
 use ca_queue::{ListQueue, Queues, SubKey};
 use ca_wire::{Message, One, message_at, read_one, spelled_size};
 use std::alloc::{AllocError, Global};
@@ -54,7 +55,7 @@ fn tell_update(alloc: Global, bytes: &[u8], joined: &mut Joined) -> Result<usize
     ensures { TellsNext bytes.now (joined_of joined.old) result (joined_of joined.new) }
 {
     let message = message_again(alloc, bytes)?;
-    joined.lists.down.reserve(1)?;
+    reserve_list(&mut joined.lists.down, 1)?;
     let Some((_, _, (place, cause))) = take_number(&mut joined.queues) else {
         return Err(AllocError);
     };

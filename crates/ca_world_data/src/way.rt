@@ -11,6 +11,7 @@ use crate::found::circuit_of;
 use crate::history::{Line, Sent};
 use crate::joined::Joined;
 use crate::logs::reserve_lines;
+use crate::room::reserve_list;
 use ca_arena::Handle;
 use ca_client_core::for_histories::live_on;
 use ca_ids::WireId;
@@ -82,7 +83,7 @@ fn reserve_up(joined: &mut Joined, messages: usize) -> Result<(), AllocError>
     ensures room { OnOk result (vec_len joined.new.lists.up + messages
         ≤ vec_capacity joined.new.lists.up) }
 {
-    joined.lists.up.reserve(messages)
+    reserve_list(&mut joined.lists.up, messages)
 }
 
 /// Puts a message behind those of the client on a circuit, if there is one. There is room for it.

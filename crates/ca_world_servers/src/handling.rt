@@ -17,6 +17,7 @@ use crate::losing::{cancel_in, drop_lost};
 use ca_queue::{ListQueue, Queues, SubKey};
 use ca_world_data::history::{Cause, Step, Told};
 use ca_world_data::joined::{Creation, Joined, Standing};
+use ca_world_data::room::reserve_list;
 use ca_world_data::server::{PutPlace, RecordSide};
 use std::alloc::AllocError;
 
@@ -28,8 +29,8 @@ pub fn reserve_handled(joined: &mut Joined, replies: usize) -> Result<(), AllocE
     ensures queues { joined.new.queues ≡ joined.old.queues }
     ensures room { OnOk result (HasRoomToNote replies joined.new) }
 {
-    joined.lists.down.reserve(replies)?;
-    joined.lists.handled.reserve(1)
+    reserve_list(&mut joined.lists.down, replies)?;
+    reserve_list(&mut joined.lists.handled, 1)
 }
 
 /// The next message of the client was handled in this step, by these replies.

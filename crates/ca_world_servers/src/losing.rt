@@ -13,6 +13,7 @@ use ca_server_core::for_histories::{bytes_of, channels_to};
 use ca_wire::{Cid, disconnect};
 use ca_world_data::history::{Cause, Entry, Told};
 use ca_world_data::joined::{Creation, Joined, Standing};
+use ca_world_data::room::reserve_list;
 use ca_world_data::server::{PutPlace, RecordSide};
 use std::alloc::{AllocError, Global};
 
@@ -54,7 +55,7 @@ fn prepare_loss(
     ensures ready { IfOk result (λ l. IsReady server core.now name.now joined.new l) }
 {
     let leading = leading_on(alloc, server, core, joined, name)?;
-    joined.lists.down.reserve(leading.channels.len())?;
+    reserve_list(&mut joined.lists.down, leading.channels.len())?;
     Ok(leading)
 }
 
