@@ -3,20 +3,25 @@ use std::net::Ipv4Addr;
 
 #[test]
 fn fixed_messages_are_written(rt: HostRuntime) {
-    assert!(rt;
-        beacon(0, 5_064).as_slice()
-            == b"\x00\x0d\x00\x00\x00\x0d\x13\xc8\0\0\0\0\0\0\0\0".as_slice()
-    );
-    assert!(rt;
-        beacon(7, 5_064).as_slice()
-            == b"\x00\x0d\x00\x00\x00\x0d\x13\xc8\0\0\0\x07\0\0\0\0".as_slice()
-    );
-    assert!(rt;
-        register(Ipv4Addr::LOCALHOST).as_slice()
-            == b"\x00\x18\x00\x00\x00\x00\x00\x00\0\0\0\0\x7f\x00\x00\x01".as_slice()
-    );
-    assert!(rt;
-        confirm().as_slice()
-            == b"\x00\x11\x00\x00\x00\x00\x00\x00\0\0\0\0\x7f\x00\x00\x01".as_slice()
-    );
+    let rows: [([u8; 16], &[u8; 16]); 4] = [
+        (
+            beacon(0, 5_064),
+            b"\x00\x0d\x00\x00\x00\x0d\x13\xc8\0\0\0\0\0\0\0\0",
+        ),
+        (
+            beacon(7, 5_064),
+            b"\x00\x0d\x00\x00\x00\x0d\x13\xc8\0\0\0\x07\0\0\0\0",
+        ),
+        (
+            register(Ipv4Addr::LOCALHOST),
+            b"\x00\x18\x00\x00\x00\x00\x00\x00\0\0\0\0\x7f\x00\x00\x01",
+        ),
+        (
+            confirm(),
+            b"\x00\x11\x00\x00\x00\x00\x00\x00\0\0\0\0\x7f\x00\x00\x01",
+        ),
+    ];
+    for (written, wanted) in rows {
+        assert!(rt; written == *wanted);
+    }
 }

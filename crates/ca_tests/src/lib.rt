@@ -1,20 +1,23 @@
-//! The tests of the libraries of streams, tables and datagrams, a module for each, in a crate of their own: a crate with tests is
-//! proved a second time, with them, and this one has nothing else to prove. What a core shows of them is a line of `tools/calls/by-hand`.
+//! The tests of the libraries below the cores, a module for each, in a crate of their own: a crate with tests is proved a second time, with
+//! them, and this one has nothing else to prove. They show what no contract says. What a core shows of these libraries is a line of
+//! `tools/calls/by-hand`, and each growth of theirs is refused there by `tools/growths`.
 #![tactic(auto)]
 
 #[cfg(test)]
 mod arena;
 #[cfg(test)]
+mod dbr;
+#[cfg(test)]
 mod dgram;
 #[cfg(test)]
 mod drawn;
 #[cfg(test)]
-mod ids;
-#[cfg(test)]
 mod link;
-#[cfg(test)]
-mod queue;
 #[cfg(test)]
 mod repeat;
 #[cfg(test)]
+mod script;
+#[cfg(test)]
 mod search;
+#[cfg(test)]
+mod served_records;

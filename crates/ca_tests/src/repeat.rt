@@ -1,5 +1,5 @@
 use ca_repeat::{Address, Outgoing, RepeaterCore};
-use std::process::Abort;
+use ca_text::Refusal;
 use std::test::Fail;
 
 /// A beacon that names no address, and the same with the address 127.0.0.1.
@@ -18,53 +18,40 @@ const fn local(port: u16) -> Address {
     }
 }
 
-/// These bytes go to the members at these ports, in this order.
-fn go_to<R: Abort>(rt: &R, sends: &[Outgoing], ports: &[u16], bytes: &[u8]) {
-    assert!(rt; sends.len() == ports.len());
-    for (sent, port) in sends.iter().zip(ports) {
-        assert!(rt; sent.to() == local(*port));
-        assert!(rt; sent.bytes() == bytes);
-    }
+/// Whether these bytes go to the members at these ports, in this order.
+fn go_to(sends: &[Outgoing], ports: &[u16], bytes: &[u8]) -> bool {
+    sends.len() == ports.len()
+        && sends.iter().zip(ports).all(|(sent, port)| sent.to() == local(*port)
+            && sent.bytes() == bytes)
+}
+
+/// Whether a datagram from the member at this port makes these bytes go to the members at these ports.
+fn fans(
+    repeater: &mut RepeaterCore,
+    from: u16,
+    datagram: &[u8],
+    ports: &[u16],
+    bytes: &[u8],
+) -> Result<bool, Refusal> {
+    let sends = repeater.receive(local(from), datagram)?;
+    Ok(go_to(&sends, ports, bytes))
 }
 
 #[test]
 fn a_beacon_goes_to_the_others(rt: HostRuntime) -> Result<(), Fail> {
     let mut repeater = RepeaterCore::new(rt.alloc());
-    for port in [40_000u16, 40_001, 40_002] {
-        let sends = repeater.receive(local(port), REGISTER)?;
-        go_to(&rt, &sends, &[port], CONFIRM);
-    }
-    for datagram in [BLANK, FILLED] {
-        let sends = repeater.receive(local(40_000), datagram)?;
-        go_to(&rt, &sends, &[40_001, 40_002], FILLED);
+    let others = [40_001, 40_002].as_slice();
+    let rows: [(u16, &[u8], &[u16], &[u8]); 5] = [
+        (40_000, REGISTER, &[40_000], CONFIRM),
+        (40_001, REGISTER, &[40_001], CONFIRM),
+        (40_002, REGISTER, &[40_002], CONFIRM),
+        (40_000, BLANK, others, FILLED),
+        (40_000, FILLED, others, FILLED),
+    ];
+    for (from, datagram, ports, bytes) in rows {
+        assert!(rt; fans(&mut repeater, from, datagram, ports, bytes)?);
     }
     repeater.refused(local(40_001));
-    let sends = repeater.receive(local(40_000), BLANK)?;
-    go_to(&rt, &sends, &[40_002], FILLED);
-    Ok(())
-}
-
-#[test]
-fn a_65th_member_gets_nothing(rt: HostRuntime) -> Result<(), Fail> {
-    let mut repeater = RepeaterCore::new(rt.alloc());
-    for port in 1..=64u16 {
-        assert!(rt; repeater.receive(local(port), b"")?.len() == 1);
-    }
-    assert!(rt; repeater.receive(local(65), b"")?.is_empty());
-    assert!(rt; repeater.receive(local(64), b"")?.len() == 1);
-    assert!(rt; repeater.receive(local(65), BLANK)?.len() == 64);
-    Ok(())
-}
-
-#[test]
-fn an_address_elsewhere_registers_nobody(rt: HostRuntime) -> Result<(), Fail> {
-    let mut repeater = RepeaterCore::new(rt.alloc());
-    let elsewhere = Address {
-        ip: 0x0a00_0001,
-        port: 40_000,
-    };
-    assert!(rt; repeater.receive(elsewhere, REGISTER)?.is_empty());
-    assert!(rt; repeater.receive(local(1), b"")?.len() == 1);
-    assert!(rt; repeater.receive(elsewhere, BLANK)?.len() == 1);
+    assert!(rt; fans(&mut repeater, 40_000, BLANK, &[40_002], FILLED)?);
     Ok(())
 }

@@ -1,42 +1,47 @@
 use ca_search::{Search, Searcher};
 use ca_text::{ChannelName, Refusal};
-use std::process::Abort;
+use std::alloc::Global;
 use std::test::Fail;
 
-/// Adds a channel of a new CID.
-fn add<R: Abort>(rt: &R, searcher: &mut Searcher, cid: u32, now: u64) -> Result<(), Refusal> {
-    assert!(rt; !searcher.has(cid));
+/// A searcher for channels of these CIDs.
+fn searcher_of(alloc: Global, cids: &[u32]) -> Result<Searcher, Refusal> {
     let name = ChannelName::read(b"TEMP")?;
-    searcher.add(cid, &name, now)
+    let mut searcher = Searcher::new(alloc);
+    for cid in cids {
+        if !searcher.has(*cid) {
+            searcher.add(*cid, &name, 0)?;
+        }
+    }
+    Ok(searcher)
 }
 
-/// The searches are for the channels of these CIDs.
-fn are<R: Abort>(rt: &R, searches: &[Search], cids: &[u32]) {
-    assert!(rt; searches.len() == cids.len());
-    for (search, cid) in searches.iter().zip(cids) {
-        assert!(rt; search.cid() == *cid);
-        assert!(rt; search.name().bytes() == b"TEMP".as_slice());
-    }
+/// Whether the searches are for the channels of these CIDs.
+fn are(searches: &[Search], cids: &[u32]) -> bool {
+    searches.len() == cids.len()
+        && searches.iter().zip(cids).all(|(search, cid)| search.cid() == *cid
+            && search.name().bytes() == b"TEMP".as_slice())
+}
+
+/// Whether the searches that are due at this moment are for these.
+fn due(searcher: &mut Searcher, now: u64, cids: &[u32]) -> Result<bool, Refusal> {
+    Ok(are(&searcher.due(now)?, cids))
 }
 
 // No core has a Searcher: a client's keeps the places itself.
 #[test]
 fn found_channels_keep_their_places(rt: HostRuntime) -> Result<(), Fail> {
-    let mut searcher = Searcher::new(rt.alloc());
-    for cid in [3u32, 1, 2] {
-        add(&rt, &mut searcher, cid, 0)?;
-    }
-    are(&rt, &searcher.due(0)?, &[3, 1, 2]);
+    let mut searcher = searcher_of(rt.alloc(), &[3, 1, 2])?;
+    assert!(rt; due(&mut searcher, 0, &[3, 1, 2])?);
     searcher.pause(1);
-    are(&rt, &searcher.due(1_000_000)?, &[3, 2]);
+    assert!(rt; due(&mut searcher, 1_000_000, &[3, 2])?);
     searcher.boost(1_000_000);
-    are(&rt, &searcher.due(1_000_000)?, &[3, 2]);
+    assert!(rt; due(&mut searcher, 1_000_000, &[3, 2])?);
     searcher.resume(1, 1_000_001);
-    are(&rt, &searcher.due(1_000_001)?, &[1]);
-    are(&rt, &searcher.due(1_000_033)?, &[3, 1, 2]);
+    assert!(rt; due(&mut searcher, 1_000_001, &[1])?);
+    assert!(rt; due(&mut searcher, 1_000_033, &[3, 1, 2])?);
     searcher.remove(3);
     searcher.boost(1_000_033);
     // An earlier moment counts as the last one.
-    are(&rt, &searcher.due(0)?, &[1, 2]);
+    assert!(rt; due(&mut searcher, 0, &[1, 2])?);
     Ok(())
 }
