@@ -1,5 +1,5 @@
 -- What a client sends once a circuit is connected, message by message.
-use Rattle.std.proofs.Common.{◌≡◌, ◌∙◌, ℕ, ◌+◌, ◌<◌, ◌≤◌, List, [], ◌∷◌, ◌++◌, append_assoc, ap, length, map, option_to_list, sym, take, take_all}
+use Rattle.std.proofs.Common.{◌≡◌, ◌≢◌, ◌∙◌, ℕ, ◌+◌, ◌<◌, ◌≤◌, List, [], ◌∷◌, ◌++◌, append_assoc, ap, length, map, option_to_list, Option, Some, sym, take, take_all}
 use Rattle.std.proofs.lemmas.List.{map-append}
 use Rattle.std.proofs.lemmas.List.Elements.{filter_map-append}
 use Rattle.ca_arena.specs.declared.handle.Handle.{Handle}
@@ -7,9 +7,10 @@ use Rattle.ca_arena.specs.Arena.{place_at}
 use Rattle.ca_ids.specs.Table.{Table, held, held_at}
 use Rattle.ca_ids.proofs.Changes.{held-more}
 use Rattle.ca_model.specs.Answers as answer
-use Rattle.ca_model.specs.Client.{Channel}
+use Rattle.ca_model.specs.Client.{Channel, Client, ClientCircuit}
+use Rattle.ca_model.specs.ClientEnds.{unconnected}
 use Rattle.ca_client_core.specs.declared.for_histories.Sending.{Sending}
-use Rattle.ca_client_core.specs.ForAccepts.{creation_sent, creations_among, creations_of_one}
+use Rattle.ca_client_core.specs.ForAccepts.{connecting_sent, creation_sent, creations_among, creations_of_one, sent_once_connected}
 use Rattle.ca_client_core.specs.ForHistories.{sending_of}
 
 -- ---- the CREATE_CHANs, place by place
@@ -45,3 +46,11 @@ three-listed a b c d r s t e f g is_b is_c is_d r_is s_is t_is =
     ∙ ap (λ (z : List answer.Sending). z ++ g ∷ []) (listed b c s f is_c s_is ∙ ap (λ (z : List answer.Sending). z ++ f ∷ []) (listed a b r e is_b r_is))
     ∙ ap (λ (z : List answer.Sending). z ++ g ∷ []) (append_assoc seen (e ∷ []) (f ∷ []))
     ∙ append_assoc seen (e ∷ f ∷ []) (g ∷ [])
+
+-- ---- what takes memory is something
+
+-- a circuit that is wanted has its set-up to send
+pub connecting-some : (x : Client) (c : Handle) (d : ClientCircuit) → Some d ≡ unconnected x c → connecting_sent x c ≢ []
+connecting-some x c d is none =
+    let sent : sent_once_connected x c (Some d) ≡ [] = ap (λ (o : Option ClientCircuit). sent_once_connected x c o) is ∙ none in
+    cc

@@ -1,6 +1,9 @@
 -- A datagram that came to a client.
-use Rattle.std.proofs.Common.{◌≡◌, ◌≢◌, ◌∙◌, ℕ, List, [], ◌∷◌, Result, Ok, Err, ap, refl, subst, sym}
+use Rattle.std.proofs.Common.{◌≡◌, ◌≢◌, ◌∙◌, ℕ, true, false, List, [], ◌∷◌, Result, Ok, Err, ap, refl, subst, sym}
+use Rattle.std.specs.Prelude.{IsErr, Vec}
 use Rattle.std.specs.Result.{IsErrAnd}
+use Rattle.std.specs.declared.alloc.AllocError.{AllocError}
+use Rattle.std.specs.declared.alloc.Global.{Global}
 use Rattle.ca_text.specs.declared.refusal.Refusal.{Refusal}
 use Rattle.ca_text.specs.declared.refusal.Refusal.TheVariants as refusal
 use Rattle.ca_dgram.specs.Datagram.{IsDatagram, Reads}
@@ -13,6 +16,8 @@ use Rattle.ca_model.specs.ClientEnds.{Arrival, ClientReceives, ReceivesAll}
 use Rattle.ca_model.specs.Hears.{Effect}
 use Rattle.ca_client_tables.specs.Receiving.{HaveReceived, Parts, all_settled, parts_of, with_parts}
 use Rattle.ca_client_tables.specs.declared.receiving.Received.{Received}
+use Rattle.ca_client_core.specs.declared.for_histories.Sending.{Sending as Foretells}
+use Rattle.ca_client_core.specs.ForDatagrams.{NotesDatagram}
 use Rattle.ca_client_core.proofs.Arriving.{IsSoundWith, sound-all}
 
 -- the client at the moment of the datagram
@@ -33,7 +38,7 @@ datagram-sound ls x a ms ds p new have left sound =
     let before : IsSoundWith ls (at_moment a x) = record { client = sound.client; placed = sound.placed; listed = sound.listed } in
     subst (IsSoundWith ls) (r.3 ∙ sym left) (sound-all ls a.from ms (at_moment a x) r.0 r.1 before)
 
-some-begins : (bytes : List ℕ) (ms : List Fields) → IsDatagram bytes ms → ms ≢ [] → NoneBegins bytes → ⊥
+pub some-begins : (bytes : List ℕ) (ms : List Fields) → IsDatagram bytes ms → ms ≢ [] → NoneBegins bytes → ⊥
 some-begins bytes [] is some none = some refl
 some-begins bytes (m ∷ ms) is some none =
     let reads = is.stream.reads in
@@ -51,3 +56,14 @@ datagram-unread x a _ r new reads is same = absurd reads
 pub same-error : {A : Type 0} (r : Result A Refusal) (e : Refusal) → IsErrAnd r (λ x. x ≡ e) → r ≡ Err e
 same-error (Ok x) e h = absurd h
 same-error (Err x) e h = ap (λ (y : Refusal). Err y) h
+
+-- one that was not read has a message
+pub unread-begins : (bytes : List ℕ) (r : Result (List Fields) Refusal) → Reads bytes r → ((ms : List Fields) → r ≡ Ok ms → ⊥) → NoneBegins bytes → ⊥
+unread-begins bytes (Ok ms) reads not = absurd (not ms refl)
+unread-begins bytes (Err refusal.OutOfMemory) reads not = some-begins bytes reads.0 reads.1 reads.2
+unread-begins bytes (Err _) reads not = absurd reads
+
+-- it is not noted, if there was no memory for a message in it
+pub noted-refused : (x : Client) (a : Arrival) (r : Result (Vec Foretells Global) AllocError) → IsErr r → (NoneBegins a.bytes → ⊥) → NotesDatagram x a r x
+noted-refused x a (Ok v) is some = let no : false ≡ true = is in absurd cc
+noted-refused x a (Err e) is some = (refl, some)

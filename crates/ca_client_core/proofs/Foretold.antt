@@ -1,7 +1,9 @@
 -- What a message makes a client send was told before it was taken.
-use Rattle.std.proofs.Common.{◌≡◌, ◌∙◌, ℕ, zero, suc, ◌+◌, ◌==◌, Bool, true, false, inl, inr, List, [], ◌∷◌, ◌++◌, Option, Some, None, Result, Ok, Err, ap, drop, get_or, length, refl, subst, sym, ◌<◌}
+use Rattle.std.proofs.Common.{◌≡◌, ◌∙◌, ℕ, zero, suc, ◌+◌, ◌==◌, Bool, true, false, inl, inr, List, [], ◌∷◌, ◌++◌, Option, Some, None, Result, Ok, Err, ap, arith, drop, get_or, length, refl, subst, sym, ◌<◌}
 use Rattle.std.specs.List.{list_any}
-use Rattle.std.specs.Prelude.{IfOk, find, if◌then◌else◌, is_some, map, option_and_then, option_map, option_to_list, slice_set}
+use Rattle.std.specs.declared.alloc.AllocError.{AllocError}
+use Rattle.std.specs.declared.alloc.Global.{Global}
+use Rattle.std.specs.Prelude.{◌≢◌, IfOk, OnErr, Vec, find, if◌then◌else◌, is_some, map, option_and_then, option_map, option_to_list, slice_set}
 use Rattle.std.proofs.Math.Numerals.{add-one}
 use Rattle.std.proofs.Math.Seq.{drop-cons}
 use Rattle.std.proofs.lemmas.Bool.{cases_eq, ne_eqb}
@@ -24,15 +26,16 @@ use Rattle.ca_model.specs.Answers.{Sending}
 use Rattle.ca_model.specs.Answers as answer
 use Rattle.ca_model.specs.Client.{Channel, Client, ClientCircuit, Clearing, Connecting, Connection, Creating, Doomed, Leaving, Live, Phase, channel_on, circuit_to, connection_at}
 use Rattle.ca_model.specs.ClientCalls.{event_add_sent}
-use Rattle.ca_model.specs.ClientEnds.{StepsOn, after_taking}
+use Rattle.ca_model.specs.ClientEnds.{ClientSteps, StepsOn, after_taking}
 use Rattle.ca_model.specs.Ends.{Address}
 use Rattle.ca_model.specs.Hears.{Answers, Completes, Effect, Fails, FindsAt, Hears, PutsOn, Updates, any_failed, clear_answered, confirmed, created, failed, failing, found_at, heard_by, left, put_on, rights_told, searched_by, subscription_failed, understood, write_failed}
 use Rattle.ca_model.specs.Hears as hears
 use Rattle.ca_client_tables.specs.Finding.{as_found, circuit_in, goes_there, goes_to}
 use Rattle.ca_client_tables.specs.Foretelling.{HeadsFirst, creation_at, creation_on, head_of}
+use Rattle.ca_client_tables.specs.declared.foretelling.Creation.{Creation}
 use Rattle.ca_client_tables.proofs.Circuits.{changed-found, found-changed}
 use Rattle.ca_client_core.specs.declared.for_histories.Sending.{Sending as Foretells}
-use Rattle.ca_client_core.specs.ForHistories.{SendsNext, sending_of}
+use Rattle.ca_client_core.specs.ForHistories.{NoneWaits, SendsNext, SendsSome, TellsNext, sending_of}
 use Rattle.ca_client_core.specs.Foretelling.{adds_sent, creation_sent, foretold}
 
 -- ---- a circuit is found, also if a message was taken on one
@@ -287,24 +290,61 @@ no-head x c d there heads told sent new steps =
   where
     go : (o : Option Connection) → HeadsFirst o None → StepsOn x c o (answer.Notices told) sent new → sent ≡ []
     go None h s = absurd s
-    go (Some e) h t = absurd (let none : ◌≡◌ {A = Option Fields} None (Some (head_of t.m)) = h t.m t.rest t.first in cc)
+    go (Some e) h t = absurd (let none : ◌≡◌ {A = Option Fields} None (Some (head_of t.m)) = h.whole t.m t.rest t.first in cc)
 
-pub sends-next : (x : Client) (c : Handle) (d : ClientCircuit) (from : Address) (head : Fields) (foretells : List Foretells) → Some d ≡ under x.circuits c → from ≡ d.address → HeadsFirst d.connection (Some head) → map sending_of foretells ≡ foretold x c from head → SendsNext x c foretells
-sends-next x c d from head foretells there at heads are told sent new steps =
+-- a step sends what the head of its message tells
+sends-told : (x : Client) (c : Handle) (d : ClientCircuit) (from : Address) (head : Fields) → Some d ≡ under x.circuits c → from ≡ d.address → HeadsFirst d.connection (Some head)
+    → (told : List answer.Notice) (sent : List Sending) (new : Client) → ClientSteps x c (answer.Notices told) sent new → sent ≡ foretold x c from head
+sends-told x c d from head there at heads told sent new steps =
     go d.connection heads (subst (λ (z : Option Connection). StepsOn x c z (answer.Notices told) sent new) (ap (λ (o : Option ClientCircuit). option_and_then (λ (w : ClientCircuit). w.connection) o) (sym there)) steps)
   where
-    go : (o : Option Connection) → HeadsFirst o (Some head) → StepsOn x c o (answer.Notices told) sent new → sent ≡ map sending_of foretells
+    go : (o : Option Connection) → HeadsFirst o (Some head) → StepsOn x c o (answer.Notices told) sent new → sent ≡ foretold x c from head
     go None h s = absurd s
     go (Some e) h t =
         heard-sent x c t.rest d t.m (record { core = new; sent = sent; notices = told }) (sym there) t.hears
-        ∙ ap (foretold x c d.address) (sym (some_is head (head_of t.m) (h t.m t.rest t.first)))
+        ∙ ap (foretold x c d.address) (sym (some_is head (head_of t.m) (h.whole t.m t.rest t.first)))
         ∙ ap (λ (a : Address). foretold x c a head) (sym at)
-        ∙ sym are
 
--- of each value that there is
-pub ok-more : {T E : Type 0} (P Q : T → Type 0) (r : Result T E) → ((v : T) → P v → Q v) → IfOk r P → IfOk r Q
-ok-more P Q (Ok v) f p = f v p
-ok-more P Q (Err e) f p = p
+pub sends-next : (x : Client) (c : Handle) (d : ClientCircuit) (from : Address) (head : Fields) (foretells : List Foretells) → Some d ≡ under x.circuits c → from ≡ d.address → HeadsFirst d.connection (Some head) → map sending_of foretells ≡ foretold x c from head → SendsNext x c foretells
+sends-next x c d from head foretells there at heads are told sent new steps = sends-told x c d from head there at heads told sent new steps ∙ sym are
+
+pub sends-some : (x : Client) (c : Handle) (d : ClientCircuit) (from : Address) (head : Fields) → Some d ≡ under x.circuits c → from ≡ d.address → HeadsFirst d.connection (Some head) → foretold x c from head ≢ [] → SendsSome x c
+sends-some x c d from head there at heads some told sent new steps none = some (sym (sends-told x c d from head there at heads told sent new steps) ∙ none)
+
+-- if a head was read, a message waits
+pub head-waits : (x : Client) (c : Handle) (d : ClientCircuit) (head : Fields) → Some d ≡ under x.circuits c → HeadsFirst d.connection (Some head) → NoneWaits x c → ⊥
+head-waits x c d head there heads none = go d.connection heads (ap (λ (o : Option ClientCircuit). option_and_then (λ (w : ClientCircuit). w.connection) o) (sym there))
+  where
+    go : (o : Option Connection) → HeadsFirst o (Some head) → connection_at x c ≡ o → ⊥
+    go None h at = let no : ◌≡◌ {A = Option Fields} (Some head) None = h in cc
+    go (Some e) h at = let no : ◌≡◌ {A = Option Fields} (Some head) None = h.none (none e at) in cc
+
+-- what is told of the next step, or not
+pub tells-more : (x : Client) (c : Handle) (total : List Sending) (r : Result (Vec Foretells Global) AllocError) → ((foretells : List Foretells) → map sending_of foretells ≡ total → SendsNext x c foretells) → (total ≢ [] → SendsSome x c) → (NoneWaits x c → ⊥)
+    → IfOk r (λ v. map sending_of v.items ≡ total) → OnErr r (total ≢ []) → TellsNext x c r
+tells-more x c total (Ok v) next some waits ok err = (next v.items ok, λ none. absurd (waits none))
+tells-more x c total (Err e) next some waits ok err = (some err, waits)
+
+-- ---- what takes memory is something
+
+pub on_err : {A E : Type 0} {P : Type 0} (r : Result A E) → P → OnErr r P
+on_err (Ok a) p = tt
+on_err (Err e) p = p
+
+pub creation-some : (o : Option Creation) → ◌≢◌ {A = Option Creation} o None → creation_sent o ≢ []
+creation-some None some = absurd (some refl)
+creation-some (Some k) some = λ none. cc
+
+pub creation-there : (o : Option Creation) (k : Creation) → ◌≡◌ {A = Option Creation} o (Some k) → creation_sent o ≢ []
+creation-there o k is = creation-some o (λ none. cc)
+
+pub adds-some : (c : Handle) (sid : ℕ) (es : List (Handle × Subscription)) → es ≢ [] → adds_sent c sid es ≢ []
+adds-some c sid [] some = absurd (some refl)
+adds-some c sid (e ∷ es) some = λ none. cc
+
+pub adds-within : (c : Handle) (sid : ℕ) (es : List (Handle × Subscription)) (i : ℕ) → i < length es → adds_sent c sid es ≢ []
+adds-within c sid [] i within = absurd (omega (arith, within))
+adds-within c sid (e ∷ es) i within = λ none. cc
 
 -- ---- the EVENT_ADDs of a channel's subscriptions, one after another
 

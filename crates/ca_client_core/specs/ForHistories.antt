@@ -1,8 +1,11 @@
 -- Vocabulary: what whoever records histories asks of a client.
-use Rattle.std.specs.Prelude.{◌≡◌, ◌<◌, Bool, false, List, Option, Some, None, map, option_and_then}
+use Rattle.std.specs.Prelude.{◌≡◌, ◌≢◌, ◌<◌, Bool, false, List, [], Option, Some, None, Result, Ok, Err, Vec, map, option_and_then}
+use Rattle.std.specs.declared.alloc.AllocError.{AllocError}
+use Rattle.std.specs.declared.alloc.Global.{Global}
 use Rattle.ca_arena.specs.declared.handle.Handle.{Handle}
 use Rattle.ca_model.specs.Client.{Client, Connection, connection_at}
 use Rattle.ca_text.specs.declared.command.Command.{Command}
+use Rattle.ca_wire.specs.Stream.{NoneBegins}
 use Rattle.ca_monitor.specs.ReadRun.{sent_by_read}
 use Rattle.ca_model.specs.Answers as answer
 use Rattle.ca_model.specs.ClientCalls.{IsLive, LiveChannel, Shape, StandsAs, ask_fault}
@@ -49,3 +52,17 @@ sending_of s = record { circuit = s.circuit; message = s.message; aim = aim_of s
 abbrev pub SendsNext : Client → Handle → List Sending → Type 0
 SendsNext x c foretold =
     (told : List answer.Notice) (sent : List answer.Sending) (new : Client) → ClientSteps x c (answer.Notices told) sent new → sent ≡ map sending_of foretold
+
+-- Whenever a step on this circuit reads a message, it sends something.
+abbrev pub SendsSome : Client → Handle → Type 0
+SendsSome x c =
+    (told : List answer.Notice) (sent : List answer.Sending) (new : Client) → ClientSteps x c (answer.Notices told) sent new → sent ≢ []
+
+-- No complete message waits to be read on this circuit, or it is not connected.
+abbrev pub NoneWaits : Client → Handle → Type 0
+NoneWaits x c = (e : Connection) → connection_at x c ≡ Some e → NoneBegins e.link.input.bytes
+
+-- What the next step on this circuit sends was told: nothing, if no message waits. Or there was no memory to tell what it sends.
+abbrev pub TellsNext : Client → Handle → Result (Vec Sending Global) AllocError → Type 0
+TellsNext x c (Ok foretold) = SendsNext x c foretold.items × (NoneWaits x c → foretold.items ≡ [])
+TellsNext x c (Err _) = SendsSome x c × (NoneWaits x c → ⊥)

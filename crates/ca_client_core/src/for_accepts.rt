@@ -1,5 +1,5 @@
 //! What whoever records histories asks of a client before a circuit is connected. No client needs these calls.
-ghost use Rattle.std.specs.Prelude.{◌≡◌, ◌<◌, ◌≤◌, ◌++◌, IfOk, OnOk, length, map};
+ghost use Rattle.std.specs.Prelude.{◌≡◌, ◌≢◌, ◌<◌, ◌≤◌, ◌++◌, [], IfOk, OnErr, OnOk, length, map};
 ghost use Rattle.ca_text.specs.Limits.{priority_limit};
 ghost use Rattle.ca_arena.specs.Arena.{place_at};
 ghost use Rattle.ca_ids.specs.Table.{held, held_at};
@@ -39,9 +39,11 @@ pub fn wanted_at(core: &ClientCore, place: usize) -> Option<WantedCircuit>
 }
 
 /// What the client sends once this circuit is connected: its set-up, and then the CREATE_CHAN of each channel that waits for it, in
-/// order of index. Nothing, if it is not wanted or is connected.
+/// order of index. Nothing, if it is not wanted or is connected. Only a message takes memory.
 pub fn sent_when_connected(core: &ClientCore, circuit: Handle) -> Result<Vec<Sending>, AllocError>
-    ensures { IfOk result (λ sent. map sending_of sent.items ≡ connecting_sent core.now circuit) }
+    ensures ok { IfOk result (λ sent.
+        map sending_of sent.items ≡ connecting_sent core.now circuit) }
+    ensures some { OnErr result (connecting_sent core.now circuit ≢ []) }
 {
     let mut sent = Vec::new(core.alloc);
     let Some(found) = core.unconnected(circuit) else {

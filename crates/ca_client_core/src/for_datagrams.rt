@@ -12,7 +12,7 @@ use ca_dgram::Datagram;
 use std::alloc::AllocError;
 
 /// Takes a datagram that came from this address, as `datagram` does: what it made the client send, in order, and no more than one message
-/// for each 16 of its bytes. Without memory nothing changes.
+/// for each 16 of its bytes. Only a message in it takes memory. Without memory nothing changes.
 pub fn take_datagram(
     core: &mut ClientCore,
     now: u64,

@@ -1,6 +1,6 @@
 //! What whoever records histories asks of a client. No client needs these calls.
-ghost use Rattle.std.specs.Prelude.{◌≡◌, IfOk};
-ghost use Rattle.ca_client_core.specs.ForHistories.{AsksFor, AsksWide, LivesOn, SendsNext, flow_at};
+ghost use Rattle.std.specs.Prelude.{◌≡◌};
+ghost use Rattle.ca_client_core.specs.ForHistories.{AsksFor, AsksWide, LivesOn, TellsNext, flow_at};
 
 use crate::client::ClientCore;
 use ca_arena::Handle;
@@ -103,9 +103,10 @@ pub fn flow_of(core: &ClientCore, circuit: Handle, more: bool) -> Option<Command
     }
 }
 
-/// What the next message of a circuit will make the client send, as it is now, if a step reads one.
+/// What the next message of a circuit will make the client send, as it is now, if a step reads one; nothing, if no complete message waits
+/// to be read. Only a message to send takes memory.
 pub fn sent_by_step(core: &ClientCore, circuit: Handle) -> Result<Vec<Sending>, AllocError>
-    ensures { IfOk result (λ sent. SendsNext core.now circuit sent.items) }
+    ensures { TellsNext core.now circuit result }
 {
     core.sent_by_next(circuit)
 }

@@ -1,9 +1,9 @@
 //! What the next message of a circuit will make a client send, told before it is read.
-ghost use Rattle.std.specs.Prelude.{◌≡◌, ◌∷◌, [], IfOk, map};
+ghost use Rattle.std.specs.Prelude.{◌≡◌, ◌≢◌, ◌∷◌, [], IfOk, OnErr, map};
 ghost use Rattle.ca_model.specs.Client.{channel_on};
 ghost use Rattle.ca_model.specs.ClientCalls.{clear_sent, event_add_sent};
 ghost use Rattle.ca_model.specs.Hears.{created, event_adds, left};
-ghost use Rattle.ca_client_core.specs.ForHistories.{SendsNext, sending_of};
+ghost use Rattle.ca_client_core.specs.ForHistories.{TellsNext, sending_of};
 ghost use Rattle.ca_client_core.specs.Foretelling.{adds_sent, foretold, found_sent};
 
 use crate::client::ClientCore;
@@ -17,9 +17,9 @@ use ca_wire::{Cid, Ioid, Message, Sid, Wanted, clear_request, event_add_request}
 use std::alloc::{AllocError, Global};
 
 impl ClientCore {
-    // What the next message of a circuit makes the client send.
+    // What the next message of a circuit makes the client send, if one waits. Only a message to send takes memory.
     pub(crate) fn sent_by_next(&self, circuit: Handle) -> Result<Vec<Sending>, AllocError>
-        ensures { IfOk result (λ sent. SendsNext self.now circuit sent.items) }
+        ensures { TellsNext self.now circuit result }
     {
         let Some(found) = self.circuits.by_handle(circuit) else {
             return Ok(Vec::new(self.alloc));
@@ -37,8 +37,9 @@ impl ClientCore {
         from: Address,
         head: &Message,
     ) -> Result<Vec<Sending>, AllocError>
-        ensures { IfOk result (λ sent. map sending_of sent.items
+        ensures ok { IfOk result (λ sent. map sending_of sent.items
             ≡ foretold self.now circuit from head.now) }
+        ensures some { OnErr result (foretold self.now circuit from head.now ≢ []) }
     {
         let command = head.command();
         if command == Command::Search.number() {
@@ -55,8 +56,9 @@ impl ClientCore {
 
     // SEARCH: a channel that was found is created, if the circuit to its server is connected.
     fn sent_by_found(&self, from: Address, reply: &Message) -> Result<Vec<Sending>, AllocError>
-        ensures { IfOk result (λ sent. map sending_of sent.items
+        ensures ok { IfOk result (λ sent. map sending_of sent.items
             ≡ found_sent self.now from reply.now) }
+        ensures some { OnErr result (found_sent self.now from reply.now ≢ []) }
     {
         let found = creation_by(self.alloc, &self.channels, &self.circuits, from, reply)?;
         let Some(creation) = found else {
@@ -80,12 +82,17 @@ impl ClientCore {
 
     // CREATE_CHAN: a channel that is live is subscribed to again; one that its caller cleared meanwhile is cleared now.
     fn sent_by_created(&self, circuit: Handle, reply: &Message) -> Result<Vec<Sending>, AllocError>
-        ensures { IfOk result (λ sent. map sending_of sent.items
+        ensures ok { IfOk result (λ sent. map sending_of sent.items
             ≡ (created
             self.now
             circuit
             reply.now
             (channel_on self.now circuit reply.now.p1)).sent) }
+        ensures some { OnErr result ((created
+            self.now
+            circuit
+            reply.now
+            (channel_on self.now circuit reply.now.p1)).sent ≢ []) }
     {
         let Some((channel, phase)) = self.channel_on(circuit, reply.p1()) else {
             return Ok(Vec::new(self.alloc));
@@ -102,8 +109,12 @@ impl ClientCore {
 
     // SERVER_DISCONN: a live channel is cleared.
     fn sent_by_left(&self, circuit: Handle, message: &Message) -> Result<Vec<Sending>, AllocError>
-        ensures { IfOk result (λ sent. map sending_of sent.items
+        ensures ok { IfOk result (λ sent. map sending_of sent.items
             ≡ (left self.now circuit (channel_on self.now circuit message.now.p1)).sent) }
+        ensures some { OnErr result ((left
+            self.now
+            circuit
+            (channel_on self.now circuit message.now.p1)).sent ≢ []) }
     {
         let Some((channel, phase)) = self.channel_on(circuit, message.p1()) else {
             return Ok(Vec::new(self.alloc));
@@ -125,8 +136,9 @@ impl ClientCore {
         sid: u32,
         channel: Handle,
     ) -> Result<Vec<Sending>, AllocError>
-        ensures { IfOk result (λ sent. map sending_of sent.items
+        ensures ok { IfOk result (λ sent. map sending_of sent.items
             ≡ event_adds circuit sid channel self.now) }
+        ensures some { OnErr result (event_adds circuit sid channel self.now ≢ []) }
     {
         let standing = self.monitors.standing_to(self.alloc, channel)?;
         adds_to(self.alloc, circuit, sid, &standing)
@@ -140,8 +152,9 @@ fn adds_to(
     sid: u32,
     standing: &[(Handle, Subscription)],
 ) -> Result<Vec<Sending>, AllocError>
-    ensures { IfOk result (λ sent. map sending_of sent.items
+    ensures ok { IfOk result (λ sent. map sending_of sent.items
         ≡ adds_sent circuit sid standing.now) }
+    ensures some { OnErr result (adds_sent circuit sid standing.now ≢ []) }
 {
     let mut adds = Vec::new(alloc);
     for index in 0..standing.len() {

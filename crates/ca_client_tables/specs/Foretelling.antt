@@ -6,6 +6,7 @@ use Rattle.ca_ids.specs.Wire.{wire_of}
 use Rattle.ca_link.specs.Link.{TakesFirst}
 use Rattle.ca_wire.specs.Fields.{Fields}
 use Rattle.ca_wire.specs.Messages.{create_request}
+use Rattle.ca_wire.specs.Stream.{NoneBegins}
 use Rattle.ca_model.specs.Client.{Channel, ClientCircuit, Connection}
 use Rattle.ca_model.specs.Ends.{Address}
 use Rattle.ca_model.specs.Hears.{found_at}
@@ -16,9 +17,10 @@ use Rattle.ca_client_tables.specs.declared.foretelling.Creation.{Creation}
 abbrev pub head_of : Fields → Fields
 head_of m = record m { payload = [] }
 
--- if a whole message came first, this is its head
-abbrev pub HeadsIn : Connection → Option Fields → Type 0
-HeadsIn e head = (m : Fields) (rest : List ℕ) → TakesFirst e.link m rest → head ≡ Some (head_of m)
+-- if a complete message came first, this is its head; else there is none
+pub record HeadsIn (e : Connection) (head : Option Fields) : Type 0 where
+  pub whole : (m : Fields) (rest : List ℕ) → TakesFirst e.link m rest → head ≡ Some (head_of m)
+  pub none : NoneBegins e.link.input.bytes → head ≡ None
 
 -- on a circuit, which is connected or not
 abbrev pub HeadsFirst : Option Connection → Option Fields → Type 0

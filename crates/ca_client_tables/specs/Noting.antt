@@ -1,5 +1,5 @@
 -- Working: the CREATE_CHANs that the messages of a datagram make a client send, noted as the messages are received. No clause of a caller needs it.
-use Rattle.std.specs.Prelude.{◌≡◌, ◌==◌, ◌≤◌, ◌++◌, List, Option, None, Result, Ok, Err, if◌then◌else◌, length, map, option_to_list, []}
+use Rattle.std.specs.Prelude.{◌≡◌, ◌≢◌, ◌==◌, ◌≤◌, ◌++◌, List, Option, None, Result, Ok, Err, if◌then◌else◌, length, map, option_to_list, []}
 use Rattle.std.specs.declared.alloc.AllocError.{AllocError}
 use Rattle.ca_ids.specs.Table.{Table}
 use Rattle.ca_text.specs.Command.{command_number}
@@ -39,4 +39,4 @@ HaveSent old from ms ds cs new =
 -- They had, and that is noted; or there was no memory for one, and nothing is changed.
 abbrev pub NotesAll : Parts → Address → List Fields → Result Noted AllocError → Parts → Type 0
 NotesAll old from ms (Ok n) new = HaveSent old from ms n.done.items n.sent.items new × (length n.sent.items ≤ length ms)
-NotesAll old from ms (Err _) new = new ≡ old
+NotesAll old from ms (Err _) new = (ms ≢ []) × (new ≡ old)

@@ -1,5 +1,5 @@
 //! What comes first on a circuit, and what a reply to a SEARCH makes a client send, told before it is taken.
-ghost use Rattle.std.specs.Prelude.{◌≡◌, [], IfOk};
+ghost use Rattle.std.specs.Prelude.{◌≡◌, ◌≢◌, [], IfOk, None, OnErr};
 ghost use Rattle.ca_client_tables.specs.Foretelling.{HeadsFirst, HeadsIn, creation_by};
 
 use crate::channels::Channels;
@@ -23,7 +23,7 @@ pub struct Creation {
 }
 
 /// The CREATE_CHAN that a reply to a SEARCH, which came from this address, makes a client send: that of the channel that was found, if the
-/// circuit to its server is connected.
+/// circuit to its server is connected. Only a CREATE_CHAN takes memory.
 pub fn creation_by(
     alloc: Global,
     channels: &Channels,
@@ -31,7 +31,8 @@ pub fn creation_by(
     from: Address,
     reply: &Message,
 ) -> Result<Option<Creation>, AllocError>
-    ensures { IfOk result (λ o. o ≡ creation_by channels.now circuits.now from reply.now) }
+    ensures ok { IfOk result (λ o. o ≡ creation_by channels.now circuits.now from reply.now) }
+    ensures some { OnErr result (creation_by channels.now circuits.now from reply.now ≢ None) }
 {
     let Some((channel, found)) = searched_by(channels, reply.p2()) else {
         return Ok(None);
@@ -52,7 +53,7 @@ pub fn creation_by(
 }
 
 impl Circuit {
-    /// The first message that came, without its payload, if a whole one did.
+    /// The first message that came, without its payload, if a complete one did.
     pub fn first_head(&self, alloc: Global) -> Option<Message>
         ensures { HeadsFirst self.now.connection result }
     {
@@ -64,7 +65,7 @@ impl Circuit {
 }
 
 impl Connection {
-    // The first message that came, without its payload, if a whole one did.
+    // The first message that came, without its payload, if a complete one did.
     fn first_head(&self, alloc: Global) -> Option<Message>
         ensures { HeadsIn self.now result }
     {

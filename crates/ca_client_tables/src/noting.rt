@@ -25,7 +25,7 @@ pub struct Noted {
 }
 
 /// The messages of a datagram from this address were received, one after another, as by `receive_all`, and what they sent was noted.
-/// Without memory nothing changes.
+/// Only a message takes memory. Without memory nothing changes.
 pub fn receive_all_noting(
     alloc: Global,
     channels: &mut Channels,

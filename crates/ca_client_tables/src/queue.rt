@@ -1,5 +1,5 @@
 //! Messages that wait on a circuit.
-ghost use Rattle.std.specs.Prelude.{◌≡◌, ◌∷◌, [], OnErr, OnOk, length};
+ghost use Rattle.std.specs.Prelude.{◌≡◌, ◌∷◌, [], IsSome, OnErr, OnOk, length};
 ghost use Rattle.ca_ids.specs.Table.{with_changed};
 ghost use Rattle.ca_link.specs.Link.{with_sent};
 ghost use Rattle.ca_client_tables.specs.Ends.{left_at, queued};
@@ -38,10 +38,11 @@ pub(crate) fn waiting_on(circuits: &HeldTable<Circuit>, circuit: Handle) -> usiz
 }
 
 impl Circuit {
-    /// Puts a message after what waits, if it is connected. Without memory nothing changes.
+    /// Puts a message after what waits, if it is connected; only then does it take memory. Without memory nothing changes.
     pub fn queue(&mut self, message: &Message) -> Result<(), AllocError>
         ensures ok { OnOk result (self.new ≡ queued message.now self.old) }
         ensures err { OnErr result (self.new ≡ self.old) }
+        ensures some { OnErr result (IsSome self.old.connection) }
     {
         let Some(connection) = &mut self.connection else {
             return Ok(());

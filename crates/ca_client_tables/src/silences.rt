@@ -1,5 +1,5 @@
 //! What the silence of a circuit asks of its end, and its ECHO.
-ghost use Rattle.std.specs.Prelude.{◌≡◌, ◌<◌, OnErr, OnOk, Some};
+ghost use Rattle.std.specs.Prelude.{◌≡◌, ◌<◌, IsSome, OnErr, OnOk, Some};
 ghost use Rattle.ca_link.specs.Link.{kept};
 ghost use Rattle.ca_client_tables.specs.Silences.{asked_in, echo_end, echo_in};
 
@@ -20,10 +20,12 @@ impl Circuit {
         }
     }
 
-    /// An ECHO waits, if it is connected; that the silence asked for it is noted. Without memory nothing changes.
+    /// An ECHO waits, if it is connected; that the silence asked for it is noted. Only then does it take memory. Without memory nothing
+    /// changes.
     pub fn echo(&mut self, alloc: Global, moment: u64) -> Result<(), AllocError>
         ensures ok { OnOk result (self.new ≡ echo_in moment self.old) }
         ensures err { OnErr result (self.new ≡ self.old) }
+        ensures some { OnErr result (IsSome self.old.connection) }
     {
         let Some(connection) = &mut self.connection else {
             return Ok(());

@@ -1,5 +1,5 @@
 //! A value as the payload of a write.
-ghost use Rattle.std.specs.Prelude.{◌≡◌, ◌∷◌, [], OnErr, OnOk, ◌<◌, ◌^◌, length};
+ghost use Rattle.std.specs.Prelude.{◌≡◌, ◌∷◌, [], IsSome, OnErr, OnOk, ◌<◌, ◌^◌, length};
 ghost use Rattle.ca_dbr.specs.Elements.{bytes_of, elements, count_of};
 ghost use Rattle.ca_link.specs.Link.{with_sent};
 ghost use Rattle.ca_wire.specs.Made.{with_payload};
@@ -35,12 +35,14 @@ impl Payload for Elements<'_> {
 }
 
 impl Circuit {
-    /// Puts a message with this value after what waits, if it is connected. Without memory nothing changes.
+    /// Puts a message with this value after what waits, if it is connected; only then does it take memory. Without memory
+    /// nothing changes.
     pub fn queue_value(&mut self, head: &Message, value: &Value) -> Result<(), AllocError>
         requires { IsSmall (elements value.now) }
         ensures ok { OnOk result (self.new
             ≡ queued (with_payload (bytes_of (elements value.now)) head.now) self.old) }
         ensures err { OnErr result (self.new ≡ self.old) }
+        ensures some { OnErr result (IsSome self.old.connection) }
     {
         let Some(connection) = &mut self.connection else {
             return Ok(());

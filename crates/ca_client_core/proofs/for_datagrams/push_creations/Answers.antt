@@ -5,7 +5,6 @@ use Rattle.std.proofs.lemmas.List.{nil_from_length}
 use Rattle.ca_model.specs.Answers as answer
 use Rattle.ca_client_tables.specs.Noting.{as_sent}
 use Rattle.ca_client_tables.specs.declared.foretelling.Creation.{Creation}
-use Rattle.ca_client_core.specs.declared.for_histories.Sending.{Sending}
 use Rattle.ca_client_core.specs.ForHistories.{sending_of}
 use Rattle.ca_client_core.proofs.Sendings.{creations-more}
 use Rattle.ca_client_core.proofs.for_datagrams.push_creations.Goals as goal

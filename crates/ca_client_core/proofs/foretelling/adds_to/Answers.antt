@@ -1,6 +1,12 @@
 use Rattle.ca_client_core.specs.Foretelling.{adds_sent}
-use Rattle.ca_client_core.proofs.Foretold.{adds-next}
+use Rattle.ca_client_core.proofs.Foretold.{adds-next, adds-within, on_err}
 use Rattle.ca_client_core.proofs.foretelling.adds_to.Goals as goal
+
+pub returns-in_err-add_of-clause-some : goal.returns-in_err-add_of-clause-some
+returns-in_err-add_of-clause-some c = on_err c.from_residual.result (adds-within c.args.circuit c.args.sid c.args.standing.now c.loop-index.index c.loop-index-test.true)
+
+pub returns-in_err-push-clause-some : goal.returns-in_err-push-clause-some
+returns-in_err-push-clause-some c = on_err c.from_residual-in_err-push.result (adds-within c.args.circuit c.args.sid c.args.standing.now c.loop-index.index c.loop-index-test.true)
 
 pub loop-index-preserved : goal.loop-index-preserved
 loop-index-preserved c =
