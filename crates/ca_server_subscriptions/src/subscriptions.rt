@@ -1,5 +1,6 @@
-ghost use Rattle.std.specs.Prelude.{◌≡◌, ◌<◌, ◌==◌, ◌≤◌, ◌*◌, IfOk, IfSome, OnErr, OnOk, false, true, map, length, option_to_list, slice_get};
+ghost use Rattle.std.specs.Prelude.{◌≡◌, ◌<◌, ◌==◌, ◌≤◌, ◌*◌, IfOk, IfSome, OnErr, OnOk, Some, false, true, map, length, option_map, option_to_list, slice_get};
 ghost use Rattle.std.specs.List.{list_any};
+ghost use Rattle.std.specs.Map.{lookup};
 ghost use Rattle.ca_text.specs.Limits.{circuit_queues, element_limit, queue_subscriptions};
 ghost use Rattle.ca_dbr.specs.Elements.{count_of, elements};
 ghost use Rattle.ca_queue.specs.Keys.{same};
@@ -24,6 +25,8 @@ use std::marker::Model;
 pub struct Subscriptions {
     standing: IndexMap<SubKey, Standing>,
     queues: CircuitQueues<Update, EventQueue<Update>>,
+    // The place after the subscription whose update was taken last: the next update is mostly of the one there. The key decides.
+    next: usize,
     // The value of an update that was shown: its memory is for the next.
     spare: Option<Value>,
 }
@@ -50,6 +53,7 @@ impl Subscriptions {
         Ok(Subscriptions {
             standing: IndexMap::new(alloc),
             queues,
+            next: 0,
             spare: None,
         })
     }
@@ -260,9 +264,50 @@ impl Subscriptions {
             return None;
         }
         let (_, key, update) = self.queues.take()?;
-        let Some(standing) = self.standing.get(&key) else {
+        let Some(standing) = find(&self.standing, &mut self.next, key) else {
             unreachable!()
         };
         Some((standing.wanted(), update))
     }
+}
+
+// The subscription of this key, which is looked for at this place first. The place after it comes in its stead.
+fn find<'a>(
+    standing: &'a IndexMap<SubKey, Standing>,
+    next: &mut usize,
+    key: SubKey,
+) -> Option<&'a Standing>
+    ensures { option_map (λ s. s.now) result ≡ lookup (same key) standing.now.entries }
+{
+    let place = *next;
+    if let Some(found) = at_key(standing, place, key) {
+        *next = after(place, standing.len());
+        return Some(found);
+    }
+    match standing.get_full(&key) {
+        None => None,
+        Some((place, _, found)) => {
+            *next = after(place, standing.len());
+            Some(found)
+        }
+    }
+}
+
+// The subscription at this place, if it has this key.
+fn at_key(standing: &IndexMap<SubKey, Standing>, place: usize, key: SubKey) -> Option<&Standing>
+    ensures { IfSome result (λ s. lookup (same key) standing.now.entries ≡ Some s.now) }
+{
+    let Some((other, found)) = standing.get_index(place) else {
+        return None;
+    };
+    if *other == key {
+        return Some(found);
+    }
+    None
+}
+
+// The place after this one, of n that go round.
+fn after(place: usize, n: usize) -> usize {
+    let next = place.wrapping_add(1);
+    if next < n { next } else { 0 }
 }

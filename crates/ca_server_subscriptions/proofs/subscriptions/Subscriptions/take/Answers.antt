@@ -9,7 +9,7 @@ returns-then-is_empty-clause-gives c =
 pub unreachable-requires : goal.unreachable-requires
 unreachable-requires c =
     taken-some c.self.inside.standing.entries c.self.inside.queues c.self.invariant c.in_ok-key.field-0-0 c.in_ok-key.key c.in_ok-key.update c.take.new.self c.in_ok-key.ensures
-    (sym c.in_default.ensures.value)
+    (sym c.in_default.ensures)
 
 pub invariant_of-self-2 : goal.invariant_of-self-2
 invariant_of-self-2 c =
@@ -18,4 +18,4 @@ invariant_of-self-2 c =
 pub returns-clause-gives : goal.returns-clause-gives
 returns-clause-gives c =
     gives-one c.self.inside.standing.entries c.self.inside.queues c.self.invariant c.in_ok-key.field-0-0 c.in_ok-key.key c.in_ok-key.update c.take.new.self c.in_ok-key.ensures
-    c.args.self.now c.in-Some.standing.now c.wanted.result c.self.view_is (sym c.in-Some.ensures.value) c.wanted.ensures.wanted
+    c.args.self.now c.in-Some.standing.now c.wanted.result c.self.view_is (sym c.in-Some.ensures) c.wanted.ensures.wanted
