@@ -8,7 +8,7 @@ use std::marker::Model;
 #[derive(Debug, Drop)]
 pub(crate) struct Channel {
     cid: Cid,
-    // Its record was removed.
+    // Its record was removed. It stands beside the CID, so that a channel in its table takes 48 bytes.
     retired: bool,
     // The name of its record.
     name: Vec<u8>,
