@@ -1,5 +1,5 @@
 -- The queues of a circuit, after each call.
-use Rattle.std.proofs.Common.{◌≡◌, ℕ, zero, suc, ◌+◌, ◌<◌, ◌≤◌, ◌⊎◌, ◌||◌, inl, inr, Bool, true, false, not, cond, List, [], ◌∷◌, ◌++◌, length, map, take, drop, get_or, None, refl, sym, ap, ◌∙◌, subst, arith, add-one}
+use Rattle.std.proofs.Common.{◌≡◌, ℕ, zero, suc, ◌+◌, ◌<◌, ◌≤◌, ◌⊎◌, ◌||◌, inl, inr, Bool, true, false, not, cond, List, [], ◌∷◌, ◌++◌, length, map, take, drop, get_or, Option, None, refl, sym, ap, ◌∙◌, subst, arith, add-one}
 use Rattle.std.specs.List.{filter, fold}
 use Rattle.std.specs.Prelude.{replicate, slice_set}
 use Rattle.ca_text.specs.Limits.{queue_subscriptions}
@@ -14,12 +14,18 @@ use Rattle.ca_text.proofs.Places.{At-map, At-mapped, At-one, At-set, At-within}
 use Rattle.ca_queue.specs.declared.entry.SubKey.{SubKey}
 use Rattle.ca_queue.specs.Keys.{same, is_among}
 use Rattle.ca_queue.specs.Queue.{Queue, Refuses, added, cancelled, no_queue, posted, switched, with_front_taken}
-use Rattle.ca_queue.specs.Circuit.{AreInOne, HasAt, HasNone, queue_posted, queue_without, without_each}
+use Rattle.ca_queue.specs.Circuit.{AreIdleBehind, AreInOne, HasAt, HasNone, RestBefore, queue_posted, queue_without, without_each}
 use Rattle.ca_queue.specs.Waiting.{after_take, front, is_of, may_take, taken}
 use Rattle.ca_queue.proofs.Counts.{map_step}
 use Rattle.ca_queue.proofs.Keys.{among_push, among_without, none_left, same_is, same_itself}
 
 -- ---- lists
+
+-- an index is before a place or not
+less-or : (i n : ℕ) → (i < n) ⊎ (n ≤ i)
+less-or i zero = inr (omega arith)
+less-or zero (suc n) = inl (omega arith)
+less-or (suc i) (suc n) = elim (less-or i n) [ inl lt ↦ inl (omega (arith, lt)) | inr le ↦ inr (omega (arith, le)) ]
 
 pub set-map : {A B : Type 0} (f : A → B) (xs : List A) (i : ℕ) (y : A) → map f (slice_set xs i y) ≡ slice_set (map f xs) i (f y)
 set-map f [] i y = refl
@@ -168,6 +174,51 @@ module _ {E : Type 0} where
         | inl there ↦ absurd (other (once j place key (r, at-r, there) (q, at, in-q)))
         | inr none ↦ none-without key r.subscriptions r none
       ])
+
+  -- ---- the queues behind the last in use
+
+  pub idle-none : (n i : ℕ) (q : Queue E) → At (replicate n (no_queue {E = E})) i q → q.waiting ≡ []
+  idle-none zero i q at = absurd cc
+  idle-none (suc n) zero q at = ap (λ (x : Queue E). x.waiting) (sym (At-one (replicate (suc n) (no_queue {E = E})) zero no_queue q refl at))
+  idle-none (suc n) (suc i) q at = idle-none n i q at
+
+  -- one that is not behind it was changed
+  pub idle-set : (n m place : ℕ) (qs : List (Queue E)) (r : Queue E) → AreIdleBehind n qs → n ≤ m → place ≤ m → AreIdleBehind m (slice_set qs place r)
+  idle-set n m place qs r idle le in_it i q at lt =
+      elim (At-set qs place r i q at) [
+        | inl here ↦ absurd (behind place i m here.0 in_it lt)
+        | inr there ↦ idle i q there.0 (omega (arith, le, lt))
+      ]
+    where
+      behind : (k i m : ℕ) → i ≡ k → k ≤ m → m < i → ⊥
+      behind k i m is le lt = omega (arith, is, le, lt)
+
+  pub idle-posted : (n m place : ℕ) (qs : List (Queue E)) (key : SubKey) (entry : E) → AreInOne qs → HasAt qs place key → AreIdleBehind n qs → n ≤ m → place ≤ m → AreIdleBehind m (map (queue_posted key entry) qs)
+  idle-posted n m place qs key entry once has idle le in_it =
+      subst (λ (z : List (Queue E)). AreIdleBehind m z) (post-set qs place has.0 key entry once has has.1) (idle-set n m place qs (posted key entry has.0) idle le in_it)
+
+  pub idle-cancelled : (n m place : ℕ) (qs : List (Queue E)) (key : SubKey) → AreInOne qs → HasAt qs place key → AreIdleBehind n qs → n ≤ m → place ≤ m → AreIdleBehind m (without_each (same key) qs)
+  idle-cancelled n m place qs key once has idle le in_it =
+      subst (λ (z : List (Queue E)). AreIdleBehind m z) (cancel-set qs place has.0 key once has has.1) (idle-set n m place qs (cancelled key has.0) idle le in_it)
+
+  pub idle-switched : (n : ℕ) (on : Bool) (qs : List (Queue E)) → AreIdleBehind n qs → AreIdleBehind n (map (switched on) qs)
+  idle-switched n on qs idle i q at lt = (let m = At-mapped (switched on) qs i q at in ap (λ (x : Queue E). x.waiting) m.2 ∙ idle i m.0 m.1 lt)
+
+  -- nothing may be taken where nothing waits
+  pub idle-rests : (q : Queue E) → q.waiting ≡ [] → taken q.events_on q.waiting ≡ None
+  idle-rests q none = subst (λ (ws : List (SubKey × E)). taken q.events_on ws ≡ None) (sym none) (by q.events_on)
+    where
+      by : (on : Bool) → (let ws : List (SubKey × E) = [] in let nothing : Option (SubKey × E) = None in taken on ws ≡ nothing)
+      by true = refl
+      by false = refl
+
+  -- where all before a place rest, and it is behind the last in use, all rest
+  pub idle-all : (last place : ℕ) (qs : List (Queue E)) → AreIdleBehind last qs → last < place → RestBefore qs place → RestBefore qs (length qs)
+  idle-all last place qs idle behind rest i r within at =
+      elim (less-or i place) [
+        | inl lt ↦ rest i r lt at
+        | inr le ↦ idle-rests r (idle i r at (omega (arith, le, behind)))
+      ]
 
   -- nothing was taken where nothing may be
   front-none : (ws : List (SubKey × E)) → front ws ≡ None → drop 1 ws ≡ ws

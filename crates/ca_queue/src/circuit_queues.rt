@@ -1,4 +1,4 @@
-ghost use Rattle.std.specs.Prelude.{◌≡◌, IfOk, MatchOption, map, replicate};
+ghost use Rattle.std.specs.Prelude.{◌≡◌, ◌≤◌, IfOk, MatchOption, map, replicate};
 ghost use Rattle.ca_text.specs.Limits.{circuit_queues};
 ghost use Rattle.ca_queue.specs.Circuit.{AreFull, Begins, IsFirstWithRoom, HasAt, HasNone, Takes, queue_posted, without_each};
 ghost use Rattle.ca_queue.specs.Keys.{same};
@@ -14,6 +14,8 @@ use std::marker::{Model, PhantomData};
 #[derive(Drop)]
 pub struct CircuitQueues<E: Drop, Q: Queues<E>> {
     queues: Vec<Q>,
+    // Behind this place nothing ever waited, so that a take looks no further.
+    last: usize,
     entries: PhantomData<E>,
 }
 
@@ -26,11 +28,13 @@ impl<E: Drop, Q: Queues<E>> Model for CircuitQueues<E, Q> {
 
     ghost coded = { coded_list (queue_code E.code) };
 
-    ghost use Rattle.ca_queue.specs.Circuit.{AreInOne};
+    ghost use Rattle.ca_queue.specs.Circuit.{AreIdleBehind, AreInOne};
 
     ghost view = { λ s. map Q.contents s.queues.items };
 
-    ghost invariant = { λ s. AreInOne (map Q.contents s.queues.items) };
+    ghost invariant = { λ s.
+        AreInOne (map Q.contents s.queues.items)
+        × AreIdleBehind s.last (map Q.contents s.queues.items) };
 }
 
 impl<E: Drop, Q: Queues<E>> CircuitQueues<E, Q> {
@@ -44,6 +48,7 @@ impl<E: Drop, Q: Queues<E>> CircuitQueues<E, Q> {
         }
         Ok(CircuitQueues {
             queues,
+            last: 0,
             entries: PhantomData,
         })
     }
@@ -63,6 +68,7 @@ impl<E: Drop, Q: Queues<E>> CircuitQueues<E, Q> {
             return Err(Refusal::OutOfMemory);
         }
         self.queues[place].post(key, entry);
+        self.last = later(self.last, place);
         Ok(place)
     }
 
@@ -86,6 +92,7 @@ impl<E: Drop, Q: Queues<E>> CircuitQueues<E, Q> {
     {
         let queue = &mut self.queues[place];
         queue.post(key, entry);
+        self.last = later(self.last, place);
     }
 
     /// Takes an entry from the first queue that has one that may be taken, and returns the queue's place with it.
@@ -93,6 +100,9 @@ impl<E: Drop, Q: Queues<E>> CircuitQueues<E, Q> {
         ensures { Takes self.old result self.new }
     {
         for place in 0..self.queues.len() {
+            if place > self.last {
+                return None;
+            }
             if let Some((key, entry)) = self.queues[place].take() {
                 return Some((place, key, entry));
             }
@@ -106,6 +116,7 @@ impl<E: Drop, Q: Queues<E>> CircuitQueues<E, Q> {
         ensures { self.new ≡ without_each (same key) self.old }
     {
         self.queues[place].cancel(key);
+        self.last = later(self.last, place);
     }
 
     /// Turns events on or off in all queues.
@@ -116,4 +127,12 @@ impl<E: Drop, Q: Queues<E>> CircuitQueues<E, Q> {
             self.queues[place].set_events(on);
         }
     }
+}
+
+// The later of two places.
+fn later(one: usize, other: usize) -> usize
+    ensures first { one ≤ result }
+    ensures second { other ≤ result }
+{
+    if one < other { other } else { one }
 }

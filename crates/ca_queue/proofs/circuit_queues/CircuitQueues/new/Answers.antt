@@ -1,8 +1,9 @@
 use Rattle.std.proofs.Common.{◌≡◌, ◌++◌, ◌∷◌, [], List, map, sym, ap, ◌∙◌, subst, arith, replicate}
 use Rattle.std.proofs.lemmas.List.{map-append}
+use Rattle.ca_text.specs.Place.{At}
 use Rattle.ca_queue.specs.Circuit.{AreInOne}
 use Rattle.ca_queue.specs.Queue.{Queue, no_queue}
-use Rattle.ca_queue.proofs.Circuits.{none-anywhere, replicate-more}
+use Rattle.ca_queue.proofs.Circuits.{idle-none, none-anywhere, replicate-more}
 use Rattle.ca_queue.proofs.circuit_queues.CircuitQueues.new.Goals as goal
 
 pub loop-init : goal.loop-init
@@ -30,4 +31,7 @@ pub returns : goal.returns
 returns g c = (let e : c.loop.counter ≡ 8 = omega (arith, c.loop-test.false, c.loop.auto.counter-end) in c.loop.invariant.are ∙ ap (λ n. replicate n no_queue) e)
 
 pub invariant_of-result : goal.invariant_of-result
-invariant_of-result g c = subst AreInOne (sym c.loop.invariant.are) (none-anywhere c.loop.counter)
+invariant_of-result g c = (
+  subst AreInOne (sym c.loop.invariant.are) (none-anywhere c.loop.counter),
+  λ i q at lt. idle-none c.loop.counter i q (subst (λ (qs : List (Queue _)). At qs i q) c.loop.invariant.are at),
+)

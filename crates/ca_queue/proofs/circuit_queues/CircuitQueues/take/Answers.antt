@@ -1,26 +1,50 @@
-use Rattle.std.proofs.Common.{◌≡◌, true, None, sym, ap, ◌∙◌, subst, arith}
+use Rattle.std.proofs.Common.{◌≡◌, true, map, None, sym, ap, ◌∙◌, subst, arith}
 use Rattle.std.specs.Prelude.{slice_set}
-use Rattle.ca_queue.specs.Circuit.{AreInOne}
+use Rattle.ca_queue.specs.Circuit.{AreIdleBehind, AreInOne}
 use Rattle.ca_queue.specs.Keys.{is_among}
 use Rattle.ca_queue.specs.Queue.{Queue, with_front_taken}
 use Rattle.ca_queue.specs.Waiting.{taken}
-use Rattle.ca_queue.proofs.Circuits.{all-before, at-index, at-now, index-within, kept-in-one, more-before, none-taken, set-as, set-as-before}
+use Rattle.ca_queue.proofs.Circuits.{all-before, at-index, at-now, idle-all, idle-set, index-within, kept-in-one, more-before, none-taken, set-as, set-as-before}
 use Rattle.ca_queue.proofs.circuit_queues.CircuitQueues.take.Goals as goal
 
 pub loop-place-init : goal.loop-place-init
-loop-place-init g c = (c.self.view_is, λ i q lt at. absurd (omega arith))
+loop-place-init g c = (
+  c.self.view_is,
+  (λ i q lt at. absurd (omega arith)),
+  subst (λ (qs : _). AreIdleBehind c.self.inside.last qs) c.self.view_is c.self.invariant.1,
+)
 
 pub invariant_of-self : goal.invariant_of-self
-invariant_of-self g c = subst AreInOne (c.self.view_is ∙ sym c.loop-place.invariant.0) c.self.invariant
+invariant_of-self g c = (
+  subst AreInOne (c.self.view_is ∙ sym c.loop-place.invariant.0) c.self.invariant.0,
+  subst (λ (qs : _). AreIdleBehind c.loop-place.self-inside.last qs) (sym c.loop-place.invariant.0) c.loop-place.invariant.2,
+)
+
+-- this queue is behind the last in which something waited
+pub invariant_of-self-then-place-self : goal.invariant_of-self-then-place-self
+invariant_of-self-then-place-self g c = (
+  subst AreInOne (c.self.view_is ∙ sym c.loop-place.invariant.0) c.self.invariant.0,
+  subst (λ (qs : _). AreIdleBehind c.loop-place.self-inside.last qs) (sym c.loop-place.invariant.0) c.loop-place.invariant.2,
+)
+
+pub returns-then-place-self : goal.returns-then-place-self
+returns-then-place-self g c = (
+  idle-all c.loop-place.self-inside.last c.loop-place.place c.args.self.now c.loop-place.invariant.2 (omega (arith, c.if-place-self.true)) c.loop-place.invariant.1,
+  c.loop-place.invariant.0,
+)
 
 pub invariant_of-self-in-Some : goal.invariant_of-self-in-Some
 invariant_of-self-in-Some g c =
     let k = c.self.inside.queues.ok in
     let items = c.loop-place.self-inside.queues.items in
     let lt = index-within g.Q.Queues.contents items c.self.inside.queues.items _ c.loop-place.place c.len-place-end.result c.loop-place.invariant.0 c.self.view_is (omega (arith, c.len-place-end.ensures, k)) c.loop-place-test.true in
-    kept-in-one g.Q.Queues.contents items c.loop-place.place _ c.take.new.self (subst AreInOne (c.self.view_is ∙ sym c.loop-place.invariant.0) c.self.invariant)
-    (at-index g.Q.Queues.contents items c.loop-place.place _ lt c.index_mut.ensures.value)
-    (λ key some. subst (λ (q : Queue _). is_among key q.subscriptions ≡ true) c.take.ensures.leaves some)
+    let last = c.loop-place.self-inside.last in (
+      kept-in-one g.Q.Queues.contents items c.loop-place.place _ c.take.new.self (subst AreInOne (c.self.view_is ∙ sym c.loop-place.invariant.0) c.self.invariant.0)
+          (at-index g.Q.Queues.contents items c.loop-place.place _ lt c.index_mut.ensures.value)
+          (λ key some. subst (λ (q : Queue _). is_among key q.subscriptions ≡ true) c.take.ensures.leaves some),
+      subst (λ (qs : _). AreIdleBehind last qs) (sym (set-as g.Q.Queues.contents items c.loop-place.place c.take.new.self _ c.take.ensures.leaves))
+          (idle-set last last c.loop-place.place (map g.Q.Queues.contents items) _ (subst (λ (qs : _). AreIdleBehind last qs) (sym c.loop-place.invariant.0) c.loop-place.invariant.2) (omega arith) (omega (arith, c.if-place-self.false))),
+    )
 
 pub returns-in-Some : goal.returns-in-Some
 returns-in-Some g c =
@@ -45,6 +69,7 @@ loop-place-preserved g c =
       set-as-before g.Q.Queues.contents items c.loop-place.place _ c.take.new.self at (c.take.ensures.leaves ∙ none-taken (g.Q.Queues.contents c.index_mut.result.now) none) ∙ c.loop-place.invariant.0,
       more-before (λ (q : Queue _). taken q.events_on q.waiting ≡ None) _ c.loop-place.place (g.Q.Queues.contents c.index_mut.result.now)
           (at-now g.Q.Queues.contents items _ c.loop-place.place _ c.loop-place.invariant.0 lt c.index_mut.ensures.value) none c.loop-place.invariant.1,
+      c.loop-place.invariant.2,
     )
 
 pub returns : goal.returns
