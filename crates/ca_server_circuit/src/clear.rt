@@ -19,6 +19,7 @@ use std::alloc::AllocError;
 impl End {
     /// CLEAR_CHANNEL on this circuit: always answered, and the SID alone decides what is cleared. The puts of the channel that wait are
     /// never applied.
+    #[inline(never)]
     pub(crate) fn clear(
         &mut self,
         circuit: Handle,

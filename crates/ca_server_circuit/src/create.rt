@@ -16,6 +16,7 @@ use std::alloc::AllocError;
 
 impl End {
     /// CREATE_CHAN: a channel to the record of this name, unless the CID is in use or no SID may be given.
+    #[inline(never)]
     pub(crate) fn create(
         &mut self,
         records: &ServedRecords,

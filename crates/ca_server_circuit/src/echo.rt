@@ -11,6 +11,7 @@ use std::alloc::AllocError;
 
 impl End {
     /// ECHO: sent back.
+    #[inline(never)]
     pub(crate) fn echo(&mut self) -> Result<(), AllocError>
         requires { IsOpen self.old.link }
         ensures ok { OnOk result (self.new ≡ replied (bare Echo ∷ []) self.old) }

@@ -27,6 +27,7 @@ const EVENT_SIZE: usize = 16;
 
 impl End {
     /// EVENT_ADD: refused by ERROR; or its subscription begins, whose first update is the present value.
+    #[inline(never)]
     pub(crate) fn subscribe(
         &mut self,
         records: &ServedRecords,
@@ -94,6 +95,7 @@ impl End {
     }
 
     /// EVENT_CANCEL: always confirmed.
+    #[inline(never)]
     pub(crate) fn cancel(&mut self, message: &Message) -> Result<(), AllocError>
         requires { IsOpen self.old.link }
         ensures ok { OnOk result (self.new

@@ -70,6 +70,7 @@ impl End {
         ensures channels { OnErr result (AllStay self.old.channels self.new.channels) }
         ensures memory { OnErr result (MayLack (known port records.old self.old) message.now) }
     {
+        // What is rare stands out of line, so that a read or a write does not pay for its locals.
         match command {
             Command::Version => self.version(),
             Command::ClientName => self.client_name(message),

@@ -7,6 +7,7 @@ use std::alloc::AllocError;
 
 impl End {
     /// CLIENT_NAME: it counts until a channel was created.
+    #[inline(never)]
     pub(crate) fn client_name(&mut self, message: &Message) -> Result<(), AllocError>
         ensures ok { OnOk result (self.new
             ≡ (if self.old.settled then self.old
@@ -25,6 +26,7 @@ impl End {
     }
 
     /// HOST_NAME: it counts until a channel was created.
+    #[inline(never)]
     pub(crate) fn host_name(&mut self, message: &Message) -> Result<(), AllocError>
         ensures ok { OnOk result (self.new
             ≡ (if self.old.settled then self.old

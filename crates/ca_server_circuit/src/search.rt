@@ -13,6 +13,7 @@ const REPLY_WANTED: u16 = 10;
 
 impl End {
     /// SEARCH: answered for a name that is served, and otherwise only where its type asks for that.
+    #[inline(never)]
     pub(crate) fn search(
         &mut self,
         port: u16,

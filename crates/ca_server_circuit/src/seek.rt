@@ -28,6 +28,7 @@ pub(crate) enum Sought {
 
 impl End {
     /// What this SID stands for.
+    #[inline(always)]
     pub(crate) fn seek(&self, records: &ServedRecords, sid: Sid) -> Sought
         requires { AreServed (records_of records.now) self.now.channels }
         ensures seeks { Seeks records.now self.now sid result }

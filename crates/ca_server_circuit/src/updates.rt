@@ -113,6 +113,7 @@ fn show(alloc: Global, link: &mut Link, wanted: Wanted, shown: &Update) -> Resul
 }
 
 /// Puts an update with n zero bytes after what waits on an open link. Without memory the link is as it was.
+#[inline(never)]
 fn send_zeros(
     alloc: Global,
     link: &mut Link,

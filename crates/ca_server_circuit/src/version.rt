@@ -9,6 +9,7 @@ use std::alloc::AllocError;
 
 impl End {
     /// VERSION: the circuit's first is answered by ours.
+    #[inline(never)]
     pub(crate) fn version(&mut self) -> Result<(), AllocError>
         requires { IsOpen self.old.link }
         ensures ok { OnOk result (self.new

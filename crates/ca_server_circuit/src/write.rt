@@ -74,6 +74,7 @@ impl End {
     }
 
     /// Answers a request by ERROR.
+    #[inline(never)]
     pub(crate) fn refuse(
         &mut self,
         cid: Cid,

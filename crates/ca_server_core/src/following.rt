@@ -37,6 +37,7 @@ pub(crate) fn follow(
 }
 
 /// The circuit watches the record at this place. Without memory its end has ended.
+#[inline(never)]
 fn watch(
     circuits: &mut HeldTable<Circuit>,
     records: &mut ServedRecords,

@@ -74,6 +74,7 @@ impl ServerCore {
 
 /// One step of a circuit's end, which has ended if it broke, and how many bytes waited to be sent before it. None if there is no circuit, or its
 /// end had ended.
+#[inline(always)]
 fn step_on(
     port: u16,
     circuits: &mut HeldTable<Circuit>,
@@ -137,6 +138,7 @@ pub(crate) fn is_open(circuits: &HeldTable<Circuit>, circuit: Handle) -> bool
 }
 
 /// Takes a circuit out whose end has ended, and reports that.
+#[inline(never)]
 fn report(alloc: Global, circuits: &mut HeldTable<Circuit>, circuit: Handle) -> Step
     ensures { Reports circuits.old circuit result circuits.new }
 {
