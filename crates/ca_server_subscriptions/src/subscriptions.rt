@@ -19,6 +19,7 @@ use ca_wire::{Sid, Wanted};
 use indexmap::IndexMap;
 use std::alloc::{AllocError, Global};
 use std::marker::Model;
+use std::mem;
 
 /// The subscriptions of an end, in the order of their EVENT_ADDs, and the queues of their updates.
 #[derive(Drop)]
@@ -27,8 +28,8 @@ pub struct Subscriptions {
     queues: CircuitQueues<Update, EventQueue<Update>>,
     // The place after the subscription whose update was taken last: the next update is mostly of the one there. The key decides.
     next: usize,
-    // The value of an update that was shown: its memory is for the next.
-    spare: Option<Value>,
+    // The value of an update that was shown, or one without elements: its memory is for the next.
+    spare: Value,
 }
 
 impl Model for Subscriptions {
@@ -54,7 +55,7 @@ impl Subscriptions {
             standing: IndexMap::new(alloc),
             queues,
             next: 0,
-            spare: None,
+            spare: Value::Chars(Vec::new(alloc)),
         })
     }
 
@@ -204,7 +205,7 @@ impl Subscriptions {
             return Ok(());
         }
         let (key, queue) = (*key, standing.queue());
-        let room = self.spare.take();
+        let room = mem::replace(&mut self.spare, Value::Chars(Vec::new(alloc)));
         let update = Update::of_in(alloc, room, value, *meta)?;
         self.queues.post(queue, key, update);
         Ok(())
@@ -214,7 +215,7 @@ impl Subscriptions {
     pub fn recycle(&mut self, update: Update)
         ensures { self.new ≡ self.old }
     {
-        self.spare = Some(update.into_value());
+        self.spare = update.into_value();
     }
 
     /// The place of the queue that has the one at this place, if a post to the record of this name, with this mask, concerns it. Only

@@ -40,17 +40,17 @@ impl Update {
         }
     }
 
-    /// The same in the memory of a value that is used no more, if there is one of this type.
+    /// The same in the memory of a value that is used no more, if it is of this type.
     pub(crate) fn of_in(
         alloc: Global,
-        room: Option<Value>,
+        room: Value,
         value: &Value,
         meta: Meta,
     ) -> Result<Update, AllocError>
         requires { count_of (elements value.now) ≤ element_limit }
         ensures { IfOk result (λ u. u ≡ record { value = elements value.now; meta = meta }) }
     {
-        match value.copy_into(alloc, room) {
+        match value.copy_into(alloc, Some(room)) {
             Ok(value) => Ok(Update { value, meta }),
             Err(_) => Err(AllocError),
         }
