@@ -1,9 +1,10 @@
 //! Rounds of calls, to be timed from outside: `ca_bench WHAT SIZE ROUNDS`. The size of a board or a
-//! queue is not used. Without words it does nothing.
+//! queue under a lock is not used. Without words it does nothing.
 #![tactic(auto)]
 
 mod arenas;
 mod board;
+mod queues;
 mod records;
 
 use ca_dbr::{Meta, Value, read_value, write_value};
@@ -80,6 +81,9 @@ fn measured<R: Threads + Wait + Sync>(
         b"parts" => parts(alloc, size as usize, rounds),
         b"puts" => records::puts(alloc, size, rounds),
         b"posts" => records::posts(alloc, size, rounds),
+        b"queue-turns" => queues::on_queue(alloc, size, rounds, queues::POSTS),
+        b"ring-turns" => queues::on_ring(alloc, size, rounds, queues::POSTS),
+        b"replacing-posts" => queues::on_queue(alloc, size, rounds, 0),
         _ => board::measured(rt, alloc, what, rounds),
     }
 }
