@@ -1,11 +1,15 @@
 //! Rounds of calls, to be timed from outside: `ca_bench WHAT SIZE ROUNDS`. The size of a board or a
-//! queue under a lock is not used. Without words it does nothing.
+//! queue under a lock is not used. Without words it shows boards.
 #![tactic(auto)]
 
 mod arenas;
 mod board;
+mod boards;
 mod queues;
+mod racing;
 mod records;
+mod rounds;
+mod tickets;
 
 use ca_dbr::{Meta, Value, read_value, write_value};
 use ca_ids::IdTable;
@@ -14,6 +18,7 @@ use ca_text::{Command, Refusal};
 use ca_wire::{Ioid, Message, Sid, Wanted, put_request};
 use std::alloc::Global;
 use std::env;
+use std::io::Write;
 use std::process::ExitCode;
 use std::sync::Wait;
 use std::thread::Threads;
@@ -35,7 +40,8 @@ fn main(rt: HostRuntime) -> ExitCode {
     let Ok(words) = words_of(&rt) else {
         return ExitCode::FAILURE;
     };
-    match run(&rt, rt.alloc(), &words) {
+    let mut out = rt.stdout();
+    match run(&rt, rt.alloc(), &words, &mut out) {
         Ok(()) => ExitCode::SUCCESS,
         Err(_) => ExitCode::FAILURE,
     }
@@ -48,10 +54,15 @@ fn words_of(rt: &HostRuntime) -> Result<Vec<String>, Refusal> {
     }
 }
 
-fn run<R: Threads + Wait + Sync>(rt: &R, alloc: Global, words: &[String]) -> Result<(), Refusal> {
+fn run<R: Threads + Wait + Sync, W: Write>(
+    rt: &R,
+    alloc: Global,
+    words: &[String],
+    out: &mut W,
+) -> Result<(), Refusal> {
     let [what, size, rounds] = words else {
         return if words.is_empty() {
-            Ok(())
+            boards::show_all(rt, alloc, out)
         } else {
             Err(Refusal::BadText)
         };

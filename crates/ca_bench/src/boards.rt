@@ -1,25 +1,13 @@
-//! Boards, shown: a ticket from its arming to its end, and all cells at once with four callers in threads. What came of it is `stdout`.
-#![tactic(auto)]
+//! Boards, shown: a ticket from its arming to its end, and all cells at once with four callers in threads.
 
-mod racing;
-mod rounds;
-mod tickets;
-
+use crate::{racing, rounds, tickets};
 use ca_text::Refusal;
 use std::alloc::Global;
 use std::io::Write;
-use std::process::ExitCode;
 use std::thread::Threads;
 
-fn main(rt: HostRuntime) -> ExitCode {
-    let mut out = rt.stdout();
-    match show_all(&rt, rt.alloc(), &mut out) {
-        Ok(()) => ExitCode::SUCCESS,
-        Err(_) => ExitCode::FAILURE,
-    }
-}
-
-fn show_all<W: Write>(
+/// What came of it is `stdout`.
+pub(crate) fn show_all<W: Write>(
     rt: &(impl Threads + Sync),
     alloc: Global,
     out: &mut W,

@@ -1,5 +1,5 @@
 use Rattle.std.proofs.Common.{◌≡◌, ◌≤◌}
-use Rattle.ca_tests_board.proofs.tickets.each_generation.Given as goal
+use Rattle.ca_bench.proofs.tickets.each_generation.Given as goal
 
 abbrev pub invariant-loop-generation : goal.invariant-loop-generation
 invariant-loop-generation l = (l.core.board ≡ l.board-inside.cells.shared.table_id) × ((l.caller.board ≡ l.board-inside.cells.shared.table_id) × (l.given ≤ l.generation))

@@ -1,6 +1,6 @@
 use Rattle.std.proofs.Common.{◌≡◌}
 use Rattle.ca_board.specs.Outstanding.{AreDue}
-use Rattle.ca_tests_board.proofs.rounds.arm_all.Given as goal
+use Rattle.ca_bench.proofs.rounds.arm_all.Given as goal
 
 abbrev pub invariant-loop-number : goal.invariant-loop-number
 invariant-loop-number l = (l.core.board ≡ l.board) × AreDue l.core l.tickets.items

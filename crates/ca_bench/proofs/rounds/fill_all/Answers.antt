@@ -2,7 +2,7 @@ use Rattle.std.proofs.Common.{arith, ap, ◌∙◌}
 use mathlib.Core.Option.{some}
 use Rattle.ca_board.proofs.Outstanding.{due_filled, at_slice}
 use Rattle.ca_board.proofs.Seated.{filled_board}
-use Rattle.ca_tests_board.proofs.rounds.fill_all.Goals as goal
+use Rattle.ca_bench.proofs.rounds.fill_all.Goals as goal
 
 pub loop-place-init : goal.loop-place-init
 loop-place-init c = (c.requires.board, omega arith, λ j t l at. c.requires.due.each j t at)

@@ -1,5 +1,5 @@
 use Rattle.std.proofs.Common.{◌≤◌}
-use Rattle.ca_tests_board.proofs.racing.give_up_beside_fill.Given as goal
+use Rattle.ca_bench.proofs.racing.give_up_beside_fill.Given as goal
 
 abbrev pub invariant-loop-round : goal.invariant-loop-round
 invariant-loop-round g l = l.agreed ≤ l.round

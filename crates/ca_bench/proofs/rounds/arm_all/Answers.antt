@@ -2,7 +2,7 @@ use Rattle.std.proofs.Common.{sym, ap, ◌∙◌, subst}
 use Rattle.ca_board.specs.Views.{CoreView}
 use Rattle.ca_board.specs.Outstanding.{AreDue}
 use Rattle.ca_board.proofs.Outstanding.{due_more}
-use Rattle.ca_tests_board.proofs.rounds.arm_all.Goals as goal
+use Rattle.ca_bench.proofs.rounds.arm_all.Goals as goal
 
 pub loop-number-preserved : goal.loop-number-preserved
 loop-number-preserved c = let i = c.loop-number.invariant in let a = c.in_ok-ticket.ensures in

@@ -2,7 +2,7 @@
 ghost use Rattle.std.specs.Prelude.{◌≡◌, ◌≤◌, IfOk};
 ghost use Rattle.ca_board.specs.Outstanding.{AreDue};
 
-use crate::tell;
+use crate::boards::tell;
 use ca_board::{Board, CallerSeat, CoreSeat, Filled, Ticket};
 use ca_dbr::{Meta, Outcome, Value};
 use ca_text::{BOARD_CELLS, Refusal};
