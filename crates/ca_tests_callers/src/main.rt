@@ -1,52 +1,39 @@
-//! A client whose callers are four threads, against a server in the same process. All 1,024 tickets are outstanding at once, 256 for each caller: one
-//! request more is refused, and each caller collects the outcomes of its own tickets, once. What came of it is `stdout`.
+//! Servers and clients in one process, each with a thread of its own. What came of it is `stdout`:
+//!
+//! - a server whose device holds a put until a read on another circuit was answered (`holding`);
+//! - the lines `get`, `put` and `monitor`, what each says, and its status (`lines`);
+//! - a client whose callers are four threads (`callers`).
 //!
 //! With the words PORT CALLERS READS WINDOW it prints instead the microseconds that so many reads of TEMP by each caller took, with so many outstanding
-//! at each, from when the channel was live.
+//! at each, from when the channel was live (`timing`).
 #![tactic(auto)]
 
+mod callers;
+mod client;
+mod holding;
+mod lines;
+mod server;
 mod timing;
 
-use crate::timing::{measure, read_words};
-use ca_arena::Handle;
-use ca_board::Ticket;
-use ca_client::Caller;
-use ca_client_context::{Context, Engine, Nobody, Setting, Work, start};
-use ca_client_core::Address;
-use ca_dbr::{Outcome, Value};
-use ca_records::Records;
-use ca_serve::{Device, Places, serve};
+use crate::client::{Task, use_client};
+use crate::timing::read_words;
 use ca_text::Refusal;
 use std::alloc::Global;
+use std::env;
 use std::io::Write;
-use std::net::{Ipv4Addr, Net, SocketAddr, TcpListener, TcpStream, UdpSocket};
+use std::net::{Net, TcpListener, TcpStream};
 use std::process::ExitCode;
-use std::sync::atomic::{AtomicU64, Ordering};
-use std::sync::{Arc, Wait};
-use std::thread::{JoinHandle, Threads};
+use std::rt::Files;
+use std::sync::Wait;
+use std::thread::Threads;
 use std::time::Clock;
-use std::{env, thread};
-
-/// Waits for at most so many turns, which is long on an idle machine.
-const TURNS: u64 = 100_000;
-
-/// The tickets of a caller.
-const EACH: u32 = 256;
-
-/// The server's device, which has nothing to do.
-#[derive(Clone, Copy, Drop)]
-struct Prompt;
-
-impl Device for Prompt {
-    fn process(&self, _record: &[u8], _value: &Value) {}
-}
 
 fn main(rt: HostRuntime) -> ExitCode {
     let mut out = rt.stdout();
     let done = match words(&rt) {
         Ok(words) => match read_words(words.as_slice()) {
-            Some(course) => measure(rt, rt.alloc(), course, &mut out),
-            None => both_ends(rt, rt.alloc(), &mut out),
+            Some(course) => use_client(rt, rt.alloc(), course.port, Task::Read(course), &mut out),
+            None => show(rt, rt.alloc(), &mut out, &mut rt.stdout()),
         },
         Err(refusal) => Err(refusal),
     };
@@ -63,284 +50,36 @@ fn words(rt: &HostRuntime) -> Result<Vec<String>, Refusal> {
     }
 }
 
-/// The server in a thread of its own, which ends when the client's circuit is closed.
-fn both_ends<
+fn show<
     R: Threads
         + Wait
         + Clock
         + Net<Stream = TcpStream, Listener = TcpListener>
+        + Files
         + Copy
         + Drop
         + Send
         + 'static,
     W: Write,
->(rt: R, alloc: Global, out: &mut W) -> Result<(), Refusal> {
-    let (places, address) = bound(&rt)?;
-    let records = records(alloc)?;
-    let spawned = thread::spawn(&rt, move || {
-        serve(
-            rt,
-            alloc,
-            places,
-            &records,
-            Vec::new(alloc),
-            Prompt,
-            Some(1),
-        )
-    });
-    let Ok(server) = spawned else {
-        return Err(Refusal::Device);
-    };
-    let talked = use_client(rt, alloc, address, out);
-    let served = server.join(&rt);
-    talked?;
-    served?;
-    Ok(())
+    E: Write,
+>(rt: R, alloc: Global, out: &mut W, err: &mut E) -> Result<(), Refusal> {
+    holding::show(rt, alloc, out)?;
+    lines::show(rt, alloc, out, err)?;
+    callers::show(rt, alloc, out)
 }
 
-/// The server's sockets, on one port of the system's choice, and where searches go.
-fn bound<R: Net<Stream = TcpStream, Listener = TcpListener>>(
-    rt: &R,
-) -> Result<(Places, Address), Refusal> {
-    let any = SocketAddr::from((Ipv4Addr::LOCALHOST, 0));
-    let Ok(listener) = TcpListener::bind(rt, any) else {
-        return Err(Refusal::Device);
-    };
-    let Ok(local) = listener.local_addr() else {
-        return Err(Refusal::Device);
-    };
-    let Ok(datagrams) = UdpSocket::bind(rt, local) else {
-        return Err(Refusal::Device);
-    };
-    let address = Address {
-        host: Ipv4Addr::LOCALHOST.to_bits(),
-        port: local.port(),
-    };
-    let beacons = SocketAddr::from((Ipv4Addr::LOCALHOST, 5065));
-    Ok((
-        Places {
-            listener,
-            datagrams,
-            beacons,
-        },
-        address,
-    ))
-}
-
-/// The record WAVE, of as many LONGs as there are tickets.
-fn records(alloc: Global) -> Result<Records, Refusal> {
-    let mut records = Records::new(alloc);
-    if !records.has(b"WAVE") {
-        let wave = Value::Longs(vec![in alloc; 7; 1_024]?);
-        records.define(b"WAVE", 1_024, false, wave)?;
-    }
-    Ok(records)
-}
-
-/// The client, and its thread of input and output.
-fn use_client<
-    R: Threads
-        + Wait
-        + Clock
-        + Net<Stream = TcpStream, Listener = TcpListener>
-        + Copy
-        + Drop
-        + Send
-        + 'static,
-    W: Write,
->(rt: R, alloc: Global, server: Address, out: &mut W) -> Result<(), Refusal> {
-    let setting = setting(alloc, server)?;
-    let (context, engine) = Context::new(rt, alloc, setting)?;
-    let context = Arc::new(alloc, context)?;
-    talk_beside(rt, alloc, &context, engine, out)
-}
-
-fn setting(alloc: Global, server: Address) -> Result<Setting, Refusal> {
-    Ok(Setting {
-        user: Vec::from_slice(alloc, b"ca")?,
-        host: Vec::from_slice(alloc, b"localhost")?,
-        servers: Vec::from_slice(alloc, &[server])?,
-        names: Vec::new(alloc),
-        repeater: None,
-    })
-}
-
-fn talk_beside<
-    R: Threads
-        + Wait
-        + Clock
-        + Net<Stream = TcpStream, Listener = TcpListener>
-        + Copy
-        + Drop
-        + Send
-        + 'static,
-    W: Write,
->(
-    rt: R,
-    alloc: Global,
-    context: &Arc<Context<Nobody>>,
-    engine: Engine<R, Nobody>,
-    out: &mut W,
-) -> Result<(), Refusal> {
-    let thread = start(rt, engine)?;
-    let talked = talk(rt, alloc, context, out);
-    context.end(&rt);
-    thread.join(&rt);
-    talked
-}
-
-/// Uses up the tickets, has four callers collect them, and asks once more.
-fn talk<R: Threads + Wait + Clock + Copy + Send + 'static, W: Write>(
-    rt: R,
-    alloc: Global,
-    context: &Arc<Context<Nobody>>,
-    out: &mut W,
-) -> Result<(), Refusal> {
-    let wave = context.open(&rt, b"WAVE", 0)?;
-    if !context.wait_live(&rt, wave, TURNS) {
-        return Err(Refusal::NotLive);
-    }
-    let right = Arc::new(alloc, AtomicU64::new(0))?;
-    let parts = all_parts(&rt, alloc, context, wave, &right)?;
-    one_more(&rt, context, wave, out)?;
-    collected(rt, alloc, parts)?;
-    say(out, "collected", right.load(Ordering::SeqCst))?;
-    one_more(&rt, context, wave, out)
-}
-
-/// What becomes of one request more.
-fn one_more<R: Wait, W: Write>(
-    rt: &R,
-    context: &Context<Nobody>,
-    wave: Handle,
-    out: &mut W,
-) -> Result<(), Refusal> {
-    let said = match context.get(rt, wave, 5, 1) {
-        Ok(_) => writeln!(out, "one more: accepted"),
-        Err(refusal) => writeln!(out, "one more: refused {refusal}"),
-    };
-    match said {
-        Ok(()) => Ok(()),
-        Err(_) => Err(Refusal::Device),
-    }
-}
-
-fn say<W: Write>(out: &mut W, what: &str, number: u64) -> Result<(), Refusal> {
+/// Tells a number.
+fn tell<W: Write>(out: &mut W, what: &str, number: u64) -> Result<(), Refusal> {
     match writeln!(out, "{what}: {number}") {
         Ok(()) => Ok(()),
         Err(_) => Err(Refusal::Device),
     }
 }
 
-/// A caller with its tickets: the first asked for `first` elements, the next for one more, and so on.
-#[derive(Drop)]
-struct Part {
-    context: Arc<Context<Nobody>>,
-    caller: Caller,
-    tickets: Vec<Ticket>,
-    first: u32,
-    // How many outcomes were what their ticket asked for, and there once.
-    right: Arc<AtomicU64>,
-}
-
-/// Four callers, with 256 tickets each.
-fn all_parts<R: Wait>(
-    rt: &R,
-    alloc: Global,
-    context: &Arc<Context<Nobody>>,
-    wave: Handle,
-    right: &Arc<AtomicU64>,
-) -> Result<Vec<Part>, Refusal> {
-    let mut parts = Vec::new(alloc);
-    for first in [1u32, 257, 513, 769] {
-        parts.push(make_part(rt, alloc, context, wave, first, right)?)?;
-    }
-    Ok(parts)
-}
-
-fn make_part<R: Wait>(
-    rt: &R,
-    alloc: Global,
-    context: &Arc<Context<Nobody>>,
-    wave: Handle,
-    first: u32,
-    right: &Arc<AtomicU64>,
-) -> Result<Part, Refusal> {
-    Ok(Part {
-        context: Arc::try_clone(context)?,
-        caller: context.caller(rt)?,
-        tickets: asked(rt, alloc, context, wave, first)?,
-        first,
-        right: Arc::try_clone(right)?,
-    })
-}
-
-/// Reads of so many elements, of one more, and so on.
-fn asked<R: Wait>(
-    rt: &R,
-    alloc: Global,
-    context: &Context<Nobody>,
-    wave: Handle,
-    first: u32,
-) -> Result<Vec<Ticket>, Refusal> {
-    let mut tickets = Vec::new(alloc);
-    for place in 0..EACH {
-        tickets.push(context.get(rt, wave, 5, first.saturating_add(place))?)?;
-    }
-    Ok(tickets)
-}
-
-/// Starts a thread for each caller, and waits for all.
-fn collected<R: Threads + Wait + Clock + Copy + Send + 'static>(
-    rt: R,
-    alloc: Global,
-    parts: Vec<Part>,
-) -> Result<(), Refusal> {
-    let mut threads: Vec<JoinHandle<()>> = Vec::new(alloc);
-    for part in parts {
-        threads.push(start(rt, part)?)?;
-    }
-    for thread in threads {
-        thread.join(&rt);
-    }
-    Ok(())
-}
-
-impl Work for Part {
-    fn run<R: Wait + Clock>(self, rt: &R) {
-        let Part {
-            context,
-            mut caller,
-            tickets,
-            first,
-            right,
-        } = self;
-        let mut wanted = first as usize;
-        for ticket in tickets {
-            if is_right(rt, &context, &mut caller, ticket, wanted) {
-                right.fetch_add(1, Ordering::SeqCst);
-            }
-            wanted = wanted.saturating_add(1);
-        }
-    }
-}
-
-/// Whether a ticket's outcome has so many elements, and is there once.
-fn is_right<R: Wait>(
-    rt: &R,
-    context: &Context<Nobody>,
-    caller: &mut Caller,
-    ticket: Ticket,
-    wanted: usize,
-) -> bool {
-    let outcome = context.wait(rt, caller, ticket, TURNS);
-    longs_in(&outcome) == wanted && context.collect(caller, ticket).is_none()
-}
-
-/// How many LONGs an outcome has: none if it is no value.
-fn longs_in(outcome: &Option<Outcome>) -> usize {
-    match outcome {
-        Some(Outcome::Value(Value::Longs(longs), _)) => longs.len(),
-        _ => 0,
+/// Says a word.
+fn say<W: Write>(out: &mut W, what: &str, word: &str) -> Result<(), Refusal> {
+    match writeln!(out, "{what} {word}") {
+        Ok(()) => Ok(()),
+        Err(_) => Err(Refusal::Device),
     }
 }

@@ -1,14 +1,11 @@
 //! Reads by callers in threads, timed: what `bench/client_threads` runs.
-use crate::setting;
 use ca_arena::Handle;
 use ca_board::Ticket;
 use ca_client::Caller;
-use ca_client_context::{Context, Engine, Nobody, Work, start};
-use ca_client_core::Address;
+use ca_client_context::{Context, Nobody, Work, start};
 use ca_text::Refusal;
 use std::alloc::Global;
 use std::io::Write;
-use std::net::{Ipv4Addr, Net, TcpListener, TcpStream};
 use std::sync::atomic::{AtomicU64, Ordering};
 use std::sync::{Arc, Wait};
 use std::thread::{JoinHandle, Threads};
@@ -20,7 +17,7 @@ const TURNS: u64 = 1_000_000;
 /// What is measured: at this port, by so many callers, so many reads of TEMP each, with so many outstanding at each.
 #[derive(Clone, Copy)]
 pub(crate) struct Course {
-    port: u16,
+    pub(crate) port: u16,
     callers: u64,
     reads: u64,
     window: usize,
@@ -39,58 +36,22 @@ pub(crate) fn read_words(words: &[String]) -> Option<Course> {
     })
 }
 
-/// Prints the microseconds that all reads took.
-pub(crate) fn measure<
-    R: Threads
-        + Wait
-        + Clock
-        + Net<Stream = TcpStream, Listener = TcpListener>
-        + Copy
-        + Drop
-        + Send
-        + 'static,
-    W: Write,
->(rt: R, alloc: Global, course: Course, out: &mut W) -> Result<(), Refusal> {
-    let server = Address {
-        host: Ipv4Addr::LOCALHOST.to_bits(),
-        port: course.port,
-    };
-    let setting = setting(alloc, server)?;
-    let (context, engine) = Context::new(rt, alloc, setting)?;
-    let context = Arc::new(alloc, context)?;
-    measure_beside(rt, alloc, &context, engine, course, out)
-}
-
-fn measure_beside<
-    R: Threads
-        + Wait
-        + Clock
-        + Net<Stream = TcpStream, Listener = TcpListener>
-        + Copy
-        + Drop
-        + Send
-        + 'static,
-    W: Write,
->(
+/// Prints the microseconds from when the channel is live until all callers have read.
+pub(crate) fn timed<R: Threads + Wait + Clock + Copy + Send + 'static, W: Write>(
     rt: R,
     alloc: Global,
     context: &Arc<Context<Nobody>>,
-    engine: Engine<R, Nobody>,
     course: Course,
     out: &mut W,
 ) -> Result<(), Refusal> {
-    let thread = start(rt, engine)?;
-    let took = timed(rt, alloc, context, course);
-    context.end(&rt);
-    thread.join(&rt);
-    match writeln!(out, "{}", took?) {
+    let took = took(rt, alloc, context, course)?;
+    match writeln!(out, "{took}") {
         Ok(()) => Ok(()),
         Err(_) => Err(Refusal::Device),
     }
 }
 
-// The microseconds from when the channel is live until all callers have read.
-fn timed<R: Threads + Wait + Clock + Copy + Send + 'static>(
+fn took<R: Threads + Wait + Clock + Copy + Send + 'static>(
     rt: R,
     alloc: Global,
     context: &Arc<Context<Nobody>>,

@@ -1,14 +1,14 @@
-//! A server whose device holds a put until a read on another circuit was answered, and two clients of it, in one process. What came of it is `stdout`.
-#![tactic(auto)]
+//! A server whose device holds a put until a read on another circuit was answered, and two clients of it, which speak the protocol by hand.
 
+use crate::server::{bound, start_server};
+use crate::{say, tell};
 use ca_dbr::Value;
-use ca_records::Records;
-use ca_serve::{Device, Places, serve};
+use ca_script::read_records;
+use ca_serve::Device;
 use ca_text::Refusal;
 use std::alloc::Global;
 use std::io::{Read, Write};
-use std::net::{Ipv4Addr, Net, SocketAddr, TcpListener, TcpStream, UdpSocket};
-use std::process::ExitCode;
+use std::net::{Net, SocketAddr, TcpListener, TcpStream};
 use std::sync::atomic::{AtomicU64, Ordering};
 use std::sync::{Arc, Wait};
 use std::thread;
@@ -61,16 +61,8 @@ fn new_signs(alloc: Global) -> Result<Arc<Signs>, Refusal> {
     )?)
 }
 
-fn main(rt: HostRuntime) -> ExitCode {
-    let mut out = rt.stdout();
-    match both_ends(rt, rt.alloc(), &mut out) {
-        Ok(()) => ExitCode::SUCCESS,
-        Err(_) => ExitCode::FAILURE,
-    }
-}
-
-/// The server in a thread of its own, which ends once both circuits are closed.
-fn both_ends<
+/// The server ends once both circuits are closed.
+pub(crate) fn show<
     R: Threads
         + Wait
         + Clock
@@ -85,65 +77,15 @@ fn both_ends<
     let device = Gate {
         signs: Arc::try_clone(&signs)?,
     };
+    let file = read_records(alloc, b"record SLOW LONG 1 slow 3\n")?;
     let (places, address) = bound(&rt)?;
-    let records = records(alloc)?;
-    let spawned = thread::spawn(&rt, move || {
-        serve(
-            rt,
-            alloc,
-            places,
-            &records,
-            Vec::new(alloc),
-            device,
-            Some(2),
-        )
-    });
-    let Ok(server) = spawned else {
-        return Err(Refusal::Device);
-    };
+    let server = start_server(rt, alloc, places, file, device, 2)?;
     let talked = talk(&rt, &signs, address, out);
     let served = server.join(&rt);
     talked?;
     tell(out, "writes that the server applied", served?)?;
-    tell(
-        out,
-        "puts that passed the device",
-        signs.passed.load(Ordering::SeqCst),
-    )
-}
-
-/// The server's sockets, on one port of the system's choice, and its address.
-fn bound<R: Net<Stream = TcpStream, Listener = TcpListener>>(
-    rt: &R,
-) -> Result<(Places, SocketAddr), Refusal> {
-    let any = SocketAddr::from((Ipv4Addr::LOCALHOST, 0));
-    let Ok(listener) = TcpListener::bind(rt, any) else {
-        return Err(Refusal::Device);
-    };
-    let Ok(address) = listener.local_addr() else {
-        return Err(Refusal::Device);
-    };
-    let Ok(datagrams) = UdpSocket::bind(rt, any) else {
-        return Err(Refusal::Device);
-    };
-    let beacons = SocketAddr::from((Ipv4Addr::LOCALHOST, 5065));
-    Ok((
-        Places {
-            listener,
-            datagrams,
-            beacons,
-        },
-        address,
-    ))
-}
-
-/// A record that is slow.
-fn records(alloc: Global) -> Result<Records, Refusal> {
-    let mut records = Records::new(alloc);
-    if !records.has(b"SLOW") {
-        records.define(b"SLOW", 1, true, Value::Longs(vec![in alloc; 3]?))?;
-    }
-    Ok(records)
+    let passed = signs.passed.load(Ordering::SeqCst);
+    tell(out, "puts that passed the device", passed)
 }
 
 /// A put on one circuit, which the device holds; a read on another; and then the put is let go, and its circuit reads.
@@ -158,11 +100,11 @@ fn talk<R: Net<Stream = TcpStream, Listener = TcpListener>, W: Write>(
     let one = opened(&first)?;
     let two = opened(&second)?;
     put(&first, one, 42)?;
-    say(out, "the device has the put", is_set(&signs.entered))?;
+    say_yes(out, "the device has the put:", is_set(&signs.entered))?;
     let read_beside = read(&second, two).is_ok();
-    say(out, "a read on another circuit is answered", read_beside)?;
+    say_yes(out, "a read on another circuit is answered:", read_beside)?;
     signs.opened.store(1, Ordering::SeqCst);
-    say(out, "the put is done", is_done(&first)?)?;
+    say_yes(out, "the put is done:", is_done(&first)?)?;
     tell(out, "its circuit reads", read(&first, one)?)
 }
 
@@ -231,18 +173,6 @@ fn read(stream: &TcpStream, sid: u32) -> Result<u64, Refusal> {
 }
 
 /// Says whether something holds.
-fn say<W: Write>(out: &mut W, what: &str, holds: bool) -> Result<(), Refusal> {
-    let word = if holds { "yes" } else { "no" };
-    match writeln!(out, "{what}: {word}") {
-        Ok(()) => Ok(()),
-        Err(_) => Err(Refusal::Device),
-    }
-}
-
-/// Tells a number.
-fn tell<W: Write>(out: &mut W, what: &str, number: u64) -> Result<(), Refusal> {
-    match writeln!(out, "{what}: {number}") {
-        Ok(()) => Ok(()),
-        Err(_) => Err(Refusal::Device),
-    }
+fn say_yes<W: Write>(out: &mut W, what: &str, holds: bool) -> Result<(), Refusal> {
+    say(out, what, if holds { "yes" } else { "no" })
 }

@@ -1,20 +1,15 @@
-//! The lines `get`, `put` and `monitor` against a server in the same process: each line, what it says, and its status are in `stdout`.
-#![tactic(auto)]
+//! The lines `get`, `put` and `monitor` against a server: each line, what it says, and its status.
 
-ghost use Rattle.std.specs.Prelude.{◌<◌, ◌^◌};
-
-use ca_dbr::Value;
+use crate::say;
+use crate::server::{Prompt, bound, start_server};
 use ca_link::Writer;
-use ca_script::{RecordFile, read_records};
-use ca_serve::{Device, Places, serve};
+use ca_script::read_records;
 use ca_text::Refusal;
 use std::alloc::Global;
 use std::io::Write;
-use std::net::{Ipv4Addr, Net, SocketAddr, TcpListener, TcpStream, UdpSocket};
-use std::process::ExitCode;
+use std::net::{Net, SocketAddr, TcpListener, TcpStream};
 use std::rt::Files;
 use std::sync::Wait;
-use std::thread;
 use std::thread::Threads;
 use std::time::Clock;
 
@@ -41,24 +36,7 @@ record GAIN DOUBLE 1 quick 3ff0000000000000
 record NOTE STRING 1 quick 4f4b
 ";
 
-/// A device that has nothing to do.
-#[derive(Clone, Copy, Drop)]
-struct Prompt;
-
-impl Device for Prompt {
-    fn process(&self, _record: &[u8], _value: &Value) {}
-}
-
-fn main(rt: HostRuntime) -> ExitCode {
-    let mut out = rt.stdout();
-    let mut err = rt.stdout();
-    match both_ends(rt, rt.alloc(), &mut out, &mut err) {
-        Ok(()) => ExitCode::SUCCESS,
-        Err(_) => ExitCode::FAILURE,
-    }
-}
-
-fn both_ends<
+pub(crate) fn show<
     R: Threads
         + Wait
         + Clock
@@ -73,61 +51,7 @@ fn both_ends<
 >(rt: R, alloc: Global, out: &mut W, err: &mut E) -> Result<(), Refusal> {
     let file = read_records(alloc, RECORDS)?;
     let (places, address) = bound(&rt)?;
-    serve_and_ask(rt, alloc, file, places, address, out, err)
-}
-
-fn bound<R: Net<Stream = TcpStream, Listener = TcpListener>>(
-    rt: &R,
-) -> Result<(Places, SocketAddr), Refusal> {
-    let any = SocketAddr::from((Ipv4Addr::LOCALHOST, 0));
-    let Ok(listener) = TcpListener::bind(rt, any) else {
-        return Err(Refusal::Device);
-    };
-    let Ok(address) = listener.local_addr() else {
-        return Err(Refusal::Device);
-    };
-    let Ok(datagrams) = UdpSocket::bind(rt, address) else {
-        return Err(Refusal::Device);
-    };
-    let beacons = SocketAddr::from((Ipv4Addr::LOCALHOST, 5065));
-    Ok((
-        Places {
-            listener,
-            datagrams,
-            beacons,
-        },
-        address,
-    ))
-}
-
-fn serve_and_ask<
-    R: Threads
-        + Wait
-        + Clock
-        + Net<Stream = TcpStream, Listener = TcpListener>
-        + Files
-        + Copy
-        + Drop
-        + Send
-        + 'static,
-    W: Write,
-    E: Write,
->(
-    rt: R,
-    alloc: Global,
-    file: RecordFile,
-    places: Places,
-    address: SocketAddr,
-    out: &mut W,
-    err: &mut E,
-) -> Result<(), Refusal> {
-    let spawned = thread::spawn(&rt, move || {
-        let RecordFile { records, rules } = file;
-        serve(rt, alloc, places, &records, rules, Prompt, Some(CIRCUITS))
-    });
-    let Ok(server) = spawned else {
-        return Err(Refusal::Device);
-    };
+    let server = start_server(rt, alloc, places, file, Prompt, CIRCUITS)?;
     let asked = ask_all(rt, alloc, address, out, err);
     let served = server.join(&rt);
     asked?;
@@ -172,13 +96,6 @@ fn ask<
 >(rt: R, alloc: Global, words: &[String], out: &mut W, err: &mut E) -> u8 {
     let mut sink = Writer::new(out);
     ca_tools::run(rt, alloc, words, &mut sink, err)
-}
-
-fn say<W: Write>(out: &mut W, what: &str, text: &str) -> Result<(), Refusal> {
-    match writeln!(out, "{what} {text}") {
-        Ok(()) => Ok(()),
-        Err(_) => Err(Refusal::Device),
-    }
 }
 
 /// The words of a line, and then where the server is.
