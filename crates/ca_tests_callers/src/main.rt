@@ -1,4 +1,4 @@
-//! Servers and clients in one process, each with a thread of its own. What came of it is `stdout`:
+//! What lies under a client's lock (`desk`), and servers and clients in one process, each with a thread of its own. What came of it is `stdout`:
 //!
 //! - a server whose device holds a put until a read on another circuit was answered (`holding`);
 //! - the lines `get`, `put` and `monitor`, what each says, and its status (`lines`);
@@ -10,6 +10,7 @@
 
 mod callers;
 mod client;
+mod desk;
 mod holding;
 mod lines;
 mod server;
@@ -63,6 +64,7 @@ fn show<
     W: Write,
     E: Write,
 >(rt: R, alloc: Global, out: &mut W, err: &mut E) -> Result<(), Refusal> {
+    desk::show(alloc, out)?;
     holding::show(rt, alloc, out)?;
     lines::show(rt, alloc, out, err)?;
     callers::show(rt, alloc, out)

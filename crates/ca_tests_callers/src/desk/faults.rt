@@ -1,6 +1,6 @@
 //! A socket that fails.
-use crate::circuit::{live, memory, turn};
-use crate::requests::Requests;
+use crate::desk::circuit::{live, memory, turn};
+use crate::desk::requests::Requests;
 use ca_arena::Handle;
 use ca_board::Ticket;
 use ca_client::{Caller, Desk, Tape};

@@ -1,31 +1,22 @@
 //! What lies under a client's lock, with a socket in memory. Requests that the core refuses use up no cells of the board, and neither do requests that
 //! complete; a full board refuses a request before the core does; and a socket that fails at any of its calls completes each open request with Disconnected,
-//! once. What came of it is `stdout`.
-#![tactic(auto)]
+//! once.
 
 mod circuit;
 mod faults;
 mod requests;
 
-use crate::circuit::{live, memory, turn};
-use crate::faults::{lost, lost_at};
-use crate::requests::{Requests, accepted, answered, make_requests, refused_as};
+use crate::desk::circuit::{live, memory, turn};
+use crate::desk::faults::{lost, lost_at};
+use crate::desk::requests::{Requests, accepted, answered, make_requests, refused_as};
+use crate::tell;
 use ca_client::{Caller, Desk};
 use ca_client_core::Address;
 use ca_text::Refusal;
 use std::alloc::Global;
 use std::io::Write;
-use std::process::ExitCode;
 
-fn main(rt: HostRuntime) -> ExitCode {
-    let mut out = rt.stdout();
-    match show(rt.alloc(), &mut out) {
-        Ok(()) => ExitCode::SUCCESS,
-        Err(_) => ExitCode::FAILURE,
-    }
-}
-
-fn show<W: Write>(alloc: Global, out: &mut W) -> Result<(), Refusal> {
+pub(crate) fn show<W: Write>(alloc: Global, out: &mut W) -> Result<(), Refusal> {
     let mut desk = new_desk(alloc)?;
     show_all(alloc, &mut desk, out)
 }
@@ -81,9 +72,6 @@ fn show_faults<W: Write>(
     Ok(())
 }
 
-fn say<W: Write>(out: &mut W, what: &str, number: usize) -> Result<(), Refusal> {
-    match writeln!(out, "{what}: {number}") {
-        Ok(()) => Ok(()),
-        Err(_) => Err(Refusal::Device),
-    }
+fn say<W: Write>(out: &mut W, what: &str, count: usize) -> Result<(), Refusal> {
+    tell(out, what, count as u64)
 }

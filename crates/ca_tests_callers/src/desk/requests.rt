@@ -1,5 +1,5 @@
 //! Requests, by the cells that they use.
-use crate::circuit::{step, turn};
+use crate::desk::circuit::{step, turn};
 use ca_arena::Handle;
 use ca_board::Ticket;
 use ca_client::{Ask, Caller, Desk, Request, Tape};
