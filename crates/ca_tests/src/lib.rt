@@ -1,8 +1,10 @@
-//! The tests of the libraries below the cores, a module for each, in a crate of their own: a crate with tests is proved a second time, with
-//! them, and this one has nothing else to prove. They show what no contract says. What a core shows of these libraries is a line of
-//! `tools/calls/by-hand`, and each growth of theirs is refused there by `tools/growths`.
+//! The tests of the libraries, a module for each, in a crate of their own: a crate with tests is proved a second time, with them, and this one has
+//! nothing else to prove. They show what no contract says. What a core shows of these libraries is a line of `tools/calls/by-hand`, and each
+//! growth of theirs is refused there by `tools/growths`; what the program shows is a case in `vectors`.
 #![tactic(auto)]
 
+#[cfg(test)]
+mod answer;
 #[cfg(test)]
 mod arena;
 #[cfg(test)]
@@ -12,9 +14,15 @@ mod dgram;
 #[cfg(test)]
 mod drawn;
 #[cfg(test)]
+mod lines;
+#[cfg(test)]
 mod link;
 #[cfg(test)]
 mod repeat;
+#[cfg(test)]
+mod repeater;
+#[cfg(test)]
+mod replay;
 #[cfg(test)]
 mod script;
 #[cfg(test)]
