@@ -2,7 +2,7 @@
 //! caller collects the outcomes of its own tickets, once.
 
 use crate::client::{Task, use_client};
-use crate::server::{Prompt, bound, start_server};
+use crate::server::{bound, start_server};
 use crate::tell;
 use ca_arena::Handle;
 use ca_board::Ticket;
@@ -40,7 +40,7 @@ pub(crate) fn show<
 >(rt: R, alloc: Global, out: &mut W) -> Result<(), Refusal> {
     let file = records(alloc)?;
     let (places, address) = bound(&rt)?;
-    let server = start_server(rt, alloc, places, file, Prompt, 1)?;
+    let server = start_server(rt, alloc, places, file, 1)?;
     let talked = use_client(rt, alloc, address.port(), Task::UseUp, out);
     let served = server.join(&rt);
     talked?;

@@ -1,10 +1,10 @@
 //! A server whose device holds a put until a read on another circuit was answered, and two clients of it, which speak the protocol by hand.
 
-use crate::server::{bound, start_server};
+use crate::server::bound;
 use crate::{say, tell};
 use ca_dbr::Value;
-use ca_script::read_records;
-use ca_serve::Device;
+use ca_script::{RecordFile, read_records};
+use ca_serve::{Device, serve};
 use ca_text::Refusal;
 use std::alloc::Global;
 use std::io::{Read, Write};
@@ -79,7 +79,13 @@ pub(crate) fn show<
     };
     let file = read_records(alloc, b"record SLOW LONG 1 slow 3\n")?;
     let (places, address) = bound(&rt)?;
-    let server = start_server(rt, alloc, places, file, device, 2)?;
+    let spawned = thread::spawn(&rt, move || {
+        let RecordFile { records, rules } = file;
+        serve(rt, alloc, places, &records, rules, device, Some(2))
+    });
+    let Ok(server) = spawned else {
+        return Err(Refusal::Device);
+    };
     let talked = talk(&rt, &signs, address, out);
     let served = server.join(&rt);
     talked?;

@@ -1,7 +1,7 @@
 //! The lines `get`, `put` and `monitor` against a server: each line, what it says, and its status.
 
 use crate::say;
-use crate::server::{Prompt, bound, start_server};
+use crate::server::{bound, start_server};
 use ca_link::Writer;
 use ca_script::read_records;
 use ca_text::Refusal;
@@ -51,7 +51,7 @@ pub(crate) fn show<
 >(rt: R, alloc: Global, out: &mut W, err: &mut E) -> Result<(), Refusal> {
     let file = read_records(alloc, RECORDS)?;
     let (places, address) = bound(&rt)?;
-    let server = start_server(rt, alloc, places, file, Prompt, CIRCUITS)?;
+    let server = start_server(rt, alloc, places, file, CIRCUITS)?;
     let asked = ask_all(rt, alloc, address, out, err);
     let served = server.join(&rt);
     asked?;

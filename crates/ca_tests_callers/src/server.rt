@@ -13,7 +13,7 @@ use std::time::Clock;
 
 /// A device that has nothing to do.
 #[derive(Clone, Copy, Drop)]
-pub(crate) struct Prompt;
+struct Prompt;
 
 impl Device for Prompt {
     fn process(&self, _record: &[u8], _value: &Value) {}
@@ -44,21 +44,17 @@ pub(crate) fn bound<R: Net<Stream = TcpStream, Listener = TcpListener>>(
     ))
 }
 
-/// Serves these records until so many circuits are closed.
-pub(crate) fn start_server<
-    R: Threads + Wait + Clock + Net + Copy + Drop + Send + 'static,
-    D: Device + Send + Sync + 'static,
->(
+/// Serves these records, with a device that has nothing to do, until so many circuits are closed.
+pub(crate) fn start_server<R: Threads + Wait + Clock + Net + Copy + Drop + Send + 'static>(
     rt: R,
     alloc: Global,
     places: Places,
     file: RecordFile,
-    device: D,
     circuits: u64,
 ) -> Result<JoinHandle<Result<u64, Refusal>>, Refusal> {
     let spawned = thread::spawn(&rt, move || {
         let RecordFile { records, rules } = file;
-        serve(rt, alloc, places, &records, rules, device, Some(circuits))
+        serve(rt, alloc, places, &records, rules, Prompt, Some(circuits))
     });
     match spawned {
         Ok(server) => Ok(server),
