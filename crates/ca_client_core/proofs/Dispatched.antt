@@ -23,7 +23,8 @@ use Rattle.ca_model.specs.Hears.{Answers, Completes, Effect, Fails, Finds, Finds
 use Rattle.ca_model.specs.Hears as hears
 use Rattle.ca_model.specs.Speech.{Is}
 use Rattle.ca_monitor.specs.Subscriptions.{confirmed_by}
-use Rattle.ca_client_core.specs.Dispatch.{HearsOr, IsReply}
+use Rattle.ca_client_core.specs.Dispatch.{HearsOne, HearsOr, IsReply}
+use Rattle.ca_client_core.specs.declared.dispatching.Heard.{Heard}
 use Rattle.ca_client_core.specs.First.{MayWant}
 use Rattle.ca_client_core.specs.Hearing.{FindsOr, HasEffect, HearsReply, HearsReplyTo}
 use Rattle.ca_client_core.proofs.Effects.{head-of}
@@ -168,13 +169,20 @@ out-for w x m (Some (q, r)) u new is few are (stage, image, same) =
     let tells : e.notices ≢ [] = λ none. absurd cc in
     (e, subst (λ (s : Stage). Completes x m q s e) (sym stage) (o.0, o.1, refl), inr (inr (inl tells)), same)
 
-pub reply-out : {Y : Type 0} (w : Vec Y Global) (x : Client) (c : Handle) (m : Fields) (u : AllocError) (r : Result (List notice.Notice) AllocError) (new : Client) → IsReply m → m.count < 2 ^ 32 → AreBytes m.payload → HearsReply x c m (Err u) new → IsErr r → HearsOr x c m r new
-reply-out w x c m u (Ok told) new is few are did err =
+pub reply-out : {Y : Type 0} (w : Vec Y Global) (x : Client) (c : Handle) (m : Fields) (u : AllocError) (r : Result Heard AllocError) (new : Client) → IsReply m → m.count < 2 ^ 32 → AreBytes m.payload → HearsReply x c m (Err u) new → IsErr r → HearsOne x c m r new
+reply-out w x c m u (Ok heard) new is few are did err =
     let bad : false ≡ true = err in
     absurd cc
 reply-out w x c m u (Err f) new is few are did err =
     let e = out-for w x m (answered_by c m.command m.p2 x.requests) u new is few are did in
     (e.0, hears.Reply is e.1, e.2, e.3)
+
+-- there was no memory for another message
+pub other-out : (x : Client) (c : Handle) (m : Fields) (u : AllocError) (r : Result Heard AllocError) (new : Client) → HearsOr x c m (Err u) new → IsErr r → HearsOne x c m r new
+other-out x c m u (Ok heard) new did err =
+    let bad : false ≡ true = err in
+    absurd cc
+other-out x c m u (Err f) new did err = did
 
 pub update-out : {Y : Type 0} (w : Vec Y Global) (x : Client) (c : Handle) (m : Fields) (r : Result (List notice.Notice) AllocError) → Is command.EventAdd m → m.payload ≢ [] → m.count < 2 ^ 32 → AreBytes m.payload → IsErr r → HearsOr x c m r x
 update-out w x c m (Ok told) is some few are err =

@@ -5,9 +5,9 @@ ghost use Rattle.ca_text.specs.declared.command.Command.TheVariants as command;
 ghost use Rattle.ca_dbr.specs.Octets.{AreBytes};
 ghost use Rattle.ca_ids.specs.Table.{under};
 ghost use Rattle.ca_model.specs.Client.{ClientCircuit};
-ghost use Rattle.ca_client_core.specs.Hearing.{completed, updated};
+ghost use Rattle.ca_client_core.specs.Hearing.{updated};
 ghost use Rattle.ca_client_core.specs.Notices.{noticed};
-ghost use Rattle.ca_client_core.specs.Dispatch.{HearsAs, HearsOr, IsReply};
+ghost use Rattle.ca_client_core.specs.Dispatch.{HearsAs, HearsOne, HearsOr, IsReply};
 
 use crate::client::ClientCore;
 use crate::notice::Notice;
@@ -19,10 +19,37 @@ use ca_text::Command;
 use ca_wire::Message;
 use std::alloc::AllocError;
 
+// What was made of a message: a reply by itself, since it is the most common, and notices are large.
+#[derive(Debug, Drop)]
+pub(crate) enum Heard {
+    // A reply completed this request with this outcome.
+    Completed(Handle, Outcome),
+    // Anything else, with these notices.
+    Notices(Notices),
+}
+
 impl ClientCore {
     // A message was read on a circuit that is there. Without memory for it nothing changes.
-    pub(crate) fn hear(&mut self, circuit: Handle, message: &Message) -> Result<Notices, AllocError>
+    pub(crate) fn hear(&mut self, circuit: Handle, message: &Message) -> Result<Heard, AllocError>
         requires { (d : ClientCircuit) × (under self.old.circuits circuit ≡ Some d) }
+        ensures { HearsOne self.old circuit message.now result self.new }
+    {
+        let command = message.command();
+        if command == Command::ReadNotify.number() {
+            return self.hear_completed(circuit, message);
+        }
+        if command == Command::WriteNotify.number() {
+            return self.hear_completed(circuit, message);
+        }
+        let told = self.hear_other(circuit, message)?;
+        Ok(Heard::Notices(told))
+    }
+
+    // One that is no reply.
+    fn hear_other(&mut self, circuit: Handle, message: &Message) -> Result<Notices, AllocError>
+        requires there { (d : ClientCircuit) × (under self.old.circuits circuit ≡ Some d) }
+        requires read { message.now.command ≢ command_number command.ReadNotify }
+        requires written { message.now.command ≢ command_number command.WriteNotify }
         ensures { HearsOr self.old circuit message.now result self.new }
     {
         let command = message.command();
@@ -34,12 +61,6 @@ impl ClientCore {
         }
         if command == Command::ServerDisconnect.number() {
             return self.hear_left(circuit, message);
-        }
-        if command == Command::ReadNotify.number() {
-            return self.hear_completed(circuit, message);
-        }
-        if command == Command::WriteNotify.number() {
-            return self.hear_completed(circuit, message);
         }
         if command == Command::EventAdd.number() {
             return self.hear_event(circuit, message);
@@ -92,14 +113,16 @@ impl ClientCore {
     }
 
     // READ_NOTIFY or WRITE_NOTIFY.
-    fn hear_completed(&mut self, circuit: Handle, message: &Message) -> Result<Notices, AllocError>
+    fn hear_completed(&mut self, circuit: Handle, message: &Message) -> Result<Heard, AllocError>
         requires { IsReply message.now }
-        ensures { HearsOr self.old circuit message.now result self.new }
+        ensures { HearsOne self.old circuit message.now result self.new }
     {
         let alloc = self.alloc;
         know_message(message);
-        let told = self.hear_reply(circuit, message)?;
-        Ok(Notices::one(alloc, completed(told)))
+        match self.hear_reply(circuit, message)? {
+            Some((request, outcome)) => Ok(Heard::Completed(request, outcome)),
+            None => Ok(Heard::Notices(Notices::none(alloc))),
+        }
     }
 
     // EVENT_ADD: the confirmation of a cancel, or an update.
@@ -115,16 +138,6 @@ impl ClientCore {
         know_message(message);
         let told = self.hear_update(circuit, message)?;
         Ok(Notices::one(alloc, updated(told)))
-    }
-}
-
-// The notice of a request that is complete.
-fn completed(told: Option<(Handle, Outcome)>) -> Option<Notice>
-    ensures { noticed result ≡ completed told }
-{
-    match told {
-        Some((request, outcome)) => Some(Notice::Completed(request, outcome)),
-        None => None,
     }
 }
 

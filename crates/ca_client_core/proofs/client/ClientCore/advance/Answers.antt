@@ -1,11 +1,14 @@
-use Rattle.std.proofs.Common.{◌≡◌, ◌∙◌, Some, ap}
+use Rattle.std.proofs.Common.{◌≡◌, ◌∙◌, List, Some, ap, subst, sym}
 use Rattle.ca_ids.specs.Table.{under}
+use Rattle.ca_model.specs.Answers.{Sending, Stepped}
 use Rattle.ca_model.specs.Client.{Client, ClientCircuit, closing, ended}
+use Rattle.ca_model.specs.ClientEnds.{ClientSteps}
 use Rattle.ca_client_tables.specs.Closings.{why_is}
 use Rattle.ca_client_tables.specs.First.{emptied}
 use Rattle.ca_client_tables.proofs.Circuits.{found-changed}
+use Rattle.ca_client_core.specs.Dispatch.{told_as}
 use Rattle.ca_client_core.proofs.Walked.{steps-bad, steps-heard, steps-lacks, steps-out, with_end}
-use Rattle.ca_client_core.proofs.client.ClientCore.step.Goals as goal
+use Rattle.ca_client_core.proofs.client.ClientCore.advance.Goals as goal
 
 pub hear-requires : goal.hear-requires
 hear-requires c =
@@ -19,7 +22,8 @@ pub returns-in-Ok : goal.returns-in-Ok
 returns-in-Ok c =
     let x = c.args.self.now in
     let f = c.in-Message.ensures in
-    steps-heard x c.args.circuit f.0 f.1 f.2.0 f.2.2 c.in-Message.message f.2.3.0 c.take_first.new.self c.hear.new.self c.in-Ok.told f.2.3.1 (f.2.4 ∙ ap (with_end x c.args.circuit f.0) f.2.3.2) c.in-Ok.ensures
+    subst (λ (s : Stepped). (sent : List Sending) × ClientSteps x c.args.circuit s sent c.hear.new.self) (sym c.into_advanced.ensures)
+    (steps-heard x c.args.circuit f.0 f.1 f.2.0 f.2.2 c.in-Message.message f.2.3.0 c.take_first.new.self c.hear.new.self (told_as c.in-Ok.heard) f.2.3.1 (f.2.4 ∙ ap (with_end x c.args.circuit f.0) f.2.3.2) c.in-Ok.ensures)
 
 pub returns-in-Message : goal.returns-in-Message
 returns-in-Message c =
