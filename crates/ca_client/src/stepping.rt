@@ -6,12 +6,12 @@ ghost use Rattle.ca_client.specs.declared.answer.Answer.TheVariants as answer;
 
 use crate::answer::{Answer, Ended};
 use crate::ask::Ask;
-use crate::filling::fill_all;
+use crate::filling::{fill_all, fill_one};
 use crate::state::State;
 use crate::ticking::tick;
 use ca_arena::Handle;
 use ca_board::{Board, CoreSeat, Ticket};
-use ca_client_core::{Closing, Stepped};
+use ca_client_core::{Advanced, Closing};
 
 /// Makes one call of the core, hands the outcome of each request that it completes to the request's ticket, and hands back the other
 /// notices.
@@ -37,12 +37,16 @@ fn step(state: &mut State, circuit: Handle) -> Answer
         seat,
         tickets,
     } = state;
-    let closing = match core.step(circuit) {
-        Stepped::Notices(notices) => {
+    let closing = match core.advance(circuit) {
+        Advanced::Notices(notices) => {
             return Answer::Notices(fill_all(board, seat, tickets, notices));
         }
-        Stepped::NeedBytes => return Answer::NeedBytes,
-        Stepped::Closed(closing) => closing,
+        Advanced::Completed(request, outcome) => {
+            fill_one(board, seat, tickets, request, outcome);
+            return Answer::Filled;
+        }
+        Advanced::NeedBytes => return Answer::NeedBytes,
+        Advanced::Closed(closing) => closing,
     };
     Answer::Closed(settle(board, seat, tickets, closing))
 }
