@@ -71,7 +71,10 @@ impl ClientCore {
             First::Gone => Advanced::Closed(Closing::gone(alloc)),
             First::NeedBytes => Advanced::NeedBytes,
             First::Message(message) => match self.hear(circuit, &message) {
-                Ok(heard) => heard.into_advanced(),
+                Ok(heard) => {
+                    self.recycle(circuit, message);
+                    heard.into_advanced()
+                }
                 Err(_) => Advanced::Closed(self.end(circuit, Why::OutOfMemory)),
             },
             First::OutOfMemory => Advanced::Closed(self.end(circuit, Why::OutOfMemory)),

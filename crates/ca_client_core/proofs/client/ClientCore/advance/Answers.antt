@@ -1,6 +1,6 @@
 use Rattle.std.proofs.Common.{◌≡◌, ◌∙◌, List, Some, ap, subst, sym}
 use Rattle.ca_ids.specs.Table.{under}
-use Rattle.ca_model.specs.Answers.{Sending, Stepped}
+use Rattle.ca_model.specs.Answers.{Notices, Sending, Stepped}
 use Rattle.ca_model.specs.Client.{Client, ClientCircuit, closing, ended}
 use Rattle.ca_model.specs.ClientEnds.{ClientSteps}
 use Rattle.ca_client_tables.specs.Closings.{why_is}
@@ -22,8 +22,10 @@ pub returns-in-Ok : goal.returns-in-Ok
 returns-in-Ok c =
     let x = c.args.self.now in
     let f = c.in-Message.ensures in
-    subst (λ (s : Stepped). (sent : List Sending) × ClientSteps x c.args.circuit s sent c.hear.new.self) (sym c.into_advanced.ensures)
-    (steps-heard x c.args.circuit f.0 f.1 f.2.0 f.2.2 c.in-Message.message f.2.3.0 c.take_first.new.self c.hear.new.self (told_as c.in-Ok.heard) f.2.3.1 (f.2.4 ∙ ap (with_end x c.args.circuit f.0) f.2.3.2) c.in-Ok.ensures)
+    let steps : (sent : List Sending) × ClientSteps x c.args.circuit (Notices (told_as c.in-Ok.heard)) sent c.hear.new.self =
+    steps-heard x c.args.circuit f.0 f.1 f.2.0 f.2.2 c.in-Message.message f.2.3.0 c.take_first.new.self c.hear.new.self (told_as c.in-Ok.heard) f.2.3.1 (f.2.4 ∙ ap (with_end x c.args.circuit f.0) f.2.3.2) c.in-Ok.ensures in
+    let kept = subst (λ (y : Client). (sent : List Sending) × ClientSteps x c.args.circuit (Notices (told_as c.in-Ok.heard)) sent y) (sym c.recycle.ensures) steps in
+    subst (λ (s : Stepped). (sent : List Sending) × ClientSteps x c.args.circuit s sent c.recycle.new.self) (sym c.into_advanced.ensures) kept
 
 pub returns-in-Message : goal.returns-in-Message
 returns-in-Message c =
