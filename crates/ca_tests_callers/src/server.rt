@@ -45,7 +45,16 @@ pub(crate) fn bound<R: Net<Stream = TcpStream, Listener = TcpListener>>(
 }
 
 /// Serves these records, with a device that has nothing to do, until so many circuits are closed.
-pub(crate) fn start_server<R: Threads + Wait + Clock + Net + Copy + Drop + Send + 'static>(
+pub(crate) fn start_server<
+    R: Threads
+        + Wait
+        + Clock
+        + Net<Stream = TcpStream, Listener = TcpListener>
+        + Copy
+        + Drop
+        + Send
+        + 'static,
+>(
     rt: R,
     alloc: Global,
     places: Places,
