@@ -6,27 +6,25 @@ use mathlib.Core.Path.{◌≡◌, refl, sym, ap, subst, ◌∙◌}
 use Prim.Native.Nat.{ℕ, zero, suc, ◌+◌, ◌*◌, ◌<◌, ◌≤◌}
 use native.Mathlib.Omega.{arith}
 use native.Mathlib.Nat.{zero-mul, suc-mul}
-use mathlib.Core.List.{List, [], ◌∷◌, ◌++◌, map}
-use lib.ListN.{length, take, drop, set, get_or, replicate, take-append-drop, length-take, length-drop}
-use lib.Seq.{drop-cons, drop-drop, set_split}
+use mathlib.Core.List.{List, [], ◌∷◌, ◌++◌}
+use lib.ListN.{length, take, drop, set, get_or, replicate, take-append-drop, length-take}
+use lib.Seq.{drop-cons, set_split}
 use seplogic.Ra.Ura.{Ura}
 use base.Fraction.{full_share}
 use mir.Syntax.{Ty, ty_array}
 use mir.Val.{Val, vstruct, vcons, vnil, of_list}
-use base.Logic.{SProp, ent, sep, emp, ex, guard, via, snd∗, id⊢, mono_r}
+use base.Logic.{SProp, ent, sep, emp, ex, guard, via, snd∗, id⊢}
 use base.Fml.{Fml, Lft, ftrue, fsep, fat, froom}
 use types.Logic.{Logic, sem}
-use types.SemTy.{cells}
 use contract.Monad.{fact, fact_i}
 use types.Kit.{Item, Goal, Seq, Step, step, prop, ‵, raw, some, ◌⊛◌, ◌$◌, ◌∵◌, !, qed, by, move, keep, drop as skip, use0, use1, use2, pick, split, check, show, frame, fsplit, fjoin, fpick, fpack, feq_i, feq_l, rewrite, done}
 use denote.RattleType.{RattleType, Valss}
 use denote.Laws.{Typed, Is, shows}
 use denote.Param.{param, layout}
 use denote.Param.Laws.{Laws, param_laws}
-use denote.Memory.{part_at, mem}
+use denote.Memory.{part_at}
 use denote.RawPtr.{Ptr, RawPtr, ptr_val}
 use denote.Shadow.{makes_shadow}
-use denote.Slice.{elements_shared}
 use denote.Steps.{nothing, peeks}
 use denote.Struct.Struct.{Shape, Struct, within}
 use denote.Struct.Owning.{shape}

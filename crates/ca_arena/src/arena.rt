@@ -18,12 +18,12 @@ use std::marker::Model;
 /// next generation; at its last generation it is retired.
 #[derive(Drop)]
 pub struct Arena<T> {
+    // The index that was freed last, or `ARENA_SLOTS`, which is no index, if none is free again.
+    first_freed: usize,
     // A slot for each index that was given. Those of the free indices name each other, from the one freed last on.
     slots: Blocks<Slot<T>>,
     // How many indices are free again.
     freed: usize,
-    // The one of these that was freed last, or `ARENA_SLOTS`, which is no index, if there is none.
-    first_freed: usize,
     // How many indices are never given again.
     retired: usize,
 }
@@ -50,9 +50,9 @@ impl<T> Arena<T> {
         ensures { result ≡ empty }
     {
         Arena {
+            first_freed: ARENA_SLOTS,
             slots: Blocks::new(alloc),
             freed: 0,
-            first_freed: ARENA_SLOTS,
             retired: 0,
         }
     }
@@ -189,15 +189,13 @@ impl<T> Arena<T> {
         ensures found { IsHandleAt self.now index result }
         ensures sound { IsSound self.now }
     {
-        let _ = &self.slots;
-        let place = usize::from(index);
-        if !self.is_filled(place) {
-            return None;
+        match self.slots.get(usize::from(index)) {
+            Some(slot) if slot.is_filled() => Some(Handle {
+                index,
+                generation: slot.generation(),
+            }),
+            _ => None,
         }
-        Some(Handle {
-            index,
-            generation: self.generation(place),
-        })
     }
 
     /// Puts `value` under a handle that was never given before.
@@ -214,15 +212,12 @@ impl<T> Arena<T> {
             let Handle { index, generation } = self.append(value)?;
             return Ok(Handle { index, generation });
         }
-        let index = self.first_freed;
-        let slot = self.slots.item_mut(index);
+        let index = self.first_freed as u16;
+        self.freed -= 1;
+        let slot = self.slots.item_mut(usize::from(index));
         let generation = slot.generation() + 1;
         self.first_freed = slot.fill(generation, value);
-        self.freed -= 1;
-        Ok(Handle {
-            index: index as u16,
-            generation,
-        })
+        Ok(Handle { index, generation })
     }
 
     /// `insert` under the handle that `vacant` tells, for whoever has to know it before.

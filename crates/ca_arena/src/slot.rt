@@ -39,9 +39,23 @@ impl<T> Slot<T> {
     pub(crate) fn value_for(&self, wanted: u32) -> Option<&T>
         ensures { option_copied result ≡ value_for wanted (place_of self.now) }
     {
+        // Both are tested, without a jump between them: after a look-up that found the value the compiler knows how a
+        // second one ends.
+        if (self.generation() == wanted) & self.is_filled() {
+            Some(self.value())
+        } else {
+            None
+        }
+    }
+
+    // The value.
+    fn value(&self) -> &T
+        requires { IsSome (place_of self.now).value }
+        ensures { (place_of self.now).value ≡ Some result.now }
+    {
         match self {
-            Slot::Filled { generation, value } if *generation == wanted => Some(value),
-            _ => None,
+            Slot::Filled { value, .. } => value,
+            Slot::Vacant { .. } => unreachable!(),
         }
     }
 

@@ -9,17 +9,17 @@ append-requires g c =
 
 pub invariant_of-self : goal.invariant_of-self
 invariant_of-self g c =
-    let read = c.item_mut-slot.ensures.value in
+    let read = rw c.from.ensures at c.item_mut-slot.ensures.value in
     let slots = c.self.inside.slots.items in
     let freed = c.self.inside.freed in
     let first = c.self.inside.first_freed in
     let fewer : freed ≡ suc (freed - 1) = omega (arith, some_named slots freed first c.self.inside.retired c.self.invariant c.if-self-eq-ARENA_SLOTS.false) in
     let after = fills slots freed (freed - 1) first c.fill-self-inside.result (c.generation-generation.result + 1) c.self.inside.retired _ c.args.value c.self.invariant fewer read (ap (λ n. n + 1) c.generation-generation.ensures) c.fill-self-inside.ensures.next in
-    rw c.fill-self-inside.ensures.filled after.laid_out
+    rw (c.fill-self-inside.ensures.filled, c.from.ensures) after.laid_out
 
 pub returns-clause-inserts : goal.returns-clause-inserts
 returns-clause-inserts g c =
-    let read = c.item_mut-slot.ensures.value in
+    let read = rw c.from.ensures at c.item_mut-slot.ensures.value in
     let slots = c.self.inside.slots.items in
     let freed = c.self.inside.freed in
     let first = c.self.inside.first_freed in
@@ -28,12 +28,12 @@ returns-clause-inserts g c =
     let later : c.generation-generation.result + 1 ≡ (place_at (places slots) first).generation + 1 = ap (λ n. n + 1) (c.generation-generation.ensures ∙ ap (λ (p : Place g.row.T.Denot). p.generation) (sym (place_there slots first _ read))) in (
       rw (← c.self.view_is) after.free,
       rw (← c.self.view_is) (next_is_first slots freed first (c.generation-generation.result + 1) (some_named slots freed first c.self.inside.retired c.self.invariant c.if-self-eq-ARENA_SLOTS.false) later),
-      rw (c.fill-self-inside.ensures.filled, ← c.self.view_is) after.contents,
+      rw (c.fill-self-inside.ensures.filled, c.from.ensures, ← c.self.view_is) after.contents,
     )
 
 pub returns-clause-fresh : goal.returns-clause-fresh
 returns-clause-fresh g c =
-    let read = c.item_mut-slot.ensures.value in
+    let read = rw c.from.ensures at c.item_mut-slot.ensures.value in
     let slots = c.self.inside.slots.items in
     let freed = c.self.inside.freed in
     let first = c.self.inside.first_freed in
