@@ -1,5 +1,5 @@
 -- The queues of a circuit, after each call.
-use Rattle.std.proofs.Common.{◌≡◌, ℕ, zero, suc, ◌+◌, ◌<◌, ◌≤◌, ◌⊎◌, ◌||◌, inl, inr, Bool, true, false, not, cond, List, [], ◌∷◌, ◌++◌, length, map, take, drop, get_or, Option, None, refl, sym, ap, ◌∙◌, subst, arith, add-one}
+use Rattle.std.proofs.Common.{◌≡◌, ℕ, zero, suc, ◌+◌, ◌<◌, ◌≤◌, ◌⊎◌, ◌||◌, inl, inr, Bool, true, false, not, cond, List, [], ◌∷◌, ◌++◌, length, map, max, take, drop, get_or, Option, None, refl, sym, ap, ◌∙◌, subst, arith, add-one}
 use Rattle.std.specs.List.{filter, fold}
 use Rattle.std.specs.Prelude.{replicate, slice_set}
 use Rattle.ca_text.specs.Limits.{queue_subscriptions}
@@ -183,23 +183,23 @@ module _ {E : Type 0} where
   idle-none (suc n) (suc i) q at = idle-none n i q at
 
   -- one that is not behind it was changed
-  pub idle-set : (n m place : ℕ) (qs : List (Queue E)) (r : Queue E) → AreIdleBehind n qs → n ≤ m → place ≤ m → AreIdleBehind m (slice_set qs place r)
-  idle-set n m place qs r idle le in_it i q at lt =
+  pub idle-set : (n m place : ℕ) (qs : List (Queue E)) (r : Queue E) → AreIdleBehind n qs → m ≡ max n place → AreIdleBehind m (slice_set qs place r)
+  idle-set n m place qs r idle later i q at lt =
       elim (At-set qs place r i q at) [
-        | inl here ↦ absurd (behind place i m here.0 in_it lt)
-        | inr there ↦ idle i q there.0 (omega (arith, le, lt))
+        | inl here ↦ absurd (behind place i m here.0 (omega (arith, later)) lt)
+        | inr there ↦ idle i q there.0 (omega (arith, later, lt))
       ]
     where
       behind : (k i m : ℕ) → i ≡ k → k ≤ m → m < i → ⊥
       behind k i m is le lt = omega (arith, is, le, lt)
 
-  pub idle-posted : (n m place : ℕ) (qs : List (Queue E)) (key : SubKey) (entry : E) → AreInOne qs → HasAt qs place key → AreIdleBehind n qs → n ≤ m → place ≤ m → AreIdleBehind m (map (queue_posted key entry) qs)
-  idle-posted n m place qs key entry once has idle le in_it =
-      subst (λ (z : List (Queue E)). AreIdleBehind m z) (post-set qs place has.0 key entry once has has.1) (idle-set n m place qs (posted key entry has.0) idle le in_it)
+  pub idle-posted : (n m place : ℕ) (qs : List (Queue E)) (key : SubKey) (entry : E) → AreInOne qs → HasAt qs place key → AreIdleBehind n qs → m ≡ max n place → AreIdleBehind m (map (queue_posted key entry) qs)
+  idle-posted n m place qs key entry once has idle later =
+      subst (λ (z : List (Queue E)). AreIdleBehind m z) (post-set qs place has.0 key entry once has has.1) (idle-set n m place qs (posted key entry has.0) idle later)
 
-  pub idle-cancelled : (n m place : ℕ) (qs : List (Queue E)) (key : SubKey) → AreInOne qs → HasAt qs place key → AreIdleBehind n qs → n ≤ m → place ≤ m → AreIdleBehind m (without_each (same key) qs)
-  idle-cancelled n m place qs key once has idle le in_it =
-      subst (λ (z : List (Queue E)). AreIdleBehind m z) (cancel-set qs place has.0 key once has has.1) (idle-set n m place qs (cancelled key has.0) idle le in_it)
+  pub idle-cancelled : (n m place : ℕ) (qs : List (Queue E)) (key : SubKey) → AreInOne qs → HasAt qs place key → AreIdleBehind n qs → m ≡ max n place → AreIdleBehind m (without_each (same key) qs)
+  idle-cancelled n m place qs key once has idle later =
+      subst (λ (z : List (Queue E)). AreIdleBehind m z) (cancel-set qs place has.0 key once has has.1) (idle-set n m place qs (cancelled key has.0) idle later)
 
   pub idle-switched : (n : ℕ) (on : Bool) (qs : List (Queue E)) → AreIdleBehind n qs → AreIdleBehind n (map (switched on) qs)
   idle-switched n on qs idle i q at lt = (let m = At-mapped (switched on) qs i q at in ap (λ (x : Queue E). x.waiting) m.2 ∙ idle i m.0 m.1 lt)

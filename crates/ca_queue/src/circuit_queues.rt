@@ -68,7 +68,7 @@ impl<E: Drop, Q: Queues<E>> CircuitQueues<E, Q> {
             return Err(Refusal::OutOfMemory);
         }
         self.queues[place].post(key, entry);
-        self.last = later(self.last, place);
+        self.last = self.last.max(place);
         Ok(place)
     }
 
@@ -92,7 +92,7 @@ impl<E: Drop, Q: Queues<E>> CircuitQueues<E, Q> {
     {
         let queue = &mut self.queues[place];
         queue.post(key, entry);
-        self.last = later(self.last, place);
+        self.last = self.last.max(place);
     }
 
     /// Takes an entry from the first queue that has one that may be taken, and returns the queue's place with it.
@@ -116,7 +116,7 @@ impl<E: Drop, Q: Queues<E>> CircuitQueues<E, Q> {
         ensures { self.new ≡ without_each (same key) self.old }
     {
         self.queues[place].cancel(key);
-        self.last = later(self.last, place);
+        self.last = self.last.max(place);
     }
 
     /// Turns events on or off in all queues.
@@ -127,12 +127,4 @@ impl<E: Drop, Q: Queues<E>> CircuitQueues<E, Q> {
             self.queues[place].set_events(on);
         }
     }
-}
-
-// The later of two places.
-fn later(one: usize, other: usize) -> usize
-    ensures first { one ≤ result }
-    ensures second { other ≤ result }
-{
-    if one < other { other } else { one }
 }

@@ -62,8 +62,8 @@ invariant_of-self-2 g c =
     let b = begins-as g.Q.Queues.contents items c.in-Some.place _ c.add.new.self _ c.post.new.self c.args.key c.args.entry c.self.invariant.0 none lt c.index_mut.ensures.value c.in_default-add.ensures.adds.1
     (index-set g.Q.Queues.contents items c.in-Some.place c.add.new.self _ lt c.index_mut-2.ensures.value) c.post.ensures.posts in (
       b.0,
-      subst (λ (qs : _). AreIdleBehind c.later-self-inside.result qs) (sym b.1)
-          (idle-set c.self.inside.last c.later-self-inside.result c.in-Some.place (map g.Q.Queues.contents items) _ c.self.invariant.1 c.later-self-inside.ensures.first c.later-self-inside.ensures.second),
+      subst (λ (qs : _). AreIdleBehind c.max-self-inside.result qs) (sym b.1)
+          (idle-set c.self.inside.last c.max-self-inside.result c.in-Some.place (map g.Q.Queues.contents items) _ c.self.invariant.1 c.max-self-inside.ensures),
     )
 
 pub returns : goal.returns

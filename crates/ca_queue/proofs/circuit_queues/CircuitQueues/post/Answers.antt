@@ -8,8 +8,8 @@ invariant_of-self g c =
     let has = subst (λ (qs : _). HasAt qs c.args.place c.args.key) (sym c.self.view_is) c.requires in
     let p = posts-as g.Q.Queues.contents c.self.inside.queues.items c.args.place _ c.post.new.self c.args.key c.args.entry c.self.invariant.0 has c.index_mut-queue.ensures.value c.post.ensures.posts in (
       p.0,
-      subst (λ (qs : _). AreIdleBehind c.later-self-inside.result qs) (sym p.1)
-          (idle-posted c.self.inside.last c.later-self-inside.result c.args.place (map g.Q.Queues.contents c.self.inside.queues.items) c.args.key c.args.entry c.self.invariant.0 has c.self.invariant.1 c.later-self-inside.ensures.first c.later-self-inside.ensures.second),
+      subst (λ (qs : _). AreIdleBehind c.max-self-inside.result qs) (sym p.1)
+          (idle-posted c.self.inside.last c.max-self-inside.result c.args.place (map g.Q.Queues.contents c.self.inside.queues.items) c.args.key c.args.entry c.self.invariant.0 has c.self.invariant.1 c.max-self-inside.ensures),
     )
 
 pub returns : goal.returns

@@ -43,7 +43,7 @@ invariant_of-self-in-Some g c =
           (at-index g.Q.Queues.contents items c.loop-place.place _ lt c.index_mut.ensures.value)
           (λ key some. subst (λ (q : Queue _). is_among key q.subscriptions ≡ true) c.take.ensures.leaves some),
       subst (λ (qs : _). AreIdleBehind last qs) (sym (set-as g.Q.Queues.contents items c.loop-place.place c.take.new.self _ c.take.ensures.leaves))
-          (idle-set last last c.loop-place.place (map g.Q.Queues.contents items) _ (subst (λ (qs : _). AreIdleBehind last qs) (sym c.loop-place.invariant.0) c.loop-place.invariant.2) (omega arith) (omega (arith, c.if-place-self.false))),
+          (idle-set last last c.loop-place.place (map g.Q.Queues.contents items) _ (subst (λ (qs : _). AreIdleBehind last qs) (sym c.loop-place.invariant.0) c.loop-place.invariant.2) (omega (arith, c.if-place-self.false))),
     )
 
 pub returns-in-Some : goal.returns-in-Some
