@@ -106,8 +106,7 @@ impl Channels {
     pub fn open(&mut self, value: Channel) -> Result<Handle, (Channel, Refusal)>
         ensures { Gives self.old value result self.new }
     {
-        let searched = value.is_searched();
-        self.complete = both(self.complete, searched);
+        self.complete &= value.is_searched();
         self.table.open(value)
     }
 
@@ -178,13 +177,6 @@ impl Channels {
     }
 }
 
-// Whether both hold.
-fn both(a: bool, b: bool) -> bool
-    ensures { result ≡ a && b }
-{
-    a && b
-}
-
 /// What has a CID of this index, if any does.
 pub(crate) fn any_at(table: &HeldTable<Channel>, index: usize) -> Option<(Handle, &Channel)>
     ensures { option_map (λ e. (e.0, e.1.now)) result
@@ -239,8 +231,7 @@ pub fn set_standing(channels: &mut Channels, handle: Handle, standing: Standing)
         channels.old }
 {
     let before = circuit_under(&channels.table, handle);
-    let listed = list(&mut channels.circuits, standing, handle.index);
-    channels.complete = both(channels.complete, listed);
+    channels.complete &= list(&mut channels.circuits, standing, handle.index);
     put(&mut channels.table, handle, standing);
     channels.leave(before, handle.index);
 }
