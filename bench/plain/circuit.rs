@@ -3,7 +3,7 @@
 use crate::channels::{Channel, Channels};
 use crate::records::{MAY_READ, MAY_WRITE, Record, Records};
 use crate::updates::Subscriptions;
-use crate::values::{Base, DataType, Meta, Unfit, put_elements, put_image};
+use crate::values::{Base, DataType, Meta, Unfit, put_elements, put_shown};
 use crate::wire::{Header, Message, command};
 
 /// No more bytes wait when another update is put after them.
@@ -73,6 +73,7 @@ impl Circuit {
         self.subscriptions.pump(&self.records.all, limit, out);
     }
 
+    // What is rare is not inlined, so that a read or a write does not pay for its locals.
     fn answer(&mut self, message: &Message, out: &mut Vec<u8>) {
         match message.header.command {
             command::VERSION => self.version(out),
@@ -93,6 +94,7 @@ impl Circuit {
         }
     }
 
+    #[inline(never)]
     fn version(&mut self, out: &mut Vec<u8>) {
         if !self.is_greeted {
             self.is_greeted = true;
@@ -102,18 +104,21 @@ impl Circuit {
     }
 
     /// Names count until a channel was created.
+    #[inline(never)]
     fn client_name(&mut self, message: &Message) {
         if !self.channels.was_opened() {
             self.user = message.text().to_vec();
         }
     }
 
+    #[inline(never)]
     fn host_name(&mut self, message: &Message) {
         if !self.channels.was_opened() {
             self.host = message.text().to_vec();
         }
     }
 
+    #[inline(never)]
     fn search(&self, message: &Message, out: &mut Vec<u8>) {
         let asked = &message.header;
         if self.records.find(message.text()).is_some() {
@@ -128,6 +133,7 @@ impl Circuit {
         }
     }
 
+    #[inline(never)]
     fn create_chan(&mut self, message: &Message, out: &mut Vec<u8>) {
         let (name, cid) = (message.text(), message.header.p1);
         let found = self.records.find(name);
@@ -146,6 +152,7 @@ impl Circuit {
         Header { command, data_type, size: 0, count, p1: cid, p2: sid }.put(out);
     }
 
+    #[inline(never)]
     fn clear_channel(&mut self, message: &Message, out: &mut Vec<u8>) {
         let (command, Header { p1: sid, p2, .. }) = (command::CLEAR_CHANNEL, message.header);
         Header { command, p1: sid, p2, ..Header::default() }.put(out);
@@ -155,9 +162,7 @@ impl Circuit {
     }
 
     fn read_notify(&self, message: &Message, out: &mut Vec<u8>) {
-        let start = out.len();
         if let Err(status) = self.show(&message.header, out) {
-            out.truncate(start);
             reply(&message.header, status).put(out);
         }
     }
@@ -171,13 +176,12 @@ impl Circuit {
             return Err(status::NORDACCESS);
         }
         // No image of the greatest count is over the payload limit.
-        let count = if asked.count == 0 { record.present_count() } else { asked.count };
+        let count = if asked.count == 0 { record.value.count } else { asked.count };
         if count > record.greatest_count {
             return Err(status::BADCOUNT);
         }
-        let size = to.payload_size(count) as u32;
-        Header { size, count, p1: status::NORMAL, ..*asked }.put(out);
-        put_image(&record.value, record.base, to, count, out)
+        let head = Header { count, p1: status::NORMAL, ..*asked };
+        put_shown(head, &record.value, record.base, to, out)
             .map_err(|unfit| status_of(unfit, status::GETFAIL))
     }
 
@@ -217,19 +221,19 @@ impl Circuit {
             return Err(status::BADCOUNT);
         }
         let mut text = [0; 40];
-        let elements = elements_of(message.payload, base, count, &mut text)?;
-        if base == record.base {
-            record.renew(self.stamp, elements);
-        } else {
+        let mut elements = elements_of(message.payload, base, count, &mut text)?;
+        if base != record.base {
             self.converted.clear();
             put_elements(elements, base, record.base, &mut self.converted)
                 .map_err(|unfit| status_of(unfit, status::PUTFAIL))?;
-            record.renew(self.stamp, &self.converted);
+            elements = &self.converted;
         }
+        record.set(self.stamp, count, elements);
         self.subscriptions.post(record, WRITE_MASK);
         Ok(())
     }
 
+    #[inline(never)]
     fn event_add(&mut self, message: &Message, out: &mut Vec<u8>) {
         let Some(channel) = self.channels.by_sid(message.header.p1) else {
             return put_error(NO_CID, status::BADCHID, message, out);
@@ -243,6 +247,7 @@ impl Circuit {
         }
     }
 
+    #[inline(never)]
     fn event_cancel(&mut self, message: &Message, out: &mut Vec<u8>) {
         let asked = message.header;
         Header { command: command::EVENT_ADD, size: 0, ..asked }.put(out);
@@ -306,6 +311,7 @@ fn reply(asked: &Header, status: u32) -> Header {
 }
 
 /// An ERROR: the request's header, and an empty text.
+#[inline(never)]
 fn put_error(cid: u32, status: u32, message: &Message, out: &mut Vec<u8>) {
     let mut quoted = Vec::with_capacity(32);
     message.header.put(&mut quoted);

@@ -30,19 +30,16 @@ pub struct Record {
 }
 
 impl Record {
-    pub fn present_count(&self) -> u32 {
-        (self.value.bytes.len() / self.base.size()) as u32
-    }
-
-    /// The value's bytes, to be written: in their place unless an update shares them.
-    pub fn renew(&mut self, meta: Meta, elements: &[u8]) {
-        if Rc::get_mut(&mut self.value).is_none() {
-            self.value = Rc::default();
+    /// Sets its value, in the memory of the one before unless an update shares that.
+    pub fn set(&mut self, meta: Meta, count: u32, elements: &[u8]) {
+        match Rc::get_mut(&mut self.value) {
+            Some(value) => {
+                (value.meta, value.count) = (meta, count);
+                value.bytes.clear();
+                value.bytes.extend_from_slice(elements);
+            }
+            None => self.value = Rc::new(Value { meta, count, bytes: elements.to_vec() }),
         }
-        let value = Rc::get_mut(&mut self.value).expect("nothing shares it");
-        value.meta = meta;
-        value.bytes.clear();
-        value.bytes.extend_from_slice(elements);
     }
 }
 
@@ -133,7 +130,8 @@ fn read_record(base: &[u8], count: &[u8], speed: &[u8], values: &[&[u8]]) -> Opt
     if values.is_empty() || !is_fit {
         return None;
     }
-    let value = Rc::new(Value { meta: Meta::default(), bytes });
+    let count = values.len() as u32;
+    let value = Rc::new(Value { meta: Meta::default(), count, bytes });
     Some(Record { base, greatest_count, is_slow, value, watchers: Vec::new() })
 }
 

@@ -1,7 +1,7 @@
 //! The subscriptions of a circuit, and the queues in which their updates wait.
 
 use crate::records::Record;
-use crate::values::{DataType, Value, put_image};
+use crate::values::{DataType, Value, put_shown};
 use crate::wire::{Header, command};
 use std::collections::{HashMap, VecDeque};
 use std::rc::Rc;
@@ -187,11 +187,11 @@ impl Subscriptions {
 
     /// Puts updates into the output until none may go, or the output has so many bytes.
     pub fn pump(&mut self, records: &[Record], limit: usize, out: &mut Vec<u8>) {
-        if self.waiting == 0 {
-            return;
-        }
         for queue in &mut self.queues {
-            while out.len() < limit {
+            loop {
+                if self.waiting == 0 || out.len() >= limit {
+                    return;
+                }
                 let Some(update) = queue.pop(self.events_on) else {
                     break;
                 };
@@ -207,23 +207,17 @@ impl Subscriptions {
 
 /// Puts an update into the output: GETFAIL and zeros if its elements have no place in the type that is asked for.
 fn show(of: &Subscription, on: &Record, value: &Value, out: &mut Vec<u8>) {
-    let present = (value.bytes.len() / on.base.size()) as u32;
-    let count = if of.count == 0 { present } else { of.count };
-    let size = of.to.payload_size(count);
-    let mut head = Header {
+    let head = Header {
         command: command::EVENT_ADD,
         data_type: of.data_type,
-        size: size as u32,
-        count,
+        size: 0,
+        count: if of.count == 0 { value.count } else { of.count },
         p1: NORMAL,
         p2: of.key.1,
     };
-    let start = out.len();
-    head.put(out);
-    if put_image(value, on.base, of.to, count, out).is_err() {
-        head.p1 = GETFAIL;
-        out.truncate(start);
-        head.put(out);
+    if put_shown(head, value, on.base, of.to, out).is_err() {
+        let size = of.to.payload_size(head.count);
+        Header { size: size as u32, p1: GETFAIL, ..head }.put(out);
         out.resize(out.len() + size, 0);
     }
 }

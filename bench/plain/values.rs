@@ -1,6 +1,6 @@
 //! Values, their images in a message, and conversions between their types.
 
-use crate::wire::until_zero;
+use crate::wire::{Header, until_zero};
 use std::io::Write;
 
 /// The type of an element.
@@ -55,36 +55,56 @@ enum Form {
 pub struct DataType {
     pub base: Base,
     form: Form,
+    /// The bytes before the elements, padding included.
+    front: u8,
+    /// The bytes of an element.
+    size: u8,
 }
+
+const fn plain(base: Base, size: u8) -> DataType {
+    DataType { base, form: Form::Plain, front: 0, size }
+}
+
+const fn with_status(base: Base, size: u8, front: u8) -> DataType {
+    DataType { base, form: Form::Status, front, size }
+}
+
+const fn with_time(base: Base, size: u8, front: u8) -> DataType {
+    DataType { base, form: Form::Time, front, size }
+}
+
+const TYPES: [DataType; 21] = [
+    plain(Base::String, 40),
+    plain(Base::Int, 2),
+    plain(Base::Float, 4),
+    plain(Base::Enum, 2),
+    plain(Base::Char, 1),
+    plain(Base::Long, 4),
+    plain(Base::Double, 8),
+    with_status(Base::String, 40, 4),
+    with_status(Base::Int, 2, 4),
+    with_status(Base::Float, 4, 4),
+    with_status(Base::Enum, 2, 4),
+    with_status(Base::Char, 1, 5),
+    with_status(Base::Long, 4, 4),
+    with_status(Base::Double, 8, 8),
+    with_time(Base::String, 40, 12),
+    with_time(Base::Int, 2, 14),
+    with_time(Base::Float, 4, 12),
+    with_time(Base::Enum, 2, 14),
+    with_time(Base::Char, 1, 15),
+    with_time(Base::Long, 4, 12),
+    with_time(Base::Double, 8, 16),
+];
 
 impl DataType {
     pub fn of(number: u16) -> Option<DataType> {
-        let (form, base) = match number {
-            0..=6 => (Form::Plain, number),
-            7..=13 => (Form::Status, number - 7),
-            14..=20 => (Form::Time, number - 14),
-            _ => return None,
-        };
-        Some(DataType { base: Base::of(base)?, form })
-    }
-
-    /// The bytes before the elements, padding included.
-    fn front(self) -> usize {
-        match (self.form, self.base) {
-            (Form::Plain, _) => 0,
-            (Form::Status, Base::Char) => 5,
-            (Form::Status, Base::Double) => 8,
-            (Form::Status, _) => 4,
-            (Form::Time, Base::Int | Base::Enum) => 14,
-            (Form::Time, Base::Char) => 15,
-            (Form::Time, Base::Double) => 16,
-            (Form::Time, _) => 12,
-        }
+        TYPES.get(usize::from(number)).copied()
     }
 
     /// The bytes of an image of n elements, padded for a payload.
     pub fn payload_size(self, count: u32) -> usize {
-        (self.front() + count as usize * self.base.size()).next_multiple_of(8)
+        (usize::from(self.front) + count as usize * usize::from(self.size)).next_multiple_of(8)
     }
 }
 
@@ -98,9 +118,9 @@ pub struct Meta {
 }
 
 /// A value of a record: its elements as they stand in a message, and what goes with them.
-#[derive(Clone, Default)]
 pub struct Value {
     pub meta: Meta,
+    pub count: u32,
     pub bytes: Vec<u8>,
 }
 
@@ -111,35 +131,46 @@ pub enum Unfit {
     BadElement,
 }
 
-/// Puts the image of n elements of a value in a type at the end: the first ones, converted, and zeros after them. What is
-/// there after a fault is for the caller to take back.
-pub fn put_image(
+/// Puts a message with the image of a value of this base in a type: as many elements as the header says, first those that
+/// are there, converted, and then zeros. A fault leaves all as it was.
+pub fn put_shown(
+    head: Header,
     value: &Value,
     base: Base,
     to: DataType,
-    count: u32,
     out: &mut Vec<u8>,
 ) -> Result<(), Unfit> {
-    let end = out.len() + to.payload_size(count);
-    put_front(to, value.meta, out);
-    let size = (count as usize * base.size()).min(value.bytes.len());
-    put_elements(&value.bytes[..size], base, to.base, out)?;
-    out.resize(end, 0);
+    let (start, size) = (out.len(), to.payload_size(head.count));
+    Header { size: size as u32, ..head }.put(out);
+    let end = out.len() + size;
+    put_front(to, &value.meta, out);
+    let present = (head.count as usize * base.size()).min(value.bytes.len());
+    if let Err(unfit) = put_elements(&value.bytes[..present], base, to.base, out) {
+        out.truncate(start);
+        return Err(unfit);
+    }
+    // Mostly only padding is left, which is cheaper in one piece.
+    if end - out.len() < 8 {
+        out.extend_from_slice(&[0; 8]);
+        out.truncate(end);
+    } else {
+        out.resize(end, 0);
+    }
     Ok(())
 }
 
-fn put_front(to: DataType, meta: Meta, out: &mut Vec<u8>) {
+fn put_front(to: DataType, meta: &Meta, out: &mut Vec<u8>) {
     if let Form::Plain = to.form {
         return;
     }
-    let mut front = [0; 16];
-    front[..2].copy_from_slice(&meta.status.to_be_bytes());
-    front[2..4].copy_from_slice(&meta.severity.to_be_bytes());
+    let end = out.len() + usize::from(to.front);
+    out.extend_from_slice(&meta.status.to_be_bytes());
+    out.extend_from_slice(&meta.severity.to_be_bytes());
     if let Form::Time = to.form {
-        front[4..8].copy_from_slice(&meta.seconds.to_be_bytes());
-        front[8..12].copy_from_slice(&meta.nanos.to_be_bytes());
+        out.extend_from_slice(&meta.seconds.to_be_bytes());
+        out.extend_from_slice(&meta.nanos.to_be_bytes());
     }
-    out.extend_from_slice(&front[..to.front()]);
+    out.resize(end, 0);
 }
 
 /// Puts these elements, converted, at the end.
@@ -153,6 +184,16 @@ pub fn put_elements(
         out.extend_from_slice(elements);
         return Ok(());
     }
+    put_converted(elements, base, to, out)
+}
+
+#[inline(never)]
+fn put_converted(
+    elements: &[u8],
+    base: Base,
+    to: Base,
+    out: &mut Vec<u8>,
+) -> Result<(), Unfit> {
     match base {
         Base::String => put_numbers(elements, to, out, |text: [u8; 40]| number_in(&text)),
         Base::Int => put_numbers(elements, to, out, |x| Some(i16::from_be_bytes(x).into())),

@@ -98,10 +98,17 @@ fn read_header(bytes: &[u8]) -> Option<(Header, usize)> {
 
 impl Header {
     /// Writes it in 16 bytes if size and count are both below 65,535, and else in 24.
+    #[inline(always)]
     pub fn put(&self, out: &mut Vec<u8>) {
         if self.size < EXTENDED && self.count < EXTENDED {
-            return out.extend_from_slice(&self.front(self.size, self.count));
+            out.extend_from_slice(&self.front(self.size, self.count));
+        } else {
+            self.put_extended(out);
         }
+    }
+
+    #[inline(never)]
+    fn put_extended(&self, out: &mut Vec<u8>) {
         out.extend_from_slice(&self.front(EXTENDED, 0));
         out.extend_from_slice(&self.size.to_be_bytes());
         out.extend_from_slice(&self.count.to_be_bytes());
