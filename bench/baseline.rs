@@ -1,6 +1,11 @@
-// A plain Rust program of the same conduct as `ca answer`, for comparison alone: nothing of it is proved, and nothing
-// of the repository is built from it. It reads 64 KiB at a time, gathers its answers in a buffer of 64 KiB, and hands
+// A plain Rust program that is stripped down to what `bench/answer` asks of it, for comparison alone: nothing of it is proved, and
+// nothing of the repository is built from it. It reads 64 KiB at a time, gathers its answers in a buffer of 64 KiB, and hands
 // them to the system before it reads again.
+//
+// It has no other conduct than that of these circuits. Left out are: all types but LONG, and conversions; alarms and time stamps;
+// names, rules and rights of access; ERROR, the order of faults, and SIDs that come back; masks, event queues and their
+// replacing, EVENT_CANCEL, and EVENTS_OFF and EVENTS_ON; records that take time; SEARCH and ECHO; files of records; and the count
+// of reads and writes. `bench/plain` is a plain Rust program of the same conduct as `ca answer`.
 use std::collections::HashMap;
 use std::io::{self, Read, Write};
 use std::process::exit;

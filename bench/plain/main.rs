@@ -1,9 +1,9 @@
-//! A plain Rust program of the same conduct as `ca answer [--records FILE]`, for comparison alone: nothing of it is proved,
-//! and nothing of the repository is built from it. It answers all commands of a client, of all types, with conversions, time
-//! stamps, masks, event queues and rules of access, and ends by the same statuses. `bench/answer --conduct` compares its bytes
-//! with those that the repository's own cases want.
+//! A plain Rust program of the same conduct as `ca answer [--records FILE]`, for comparison alone: nothing of it is proved, and
+//! nothing of the repository is built from it. It answers all commands of a client, in all types, with conversions, alarms, time
+//! stamps, masks, event queues and rules of access, and it ends by the same statuses. `bench/conduct` compares its bytes with
+//! those that the repository's cases want, and with those of `ca answer`; `bench/answer` compares their speed.
 //!
-//! It differs in this alone: if memory runs out the system's allocator ends it, where `ca` answers `refused: 1 OutOfMemory`.
+//! It differs in this alone: out of memory the system ends it, where `ca` ends by itself with `refused: 1 OutOfMemory`.
 
 mod channels;
 mod circuit;

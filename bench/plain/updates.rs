@@ -118,9 +118,8 @@ impl Subscriptions {
         self.queues[queue].subscriptions += 1;
         let key = (request.p1, request.p2);
         let (data_type, count) = (request.data_type, request.count);
-        let new = Subscription {
-            key, data_type, to, count, mask, record, queue, waiting: 0, last: 0,
-        };
+        let new =
+            Subscription { key, data_type, to, count, mask, record, queue, waiting: 0, last: 0 };
         let place = match self.free.pop() {
             Some(place) => {
                 self.all[place] = Some(new);

@@ -174,12 +174,7 @@ fn put_front(to: DataType, meta: &Meta, out: &mut Vec<u8>) {
 }
 
 /// Puts these elements, converted, at the end.
-pub fn put_elements(
-    elements: &[u8],
-    base: Base,
-    to: Base,
-    out: &mut Vec<u8>,
-) -> Result<(), Unfit> {
+pub fn put_elements(elements: &[u8], base: Base, to: Base, out: &mut Vec<u8>) -> Result<(), Unfit> {
     if base == to {
         out.extend_from_slice(elements);
         return Ok(());
@@ -188,12 +183,7 @@ pub fn put_elements(
 }
 
 #[inline(never)]
-fn put_converted(
-    elements: &[u8],
-    base: Base,
-    to: Base,
-    out: &mut Vec<u8>,
-) -> Result<(), Unfit> {
+fn put_converted(elements: &[u8], base: Base, to: Base, out: &mut Vec<u8>) -> Result<(), Unfit> {
     match base {
         Base::String => put_numbers(elements, to, out, |text: [u8; 40]| number_in(&text)),
         Base::Int => put_numbers(elements, to, out, |x| Some(i16::from_be_bytes(x).into())),
@@ -244,9 +234,9 @@ fn number_in(text: &[u8]) -> Option<i64> {
     if count == 0 || !after_spaces(rest).is_empty() {
         return None;
     }
-    let number = digits.iter().fold(0i64, |n, digit| {
-        n.saturating_mul(10).saturating_add(i64::from(digit - b'0'))
-    });
+    let number = digits
+        .iter()
+        .fold(0i64, |n, digit| n.saturating_mul(10).saturating_add(i64::from(digit - b'0')));
     Some(if is_negative { -number } else { number })
 }
 
