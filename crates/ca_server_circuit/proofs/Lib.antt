@@ -20,3 +20,4 @@ pub mod Pumps
 pub mod Lost
 pub mod Peeked
 pub mod Imaging
+pub mod Watched

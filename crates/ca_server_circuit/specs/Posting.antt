@@ -1,5 +1,5 @@
 -- Working: a post to a record, on one circuit.
-use Rattle.std.specs.Prelude.{ℕ, ◌≡◌, ◌⊎◌, true}
+use Rattle.std.specs.Prelude.{ℕ, ◌≡◌, ◌⊎◌, Bool, true}
 use Rattle.ca_arena.specs.declared.handle.Handle.{Handle}
 use Rattle.ca_records.specs.Puts.{Record}
 use Rattle.ca_records.specs.Store.{HasAt, Store}
@@ -7,6 +7,7 @@ use Rattle.ca_model.specs.Ends as why
 use Rattle.ca_model.specs.Server.{ServerCircuit, ServerEnd, with_post}
 use Rattle.ca_model.specs.Server as server
 use Rattle.ca_model.specs.ServerSteps.{is_concerned}
+use Rattle.ca_server_circuit.specs.Circuits.{watches}
 use Rattle.ca_server_circuit.specs.Ending.{WithdrawsAll}
 use Rattle.ca_server_circuit.specs.Subscribing.{events_of}
 use Rattle.ca_server_subscriptions.specs.Subscribed.{HasRoom}
@@ -22,3 +23,7 @@ PostsAt h place mask (server.Open e) s new t =
     × (((new ≡ server.Open (posted r mask e)) × HasRoom (events_of (posted r mask e)) × (t ≡ s))
     ⊎ ((is_concerned r.state.name mask (server.Open e) ≡ true) × (new ≡ server.Ended why.OutOfMemory e.link.output) × WithdrawsAll h s t))
 PostsAt h place mask (server.Ended w left) s new t = (new ≡ server.Ended w left) × (t ≡ s)
+
+-- whether a circuit has a subscription on the record at a place
+abbrev pub WatchesAt : (place : ℕ) → ServerCircuit → Store → (on : Bool) → Type 0
+WatchesAt place c s on = (r : Record) × HasAt s place r × (on ≡ watches r.state.name c)

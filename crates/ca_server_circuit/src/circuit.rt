@@ -3,13 +3,13 @@ ghost use Rattle.ca_model.specs.Server.{new_end};
 ghost use Rattle.ca_model.specs.Server as server;
 ghost use Rattle.ca_model.specs.ServerSteps.{output_of};
 ghost use Rattle.ca_records.specs.Store.{IsThere, records_of};
-ghost use Rattle.ca_server_circuit.specs.Circuits.{CircuitIsSound, GivesAt, IsLive, SendsAt, circuit_of, is_open, watches};
+ghost use Rattle.ca_server_circuit.specs.Circuits.{CircuitIsSound, GivesAt, IsLive, SendsAt, circuit_of, is_open};
 ghost use Rattle.ca_server_circuit.specs.Clearing.{ArePuts};
 ghost use Rattle.ca_server_circuit.specs.Concerned.{ConcernsOn, bytes_on, channels_on};
 ghost use Rattle.ca_server_circuit.specs.Ending.{ArePutsAt, EndsAt, IsLeft, WithdrawsAll};
 ghost use Rattle.ca_server_circuit.specs.Finishing.{RepliesAt};
 ghost use Rattle.ca_server_circuit.specs.NextPut.{IsPutAt, NamesAt};
-ghost use Rattle.ca_server_circuit.specs.Posting.{PostsAt};
+ghost use Rattle.ca_server_circuit.specs.Posting.{PostsAt, WatchesAt};
 ghost use Rattle.ca_server_circuit.specs.Pumping.{PumpsAt};
 ghost use Rattle.ca_server_circuit.specs.Removing.{LosesAt, MayLose};
 ghost use Rattle.ca_server_circuit.specs.Serving.{CircuitSteps};
@@ -128,18 +128,31 @@ impl Circuit {
     }
 
     /// A post to the record at this place: the subscriptions of its end that it concerns get an update. The end has ended if there is no
-    /// memory for one.
-    pub fn post(&mut self, circuit: Handle, place: usize, mask: u16, records: &mut ServedRecords)
+    /// memory for one. It says whether the end was open, with a subscription on the record.
+    pub fn post(
+        &mut self,
+        circuit: Handle,
+        place: usize,
+        mask: u16,
+        records: &mut ServedRecords,
+    ) -> bool
         requires there { IsThere records.old place }
         requires sound { CircuitIsSound (records_of records.old) circuit self.old }
-        ensures { PostsAt circuit place mask self.old records.old self.new records.new }
+        ensures posts { PostsAt circuit place mask self.old records.old self.new records.new }
+        ensures watches { WatchesAt place self.old records.old result }
     {
         match &mut self.state {
             State::Open(end) => match end.post(records.at(place).state(), mask) {
-                Ok(()) => end.know(),
-                Err(_) => self.close(circuit, Cause::OutOfMemory, records),
+                Ok(on) => {
+                    end.know();
+                    on
+                }
+                Err(_) => {
+                    self.close(circuit, Cause::OutOfMemory, records);
+                    true
+                }
             },
-            State::Ended(_, _) => {}
+            State::Ended(_, _) => false,
         }
     }
 
@@ -254,16 +267,6 @@ impl Circuit {
     {
         match &self.state {
             State::Open(_) => true,
-            State::Ended(_, _) => false,
-        }
-    }
-
-    /// Whether its end is open, and has a subscription on the record of this name.
-    pub fn watches(&self, name: &[u8]) -> bool
-        ensures { result ≡ watches name.now self.now }
-    {
-        match &self.state {
-            State::Open(end) => end.subscriptions.watches(name),
             State::Ended(_, _) => false,
         }
     }

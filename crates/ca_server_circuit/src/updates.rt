@@ -1,4 +1,4 @@
-ghost use Rattle.std.specs.Prelude.{◌≡◌, ◌≤◌, ◌==◌, OnErr, OnOk, [], ◌∷◌, if◌then◌else◌, replicate, true};
+ghost use Rattle.std.specs.Prelude.{◌≡◌, ◌≤◌, ◌==◌, IfOk, OnErr, OnOk, [], ◌∷◌, if◌then◌else◌, replicate, true};
 ghost use Rattle.std.specs.List.{list_any};
 ghost use Rattle.ca_text.specs.Limits.{element_limit, payload_limit};
 ghost use Rattle.ca_dbr.specs.Elements.{count_of};
@@ -9,7 +9,7 @@ ghost use Rattle.ca_wire.specs.Messages.{update};
 ghost use Rattle.ca_model.specs.Server.{concerns, with_post};
 ghost use Rattle.ca_model.specs.Updates.{ShowsTo};
 ghost use Rattle.ca_server_circuit.specs.Pumping.{PumpsEnd, PumpsOne};
-ghost use Rattle.ca_server_subscriptions.specs.Subscribed.{IsAskable};
+ghost use Rattle.ca_server_subscriptions.specs.Subscribed.{IsAskable, is_on};
 
 use crate::end::{End, send};
 use crate::read::status_of;
@@ -23,19 +23,22 @@ use ca_wire::{Answered, Ioid, Wanted, update, update_head};
 use std::alloc::{AllocError, Global};
 
 impl End {
-    /// A post to this record: each subscription that it concerns gets an update, in their order. Without memory for one some have it,
-    /// and the end is to be closed.
-    pub(crate) fn post(&mut self, of: &Record, mask: u16) -> Result<(), AllocError>
+    /// A post to this record: each subscription that it concerns gets an update, in their order. It says whether one is on the record. Without
+    /// memory for one some have it, and the end is to be closed.
+    pub(crate) fn post(&mut self, of: &Record, mask: u16) -> Result<bool, AllocError>
         ensures ok { OnOk result (self.new ≡ with_post of.now.name mask
             (record { value = of.now.value; meta = of.now.meta }) self.old) }
+        ensures on { IfOk result (λ on.
+            on ≡ list_any (is_on of.now.name) self.old.subscriptions) }
         ensures concerned { OnErr result
             (list_any (concerns of.now.name mask) self.old.subscriptions ≡ true) }
         ensures link { self.new.link ≡ self.old.link }
         ensures channels { self.new.channels ≡ self.old.channels }
     {
-        self.subscriptions
+        let on = self
+            .subscriptions
             .post(self.alloc, of.name(), mask, of.value(), of.meta())?;
-        Ok(())
+        Ok(on)
     }
 
     /// Puts updates into the output until none may go. Without memory for the next the end is to be closed, and the output has those

@@ -271,7 +271,7 @@ there-is s place r q a b = some_is r q (At-one s.slots place (Some r) (Some q) a
 posted-is : (r q : Record) (mask : ℕ) (e : ServerEnd) → q.state ≡ r.state → posted q mask e ≡ with_post r.state.name mask (stored r) e
 posted-is r q mask e is = ap (λ (x : RecordState). with_post x.name mask (record { value = x.value; meta = x.meta }) e) is
 
-unwatched : (name : List ℕ) (mask : ℕ) (c : ServerCircuit) → watches_under name (Some c) ≡ false → is_concerned name mask c ≡ false
+pub unwatched : (name : List ℕ) (mask : ℕ) (c : ServerCircuit) → watches_under name (Some c) ≡ false → is_concerned name mask c ≡ false
 unwatched name mask (Ended w left) none = refl
 unwatched name mask (Open e) none = by e.subscriptions none
   where

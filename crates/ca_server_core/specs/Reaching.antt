@@ -22,10 +22,18 @@ PostsIn t h place mask s after u =
     ((c : ServerCircuit) × (new : ServerCircuit) × (under t h ≡ Some c) × PostsAt h place mask c s new u × (after ≡ with_changed (λ (x : ServerCircuit). new) h t))
     ⊎ ((under t h ≡ None) × (after ≡ t) × (u ≡ s))
 
+-- whether the circuit of a handle is there, with a subscription on the record at a place
+abbrev pub WatchesIn : Table ServerCircuit → Handle → (place : ℕ) → Store → (on : Bool) → Type 0
+WatchesIn t h place s on = (r : Record) × HasAt s place r × (on ≡ watches_under r.state.name (under t h))
+
 -- The same if its end has a subscription on the record. Else it is taken out of the list of those that watch it, where it is at this place.
 abbrev pub ReachesOne : (name : List ℕ) → (place : ℕ) → (mask : ℕ) → (watcher : ℕ) → Handle → (still : Bool) → Watched → Table ServerCircuit → Store → Watched → Table ServerCircuit → Store → Type 0
 ReachesOne name place mask watcher h true w t s v after u = PostsIn t h place mask s after u × (v ≡ w)
 ReachesOne name place mask watcher h false w t s v after u = LeavesAt name watcher w v × (after ≡ t) × (u ≡ s)
+
+-- the circuit is at this place of the list of those that watch the record
+abbrev pub IsListed : (place : ℕ) → (watcher : ℕ) → Handle → Watched → Store → Type 0
+IsListed place watcher h w s = (r : Record) × HasAt s place r × At (watching w r.state.name) watcher h
 
 -- The circuit at a place of the list of those that watch the record had its post; there may be none.
 abbrev pub ReachesNext : (place : ℕ) → (mask : ℕ) → (watcher : ℕ) → Watched → Table ServerCircuit → Store → Watched → Table ServerCircuit → Store → Type 0

@@ -4,8 +4,8 @@ ghost use Rattle.ca_dbr.specs.Elements.{elements};
 ghost use Rattle.ca_ids.specs.Table.{under};
 ghost use Rattle.ca_model.specs.ServerCalls.{Posts};
 ghost use Rattle.ca_records.specs.Store.{IsThere, records_of};
-ghost use Rattle.ca_server_core.specs.Covering.{Covers, watches_under};
-ghost use Rattle.ca_server_core.specs.Reaching.{PostsIn, ReachesFrom, ReachesNext};
+ghost use Rattle.ca_server_core.specs.Covering.{Covers};
+ghost use Rattle.ca_server_core.specs.Reaching.{IsListed, PostsIn, ReachesFrom, ReachesNext, WatchesIn};
 ghost use Rattle.ca_server_core.specs.Sound.{IsSound};
 
 use crate::server::ServerCore;
@@ -57,14 +57,20 @@ pub(crate) fn post_to_all(
     ensures sound { IsSound (records_of records.new) circuits.new }
     ensures covered { Covers watchers.new circuits.new }
 {
-    let mut left = watchers.count(records.at(place).state().name());
+    let mut before = 0;
+    let Some(circuit) = watchers.last(records.at(place).state().name(), &mut before) else {
+        return;
+    };
+    post_to_this(circuits, records, watchers, place, mask, before, circuit);
+    // Mostly nobody is left.
+    let mut left = before;
     'posting: while left > 0 {
         left -= 1;
         post_to_one(circuits, records, watchers, place, mask, left);
     }
 }
 
-/// The same for the circuit at this place of the list of those that watch the record. It is taken out if it watches it no more.
+/// The same for the circuit at this place of the list of those that watch the record.
 fn post_to_one(
     circuits: &mut HeldTable<Circuit>,
     records: &mut ServedRecords,
@@ -78,41 +84,48 @@ fn post_to_one(
     ensures { ReachesNext place mask watcher watchers.old circuits.old records.old watchers.new
         circuits.new records.new }
 {
-    let name = records.at(place).state().name();
-    let Some(circuit) = watchers.at(name, watcher) else {
+    let Some(circuit) = watchers.at(records.at(place).state().name(), watcher) else {
         return;
     };
-    if is_watching(circuits, circuit, name) {
-        post_on(circuits, records, circuit, place, mask);
-    } else {
-        watchers.forget(name, watcher);
-    }
+    post_to_this(circuits, records, watchers, place, mask, watcher, circuit);
 }
 
-/// Whether a circuit has a subscription on the record of this name.
-fn is_watching(circuits: &HeldTable<Circuit>, circuit: Handle, name: &[u8]) -> bool
-    ensures { result ≡ watches_under name.now (under circuits.now circuit) }
+/// The same for this circuit, which is at this place of the list. It is taken out if it watches the record no more.
+fn post_to_this(
+    circuits: &mut HeldTable<Circuit>,
+    records: &mut ServedRecords,
+    watchers: &mut Watchers,
+    place: usize,
+    mask: u16,
+    watcher: usize,
+    circuit: Handle,
+)
+    requires listed { IsListed place watcher circuit watchers.old records.old }
+    requires sound { IsSound (records_of records.old) circuits.old }
+    ensures { ReachesNext place mask watcher watchers.old circuits.old records.old watchers.new
+        circuits.new records.new }
 {
-    match circuits.by_handle(circuit) {
-        Some(found) => found.watches(name),
-        None => false,
+    if post_on(circuits, records, circuit, place, mask) {
+        return;
     }
+    watchers.forget(records.at(place).state().name(), watcher);
 }
 
-/// The same for this circuit.
+/// The same for this circuit. It says whether it has a subscription on the record.
 fn post_on(
     circuits: &mut HeldTable<Circuit>,
     records: &mut ServedRecords,
     circuit: Handle,
     place: usize,
     mask: u16,
-)
+) -> bool
     requires there { IsThere records.old place }
     requires sound { IsSound (records_of records.old) circuits.old }
-    ensures { PostsIn circuits.old circuit place mask records.old circuits.new records.new }
+    ensures posts { PostsIn circuits.old circuit place mask records.old circuits.new records.new }
+    ensures watches { WatchesIn circuits.old circuit place records.old result }
 {
     let Some(found) = circuits.by_handle_mut(circuit) else {
-        return;
+        return false;
     };
-    found.post(circuit, place, mask, records);
+    found.post(circuit, place, mask, records)
 }

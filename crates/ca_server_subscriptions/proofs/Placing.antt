@@ -1,6 +1,7 @@
 -- The subscriptions of an end, each in the queue that it was given.
 use Rattle.std.proofs.Common.{◌≡◌, ℕ, zero, suc, ◌+◌, ◌*◌, ◌<◌, ◌≤◌, ◌⊎◌, ◌||◌, inl, inr, Bool, true, false, not, cond, List, [], ◌∷◌, ◌++◌, length, filter, map, Option, Some, None, Result, Ok, Err, is_some, nat_lt, refl, sym, ap, ◌∙◌, subst, arith}
-use Rattle.std.specs.Prelude.{OnErr, slice_set}
+use Rattle.std.specs.Prelude.{OnErr, option_to_list, slice_get, slice_set}
+use Rattle.std.specs.List.{list_any}
 use Rattle.std.proofs.lemmas.Bool.{both_ways, cases_Bool, ltb-false, ltb-true, or_left, or_right, or_parts, or_cases}
 use Rattle.std.proofs.lemmas.List.{length_push, length-map}
 use Rattle.std.specs.Map.{lookup, remove_entry}
@@ -564,6 +565,17 @@ module _ (es : Standings) (qs : List Q) (p : ArePlaced es qs) where
   pub passes-at : (test : Subscription → Bool) (old : Subscribed) (place : ℕ) (e : Entry) → whole ≡ old → At es place e → test e.1.0 ≡ true → PassesAt test place old
   passes-at test old place e is at hit =
       (e.1.0, subst (λ (s : Subscribed). At s.subscriptions place e.1.0) is (At-map (λ (x : Entry). x.1.0) es place e at), hit)
+
+  -- whether the one at a place passes a test
+  pub on-at : (test : Subscription → Bool) (old : Subscribed) (place : ℕ) (e : Entry) (b : Bool) → whole ≡ old → At es place e → test e.1.0 ≡ b → list_any test (option_to_list (slice_get old.subscriptions place)) ≡ b
+  on-at test old place e b is at told =
+      ap (λ (o : Option Subscription). list_any test (option_to_list o))
+      (subst (λ (s : Subscribed). At s.subscriptions place e.1.0) is (At-map (λ (x : Entry). x.1.0) es place e at))
+      ∙ or-none (test e.1.0) ∙ told
+    where
+      or-none : (b : Bool) → (b || false) ≡ b
+      or-none true = refl
+      or-none false = refl
 
   -- the one at a place, which a post concerns, and its queue
   pub concerned-at : (name : List ℕ) (mask : ℕ) (old : Subscribed) (place : ℕ) (e : Entry) → whole ≡ old → At es place e → concerns name mask e.1.0 ≡ true → ConcernsAt name mask place old.subscriptions old.queues (Some e.1.1)

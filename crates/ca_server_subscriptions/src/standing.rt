@@ -1,5 +1,6 @@
 ghost use Rattle.std.specs.Prelude.{◌≡◌};
 ghost use Rattle.ca_model.specs.Server.{concerns};
+ghost use Rattle.ca_model.specs.Speech.{share_bit};
 ghost use Rattle.ca_server_subscriptions.specs.Subscribed.{IsAskable, is_on};
 
 use ca_text::Mask;
@@ -70,6 +71,13 @@ impl Standing {
     pub(crate) fn is_concerned(&self, name: &[u8], mask: u16) -> bool
         ensures { result ≡ concerns name.now mask self.now.0 }
     {
-        self.is_on(name) && Mask::new(mask & self.mask).is_some()
+        self.is_on(name) && self.is_masked(mask)
+    }
+
+    // Whether its mask shares a bit with this one.
+    pub(crate) fn is_masked(&self, mask: u16) -> bool
+        ensures { result ≡ share_bit mask self.now.0.mask }
+    {
+        Mask::new(mask & self.mask).is_some()
     }
 }

@@ -158,8 +158,8 @@ impl Subscriptions {
         let _ = &self.standing;
     }
 
-    /// A post to the record of this name: each that it concerns gets an update, in their order. Without memory for one all subscriptions
-    /// stay, and some have the update, so that the end is to be closed.
+    /// A post to the record of this name: each that it concerns gets an update, in their order. It says whether one is on the record. Without
+    /// memory for one all subscriptions stay, and some have the update, so that the end is to be closed.
     pub fn post(
         &mut self,
         alloc: Global,
@@ -167,21 +167,25 @@ impl Subscriptions {
         mask: u16,
         value: &Value,
         meta: &Meta,
-    ) -> Result<(), AllocError>
+    ) -> Result<bool, AllocError>
         requires { count_of (elements value.now) ≤ element_limit }
         ensures ok { OnOk result (self.new ≡ after_post name.now mask
             (record { value = elements value.now; meta = meta.now }) self.old) }
+        ensures on { IfOk result (λ on.
+            on ≡ list_any (is_on name.now) self.old.subscriptions) }
         ensures err { OnErr result
             (list_any (concerns name.now mask) self.old.subscriptions ≡ true) }
         ensures stay { OnErr result (self.new.subscriptions ≡ self.old.subscriptions) }
     {
+        let mut on = false;
         'posting: for place in 0..self.len() {
-            self.post_at(alloc, place, name, mask, value, meta)?;
+            let here = self.post_at(alloc, place, name, mask, value, meta)?;
+            on |= here;
         }
-        Ok(())
+        Ok(on)
     }
 
-    // Gives the one at this place an update if the post concerns it.
+    // Gives the one at this place an update if the post concerns it, and says whether it is on the record.
     fn post_at(
         &mut self,
         alloc: Global,
@@ -190,25 +194,30 @@ impl Subscriptions {
         mask: u16,
         value: &Value,
         meta: &Meta,
-    ) -> Result<(), AllocError>
+    ) -> Result<bool, AllocError>
         requires { count_of (elements value.now) ≤ element_limit }
         ensures ok { OnOk result (AtPlace (concerns name.now mask)
             (with_update (record { value = elements value.now; meta = meta.now })) place self.old
             self.new) }
+        ensures on { IfOk result (λ on. on ≡ list_any (is_on name.now)
+            (option_to_list (slice_get self.old.subscriptions place))) }
         ensures err { OnErr result (PassesAt (concerns name.now mask) place self.old) }
         ensures stay { OnErr result (self.new ≡ self.old) }
     {
         let Some((key, standing)) = self.standing.get_index(place) else {
-            return Ok(());
+            return Ok(false);
         };
-        if !standing.is_concerned(name, mask) {
-            return Ok(());
+        if !standing.is_on(name) {
+            return Ok(false);
+        }
+        if !standing.is_masked(mask) {
+            return Ok(true);
         }
         let (key, queue) = (*key, standing.queue());
         let room = mem::replace(&mut self.spare, Value::Chars(Vec::new(alloc)));
         let update = Update::of_in(alloc, room, value, *meta)?;
         self.queues.post(queue, key, update);
-        Ok(())
+        Ok(true)
     }
 
     /// An update that was shown gives its memory to the next one.
@@ -230,29 +239,6 @@ impl Subscriptions {
             return None;
         }
         Some(standing.queue())
-    }
-
-    /// Whether one of them is on the record of this name.
-    pub fn watches(&self, name: &[u8]) -> bool
-        ensures { result ≡ list_any (is_on name.now) self.now.subscriptions }
-    {
-        'seeking: for place in 0..self.len() {
-            if self.is_on(place, name) {
-                return true;
-            }
-        }
-        false
-    }
-
-    // Whether the one at this place, if there is one, is on the record of this name.
-    fn is_on(&self, place: usize, name: &[u8]) -> bool
-        ensures { result ≡ list_any (is_on name.now)
-            (option_to_list (slice_get self.now.subscriptions place)) }
-    {
-        match self.standing.get_index(place) {
-            Some((_, standing)) => standing.is_on(name),
-            None => false,
-        }
     }
 
     /// Takes an update from the first queue that may give one, and says what its subscription asked for. None if none may.

@@ -1,4 +1,4 @@
-ghost use Rattle.std.specs.Prelude.{◌≡◌, OnErr, OnOk, [], length, slice_get};
+ghost use Rattle.std.specs.Prelude.{◌≡◌, ◌-◌, OnErr, OnOk, [], length, slice_get};
 ghost use Rattle.ca_server_watchers.specs.Watching.{AreApart, Joins, Leaves};
 
 use ca_arena::Handle;
@@ -53,6 +53,16 @@ impl Line {
             }),
             None => None,
         }
+    }
+
+    // The last one, and how many come before it.
+    pub(crate) fn last(&self, before: &mut usize) -> Option<Handle>
+        ensures last { result ≡ slice_get self.now before.new }
+        ensures before { before.new ≡ length self.now - 1 }
+        ensures apart { AreApart self.now }
+    {
+        *before = self.len().saturating_sub(1);
+        self.at(*before)
     }
 
     // This circuit watches too, in place of one of the same index. Without memory all is as it was.

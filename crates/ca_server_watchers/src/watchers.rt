@@ -1,4 +1,4 @@
-ghost use Rattle.std.specs.Prelude.{◌≡◌, IfSome, OnErr, OnOk, [], length, slice_get};
+ghost use Rattle.std.specs.Prelude.{◌≡◌, ◌-◌, IfSome, OnErr, OnOk, [], length, slice_get};
 ghost use Rattle.ca_server_watchers.specs.Watching.{AreApart, Clears, LeavesAt, Watches, watching};
 
 use crate::line::Line;
@@ -36,37 +36,31 @@ impl Watchers {
         }
     }
 
-    /// How many circuits watch the record of this name.
-    pub fn count(&mut self, name: &[u8]) -> usize
-        ensures count { result ≡ length (watching self.old name.now) }
+    /// The last of the circuits that watch the record of this name, and how many come before it.
+    pub fn last(&mut self, name: &[u8], before: &mut usize) -> Option<Handle>
+        ensures last { result ≡ slice_get (watching self.old name.now) before.new }
+        ensures before { before.new ≡ length (watching self.old name.now) - 1 }
         ensures apart { AreApart (watching self.old name.now) }
         ensures stays { self.new ≡ self.old }
     {
         // Then no name need be hashed.
         if self.lines.is_empty() {
-            return 0;
+            *before = 0;
+            return None;
         }
-        if let Some(count) = self.recent_count(name) {
-            return count;
+        if let Some(line) = self.recent_line(name) {
+            return line.last(before);
         }
         match self.lines.get_full(name) {
             Some((place, _, line)) => {
-                let count = line.len();
+                let last = line.last(before);
                 self.recent = place;
-                count
+                last
             }
-            None => 0,
-        }
-    }
-
-    // How many watch the record of this name, if its line was found last.
-    fn recent_count(&self, name: &[u8]) -> Option<usize>
-        ensures { IfSome result (λ n.
-            (n ≡ length (watching self.now name.now)) × AreApart (watching self.now name.now)) }
-    {
-        match self.recent_line(name) {
-            Some(line) => Some(line.len()),
-            None => None,
+            None => {
+                *before = 0;
+                None
+            }
         }
     }
 
