@@ -8,3 +8,4 @@ pub mod Runs
 pub mod Images
 pub mod Circuit
 pub mod Ring
+pub mod AtNeed

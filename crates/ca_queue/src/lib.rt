@@ -12,6 +12,7 @@ mod laws;
 mod list_queue;
 mod places;
 mod queues;
+mod queues_at_need;
 mod ring;
 
 pub use circuit_queues::CircuitQueues;
@@ -23,3 +24,4 @@ pub use laws::{
 };
 pub use list_queue::ListQueue;
 pub use queues::Queues;
+pub use queues_at_need::QueuesAtNeed;

@@ -12,7 +12,7 @@ use Rattle.ca_ids.specs.Table.{MayGive, Table, kept_of, same_handle, under, with
 use Rattle.ca_ids.specs.Holding.{Fills}
 use Rattle.ca_requests.specs.Calls.{Issued, MayIssue}
 use Rattle.ca_requests.specs.Layout.{AreGiven, issued_of}
-use Rattle.ca_requests.specs.Lines.{AreAllListed, AreLines, AreOf, AreRequests, Hands, IsAt, Line, MayBeOf, Notes, Readies, ReadyAll, belongs, channel_of, circuit_of, handed_to, line_at, no_line, told_of}
+use Rattle.ca_requests.specs.Lines.{AreAllListed, AreLines, AreOf, AreRequests, Hands, IsAt, Line, MayBeOf, Notes, Readies, ReadyAll, belongs, channel_of, circuit_of, handed_to, line_at, no_line, room_beside, told_of}
 use Rattle.ca_requests.specs.Requests.{Draining, Open, Request, Stage, asks_on, in_order_of_issue, is_open, is_open_in, over_on, was_sent_on}
 use Rattle.ca_requests.proofs.Orders.{filter-narrow, given-filter, given-grows, given-push}
 use Rattle.ca_requests.proofs.Tables.{Dims, Grows, Keeps, Stays, any, by_value, dims-freed, dims-over, first_of, given-new, grows-freed, grows-held, grows-map, keeps-freed, keeps-map, none-freed, none-over, opens, opens-any, place-beside, place-held, second_of, stays-freed, stays-over, true_or_false, under-beside, under-held}
@@ -105,6 +105,44 @@ readies-emptied t c d xs ys m n is none = record {
   also = λ h. subst (λ (zs : List Handle). AreOf channel_of t d zs) (sym none) tt;
   placed = λ i h. inl none;
 }
+
+-- the last one is over, and goes
+is-closed : (t : Table Request) (h : Handle) (which : Request → Bool) → is_open any t h ≡ false → is_open which t h ≡ false
+is-closed t h which closed = elim (true_or_false (is_open which t h)) [
+  | inl opened ↦
+      let bad : false ≡ true = sym closed ∙ opens-any which (under t h) opened in
+      absurd cc
+  | inr fails ↦ fails
+]
+
+given-front : (t : Table Request) (xs : List Handle) (h : Handle) → AreGiven t (xs ++ h ∷ []) → AreGiven t xs
+given-front t [] h given = tt
+given-front t (x ∷ xs) h given = (given.0, given-front t xs h given.1)
+
+of-front : (whose : Request → Handle) (t : Table Request) (c : Handle) (xs : List Handle) (h : Handle) → AreOf whose t c (xs ++ h ∷ []) → AreOf whose t c xs
+of-front whose t c [] h all = tt
+of-front whose t c (x ∷ xs) h all = (all.0, of-front whose t c xs h all.1)
+
+not-empty : (xs : List Handle) (h : Handle) → xs ++ h ∷ [] ≡ [] → xs ≡ []
+not-empty [] h none = refl
+not-empty (x ∷ xs) h none = absurd cc
+
+pub readies-shorter : (t : Table Request) (c : Handle) (xs : List Handle) (h : Handle) (m n : ℕ) → is_open any t h ≡ false → Readies t (line c (xs ++ h ∷ []) m) (line c xs n)
+readies-shorter t c xs h m n closed = record {
+  same = λ which.
+      let p = is_open which t in
+      let none : filter p (h ∷ []) ≡ [] = (let no = is-closed t h which closed in rw no refl) in
+      sym (filter-append p xs (h ∷ []) ∙ ap (λ (ys : List Handle). filter p xs ++ ys) none ∙ append-nil (filter p xs));
+  given = λ all. given-front t xs h all;
+  owned = λ all. of-front circuit_of t c xs h all;
+  also = λ all. of-front channel_of t c xs h all;
+  placed = λ i here. elim here [ inl none ↦ inl (not-empty xs h none) | inr at ↦ inr at ];
+}
+
+-- no room is beside one that stands there
+pub alone : (o : Option Handle) (n : ℕ) → 0 < room_beside o n → o ≡ None
+alone None n room = refl
+alone (Some h) n room = absurd (omega (arith, room))
 
 pub empty-of : (xs : List Handle) → length xs ≡ 0 → xs ≡ []
 empty-of [] none = refl

@@ -1,5 +1,5 @@
 -- Working: the requests of each circuit, and those of each channel, beside those of all. No clause of a caller needs it.
-use Rattle.std.specs.Prelude.{ℕ, ◌≡◌, ◌≢◌, ◌⊎◌, ◌<◌, ◌++◌, Bool, false, true, List, [], ◌∷◌, if◌then◌else◌, length, slice_index_or}
+use Rattle.std.specs.Prelude.{ℕ, ◌≡◌, ◌≢◌, ◌⊎◌, ◌<◌, ◌++◌, Bool, false, true, List, [], ◌∷◌, Option, Some, None, if◌then◌else◌, length, slice_index_or}
 use Rattle.std.specs.List.{AllByRecursion}
 use Rattle.ca_arena.specs.declared.handle.Handle.{Handle}
 use Rattle.ca_text.specs.Place.{At}
@@ -16,6 +16,21 @@ pub record Line : Type 0 where
 -- that of none
 abbrev pub no_line : Line
 no_line = record { owner = record { index = 0; generation = 0 }; handles = []; room = 0 }
+
+-- those before the last one, and the last one, if there is one
+abbrev pub with_last : List Handle → Option Handle → List Handle
+with_last xs None = xs
+with_last xs (Some h) = xs ++ h ∷ []
+
+-- the room beside the last one: one that stands there has to go first
+abbrev pub room_beside : Option Handle → ℕ → ℕ
+room_beside None n = n
+room_beside (Some h) n = 0
+
+-- There is room for the last one among those before it.
+abbrev pub HasRoomForLast : Option Handle → (len capacity : ℕ) → Type 0
+HasRoomForLast None len capacity = Unit {0}
+HasRoomForLast (Some h) len capacity = len < capacity
 
 -- the line at this index of its owner
 abbrev pub line_at : List Line → ℕ → Line

@@ -1,11 +1,12 @@
 //! The requests of one circuit or one channel, so that its end needs no look at the others.
-ghost use Rattle.std.specs.Prelude.{◌≡◌, ◌<◌, ◌++◌, ◌∷◌, [], OnOk};
+ghost use Rattle.std.specs.Prelude.{ℕ, ◌≡◌, ◌<◌, ◌++◌, ◌∷◌, [], OnOk, vec_capacity, vec_len};
+ghost use Rattle.ca_arena.specs.declared.handle.Handle as owner;
 ghost use Rattle.ca_ids.specs.Table.{Table};
 ghost use Rattle.ca_requests.specs.Requests as request;
 ghost use Rattle.ca_requests.specs.Lines.{MayBeOf, Readies, handed_to, no_line, told_of};
 
 use crate::request::{Request, is_same};
-use crate::requests::forget;
+use crate::requests::{forget, is_still_open};
 use ca_arena::Handle;
 use ca_ids::HeldTable;
 use std::alloc::{AllocError, Global};
@@ -16,9 +17,13 @@ use std::mem;
 const LEAST_LIMIT: usize = 16;
 
 /// The requests of a circuit or of a channel, in order of issue: all that are open, and some that are over.
+///
+/// The one that was issued last stands apart, so that where one is open at a time no list in memory of its own is touched.
 #[derive(Debug, Drop)]
 pub(crate) struct Line {
     owner: Handle,
+    last: Option<Handle>,
+    // Those before the last one, with room for it.
     listed: Vec<Handle>,
     // How many are listed before those that are over are taken out.
     limit: usize,
@@ -29,13 +34,16 @@ impl Model for Line {
 
     ghost Value = { lines.Line };
 
+    ghost use Rattle.ca_requests.specs.Lines.{HasRoomForLast, room_beside, with_last};
     ghost use Rattle.std.specs.Prelude.{◌-◌, vec_capacity, vec_len};
 
     ghost view = { λ l. record {
       owner = l.owner;
-      handles = l.listed.items;
-      room = vec_capacity l.listed - vec_len l.listed;
+      handles = with_last l.listed.items l.last;
+      room = room_beside l.last (vec_capacity l.listed - vec_len l.listed);
     } };
+
+    ghost invariant = { λ l. HasRoomForLast l.last (vec_len l.listed) (vec_capacity l.listed) };
 }
 
 impl Line {
@@ -48,6 +56,7 @@ impl Line {
                 index: 0,
                 generation: 0,
             },
+            last: None,
             listed: Vec::new(alloc),
             limit: LEAST_LIMIT,
         }
@@ -65,8 +74,7 @@ impl Line {
         ensures room { OnOk result (0 < self.new.room) }
     {
         self.own(owner);
-        self.tidy(table);
-        self.listed.reserve(1)?;
+        self.settle(table)?;
         Ok(())
     }
 
@@ -79,21 +87,29 @@ impl Line {
         if is_same(self.owner, owner) {
             return;
         }
+        self.last = None;
         self.listed.clear();
         self.owner = owner;
         self.limit = LEAST_LIMIT;
     }
 
-    // Takes those that are over out once it is long.
-    fn tidy(&mut self, table: &HeldTable<Request>)
+    // The last one is over, or goes to those before it, and there is room for one more.
+    fn settle(&mut self, table: &HeldTable<Request>) -> Result<(), AllocError>
         ensures readies { Readies table.now self.old self.new }
         ensures owner { self.new.owner ≡ self.old.owner }
+        ensures room { OnOk result (0 < self.new.room) }
     {
-        if self.listed.len() < self.limit {
-            return;
+        let Some(last) = self.last else {
+            self.listed.reserve(1)?;
+            return Ok(());
+        };
+        self.last = None;
+        if !is_still_open(table, last) {
+            return Ok(());
         }
-        forget(&mut self.listed, table);
-        self.limit = self.listed.len().saturating_mul(2).max(LEAST_LIMIT);
+        self.listed.push_reserved(last);
+        thin(&mut self.listed, &mut self.limit, table)?;
+        Ok(())
     }
 
     /// One more request is the last. There is room for it.
@@ -102,7 +118,7 @@ impl Line {
         ensures owner { self.new.owner ≡ self.old.owner }
         ensures handles { self.new.handles ≡ self.old.handles ++ handle ∷ [] }
     {
-        self.listed.push_reserved(handle);
+        self.last = Some(handle);
     }
 
     /// Hands out what is listed, if it is this owner's.
@@ -115,6 +131,29 @@ impl Line {
             return Vec::new(alloc);
         }
         self.limit = LEAST_LIMIT;
-        mem::replace(&mut self.listed, Vec::new(alloc))
+        let mut told = mem::replace(&mut self.listed, Vec::new(alloc));
+        if let Some(last) = self.last {
+            told.push_reserved(last);
+        }
+        self.last = None;
+        told
     }
+}
+
+// Takes those that are over out of a list once it is long, and makes room for one more.
+fn thin(
+    listed: &mut Vec<Handle>,
+    limit: &mut usize,
+    table: &HeldTable<Request>,
+) -> Result<(), AllocError>
+    ensures readies { (c : owner.Handle) (m n : ℕ) → Readies table.now
+        (record { owner = c; handles = listed.old.items; room = m })
+        (record { owner = c; handles = listed.new.items; room = n }) }
+    ensures room { OnOk result (vec_len listed.new < vec_capacity listed.new) }
+{
+    if listed.len() >= *limit {
+        forget(listed, table);
+        *limit = listed.len().saturating_mul(2).max(LEAST_LIMIT);
+    }
+    listed.reserve(1)
 }

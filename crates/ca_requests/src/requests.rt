@@ -243,7 +243,7 @@ pub(crate) fn forget(listed: &mut Vec<Handle>, table: &HeldTable<Request>)
 }
 
 // Whether the request of this handle is open.
-fn is_still_open(table: &HeldTable<Request>, handle: Handle) -> bool
+pub(crate) fn is_still_open(table: &HeldTable<Request>, handle: Handle) -> bool
     ensures { result ≡ is_open (λ q. true) table.now handle }
 {
     match table.by_handle(handle) {

@@ -50,11 +50,11 @@ impl Model for Circuit {
 }
 
 impl Circuit {
-    /// One that was accepted at this moment. It makes room for the queues of its end.
+    /// One that was accepted at this moment. Its queues are made as its first subscription begins.
     pub fn new(alloc: Global, now: u64) -> Result<Circuit, AllocError>
         ensures { IfOk result (λ c. c ≡ server.Open (new_end now)) }
     {
-        let end = End::new(alloc, now)?;
+        let end = End::new(alloc, now);
         Ok(Circuit {
             state: State::Open(end),
         })

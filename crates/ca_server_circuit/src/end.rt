@@ -46,21 +46,20 @@ impl Model for End {
 }
 
 impl End {
-    /// The end of a circuit that was accepted at this moment. It makes room for its queues.
-    pub(crate) fn new(alloc: Global, now: u64) -> Result<End, AllocError>
-        ensures { IfOk result (λ e. e ≡ new_end now) }
+    /// The end of a circuit that was accepted at this moment. It does not allocate yet.
+    pub(crate) fn new(alloc: Global, now: u64) -> End
+        ensures { result ≡ new_end now }
     {
-        let subscriptions = Subscriptions::new(alloc)?;
-        Ok(End {
+        End {
             alloc,
             link: Link::new(alloc, now),
             channels: Channels::new(alloc),
-            subscriptions,
+            subscriptions: Subscriptions::new(alloc),
             greeted: false,
             settled: false,
             user: Vec::new(alloc),
             host: Vec::new(alloc),
-        })
+        }
     }
 }
 

@@ -13,7 +13,7 @@ ghost use Rattle.ca_server_subscriptions.specs.Subscribed.{AreKnown, AtPlace, Ha
 use crate::standing::Standing;
 use crate::update::Update;
 use ca_dbr::{Meta, Value};
-use ca_queue::{CircuitQueues, EventQueue, SubKey};
+use ca_queue::{EventQueue, QueuesAtNeed, SubKey};
 use ca_text::Refusal;
 use ca_wire::{Sid, Wanted};
 use indexmap::IndexMap;
@@ -25,7 +25,7 @@ use std::mem;
 #[derive(Drop)]
 pub struct Subscriptions {
     standing: IndexMap<SubKey, Standing>,
-    queues: CircuitQueues<Update, EventQueue<Update>>,
+    queues: QueuesAtNeed<Update, EventQueue<Update>>,
     // The place after the subscription whose update was taken last: the next update is mostly of the one there. The key decides.
     next: usize,
     // The value of an update that was shown, or one without elements: its memory is for the next.
@@ -46,17 +46,16 @@ impl Model for Subscriptions {
 }
 
 impl Subscriptions {
-    /// None. It makes room for the queues. Refused without memory.
-    pub fn new(alloc: Global) -> Result<Subscriptions, AllocError>
-        ensures { IfOk result (λ s. s ≡ none_yet) }
+    /// None. It does not allocate yet.
+    pub fn new(alloc: Global) -> Subscriptions
+        ensures { result ≡ none_yet }
     {
-        let queues = CircuitQueues::new(alloc)?;
-        Ok(Subscriptions {
+        Subscriptions {
             standing: IndexMap::new(alloc),
-            queues,
+            queues: QueuesAtNeed::new(alloc),
             next: 0,
             spare: Value::Chars(Vec::new(alloc)),
-        })
+        }
     }
 
     /// How many there are.
