@@ -37,6 +37,15 @@ impl Circuit {
         };
         connection.take_first(alloc)
     }
+
+    /// A message that was handled gives its memory to the next one.
+    pub fn recycle(&mut self, message: Message)
+        ensures { self.new ≡ self.old }
+    {
+        if let Some(connection) = &mut self.connection {
+            connection.recycle(message);
+        }
+    }
 }
 
 impl Connection {
@@ -54,6 +63,13 @@ impl Connection {
                 First::Bad(bad_header(refusal), met.into_left())
             }
         }
+    }
+
+    // A message that was handled gives its memory to the next one.
+    fn recycle(&mut self, message: Message)
+        ensures { self.new ≡ self.old }
+    {
+        self.link.recycle(message);
     }
 }
 
