@@ -16,6 +16,9 @@ use std::mem;
 // So many are listed before any is taken out.
 const LEAST_LIMIT: usize = 16;
 
+/// Those that are over are taken out of a list once it is so many times as long as it was left the last time.
+pub(crate) const GROWTH: usize = 4;
+
 /// The requests of a circuit or of a channel, in order of issue: all that are open, and some that are over.
 ///
 /// The one that was issued last stands apart, so that where one is open at a time no list in memory of its own is touched.
@@ -153,7 +156,7 @@ fn thin(
 {
     if listed.len() >= *limit {
         forget(listed, table);
-        *limit = listed.len().saturating_mul(2).max(LEAST_LIMIT);
+        *limit = listed.len().saturating_mul(GROWTH).max(LEAST_LIMIT);
     }
     listed.reserve(1)
 }

@@ -7,7 +7,7 @@ ghost use Rattle.ca_requests.specs.Requests.{answered_by, asks_on, channel_gone,
 
 use crate::asked::{Asked, Stage};
 use crate::drops::{Which, end_each, free_all};
-use crate::line::Line;
+use crate::line::{GROWTH, Line};
 use crate::lines::{hand_out, note, prepare};
 use crate::outcome::{image_outcome, status_outcome};
 use crate::request::Request;
@@ -21,8 +21,8 @@ use std::marker::Model;
 /// A client's requests: by their handles, by their IOIDs, and in order of issue.
 ///
 /// Answering one costs the same however many are open, and so does issuing one on average: an issue that finds the list at its
-/// limit goes over all of it, at most once in as many issues as were open. Those of a circuit or a channel are found without a look
-/// at the others; to free ids, what ends many at once goes over each index that was ever given.
+/// limit goes over all of it, at most once in three times as many issues as were open then. Those of a circuit or a channel are
+/// found without a look at the others; to free ids, what ends many at once goes over each index that was ever given.
 #[derive(Drop)]
 pub struct Requests {
     table: HeldTable<Request>,
@@ -123,7 +123,7 @@ impl Requests {
             return;
         }
         forget(&mut self.listed, &self.table);
-        self.limit = self.listed.len().saturating_mul(2).max(64);
+        self.limit = self.listed.len().saturating_mul(GROWTH).max(64);
     }
 
     // The request that a reply of this command and IOID on this circuit is about.

@@ -50,14 +50,14 @@ impl Model for Circuit {
 }
 
 impl Circuit {
-    /// One that was accepted at this moment. Its queues are made as its first subscription begins.
-    pub fn new(alloc: Global, now: u64) -> Result<Circuit, AllocError>
-        ensures { IfOk result (λ c. c ≡ server.Open (new_end now)) }
+    /// One that was accepted at this moment. It does not allocate yet.
+    pub fn new(alloc: Global, now: u64) -> Circuit
+        ensures { result ≡ server.Open (new_end now) }
     {
         let end = End::new(alloc, now);
-        Ok(Circuit {
+        Circuit {
             state: State::Open(end),
-        })
+        }
     }
 
     /// Takes bytes that came at this moment. Refused as CircuitClosed if its end is not open, then as OutOfMemory.

@@ -89,9 +89,7 @@ impl ServerCore {
         if self.circuits.is_full() {
             return Err(Refusal::ArenaFull);
         }
-        let Ok(circuit) = Circuit::new(self.alloc, self.moment) else {
-            return Err(Refusal::OutOfMemory);
-        };
+        let circuit = Circuit::new(self.alloc, self.moment);
         open_on(&mut self.circuits, circuit)
     }
 

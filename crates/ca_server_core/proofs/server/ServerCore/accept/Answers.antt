@@ -7,9 +7,9 @@ pub invariant_of-self : goal.invariant_of-self
 invariant_of-self c =
     let i = c.self.inside in
     record {
-      sound = sound-opened (records_of i.records) i.circuits c.open_on.new.circuits i.moment c.in-Ok.circuit c.open_on.result c.self.invariant.sound c.in-Ok.ensures c.open_on.ensures;
-      covered = covers-opened i.watchers i.circuits c.open_on.new.circuits i.moment c.in-Ok.circuit c.open_on.result c.self.invariant.covered c.in-Ok.ensures c.open_on.ensures;
+      sound = sound-opened (records_of i.records) i.circuits c.open_on.new.circuits i.moment c.new-circuit.result c.open_on.result c.self.invariant.sound c.new-circuit.ensures c.open_on.ensures;
+      covered = covers-opened i.watchers i.circuits c.open_on.new.circuits i.moment c.new-circuit.result c.open_on.result c.self.invariant.covered c.new-circuit.ensures c.open_on.ensures;
     }
 
 pub returns : goal.returns
-returns c = accepts _ c.args.self.now c.open_on.new.circuits c.in-Ok.circuit c.open_on.result c.self.view_is c.in-Ok.ensures c.open_on.ensures
+returns c = accepts _ c.args.self.now c.open_on.new.circuits c.new-circuit.result c.open_on.result c.self.view_is c.new-circuit.ensures c.open_on.ensures
