@@ -1,37 +1,34 @@
--- Nothing waits on the circuit, and nothing is moved.
-use Rattle.std.proofs.Common.{◌≡◌, ℕ, ◌≤◌, inl, inr, List, [], ◌∷◌, ◌++◌, length, Option, None, Some, refl, sym, ap, ◌∙◌, subst, arith}
-use Rattle.std.proofs.lemmas.List.{append-nil}
-use Rattle.ca_ids.specs.Table.{under}
-use Rattle.ca_link.specs.Link.{with_handed}
-use Rattle.ca_model.specs.Server.{Ended, Open, ServerCircuit, ServerEnd}
-use Rattle.ca_model.specs.Ends.{Why}
-use Rattle.ca_model.specs.ServerSteps.{HasEnd, Sends, output_of, with_end}
-use Rattle.ca_answer.specs.Engines.{EngineState, Gathers}
-use Rattle.ca_answer.proofs.Handled.{same-end}
-use Rattle.ca_text.proofs.Places.{some_is}
+-- A message was handled, updates were pumped, and what waits then was moved.
+use Rattle.std.proofs.Common.{◌≡◌, ℕ, List, Ok, Err, Result, refl, subst}
+use Rattle.std.specs.Prelude.{OnOk}
+use Rattle.std.specs.declared.alloc.AllocError.{AllocError}
+use Rattle.ca_arena.specs.declared.handle.Handle.{Handle}
+use Rattle.ca_model.specs.Server.{Server}
+use Rattle.ca_model.specs.ServerSteps.{Pumps, Update}
+use Rattle.ca_server_core.specs.Pumping.{PumpsOut}
+use Rattle.ca_answer.specs.Engines.{EngineState, FinishesOne, Gathers, HandlesOne, PumpsAndGathers}
 
-ended-open : (w : Why) (left : List ℕ) (e : ServerEnd) → (let x : ServerCircuit = Ended w left in x ≡ Open e) → ⊥
-ended-open w left e same = cc
+pumped-one : (old mid new : Server) (h : Handle) (us : List Update) → FinishesOne old h mid → Pumps mid h us new → HandlesOne old h new
+pumped-one old mid new h us d p = record {
+  put = d.put;
+  next = d.next;
+  stepped = d.stepped;
+  steps = d.steps;
+  finished = mid;
+  tries = d.tries;
+  updates = us;
+  pumps = p;
+}
 
-none-open : (e : ServerEnd) → (let none : Option ServerCircuit = None in none ≡ Some (Open e)) → ⊥
-none-open e same = cc
+-- the message by itself, and what was moved after it
+pub handled-gathered : (x mid new : EngineState) → mid ≡ record x { core = mid.core } → FinishesOne x.core x.circuit mid.core → PumpsAndGathers mid new
+    → (pumped : Server) × HandlesOne x.core x.circuit pumped × Gathers (record x { core = pumped }) new
+handled-gathered x mid new is d g =
+    let p : PumpsAndGathers (record x { core = mid.core }) new = subst (λ (z : EngineState). PumpsAndGathers z new) is g in
+    (p.1, pumped-one x.core mid.core p.1 x.circuit p.0 d p.2, p.3)
 
-empty : (bytes : List ℕ) → length bytes ≡ 0 → bytes ≡ []
-empty [] is = refl
-empty (b ∷ bytes) is = absurd (omega (arith, is))
-
-pub gathers-nothing : (x : EngineState) → length (output_of (under x.core.circuits x.circuit)) ≡ 0 → Gathers x x
-gathers-nothing x none =
-    (sym (ap (λ (o : List ℕ). x.waits ++ o) (empty (output_of (under x.core.circuits x.circuit)) none) ∙ append-nil x.waits), refl, go (under x.core.circuits x.circuit) refl)
-  where
-    n : ℕ
-    n = length (output_of (under x.core.circuits x.circuit))
-
-    few : (m : ℕ) → n ≤ m
-    few m = omega (arith, none)
-
-    go : (c : Option ServerCircuit) → under x.core.circuits x.circuit ≡ c → Sends x.core x.circuit n x.core
-    go (Some (Open e)) has =
-        inl (e, has, few (length e.link.output), subst (λ (m : ℕ). x.core ≡ with_end x.circuit (record e { link = with_handed m e.link }) x.core) (sym none) (same-end x.core x.circuit e has))
-    go (Some (Ended w left)) has = inr (λ e open-there. ended-open w left e (some_is (Ended w left) (Open e) (sym has ∙ open-there)), none, refl)
-    go None has = inr (λ e open-there. none-open e (sym has ∙ open-there), none, refl)
+-- by the call of the core
+pub gathers-pumped : (x : EngineState) (core : Server) (waits : List ℕ) (r : Result (Unit {0}) AllocError) → PumpsOut x.core x.circuit x.waits r core waits
+    → OnOk r (PumpsAndGathers x (record { core = core; circuit = x.circuit; waits = waits }))
+gathers-pumped x core waits (Ok u) p = (p.0, p.1, p.2, (p.3.0, refl, p.3.1))
+gathers-pumped x core waits (Err e) p = tt

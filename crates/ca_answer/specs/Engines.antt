@@ -45,15 +45,28 @@ pub record HandlesOne (old : Server) (h : Handle) (new : Server) : Type 0 where
   pub updates : List Update
   pub pumps : Pumps finished h updates new
 
+-- The same before the pump.
+pub record FinishesOne (old : Server) (h : Handle) (new : Server) : Type 0 where
+  pub put : Option (List ℕ)
+  pub next : IsNextPut old h put
+  pub stepped : Server
+  pub steps : Steps old h Handled stepped
+  pub tries : Tries stepped put new
+
 -- What was done with the next message.
 abbrev pub ServesNext : Server → Handle → Stepped → Server → Type 0
-ServesNext old h Handled new = HandlesOne old h new
+ServesNext old h Handled new = FinishesOne old h new
 ServesNext old h did new = Steps old h did new
 
 -- what waits to be sent on the circuit was put after the bytes that wait
 abbrev pub Gathers : EngineState → EngineState → Type 0
 Gathers x new =
     (new.waits ≡ x.waits ++ output_of (under x.core.circuits x.circuit)) × (new.circuit ≡ x.circuit) × Sends x.core x.circuit (length (output_of (under x.core.circuits x.circuit))) new.core
+
+-- updates were pumped before that
+abbrev pub PumpsAndGathers : EngineState → EngineState → Type 0
+PumpsAndGathers x new =
+    (updates : List Update) × (pumped : Server) × Pumps x.core x.circuit updates pumped × Gathers (record x { core = pumped }) new
 
 -- what came on a circuit and was not read: nothing if its end is not open
 abbrev pub unread : Option ServerCircuit → List ℕ

@@ -7,7 +7,7 @@ ghost use Rattle.ca_model.specs.ServerSteps.{Gives};
 ghost use Rattle.ca_server_core.specs.NextPut.{IsNextPut};
 ghost use Rattle.ca_server_core.specs.Serving.{stepped};
 ghost use Rattle.ca_server_circuit.specs.Stepping.{why_is};
-ghost use Rattle.ca_answer.specs.Engines.{Gathers, IsNew, ServesNext, Tries, put_of, refusal_for, unread_size};
+ghost use Rattle.ca_answer.specs.Engines.{IsNew, PumpsAndGathers, ServesNext, Tries, put_of, refusal_for, unread_size};
 ghost use Rattle.ca_answer.specs.Serving.{Comes, Drains, Flushes};
 
 use ca_arena::Handle;
@@ -111,7 +111,7 @@ impl Engine {
         }
     }
 
-    // Handles the next message, finishes the record that it made busy, and pumps once.
+    // Handles the next message, and finishes the record that it made busy.
     fn serve_next(&mut self) -> Result<Step, AllocError>
         ensures served { IfOk result (λ did.
             ServesNext self.old.core self.old.circuit (stepped did) self.new.core) }
@@ -122,7 +122,6 @@ impl Engine {
         match self.core.step(self.circuit) {
             Step::Handled => {
                 finish(&mut self.core, puts, &self.name);
-                self.core.pump(self.circuit);
                 Ok(Step::Handled)
             }
             Step::NeedBytes => Ok(Step::NeedBytes),
@@ -131,18 +130,11 @@ impl Engine {
         }
     }
 
-    // Moves what the circuit has to send to the end of the bytes that wait.
+    // Pumps once, and moves what the circuit has to send to the end of the bytes that wait.
     fn gather(&mut self) -> Result<(), AllocError>
-        ensures ok { OnOk result (Gathers self.old self.new) }
+        ensures ok { OnOk result (PumpsAndGathers self.old self.new) }
     {
-        let bytes = self.core.out_bytes(self.circuit);
-        let n = bytes.len();
-        if n == 0 {
-            return Ok(());
-        }
-        self.waits.extend_from_slice(bytes)?;
-        self.core.sent(self.circuit, n);
-        Ok(())
+        self.core.pump_into(self.circuit, &mut self.waits)
     }
 
     // Hands what waits to the sink in one call, or makes none where fewer bytes wait than the least.
@@ -176,6 +168,10 @@ fn next_put(core: &ServerCore, circuit: Handle, room: &mut Vec<u8>) -> Result<bo
     match core.next_put(circuit) {
         None => Ok(false),
         Some(name) => {
+            // Mostly it is there from the put before.
+            if room.as_slice() == name {
+                return Ok(true);
+            }
             room.clear();
             room.extend_from_slice(name)?;
             Ok(true)

@@ -1,4 +1,4 @@
-use Rattle.std.proofs.Common.{◌≡◌, true, false, Bool, sym, ap, subst}
+use Rattle.std.proofs.Common.{◌≡◌, true, false, Bool, refl, sym, ap, subst}
 use Rattle.std.specs.Prelude.{Result}
 use Rattle.ca_text.specs.declared.refusal.Refusal.{Refusal}
 use Rattle.ca_text.specs.declared.refusal.Refusal.TheVariants.{OutOfMemory}
@@ -7,6 +7,7 @@ use Rattle.ca_server_core.specs.Serving.{stepped}
 use Rattle.ca_server_circuit.specs.Stepping.{why_is}
 use Rattle.ca_answer.specs.Engines.{EngineState, ServesNext}
 use Rattle.ca_answer.specs.Serving.{Comes}
+use Rattle.ca_answer.proofs.Gathered.{handled-gathered}
 use Rattle.ca_answer.proofs.Servings.{closes-comes, comes-full, comes-handled, comes-lacking, comes-stopped, rests, same-error}
 use Rattle.ca_answer.proofs.Sizes.{gathered-fewer}
 use Rattle.ca_answer.proofs.engine.Engine.answer_next.Goals.{in-Handled+in_ok-gather-in-Handled, in-Closed+in_ok-flush-in-Closed, in-NeedBytes+in_ok-flush-in-NeedBytes, in-OutputFull}
@@ -44,7 +45,9 @@ returns-clause-comes g c = λ rules states.
     elim c.match-branch-2.branch [
       | in-Handled+in_ok-gather-in-Handled w ↦
           let d = subst (λ (s : Step). ServesNext x.core x.circuit (stepped s) mid.core) w.in-Handled.is c.in_ok-serve_next.ensures.served in
-          rw (w.self-is, w.sink-is, w.turns-is, w.result-is) (comes-handled g.K.Sink.takes g.K.Sink.fault_count rules states c.args.sink.now x mid w.gather.new.self c.args.turns.now stays d w.in_ok-gather-in-Handled.ensures.ok)
+          let a = handled-gathered x mid w.gather.new.self stays d w.in_ok-gather-in-Handled.ensures.ok in
+          rw (w.self-is, w.sink-is, w.turns-is, w.result-is)
+          (comes-handled g.K.Sink.takes g.K.Sink.fault_count rules states c.args.sink.now x (record x { core = a.0 }) w.gather.new.self c.args.turns.now refl a.1 a.2)
       | in-Closed+in_ok-flush-in-Closed w ↦
           let d = subst (λ (s : Step). ServesNext x.core x.circuit (stepped s) mid.core) w.in-Closed.is c.in_ok-serve_next.ensures.served in
           let flushed = w.in_ok-flush-in-Closed.ensures.flushes in
@@ -67,7 +70,8 @@ returns-clause-smaller g c =
     elim c.match-branch-2.branch [
       | in-Handled+in_ok-gather-in-Handled w ↦
           let d = subst (λ (s : Step). ServesNext x.core x.circuit (stepped s) mid.core) w.in-Handled.is c.in_ok-serve_next.ensures.served in
-          rw (w.self-is, w.result-is) (λ more. gathered-fewer x mid w.gather.new.self c.in_ok-serve_next.ensures.stays d w.in_ok-gather-in-Handled.ensures.ok)
+          let a = handled-gathered x mid w.gather.new.self c.in_ok-serve_next.ensures.stays d w.in_ok-gather-in-Handled.ensures.ok in
+          rw (w.self-is, w.result-is) (λ more. gathered-fewer x (record x { core = a.0 }) w.gather.new.self refl a.1 a.2)
       | in-Closed+in_ok-flush-in-Closed w ↦ rw w.result-is tt
       | in-NeedBytes+in_ok-flush-in-NeedBytes w ↦ rw w.result-is (λ more. absurd (never more))
       | in-OutputFull w ↦ rw w.result-is (λ more. absurd (never more))

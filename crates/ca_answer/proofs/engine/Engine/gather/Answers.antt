@@ -1,11 +1,14 @@
-use Rattle.std.proofs.Common.{◌≡◌, List, ℕ, length, sym, ap, ◌∙◌, subst}
-use Rattle.ca_ids.specs.Table.{under}
-use Rattle.ca_model.specs.ServerSteps.{output_of}
-use Rattle.ca_answer.specs.Engines.{EngineState}
-use Rattle.ca_answer.proofs.Gathered.{gathers-nothing}
+use Rattle.std.proofs.Common.{List, ℕ, ap, subst}
+use Rattle.std.specs.Prelude.{OnOk}
+use Rattle.ca_answer.specs.Engines.{EngineState, PumpsAndGathers}
+use Rattle.ca_answer.proofs.Gathered.{gathers-pumped}
 use Rattle.ca_answer.proofs.engine.Engine.gather.Goals as goal
 
-pub returns-then-n-eq0 : goal.returns-then-n-eq0
-returns-then-n-eq0 c =
-    let none = subst (λ (x : EngineState). length (output_of (under x.core.circuits x.circuit)) ≡ 0) c.self.view_is (sym (ap (λ (o : List ℕ). length o) c.out_bytes-bytes.ensures) ∙ c.if-n-eq0.true) in
-    record { ok = gathers-nothing c.args.self.now none }
+pub returns : goal.returns
+returns c =
+    let i = c.self.inside in
+    let x : EngineState = record { core = i.core; circuit = i.circuit; waits = i.waits.items } in
+    record {
+      ok = subst (λ (z : EngineState). OnOk c.pump_into.result (PumpsAndGathers z (record { core = c.pump_into.new.self; circuit = i.circuit; waits = c.pump_into.new.bytes.items }))) c.self.view_is
+          (gathers-pumped x c.pump_into.new.self c.pump_into.new.bytes.items c.pump_into.result c.pump_into.ensures);
+    }
