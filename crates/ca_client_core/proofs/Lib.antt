@@ -15,6 +15,7 @@ pub mod Placing
 pub mod Endings
 mod Joining
 mod Walked
+mod Replied
 mod Firsts
 pub mod Cleared
 pub mod Listing

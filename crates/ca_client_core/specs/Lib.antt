@@ -13,6 +13,7 @@ pub mod Dispatch
 pub mod Turns
 pub mod First
 pub mod Stepping
+pub mod Advancing
 pub mod Clearing
 pub mod Moments
 pub mod Marks

@@ -139,7 +139,7 @@ fn updated(told: Option<(Handle, Outcome)>) -> Option<Notice>
 }
 
 // The payload of a message is of bytes, and its count has its width.
-fn know_message(message: &Message)
+pub(crate) fn know_message(message: &Message)
     ensures bytes { AreBytes message.now.payload }
     ensures count { message.now.count < 2 ^ 32 }
 {

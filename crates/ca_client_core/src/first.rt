@@ -1,9 +1,11 @@
 //! The first message of a circuit is taken.
+ghost use Rattle.std.specs.Prelude.{◌≡◌};
 ghost use Rattle.ca_client_core.specs.First.{FirstOn, MayWant};
 
 use crate::client::ClientCore;
 use ca_arena::Handle;
 use ca_client_tables::First;
+use ca_wire::Message;
 
 impl ClientCore {
     // Takes the first message of a circuit.
@@ -14,6 +16,16 @@ impl ClientCore {
             return First::Gone;
         };
         found.take_first(self.alloc)
+    }
+
+    // A message of a circuit that was handled gives its memory to the next one.
+    pub(crate) fn recycle(&mut self, circuit: Handle, message: Message)
+        ensures { self.new ≡ self.old }
+    {
+        let Some(found) = self.circuits.by_handle_mut(circuit) else {
+            return;
+        };
+        found.recycle(message);
     }
 
     // One more circuit may be wanted, or not.

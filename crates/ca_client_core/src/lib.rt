@@ -53,5 +53,5 @@ pub use client::ClientCore;
 pub use closing::Closing;
 pub use notice::Notice;
 pub use notices::Notices;
-pub use stepping::Stepped;
+pub use stepping::{Advanced, Stepped};
 pub use ticking::{Left, Ticked};
