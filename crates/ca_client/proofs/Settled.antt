@@ -21,6 +21,12 @@ use Rattle.ca_model.proofs.Changes.{keeps-cleared}
 use Rattle.ca_model.proofs.Hearing.{keeps-begun, keeps-heard}
 use Rattle.ca_model.proofs.Letting.{ends-ended}
 use Rattle.ca_model.proofs.Placed.{keeps-on, keeps-sending}
+use Rattle.ca_client_core.specs.declared.stepping.Stepped.{Stepped}
+use Rattle.ca_client_core.specs.declared.stepping.Stepped.TheVariants as step
+use Rattle.ca_client_core.specs.Stepping.{stepped_as}
+use Rattle.ca_client.specs.declared.ask.Ask.TheVariants as ask
+use Rattle.ca_client.specs.Calls.{HandsBack, HasAnswered}
+use Rattle.ca_client.specs.Stepping.{handed_over, notices_in}
 use Rattle.ca_client.specs.Awaited.{AreFirst, Completion, Fillable, FillsAll, IsListed, IsState, Waits, completed, completions, others}
 use Rattle.ca_client.proofs.Ends.{told-clear, told-end}
 use Rattle.ca_client.proofs.Heard.{told-heard}
@@ -117,6 +123,19 @@ rests-step x c sent y steps = go (connection_at x c) steps
     go : (o : Option Connection) → StepsOn x c o core.NeedBytes sent y → y ≡ x
     go None h = absurd h
     go (Some d) h = h.2.1
+
+-- any answer of a step
+pub stands-stepped : (x : Client) (c : Handle) (s : Stepped) (sent : List Sending) (y : Client) → IsPlaced x → IsListed x → ClientSteps x c (stepped_as s) sent y → Stands x (notices_in s) y
+stands-stepped x c (step.Notices told) sent y placed l steps = stands-heard x c told sent y placed l steps
+stands-stepped x c step.NeedBytes sent y placed l steps =
+    subst (Stands x []) (sym (rests-step x c sent y steps)) (stands-itself x placed l)
+stands-stepped x c (step.Closed k) sent y placed l steps = stands-closed x c k sent y placed l steps
+
+-- what is handed back of it
+pub answers-stepped : (x : Client) (c : Handle) (s : Stepped) (y : Client) → (sent : List Sending) × ClientSteps x c (stepped_as s) sent y → HasAnswered x (ask.Step c) (notices_in s) (handed_over s) y × HandsBack (handed_over s) (others (notices_in s))
+answers-stepped x c (step.Notices told) y steps = (steps, refl)
+answers-stepped x c step.NeedBytes y steps = ((refl, steps), refl)
+answers-stepped x c (step.Closed k) y steps = (steps, refl)
 
 pub stands-unconnected : (x : Client) (c : Handle) (k : Closing) (sent : List Sending) (y : Client) → IsPlaced x → IsListed x → ClientConnects x c (Some k) sent y → Stands x k.notices y
 stands-unconnected x c k sent y placed l connects = go (unconnected x c) connects

@@ -1,5 +1,5 @@
 -- Statement: what the functions that are lent the state under the lock do.
-use Rattle.std.specs.Prelude.{◌≡◌, ◌⊎◌, ℕ, ◌<◌, List, [], Option, Some, None, Result, Ok, Err, map, slice_set}
+use Rattle.std.specs.Prelude.{◌≡◌, ◌⊎◌, ℕ, ◌<◌, List, [], ◌∷◌, Option, Some, None, Result, Ok, Err, map, slice_set}
 use Rattle.ca_text.specs.Limits.{board_cells}
 use Rattle.ca_text.specs.declared.refusal.Refusal.{Refusal}
 use Rattle.ca_text.specs.declared.refusal.Refusal.TheVariants.{NoCell, OutOfMemory}
@@ -57,15 +57,21 @@ HasIssuedUnderLock old me asked (Err e) new me' =
 -- the notices that an answer hands back
 abbrev pub told_in : Answer → List Notice
 told_in (answer.Notices told) = told
+told_in answer.Filled = []
 told_in answer.NeedBytes = []
 told_in answer.Connected = []
 told_in (answer.Closed k) = k.notices
 told_in (answer.Ticked t) = t.notices
 told_in (answer.Refused e) = []
 
+-- the notices of a reply: it completed one request, or none awaited it
+abbrev pub IsReplied : List Notice → Type 0
+IsReplied ns = ((q : Handle) × (o : Outcome) × (ns ≡ core.Completed q o ∷ [])) ⊎ (ns ≡ [])
+
 -- What the core answered with all its notices, and left: the answer that is handed back is that without the completions.
 abbrev pub HasAnswered : Client → Ask → List Notice → Answer → Client → Type 0
 HasAnswered old (ask.Step c) ns (answer.Notices told) new = (sent : List Sending) × ClientSteps old c (core.Notices ns) sent new
+HasAnswered old (ask.Step c) ns answer.Filled new = IsReplied ns × ((sent : List Sending) × ClientSteps old c (core.Notices ns) sent new)
 HasAnswered old (ask.Step c) ns answer.NeedBytes new = (ns ≡ []) × ((sent : List Sending) × ClientSteps old c core.NeedBytes sent new)
 HasAnswered old (ask.Step c) ns (answer.Closed k) new = (sent : List Sending) × ClientSteps old c (core.Closed (record k { notices = ns })) sent new
 HasAnswered old (ask.Cut c) ns (answer.Closed k) new = (sent : List Sending) × ClientCuts old c (record k { notices = ns }) sent new

@@ -2,6 +2,7 @@ pub mod Awaited
 pub mod Filling
 pub mod Draining
 pub mod Calls
+pub mod Stepping
 pub mod Turns
 pub mod Turning
 pub mod Desks

@@ -62,6 +62,8 @@ impl Model for Ended {
 pub enum Answer {
     /// It read a message, or cleared the channel, with these notices.
     Notices(Told),
+    /// It read a reply, which completed one request, or which none awaited: there is no other notice.
+    Filled,
     /// No complete message is there.
     NeedBytes,
     /// The circuit has begun.

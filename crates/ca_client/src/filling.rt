@@ -1,4 +1,4 @@
-ghost use Rattle.std.specs.Prelude.{◌≡◌, Ok, Err, None, Some};
+ghost use Rattle.std.specs.Prelude.{◌≡◌, ◌∷◌, [], Ok, Err, None, Some};
 ghost use Rattle.ca_client.specs.Awaited.{Fillable, FillsAll, completion, completions, others, AreFirst, Completion};
 ghost use Rattle.ca_client.specs.Filling.{Parts};
 ghost use Rattle.ca_client_core.specs.Notices.{notice_of};
@@ -41,6 +41,23 @@ pub(crate) fn fill_all(
         first: None,
         rest: notices,
     }
+}
+
+// Fills the ticket of the one request that a reply completed.
+pub(crate) fn fill_one(
+    board: &Board,
+    seat: &mut CoreSeat,
+    tickets: &Vec<Ticket>,
+    request: Handle,
+    outcome: Outcome,
+)
+    requires board { seat.old.board ≡ board.now }
+    requires due { Fillable tickets.now.items seat.old ((request, outcome) ∷ []) }
+    ensures fills { FillsAll tickets.now.items seat.old ((request, outcome) ∷ []) seat.new }
+    ensures board { seat.new.board ≡ board.now }
+{
+    let ticket = tickets[usize::from(request.index)];
+    board.fill(seat, ticket, outcome);
 }
 
 // The request that a notice completes, with its outcome; or the notice.

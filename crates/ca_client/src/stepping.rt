@@ -1,21 +1,33 @@
 ghost use Rattle.std.specs.Prelude.{◌≡◌};
 ghost use Rattle.ca_client.specs.Awaited.{AreFirst, Fillable, FillsAll, completions, others};
 ghost use Rattle.ca_client.specs.Calls.{HasSteppedUnderLock};
+ghost use Rattle.ca_client.specs.Stepping.{handed_over, notices_in};
 ghost use Rattle.ca_client.specs.declared.ask.Ask.TheVariants as ask;
 ghost use Rattle.ca_client.specs.declared.answer.Answer.TheVariants as answer;
 
 use crate::answer::{Answer, Ended};
 use crate::ask::Ask;
-use crate::filling::fill_all;
+use crate::filling::{fill_all, fill_one};
 use crate::state::State;
 use crate::ticking::tick;
 use ca_arena::Handle;
 use ca_board::{Board, CoreSeat, Ticket};
-use ca_client_core::{Closing, Stepped};
+use ca_client_core::{Advanced, Closing, Stepped};
 
 /// Makes one call of the core, hands the outcome of each request that it completes to the request's ticket, and hands back the other
 /// notices.
 pub fn step_under_lock(state: &mut State, asked: Ask) -> Answer
+    ensures { HasSteppedUnderLock state.old asked result state.new }
+{
+    if let Ask::Step(circuit) = asked {
+        return step(state, circuit);
+    }
+    step_any(state, asked)
+}
+
+// The same. Most calls are steps, and a function pays for the locals of all that it takes into itself: so the other calls stand out of line.
+#[inline(never)]
+fn step_any(state: &mut State, asked: Ask) -> Answer
     ensures { HasSteppedUnderLock state.old asked result state.new }
 {
     match asked {
@@ -37,14 +49,41 @@ fn step(state: &mut State, circuit: Handle) -> Answer
         seat,
         tickets,
     } = state;
-    let closing = match core.step(circuit) {
-        Stepped::Notices(notices) => {
-            return Answer::Notices(fill_all(board, seat, tickets, notices));
+    let first = match core.advance(circuit) {
+        Advanced::Completed(request, outcome) => {
+            fill_one(board, seat, tickets, request, outcome);
+            return Answer::Filled;
         }
-        Stepped::NeedBytes => return Answer::NeedBytes,
-        Stepped::Closed(closing) => closing,
+        Advanced::Unawaited => return Answer::Filled,
+        Advanced::NeedBytes => return Answer::NeedBytes,
+        Advanced::Begun(first) => first,
     };
-    Answer::Closed(settle(board, seat, tickets, closing))
+    let stepped = core.finish(circuit, first);
+    hand_over(board, seat, tickets, stepped)
+}
+
+// Hands the completions of a step over, and the rest back.
+#[inline(never)]
+fn hand_over(board: &Board, seat: &mut CoreSeat, tickets: &Vec<Ticket>, stepped: Stepped) -> Answer
+    requires board { seat.old.board ≡ board.now }
+    requires due { Fillable tickets.now.items seat.old (completions (notices_in stepped)) }
+    requires first { AreFirst
+        (notices_in stepped)
+        (completions (notices_in stepped))
+        (others (notices_in stepped)) }
+    ensures fills { FillsAll
+        tickets.now.items
+        seat.old
+        (completions (notices_in stepped))
+        seat.new }
+    ensures answer { result ≡ handed_over stepped }
+    ensures board { seat.new.board ≡ board.now }
+{
+    match stepped {
+        Stepped::Notices(notices) => Answer::Notices(fill_all(board, seat, tickets, notices)),
+        Stepped::NeedBytes => Answer::NeedBytes,
+        Stepped::Closed(closing) => Answer::Closed(settle(board, seat, tickets, closing)),
+    }
 }
 
 // Ends a circuit that was cut.

@@ -309,6 +309,11 @@ fn serve_one(desk: &mut Desk, link: &mut Link, told: &mut Vec<Heard>) -> Served 
                     served = Served::Busy;
                 }
             }
+            Answer::Filled => {
+                if is_done {
+                    served = Served::Busy;
+                }
+            }
             Answer::Closed(ended) => {
                 keep(told, ended.told);
                 return Served::Over;
