@@ -2,6 +2,7 @@ ghost use Rattle.ca_board.specs.Views.{HasCollected, HasGivenUp};
 
 use crate::addresses::to_system;
 use crate::engine::{Engine, moment};
+use crate::lead::Eye;
 use crate::links::Tries;
 use crate::listener::{Change, Ear, Ears, Listener};
 use crate::shared::{Locked, Shared};
@@ -13,7 +14,7 @@ use ca_dbr::{Outcome, Value};
 use ca_dgram::register;
 use ca_text::{Mask, Refusal};
 use mio::net::UdpSocket;
-use mio::{Events, Interest, Poll, Token, Waker};
+use mio::{Events, Interest, Poll, Registry, Token, Waker};
 use std::alloc::{AllocError, Global};
 use std::net::{Ipv4Addr, Net, SocketAddr};
 use std::sync::{Arc, Wait};
@@ -71,13 +72,14 @@ impl<L: Listener> Context<L> {
         self.shared.locked.lock(rt).desk.caller()
     }
 
-    /// The outcome of a ticket, if it is there. It waits for nobody. If it is not there, requests that wait to be sent go out.
+    /// The outcome of a ticket, if it is there. It waits for nobody. If it is not there, requests that wait to be sent go out, and what came may be read, so
+    /// that a later call finds it.
     pub fn collect(&self, caller: &mut Caller, ticket: Ticket) -> Option<Outcome>
         ensures { HasCollected caller.old ticket result caller.new }
     {
         let outcome = caller.collect(ticket);
         if outcome.is_none() {
-            self.shared.flush();
+            self.shared.look();
         }
         outcome
     }
@@ -132,8 +134,10 @@ impl<L: Listener> Context<L> {
         let mut guard = self.shared.hold(rt);
         let issued = guard.desk.issue(request);
         let all = guard.note();
+        if guard.is_told() {
+            self.shared.ask();
+        }
         drop(guard);
-        self.shared.ask();
         if !all {
             self.wake();
         }
@@ -189,7 +193,8 @@ impl<L: Listener> Context<L> {
         self.shared.locked.lock(rt).desk.channel_state(channel)
     }
 
-    /// Waits for the outcome of a ticket, for at most so many turns of the thread of input and output.
+    /// Waits for the outcome of a ticket, for at most so many turns of the thread of input and output, or its own: a caller that waits alone moves the
+    /// bytes of circuits itself.
     ///
     /// A turn takes 10 ms if nothing comes, and less if messages come: so it is no measure of time on a busy client.
     pub fn wait<R: Wait>(
@@ -200,18 +205,61 @@ impl<L: Listener> Context<L> {
         turns: u64,
     ) -> Option<Outcome> {
         for _ in 0..turns {
-            if let Some(outcome) = self.collect(caller, ticket) {
+            if let Some(outcome) = caller.collect(ticket) {
                 return Some(outcome);
             }
             let seen = self.shared.turns();
-            if let Some(outcome) = self.collect(caller, ticket) {
-                return Some(outcome);
-            }
-            if self.shared.park(rt, seen) {
-                break;
+            match self.lead(rt, caller, ticket) {
+                Led::Found(outcome) => return Some(outcome),
+                Led::Moved => {}
+                Led::Left => {
+                    self.shared.flush();
+                    if let Some(outcome) = caller.collect(ticket) {
+                        return Some(outcome);
+                    }
+                    if self.shared.park(rt, seen) {
+                        break;
+                    }
+                }
             }
         }
         self.collect(caller, ticket)
+    }
+
+    // Looks for the outcome of a ticket. If it is not there, it moves bytes in the place of the thread of input and output, unless others wait.
+    fn lead<R: Wait>(&self, rt: &R, caller: &mut Caller, ticket: Ticket) -> Led {
+        let Some(guard) = self.shared.hold_to_lead(rt) else {
+            return Led::Left;
+        };
+        let mut guard = guard;
+        let came = guard.move_all();
+        let found = caller.collect(ticket);
+        let waits = !came && found.is_none();
+        if waits {
+            guard.lead.begin();
+        }
+        let calls = guard.calls();
+        drop(guard);
+        if waits {
+            self.follow(rt);
+        } else {
+            self.shared.leave(calls);
+        }
+        match found {
+            Some(outcome) => Led::Found(outcome),
+            None => Led::Moved,
+        }
+    }
+
+    // Waits for the sockets, and reads what came.
+    fn follow<R: Wait>(&self, rt: &R) {
+        self.shared.watch(rt);
+        let mut guard = self.shared.hold(rt);
+        guard.lead.end();
+        guard.move_all();
+        let calls = guard.calls();
+        drop(guard);
+        self.shared.leave(calls);
     }
 
     /// Waits until a channel is live, for at most so many turns of the thread of input and output, and says whether it is.
@@ -246,6 +294,16 @@ impl<L: Listener> Context<L> {
     }
 }
 
+// What a caller that looks for an outcome found.
+#[derive(Drop)]
+enum Led {
+    Found(Outcome),
+    // It is not there. Bytes were moved.
+    Moved,
+    // It is not there, and the thread of input and output moves the bytes.
+    Left,
+}
+
 impl<L: Listener> Locked<L> {
     fn monitor(
         &mut self,
@@ -260,6 +318,7 @@ impl<L: Listener> Locked<L> {
         }
         match self.desk.subscribe(channel, data_type, count, mask) {
             Ok(subscription) => {
+                self.lead.hear();
                 self.changes.push_reserved(Change::Hears(Ear {
                     subscription,
                     listener,
@@ -281,10 +340,13 @@ impl<L: Listener> Locked<L> {
 // What an engine is made of, beside the client's state.
 #[derive(Drop)]
 struct Parts<L: Listener> {
-    poll: Poll,
+    eye: Eye,
     waker: Waker,
-    datagrams: UdpSocket,
+    registry: Registry,
+    bell: Poll,
+    bell_waker: Waker,
     events: Events<Global>,
+    datagrams: UdpSocket,
     ears: Ears<L>,
     began: Instant,
 }
@@ -299,18 +361,27 @@ impl<L: Listener> Parts<L> {
         let Ok(began) = Instant::now(rt) else {
             return Err(Refusal::Device);
         };
-        let events = Events::with_capacity(alloc, 256)?;
-        let ears = Ears::new(alloc)?;
-        let (poll, waker, datagrams) = sockets(rt)?;
+        let eye = Eye {
+            poll: poll(rt)?,
+            events: Events::with_capacity(alloc, 256)?,
+        };
+        let bell = poll(rt)?;
+        let Ok(registry) = eye.poll.registry().try_clone() else {
+            return Err(Refusal::Device);
+        };
+        let datagrams = datagrams(rt, &registry, bell.registry())?;
         if let Some(address) = repeater {
             let _ = datagrams.send_to(&register(Ipv4Addr::LOCALHOST), to_system(address));
         }
         Ok(Parts {
-            poll,
-            waker,
+            waker: waker(&registry)?,
+            bell_waker: waker(bell.registry())?,
+            eye,
+            registry,
+            bell,
             datagrams,
-            events,
-            ears,
+            events: Events::with_capacity(alloc, 4)?,
+            ears: Ears::new(alloc)?,
             began,
         })
     }
@@ -323,26 +394,23 @@ fn joined<R: Net + Clock + Copy + Drop, L: Listener>(
     parts: Parts<L>,
 ) -> Result<(Context<L>, Engine<R, L>), Refusal> {
     let Parts {
-        poll,
+        eye,
         waker,
-        datagrams,
+        registry,
+        bell,
+        bell_waker,
         events,
+        datagrams,
         ears,
         began,
     } = parts;
-    let locked = Locked {
-        desk,
-        links: Vec::new(alloc),
-        told: Vec::new(alloc),
-        changes: Vec::new(alloc),
-        unsent: 0,
-        ending: false,
-    };
-    let shared = Arc::new(alloc, Shared::new(locked, waker))?;
+    let locked = Locked::new(alloc, desk);
+    let shared = Arc::new(alloc, Shared::new(locked, eye, waker, bell_waker))?;
     let engine = Engine {
         net: rt,
         shared: Arc::try_clone(&shared)?,
-        poll,
+        registry,
+        bell,
         events,
         datagrams,
         tries: Tries::new(alloc),
@@ -353,14 +421,22 @@ fn joined<R: Net + Clock + Copy + Drop, L: Listener>(
     Ok((Context { shared, began }, engine))
 }
 
-// What the thread of input and output polls, with a socket for datagrams.
-fn sockets<R: Net>(rt: &R) -> Result<(Poll, Waker, UdpSocket), Refusal> {
-    let Ok(poll) = Poll::new(rt) else {
-        return Err(Refusal::Device);
-    };
-    let Ok(waker) = Waker::new(poll.registry(), WAKER) else {
-        return Err(Refusal::Device);
-    };
+fn poll<R: Net>(rt: &R) -> Result<Poll, Refusal> {
+    match Poll::new(rt) {
+        Ok(poll) => Ok(poll),
+        Err(_) => Err(Refusal::Device),
+    }
+}
+
+fn waker(registry: &Registry) -> Result<Waker, Refusal> {
+    match Waker::new(registry, WAKER) {
+        Ok(waker) => Ok(waker),
+        Err(_) => Err(Refusal::Device),
+    }
+}
+
+// A socket for datagrams. Those that come end the wait of the thread of input and output, at either place.
+fn datagrams<R: Net>(rt: &R, sockets: &Registry, bell: &Registry) -> Result<UdpSocket, Refusal> {
     let any = SocketAddr::from((Ipv4Addr::UNSPECIFIED, 0));
     let Ok(mut datagrams) = UdpSocket::bind(rt, any) else {
         return Err(Refusal::Device);
@@ -369,11 +445,11 @@ fn sockets<R: Net>(rt: &R) -> Result<(Poll, Waker, UdpSocket), Refusal> {
     let Ok(()) = datagrams.set_broadcast(true) else {
         return Err(Refusal::Device);
     };
-    let Ok(()) = poll
-        .registry()
-        .register(&mut datagrams, DATAGRAMS, Interest::READABLE)
-    else {
+    let Ok(()) = sockets.register(&mut datagrams, DATAGRAMS, Interest::READABLE) else {
         return Err(Refusal::Device);
     };
-    Ok((poll, waker, datagrams))
+    let Ok(()) = bell.register(&mut datagrams, DATAGRAMS, Interest::READABLE) else {
+        return Err(Refusal::Device);
+    };
+    Ok(datagrams)
 }

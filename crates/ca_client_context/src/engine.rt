@@ -1,13 +1,14 @@
 use crate::addresses::{from_system, to_system};
-use crate::links::{Brought, Heard, Link, Tries, close_all, connect, forget, serve};
+use crate::lead::TURN;
+use crate::links::{Brought, Heard, Link, Tries, close_all, connect, forget};
 use crate::listener::{Ears, Listener};
-use crate::shared::{Locked, Shared};
+use crate::shared::{Locked, Place, Shared};
 use ca_client::{Answer, Ask, Desk};
 use ca_client_core::{Notice, Ticked};
 use ca_dbr::Outcome;
 use ca_text::Refusal;
 use mio::net::UdpSocket;
-use mio::{Events, Poll};
+use mio::{Events, Poll, Registry};
 use std::alloc::Global;
 use std::mem::swap;
 use std::net::Net;
@@ -15,9 +16,6 @@ use std::sync::{Arc, Wait};
 use std::thread;
 use std::thread::{JoinHandle, Threads};
 use std::time::{Clock, Duration, Instant};
-
-// A turn waits at most so many milliseconds.
-const TURN: u64 = 10;
 
 // While there is more to read, waits are ended only every so many milliseconds: each that ends finds more outcomes.
 const HURRY: u64 = 2;
@@ -49,7 +47,10 @@ pub struct Engine<N: Net + Drop, L: Listener> {
     // Where it connects circuits.
     pub(crate) net: N,
     pub(crate) shared: Arc<Shared<L>>,
-    pub(crate) poll: Poll,
+    // What waits for the sockets.
+    pub(crate) registry: Registry,
+    // What waits to be woken, while callers wait for the sockets.
+    pub(crate) bell: Poll,
     pub(crate) events: Events<Global>,
     pub(crate) datagrams: UdpSocket,
     pub(crate) tries: Tries,
@@ -61,50 +62,74 @@ pub struct Engine<N: Net + Drop, L: Listener> {
 impl<N: Net + Drop, L: Listener> Work for Engine<N, L> {
     // The thread of input and output.
     fn run<R: Wait + Clock>(self, rt: &R) {
-        let Engine {
-            net,
-            shared,
-            mut poll,
-            mut events,
-            datagrams,
-            mut tries,
-            mut ears,
-            mut told,
-            began,
-        } = self;
-        let mut busy = false;
+        let mut engine = self;
         let mut waits = Waits {
             told: 0,
             owed: false,
         };
+        let mut place = Place::Nowhere;
         for _ in rt.forever() {
-            let wait = if busy { 0 } else { TURN };
-            let _ = poll.poll(&mut events, Some(Duration::from_millis(wait)));
-            shared.rise();
-            let now = moment(rt, &began);
-            shared.let_ask();
-            let mut guard = shared.hold(rt);
-            let locked = &mut *guard;
-            let brought = turn(&net, locked, &poll, &datagrams, &mut tries, &mut ears, now);
-            busy = brought.any;
-            if !busy {
-                shared.doze();
-            }
-            let ending = locked.ending;
-            if ending {
-                close_all(&mut locked.desk, &mut locked.links);
-            }
-            swap(&mut locked.told, &mut told);
-            drop(guard);
-            tell_all(&mut ears, &mut told);
-            if ending {
-                shared.pass(true);
-                break;
+            engine.rest(rt, place);
+            let now = moment(rt, &engine.began);
+            let (next, brought) = engine.work(rt, now);
+            tell_all(&mut engine.ears, &mut engine.told);
+            match next {
+                Some(next) => place = next,
+                None => {
+                    engine.shared.pass(true);
+                    break;
+                }
             }
             if waits.end(brought, now) {
-                shared.pass(false);
+                engine.shared.pass(false);
             }
         }
+    }
+}
+
+impl<N: Net + Drop, L: Listener> Engine<N, L> {
+    // Waits at a place.
+    fn rest<R: Wait>(&mut self, rt: &R, place: Place) {
+        match place {
+            Place::Nowhere => {}
+            Place::Eye => self.shared.watch(rt),
+            Place::Bell => {
+                let _ = self
+                    .bell
+                    .poll(&mut self.events, Some(Duration::from_millis(TURN)));
+            }
+        }
+        self.shared.rise();
+    }
+
+    // A turn, with the lock. It says where the thread waits for the next, or that there is none, since the client ends.
+    fn work<R: Wait>(&mut self, rt: &R, now: u64) -> (Option<Place>, Brought) {
+        self.shared.let_ask();
+        let mut guard = self.shared.hold(rt);
+        let locked = &mut *guard;
+        if locked.lead.rise(now) {
+            self.shared.tick();
+        }
+        let brought = turn(
+            &self.net,
+            locked,
+            &self.registry,
+            &self.datagrams,
+            &mut self.tries,
+            &mut self.ears,
+            now,
+        );
+        swap(&mut locked.told, &mut self.told);
+        if locked.ending {
+            close_all(&mut locked.desk, &mut locked.links);
+            return (None, brought);
+        }
+        let place = if brought.any {
+            Place::Nowhere
+        } else {
+            self.shared.doze(&mut locked.lead)
+        };
+        (Some(place), brought)
     }
 }
 
@@ -143,7 +168,7 @@ pub(crate) fn moment<R: Clock>(rt: &R, start: &Instant) -> u64 {
 fn turn<N: Net, L: Listener>(
     net: &N,
     locked: &mut Locked<L>,
-    poll: &Poll,
+    registry: &Registry,
     datagrams: &UdpSocket,
     tries: &mut Tries,
     ears: &mut Ears<L>,
@@ -155,8 +180,15 @@ fn turn<N: Net, L: Listener>(
     ears.follow(&mut locked.changes);
     hear(&mut locked.desk, datagrams, now);
     let ended = tick(&mut locked.desk, datagrams, &mut locked.links, now);
-    connect(net, &mut locked.desk, poll, &mut locked.links, tries, now);
-    let brought = serve(&mut locked.desk, &mut locked.links, &mut locked.told);
+    connect(
+        net,
+        &mut locked.desk,
+        registry,
+        &mut locked.links,
+        tries,
+        now,
+    );
+    let brought = locked.serve();
     Brought {
         any: brought.any || ended || told_before,
         more: brought.more,

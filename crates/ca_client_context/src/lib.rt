@@ -1,4 +1,5 @@
-//! A client of Channel Access that threads share: its circuits, searches and datagrams are moved by one thread of input and output.
+//! A client of Channel Access that threads share: its circuits, searches and datagrams are moved by one thread of input and output. A caller that waits
+//! alone moves what is on the circuits itself.
 //!
 //! ```rust
 //! fn main(rt: HostRuntime) -> Result<(), Refusal> {
@@ -33,6 +34,7 @@
 mod addresses;
 mod context;
 mod engine;
+mod lead;
 mod links;
 mod listener;
 mod shared;

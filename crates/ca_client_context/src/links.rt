@@ -6,7 +6,7 @@ use ca_arena::Handle;
 use ca_client::{Answer, Ask, Desk, Moved, Socket, Told, Wire};
 use ca_client_core::{Notice, WantedCircuit};
 use mio::net::TcpStream;
-use mio::{Interest, Poll, Token};
+use mio::{Interest, Registry, Token};
 use std::alloc::{AllocError, Global};
 use std::net::Net;
 
@@ -117,7 +117,7 @@ impl Tries {
 pub(crate) fn connect<R: Net>(
     rt: &R,
     desk: &mut Desk,
-    poll: &Poll,
+    registry: &Registry,
     links: &mut Vec<Link>,
     tries: &mut Tries,
     now: u64,
@@ -133,7 +133,7 @@ pub(crate) fn connect<R: Net>(
         if links.reserve(1).is_err() || tries.note(circuit, now).is_err() {
             return;
         }
-        match reach(rt, poll, wanted[index]) {
+        match reach(rt, registry, wanted[index]) {
             Some(link) => {
                 if let Answer::Connected = desk.step(Ask::Connect(circuit)) {
                     links.push_reserved(link);
@@ -146,7 +146,7 @@ pub(crate) fn connect<R: Net>(
     }
 }
 
-fn reach<R: Net>(rt: &R, poll: &Poll, wanted: WantedCircuit) -> Option<Link> {
+fn reach<R: Net>(rt: &R, registry: &Registry, wanted: WantedCircuit) -> Option<Link> {
     let Ok(mut stream) = TcpStream::connect(rt, to_system(wanted.address)) else {
         return None;
     };
@@ -155,7 +155,7 @@ fn reach<R: Net>(rt: &R, poll: &Poll, wanted: WantedCircuit) -> Option<Link> {
         return None;
     };
     let both = Interest::READABLE | Interest::WRITABLE;
-    let Ok(()) = poll.registry().register(&mut stream, CIRCUITS, both) else {
+    let Ok(()) = registry.register(&mut stream, CIRCUITS, both) else {
         return None;
     };
     Some(Link {

@@ -1,12 +1,17 @@
-use crate::links::{Heard, Link, send_all};
+use crate::lead::{Eye, LATELY, Lead};
+use crate::links::{Brought, Heard, Link, send_all, serve};
 use crate::listener::{Change, Listener};
 use ca_client::Desk;
 use mio::Waker;
+use std::alloc::Global;
 use std::sync::atomic::{AtomicU64, Ordering};
 use std::sync::{Mutex, MutexGuard, Wait};
 
 // Requests that callers make while none of them looks for an outcome go out so many at a time: then the server answers them while the next are made.
 const TOGETHER: u64 = 256;
+
+// The thread of input and output is told of one request in so many, and of the first that was not sent.
+const SOME: u64 = 8;
 
 // A thread tries so often to have the lock before it sleeps: it is mostly held for as long as a few requests take, and to be woken takes longer.
 const TRIES: usize = 64;
@@ -19,6 +24,24 @@ const QUIET: usize = 400;
 
 const PATIENCE: usize = 500;
 
+// Where the thread of input and output may be waiting: what `asleep` says.
+const NOWHERE: u64 = 0;
+
+const EYE: u64 = 1;
+
+const BELL: u64 = 2;
+
+// Where the thread of input and output waits.
+#[derive(Clone, Copy, Drop)]
+pub(crate) enum Place {
+    // It takes another turn at once.
+    Nowhere,
+    // For the sockets.
+    Eye,
+    // To be woken, while callers wait for the sockets.
+    Bell,
+}
+
 // What lies under the lock.
 #[derive(Drop)]
 pub(crate) struct Locked<L: Listener> {
@@ -30,14 +53,32 @@ pub(crate) struct Locked<L: Listener> {
     pub(crate) changes: Vec<Change<L>>,
     // How many requests were made since all were last sent.
     pub(crate) unsent: u64,
+    pub(crate) lead: Lead,
     pub(crate) ending: bool,
 }
 
 impl<L: Listener> Locked<L> {
+    pub(crate) fn new(alloc: Global, desk: Desk) -> Locked<L> {
+        Locked {
+            desk,
+            links: Vec::new(alloc),
+            told: Vec::new(alloc),
+            changes: Vec::new(alloc),
+            unsent: 0,
+            lead: Lead::new(),
+            ending: false,
+        }
+    }
+
     // A request was made. It says whether there is nothing more to be done for it now.
     pub(crate) fn note(&mut self) -> bool {
         self.unsent = self.unsent.saturating_add(1);
         self.unsent < TOGETHER || self.send()
+    }
+
+    // Whether the thread of input and output is to be told of the request that was made.
+    pub(crate) fn is_told(&self) -> bool {
+        self.unsent % SOME == 1
     }
 
     // Sends what waits on all circuits, as far as that can be now. It says whether nothing is left for the thread of input and output.
@@ -45,14 +86,47 @@ impl<L: Listener> Locked<L> {
         self.unsent = 0;
         send_all(&mut self.desk, &mut self.links, &mut self.told)
     }
+
+    // A caller would move bytes. It says whether that may.
+    fn may_lead(&mut self) -> bool {
+        self.lead.may_lead() && !self.ending
+    }
+
+    // Moves bytes for the thread of input and output, and reads what came. It reads nothing while a caller waits for the sockets, who may have been told of it.
+    pub(crate) fn serve(&mut self) -> Brought {
+        if self.lead.is_led() {
+            self.send();
+            return Brought {
+                any: false,
+                more: false,
+            };
+        }
+        serve(&mut self.desk, &mut self.links, &mut self.told)
+    }
+
+    // Moves bytes for a caller, and reads what came. It says whether something came.
+    pub(crate) fn move_all(&mut self) -> bool {
+        self.unsent = 0;
+        serve(&mut self.desk, &mut self.links, &mut self.told).any
+    }
+
+    // Whether there is something for the thread of input and output to do.
+    pub(crate) fn calls(&self) -> bool {
+        self.lead.hears() || self.ending || !self.told.is_empty()
+    }
 }
 
 // What threads share.
 #[derive(Drop)]
 pub(crate) struct Shared<L: Listener> {
     pub(crate) locked: Mutex<Locked<L>>,
+    // Whoever waits for the sockets has it. What lies under the other lock says who that is, so nobody waits for this one for long.
+    eye: Mutex<Eye>,
+    // Ends a wait for the sockets.
     waker: Waker,
-    // 1 if the thread of input and output may be waiting, and was not woken since.
+    // Ends the wait of the thread of input and output while callers wait for the sockets.
+    bell: Waker,
+    // Where the thread of input and output may be waiting, if it was not woken since.
     asleep: AtomicU64,
     // How many requests were made that may not have been sent.
     asked: AtomicU64,
@@ -60,19 +134,24 @@ pub(crate) struct Shared<L: Listener> {
     turns: AtomicU64,
     // How many callers wait.
     waiting: AtomicU64,
+    // Above 0 if several callers waited at once lately. The thread of input and output serves them together.
+    crowded: AtomicU64,
     // 1 if the thread of input and output has ended.
     ended: AtomicU64,
 }
 
 impl<L: Listener> Shared<L> {
-    pub(crate) fn new(locked: Locked<L>, waker: Waker) -> Shared<L> {
+    pub(crate) fn new(locked: Locked<L>, eye: Eye, waker: Waker, bell: Waker) -> Shared<L> {
         Shared {
             locked: Mutex::new(locked),
+            eye: Mutex::new(eye),
             waker,
-            asleep: AtomicU64::new(0),
+            bell,
+            asleep: AtomicU64::new(NOWHERE),
             asked: AtomicU64::new(0),
             turns: AtomicU64::new(0),
             waiting: AtomicU64::new(0),
+            crowded: AtomicU64::new(0),
             ended: AtomicU64::new(0),
         }
     }
@@ -104,14 +183,82 @@ impl<L: Listener> Shared<L> {
     }
 
     // The thread of input and output is about to wait. It says so while it has the lock, so that whoever has it next wakes it.
-    pub(crate) fn doze(&self) {
+    //
+    // It says that it leaves the sockets to callers before it looks whether one waits that does not lead. Such a caller says that it waits before it
+    // looks whether the sockets are left: so either the thread waits for them, or the caller wakes it.
+    pub(crate) fn doze(&self, lead: &mut Lead) -> Place {
         self.asked.store(0, Ordering::SeqCst);
-        self.asleep.store(1, Ordering::SeqCst);
+        if lead.is_left(self.crowded.load(Ordering::SeqCst) != 0) {
+            self.asleep.store(BELL, Ordering::SeqCst);
+            if lead.is_led() || !self.is_awaited() {
+                return Place::Bell;
+            }
+        }
+        lead.take();
+        self.asleep.store(EYE, Ordering::SeqCst);
+        Place::Eye
+    }
+
+    // Waits for the sockets.
+    pub(crate) fn watch<R: Wait>(&self, rt: &R) {
+        let mut guard = self.eye.lock(rt);
+        guard.watch();
+    }
+
+    // Takes the lock for a caller that leads, if this one may: no other waits, or did lately, and nobody waits for the sockets.
+    pub(crate) fn hold_to_lead<R: Wait>(&self, rt: &R) -> Option<MutexGuard<'_, Locked<L>>> {
+        if self.is_crowded() {
+            return None;
+        }
+        let mut guard = self.hold(rt);
+        if guard.may_lead() {
+            self.asked.store(0, Ordering::SeqCst);
+            return Some(guard);
+        }
+        if guard.lead.is_led() {
+            self.crowd();
+        }
+        None
+    }
+
+    // Whether several callers wait, or did lately. This one does.
+    fn is_crowded(&self) -> bool {
+        if self.is_awaited() {
+            self.crowd();
+            return true;
+        }
+        self.crowded.load(Ordering::SeqCst) != 0
+    }
+
+    // Several callers wait. While they do, the word is only read.
+    fn crowd(&self) {
+        if self.crowded.load(Ordering::SeqCst) != LATELY {
+            self.crowded.store(LATELY, Ordering::SeqCst);
+        }
+    }
+
+    // 10 ms have passed.
+    pub(crate) fn tick(&self) {
+        let crowded = self.crowded.load(Ordering::SeqCst);
+        if crowded != 0 {
+            self.crowded
+                .store(crowded.saturating_sub(1), Ordering::SeqCst);
+        }
+    }
+
+    // A caller has moved bytes. Those that wait look for their outcomes, and the thread of input and output takes over, if there are some.
+    pub(crate) fn leave(&self, calls: bool) {
+        if self.is_awaited() {
+            self.pass(false);
+            self.wake();
+        } else if calls {
+            self.wake();
+        }
     }
 
     // It has woken: its next turn begins after whatever was changed under the lock until now. So nobody need wake it before that turn is over.
     pub(crate) fn rise(&self) {
-        self.asleep.store(0, Ordering::SeqCst);
+        self.asleep.store(NOWHERE, Ordering::SeqCst);
     }
 
     // A request was made, which goes out with the next turn.
@@ -151,10 +298,45 @@ impl<L: Listener> Shared<L> {
         self.waiting.load(Ordering::SeqCst) != 0
     }
 
+    // Somebody looks for an outcome, and does not wait. If the sockets are left to callers it reads what came, for its next look; while several wait the
+    // thread of input and output does.
+    pub(crate) fn look(&self) {
+        if self.asleep.load(Ordering::SeqCst) == BELL {
+            if self.is_crowded() {
+                self.wake();
+            } else if self.move_now() {
+                return;
+            }
+        }
+        self.flush();
+    }
+
+    // Moves bytes for a caller that does not wait, if it can have the lock at once, and may. It says whether it did.
+    fn move_now(&self) -> bool {
+        match self.locked.try_lock() {
+            Some(guard) => {
+                let mut guard = guard;
+                if !guard.may_lead() {
+                    return false;
+                }
+                self.asked.store(0, Ordering::SeqCst);
+                guard.move_all();
+                let calls = guard.calls();
+                drop(guard);
+                self.leave(calls);
+                true
+            }
+            None => false,
+        }
+    }
+
     // Ends its wait, once for all that was changed under the lock meanwhile.
     pub(crate) fn wake(&self) {
-        if self.asleep.swap(0, Ordering::SeqCst) == 1 {
+        let place = self.asleep.swap(NOWHERE, Ordering::SeqCst);
+        if place == EYE {
             let _ = self.waker.wake();
+        } else if place == BELL {
+            let _ = self.bell.wake();
         }
     }
 
@@ -180,6 +362,9 @@ impl<L: Listener> Shared<L> {
     // Waits until another turn is over, and says whether the thread of input and output has ended.
     pub(crate) fn park<R: Wait>(&self, rt: &R, seen: u64) -> bool {
         self.waiting.fetch_add(1, Ordering::SeqCst);
+        if self.asleep.load(Ordering::SeqCst) == BELL {
+            self.wake();
+        }
         for _ in rt.forever() {
             if self.turns() != seen || self.has_ended() {
                 break;
