@@ -6,20 +6,13 @@ use std::alloc::Global;
 use std::io::Write;
 use std::thread::Threads;
 
-/// What came of it is `stdout`.
-pub(crate) fn show_all<W: Write>(
+/// Shows a ticket from its arming to its end, a fill beside a give-up, and all cells with four callers.
+pub fn show_all<W: Write>(
     rt: &(impl Threads + Sync),
     alloc: Global,
     out: &mut W,
 ) -> Result<(), Refusal> {
-    let given = tickets::outcome_is_given_once(alloc)?;
-    say(out, "an outcome is given once", given)?;
-    let stale = tickets::old_ticket_is_stale(alloc)?;
-    say(out, "an old ticket is stale", stale)?;
-    let generations = tickets::each_generation(alloc)?;
-    tell(out, "generations that gave their outcome once", generations)?;
-    let back = tickets::fill_after_give_up(alloc)?;
-    say(out, "a fill after a give-up comes back", back)?;
+    show_tickets(alloc, out)?;
     let agreed = racing::give_up_beside_fill(rt, alloc)?;
     tell(
         out,
@@ -27,6 +20,18 @@ pub(crate) fn show_all<W: Write>(
         agreed,
     )?;
     rounds::board_round(rt, alloc, out)
+}
+
+/// Tickets one by one.
+fn show_tickets<W: Write>(alloc: Global, out: &mut W) -> Result<(), Refusal> {
+    let given = tickets::outcome_is_given_once(alloc)?;
+    say(out, "an outcome is given once", given)?;
+    let stale = tickets::old_ticket_is_stale(alloc)?;
+    say(out, "an old ticket is stale", stale)?;
+    let generations = tickets::each_generation(alloc)?;
+    tell(out, "generations that gave their outcome once", generations)?;
+    let back = tickets::fill_after_give_up(alloc)?;
+    say(out, "a fill after a give-up comes back", back)
 }
 
 /// Says whether something holds.

@@ -174,20 +174,20 @@ fn prepared<L: Ledger, D: Device, R: Net>(
     shared: &Arc<Shared<L, D>>,
     stream: TcpStream,
 ) -> Result<(Accepted<L, D>, Waker), Refusal> {
-    if stream.set_nodelay(true).is_err() {
-        return Err(Refusal::Device);
-    }
-    let mut stream = stream;
-    let (poll, waker) = new_poll(rt)?;
-    let Ok(()) = poll.registry().register(
-        &mut stream,
-        SOCKET,
-        Interest::READABLE | Interest::WRITABLE,
-    )
-    else {
-        return Err(Refusal::Device);
-    };
+    let shared = Arc::try_clone(shared)?;
     let done = Arc::new(alloc, AtomicBool::new(false))?;
+    let (line, waker) = new_line(rt, alloc, stream, Arc::try_clone(&done)?)?;
+    Ok((Accepted { shared, line, done }, waker))
+}
+
+fn new_line<R: Net>(
+    rt: &R,
+    alloc: Global,
+    mut stream: TcpStream,
+    done: Arc<AtomicBool>,
+) -> Result<(Line, Waker), Refusal> {
+    let (poll, waker) = new_poll(rt)?;
+    watch(&poll, &mut stream)?;
     let line = Line {
         stream,
         poll,
@@ -195,14 +195,20 @@ fn prepared<L: Ledger, D: Device, R: Net>(
         input: vec![in alloc; 0; ROOM]?,
         output: Vec::with_capacity(alloc, ROOM)?,
         written: 0,
-        done: Arc::try_clone(&done)?,
-    };
-    let accepted = Accepted {
-        shared: Arc::try_clone(shared)?,
-        line,
         done,
     };
-    Ok((accepted, waker))
+    Ok((line, waker))
+}
+
+// Replies are small, and each is to go at once.
+fn watch(poll: &Poll, stream: &mut TcpStream) -> Result<(), Refusal> {
+    let both = Interest::READABLE | Interest::WRITABLE;
+    if stream.set_nodelay(true).is_err()
+        || poll.registry().register(stream, SOCKET, both).is_err()
+    {
+        return Err(Refusal::Device);
+    }
+    Ok(())
 }
 
 /// What a thread waits at, and what wakes it.

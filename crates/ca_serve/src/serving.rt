@@ -132,22 +132,43 @@ fn opened<R: Net>(
         datagrams,
         beacons,
     } = places;
-    let (poll, accepting) = new_poll(rt)?;
-    let mut listener = TcpListener::from_std(listener);
+    let (door, accepting) = open_door(rt, alloc, TcpListener::from_std(listener))?;
+    let (desk, answering) = open_desk(rt, alloc, UdpSocket::from_std(datagrams), beacons)?;
+    Ok((door, desk, accepting, answering))
+}
+
+fn open_door<R: Net>(
+    rt: &R,
+    alloc: Global,
+    mut listener: TcpListener,
+) -> Result<(Door, Waker), Refusal> {
+    let events = Events::with_capacity(alloc, 4)?;
+    let (poll, waker) = new_poll(rt)?;
     let Ok(()) = poll
         .registry()
         .register(&mut listener, SOCKET, Interest::READABLE)
     else {
         return Err(Refusal::Device);
     };
+    let spare = Poll::new(rt).ok();
     let door = Door {
         listener,
         poll,
-        events: Events::with_capacity(alloc, 4)?,
-        spare: Poll::new(rt).ok(),
+        events,
+        spare,
     };
-    let (poll, answering) = new_poll(rt)?;
-    let mut socket = UdpSocket::from_std(datagrams);
+    Ok((door, waker))
+}
+
+fn open_desk<R: Net>(
+    rt: &R,
+    alloc: Global,
+    mut socket: UdpSocket,
+    beacons: SocketAddr,
+) -> Result<(Desk, Waker), Refusal> {
+    let events = Events::with_capacity(alloc, 4)?;
+    let buffer = vec![in alloc; 0; DATAGRAM]?;
+    let (poll, waker) = new_poll(rt)?;
     let Ok(()) = poll
         .registry()
         .register(&mut socket, SOCKET, Interest::READABLE)
@@ -157,11 +178,11 @@ fn opened<R: Net>(
     let desk = Desk {
         socket,
         poll,
-        events: Events::with_capacity(alloc, 4)?,
-        buffer: vec![in alloc; 0; DATAGRAM]?,
+        events,
+        buffer,
         beacons,
     };
-    Ok((door, desk, accepting, answering))
+    Ok((desk, waker))
 }
 
 // Starts the thread for datagrams, the one for updates and two processing threads.
@@ -176,10 +197,10 @@ fn start_helpers<
     helpers: &mut Vec<JoinHandle<()>>,
 ) -> Result<(), Refusal> {
     helpers.reserve(4)?;
-    helpers.push_reserved(start_datagrams(rt, Arc::try_clone(shared)?, desk)?);
-    helpers.push_reserved(start_updater(rt, Arc::try_clone(shared)?)?);
-    helpers.push_reserved(start_processor(rt, Arc::try_clone(shared)?)?);
-    helpers.push_reserved(start_processor(rt, Arc::try_clone(shared)?)?);
+    helpers.push_reserved(start_datagrams(rt, shared, desk)?);
+    helpers.push_reserved(start_updater(rt, shared)?);
+    helpers.push_reserved(start_processor(rt, shared)?);
+    helpers.push_reserved(start_processor(rt, shared)?);
     Ok(())
 }
 
@@ -187,7 +208,8 @@ fn start_processor<
     L: Ledger + Send + Sync + 'static,
     D: Device + Send + Sync + 'static,
     R: Threads + Wait + Clock + Copy + Send + 'static,
->(rt: R, shared: Arc<Shared<L, D>>) -> Result<JoinHandle<()>, Refusal> {
+>(rt: R, shared: &Arc<Shared<L, D>>) -> Result<JoinHandle<()>, Refusal> {
+    let shared = Arc::try_clone(shared)?;
     started(rt, Processor { shared })
 }
 
@@ -195,7 +217,8 @@ fn start_datagrams<
     L: Ledger + Send + Sync + 'static,
     D: Device + Send + Sync + 'static,
     R: Threads + Wait + Clock + Copy + Send + 'static,
->(rt: R, shared: Arc<Shared<L, D>>, desk: Desk) -> Result<JoinHandle<()>, Refusal> {
+>(rt: R, shared: &Arc<Shared<L, D>>, desk: Desk) -> Result<JoinHandle<()>, Refusal> {
+    let shared = Arc::try_clone(shared)?;
     started(rt, Datagrams { shared, desk })
 }
 
@@ -203,7 +226,8 @@ fn start_updater<
     L: Ledger + Send + Sync + 'static,
     D: Device + Send + Sync + 'static,
     R: Threads + Wait + Clock + Copy + Send + 'static,
->(rt: R, shared: Arc<Shared<L, D>>) -> Result<JoinHandle<()>, Refusal> {
+>(rt: R, shared: &Arc<Shared<L, D>>) -> Result<JoinHandle<()>, Refusal> {
+    let shared = Arc::try_clone(shared)?;
     started(rt, Updater { shared })
 }
 

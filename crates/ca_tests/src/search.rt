@@ -27,21 +27,37 @@ fn due(searcher: &mut Searcher, now: u64, cids: &[u32]) -> Result<bool, Refusal>
     Ok(are(&searcher.due(now)?, cids))
 }
 
+/// A channel whose search is paused is left out.
+fn pauses(searcher: &mut Searcher) -> Result<bool, Refusal> {
+    let all = due(searcher, 0, &[3, 1, 2])?;
+    searcher.pause(1);
+    let others = due(searcher, 1_000_000, &[3, 2])?;
+    searcher.boost(1_000_000);
+    let again = due(searcher, 1_000_000, &[3, 2])?;
+    Ok(all && others && again)
+}
+
+/// It is searched for again at its place.
+fn resumes(searcher: &mut Searcher) -> Result<bool, Refusal> {
+    searcher.resume(1, 1_000_001);
+    let alone = due(searcher, 1_000_001, &[1])?;
+    let all = due(searcher, 1_000_033, &[3, 1, 2])?;
+    Ok(alone && all)
+}
+
+/// An earlier moment counts as the last one.
+fn removes(searcher: &mut Searcher) -> Result<bool, Refusal> {
+    searcher.remove(3);
+    searcher.boost(1_000_033);
+    due(searcher, 0, &[1, 2])
+}
+
 // No core has a Searcher: a client's keeps the places itself.
 #[test]
 fn found_channels_keep_their_places(rt: HostRuntime) -> Result<(), Fail> {
     let mut searcher = searcher_of(rt.alloc(), &[3, 1, 2])?;
-    assert!(rt; due(&mut searcher, 0, &[3, 1, 2])?);
-    searcher.pause(1);
-    assert!(rt; due(&mut searcher, 1_000_000, &[3, 2])?);
-    searcher.boost(1_000_000);
-    assert!(rt; due(&mut searcher, 1_000_000, &[3, 2])?);
-    searcher.resume(1, 1_000_001);
-    assert!(rt; due(&mut searcher, 1_000_001, &[1])?);
-    assert!(rt; due(&mut searcher, 1_000_033, &[3, 1, 2])?);
-    searcher.remove(3);
-    searcher.boost(1_000_033);
-    // An earlier moment counts as the last one.
-    assert!(rt; due(&mut searcher, 0, &[1, 2])?);
+    assert!(rt; pauses(&mut searcher)?);
+    assert!(rt; resumes(&mut searcher)?);
+    assert!(rt; removes(&mut searcher)?);
     Ok(())
 }

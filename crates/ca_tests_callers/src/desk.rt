@@ -10,6 +10,7 @@ use crate::desk::circuit::{live, memory, turn};
 use crate::desk::faults::{lost, lost_at};
 use crate::desk::requests::{Requests, accepted, answered, make_requests, refused_as};
 use crate::tell;
+use ca_board::Ticket;
 use ca_client::{Caller, Desk};
 use ca_client_core::Address;
 use ca_text::Refusal;
@@ -49,12 +50,23 @@ fn show_cells<W: Write>(
     let done = answered(desk, caller, &requests.put, circuit, &mut tape)?;
     say(out, "answered", done)?;
     say(out, "refused as 10", refused_as(desk, &requests.stale, 10))?;
-    let tickets = accepted(alloc, desk, &requests.read)?;
-    say(out, "outstanding", tickets.len())?;
-    say(out, "refused as 24", refused_as(desk, &requests.stale, 24))?;
+    let tickets = all_cells(alloc, desk, requests, out)?;
     tape.calls_left = 0;
     turn(desk, circuit, &mut tape);
     say(out, "lost", lost(caller, &tickets))
+}
+
+/// As many requests as there are cells.
+fn all_cells<W: Write>(
+    alloc: Global,
+    desk: &mut Desk,
+    requests: &Requests,
+    out: &mut W,
+) -> Result<Vec<Ticket>, Refusal> {
+    let tickets = accepted(alloc, desk, &requests.read)?;
+    say(out, "outstanding", tickets.len())?;
+    say(out, "refused as 24", refused_as(desk, &requests.stale, 24))?;
+    Ok(tickets)
 }
 
 /// The socket fails at its first call, then on another circuit at its second, and so on.

@@ -4,7 +4,7 @@ use crate::server::bound;
 use crate::{say, tell};
 use ca_dbr::Value;
 use ca_script::{RecordFile, read_records};
-use ca_serve::{Device, serve};
+use ca_serve::{Device, Places, serve};
 use ca_text::Refusal;
 use std::alloc::Global;
 use std::io::{Read, Write};
@@ -12,7 +12,7 @@ use std::net::{Net, SocketAddr, TcpListener, TcpStream};
 use std::sync::atomic::{AtomicU64, Ordering};
 use std::sync::{Arc, Wait};
 use std::thread;
-use std::thread::Threads;
+use std::thread::{JoinHandle, Threads};
 use std::time::Clock;
 
 /// What the gate and the clients tell each other.
@@ -74,24 +74,44 @@ pub(crate) fn show<
     W: Write,
 >(rt: R, alloc: Global, out: &mut W) -> Result<(), Refusal> {
     let signs = new_signs(alloc)?;
-    let device = Gate {
-        signs: Arc::try_clone(&signs)?,
-    };
-    let file = read_records(alloc, b"record SLOW LONG 1 slow 3\n")?;
     let (places, address) = bound(&rt)?;
-    let spawned = thread::spawn(&rt, move || {
-        let RecordFile { records, rules } = file;
-        serve(rt, alloc, places, &records, rules, device, Some(2))
-    });
-    let Ok(server) = spawned else {
-        return Err(Refusal::Device);
-    };
+    let server = start_server(rt, alloc, places, &signs)?;
     let talked = talk(&rt, &signs, address, out);
     let served = server.join(&rt);
     talked?;
     tell(out, "writes that the server applied", served?)?;
     let passed = signs.passed.load(Ordering::SeqCst);
     tell(out, "puts that passed the device", passed)
+}
+
+/// A server of one record, whose puts the gate holds.
+fn start_server<
+    R: Threads
+        + Wait
+        + Clock
+        + Net<Stream = TcpStream, Listener = TcpListener>
+        + Copy
+        + Drop
+        + Send
+        + 'static,
+>(
+    rt: R,
+    alloc: Global,
+    places: Places,
+    signs: &Arc<Signs>,
+) -> Result<JoinHandle<Result<u64, Refusal>>, Refusal> {
+    let file = read_records(alloc, b"record SLOW LONG 1 slow 3\n")?;
+    let device = Gate {
+        signs: Arc::try_clone(signs)?,
+    };
+    let spawned = thread::spawn(&rt, move || {
+        let RecordFile { records, rules } = file;
+        serve(rt, alloc, places, &records, rules, device, Some(2))
+    });
+    match spawned {
+        Ok(server) => Ok(server),
+        Err(_) => Err(Refusal::Device),
+    }
 }
 
 /// A put on one circuit, which the device holds; a read on another; and then the put is let go, and its circuit reads.
@@ -103,15 +123,27 @@ fn talk<R: Net<Stream = TcpStream, Listener = TcpListener>, W: Write>(
 ) -> Result<(), Refusal> {
     let first = connected(rt, address)?;
     let second = connected(rt, address)?;
-    let one = opened(&first)?;
-    let two = opened(&second)?;
-    put(&first, one, 42)?;
+    let sid = opened(&first)?;
+    put(&first, sid, 42)?;
     say_yes(out, "the device has the put:", is_set(&signs.entered))?;
-    let read_beside = read(&second, two).is_ok();
+    let read_beside = is_read(&second);
     say_yes(out, "a read on another circuit is answered:", read_beside)?;
     signs.opened.store(1, Ordering::SeqCst);
-    say_yes(out, "the put is done:", is_done(&first)?)?;
-    tell(out, "its circuit reads", read(&first, one)?)
+    end(&first, sid, out)
+}
+
+/// Whether a read on this circuit is answered.
+fn is_read(stream: &TcpStream) -> bool {
+    match opened(stream) {
+        Ok(sid) => read(stream, sid).is_ok(),
+        Err(_) => false,
+    }
+}
+
+/// The put on this circuit was let go.
+fn end<W: Write>(stream: &TcpStream, sid: u32, out: &mut W) -> Result<(), Refusal> {
+    say_yes(out, "the put is done:", is_done(stream)?)?;
+    tell(out, "its circuit reads", read(stream, sid)?)
 }
 
 fn connected<R: Net<Stream = TcpStream, Listener = TcpListener>>(

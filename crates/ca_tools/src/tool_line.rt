@@ -99,24 +99,25 @@ fn grammar<'a>(alloc: Global, verb: Verb) -> Result<Command<'a>, AllocError> {
 /// What the words mean: nothing if one is missing, is no address, no number, or too long.
 fn meant<'a>(verb: Verb, matches: &ArgMatches<'a>) -> Option<ToolLine<'a>> {
     let name = matches.get_str("name")?;
-    let Ok(server) = matches.get_str("server")?.parse::<SocketAddrV4>() else {
-        return None;
-    };
+    let server = matches.get_str("server")?.parse::<SocketAddrV4>().ok()?;
     let turns = match matches.get_str("turns") {
         None => TURNS,
         Some(text) => decimal(text.as_bytes())?,
     };
-    let task = match verb {
-        Verb::Get => Task::Get,
-        Verb::Put => Task::Put(value_of(matches.get_str("value")?)?),
-        Verb::Monitor => Task::Monitor(decimal(matches.get_str("count")?.as_bytes())?),
-    };
     Some(ToolLine {
-        task,
+        task: task_of(verb, matches)?,
         name,
         server,
         turns,
     })
+}
+
+fn task_of<'a>(verb: Verb, matches: &ArgMatches<'a>) -> Option<Task<'a>> {
+    match verb {
+        Verb::Get => Some(Task::Get),
+        Verb::Put => Some(Task::Put(value_of(matches.get_str("value")?)?)),
+        Verb::Monitor => Some(Task::Monitor(decimal(matches.get_str("count")?.as_bytes())?)),
+    }
 }
 
 fn value_of(text: &str) -> Option<&str> {
