@@ -61,33 +61,21 @@ fn took<R: Threads + Wait + Clock + Copy + Send + 'static>(
     if !context.wait_live(&rt, channel, TURNS) {
         return Err(Refusal::NotLive);
     }
+    let read = Arc::new(alloc, AtomicU64::new(0))?;
     let Ok(began) = Instant::now(&rt) else {
         return Err(Refusal::Device);
     };
-    let read = read_by_all(rt, alloc, context, channel, course)?;
-    let Ok(took) = began.elapsed(&rt) else {
-        return Err(Refusal::Device);
-    };
-    if read != course.reads.saturating_mul(course.callers) {
-        return Err(Refusal::Disconnected);
-    }
-    Ok(took.as_micros())
-}
-
-/// Has all callers read, and tells how many reads were made.
-fn read_by_all<R: Threads + Wait + Clock + Copy + Send + 'static>(
-    rt: R,
-    alloc: Global,
-    context: &Arc<Context<Nobody>>,
-    channel: Handle,
-    course: Course,
-) -> Result<u64, Refusal> {
-    let read = Arc::new(alloc, AtomicU64::new(0))?;
     let threads = start_all(rt, alloc, context, channel, course, &read)?;
     for thread in threads {
         thread.join(&rt);
     }
-    Ok(read.load(Ordering::SeqCst))
+    let Ok(took) = began.elapsed(&rt) else {
+        return Err(Refusal::Device);
+    };
+    if read.load(Ordering::SeqCst) != course.reads.saturating_mul(course.callers) {
+        return Err(Refusal::Disconnected);
+    }
+    Ok(took.as_micros())
 }
 
 fn start_all<R: Threads + Wait + Clock + Copy + Send + 'static>(
