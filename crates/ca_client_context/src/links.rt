@@ -293,27 +293,25 @@ fn serve_one(desk: &mut Desk, link: &mut Link, told: &mut Vec<Heard>) -> Served 
         return Served::Over;
     }
     let is_done = link.wire.drained && !link.wire.behind;
-    let mut served = if is_done {
-        Served::Idle
-    } else {
-        Served::Behind
-    };
+    match handle_all(desk, link.circuit, told) {
+        Served::Idle | Served::Busy if !is_done => Served::Behind,
+        served => served,
+    }
+}
+
+// Handles the messages that came on a circuit.
+fn handle_all(desk: &mut Desk, circuit: Handle, told: &mut Vec<Heard>) -> Served {
+    let mut served = Served::Idle;
     for _ in 0..STEPS {
         if told.reserve(1).is_err() {
             return served;
         }
-        match desk.step(Ask::Step(link.circuit)) {
+        match desk.step(Ask::Step(circuit)) {
             Answer::Notices(notices) => {
                 keep(told, notices);
-                if is_done {
-                    served = Served::Busy;
-                }
+                served = Served::Busy;
             }
-            Answer::Filled => {
-                if is_done {
-                    served = Served::Busy;
-                }
-            }
+            Answer::Filled => served = Served::Busy,
             Answer::Closed(ended) => {
                 keep(told, ended.told);
                 return Served::Over;
