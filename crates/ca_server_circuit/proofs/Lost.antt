@@ -79,6 +79,14 @@ listed-more name n t all next within so step =
 pub listed-all : (name : List ℕ) (n : ℕ) (e : ServerEnd) (all : List (ℕ × ℕ)) → length e.channels ≤ n → Listed-to name n e.channels all → all ≡ map ids_of (channels_of name e)
 listed-all name n e all past so = so ∙ ap (λ (cs : Listed). map ids_of cs) (first-all name n e.channels past)
 
+-- if an index has such a channel there are ids
+pub listed-some : (name : List ℕ) (n : ℕ) (e : ServerEnd) → n < length e.channels → leading_at name n e.channels ≢ [] → map ids_of (channels_of name e) ≢ []
+listed-some name n e within some = by (channels_of name e) (λ none. some (none-at (leads_to name) e.channels n within none))
+  where
+    by : (cs : Listed) → cs ≢ [] → map ids_of cs ≢ []
+    by [] there = absurd (there refl)
+    by (c ∷ cs) there = λ none. cc
+
 -- an index without such a channel adds nothing
 pub lists-none : (all : List (ℕ × ℕ)) (cs : Listed) → cs ≡ [] → all ≡ all ++ map ids_of cs
 lists-none all cs none = sym (ap (λ (xs : Listed). all ++ map ids_of xs) none ∙ append-nil all)

@@ -1,4 +1,4 @@
-ghost use Rattle.std.specs.Prelude.{◌≡◌, ◌≤◌, IfOk, Some, length, option_map};
+ghost use Rattle.std.specs.Prelude.{◌≡◌, ◌≢◌, ◌≤◌, [], IfOk, OnErr, Some, length, option_map};
 ghost use Rattle.ca_model.specs.Server.{new_end};
 ghost use Rattle.ca_model.specs.Server as server;
 ghost use Rattle.ca_model.specs.ServerSteps.{output_of};
@@ -236,10 +236,11 @@ impl Circuit {
         }
     }
 
-    /// The SID and the CID of each channel to the record of this name at its end, in order of index: none if that is not open. Only
-    /// whoever records histories needs it.
+    /// The SID and the CID of each channel to the record of this name at its end, in order of index: none if that is not open.
+    /// Refused without memory, only if there is one. Only whoever records histories needs it.
     pub fn channels_to(&self, alloc: Global, name: &[u8]) -> Result<Vec<(u32, u32)>, AllocError>
-        ensures { IfOk result (λ all. all.items ≡ channels_on name.now self.now) }
+        ensures ok { IfOk result (λ all. all.items ≡ channels_on name.now self.now) }
+        ensures some { OnErr result (channels_on name.now self.now ≢ []) }
     {
         match &self.state {
             State::Open(end) => end.channels_to(name),

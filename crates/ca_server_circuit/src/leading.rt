@@ -1,4 +1,4 @@
-ghost use Rattle.std.specs.Prelude.{◌≡◌, ◌<◌, ◌++◌, IfOk, OnOk, length, map};
+ghost use Rattle.std.specs.Prelude.{◌≡◌, ◌≢◌, ◌<◌, ◌++◌, [], IfOk, OnErr, OnOk, length, map};
 ghost use Rattle.ca_model.specs.ServerCalls.{channels_of};
 ghost use Rattle.ca_server_circuit.specs.Concerned.{ids_of};
 ghost use Rattle.ca_server_circuit.specs.Removing.{leading_at};
@@ -8,9 +8,11 @@ use ca_ids::WireId;
 use std::alloc::AllocError;
 
 impl End {
-    /// The SID and the CID of each channel to the record of this name, in order of index.
+    /// The SID and the CID of each channel to the record of this name, in order of index. Refused without
+    /// memory, only if there is one.
     pub(crate) fn channels_to(&self, name: &[u8]) -> Result<Vec<(u32, u32)>, AllocError>
-        ensures { IfOk result (λ all. all.items ≡ map ids_of (channels_of name.now self.now)) }
+        ensures ok { IfOk result (λ all. all.items ≡ map ids_of (channels_of name.now self.now)) }
+        ensures some { OnErr result (map ids_of (channels_of name.now self.now) ≢ []) }
     {
         let mut all = Vec::new(self.alloc);
         for index in 0..self.channels.places() {
@@ -27,8 +29,9 @@ impl End {
         all: &mut Vec<(u32, u32)>,
     ) -> Result<(), AllocError>
         requires { index < length self.now.channels }
-        ensures { OnOk result (all.new.items
+        ensures ok { OnOk result (all.new.items
             ≡ all.old.items ++ map ids_of (leading_at name.now index self.now.channels)) }
+        ensures some { OnErr result (leading_at name.now index self.now.channels ≢ []) }
     {
         let Some((handle, channel)) = self.channels.at(index) else {
             return Ok(());

@@ -1,5 +1,5 @@
 //! What whoever records histories asks of a server. No server needs these calls.
-ghost use Rattle.std.specs.Prelude.{◌≡◌, ◌<◌, IfOk, false, length, option_map};
+ghost use Rattle.std.specs.Prelude.{◌≡◌, ◌≢◌, ◌<◌, [], IfOk, OnErr, false, length, option_map};
 ghost use Rattle.ca_dbr.specs.Elements.{elements};
 ghost use Rattle.ca_ids.specs.Table.{same_handle, under};
 ghost use Rattle.ca_records.specs.Puts.{record_named, withdrawn};
@@ -113,14 +113,16 @@ pub fn comes_before(core: &ServerCore, name: &[u8], other: &[u8]) -> bool
 }
 
 /// The SID and the CID of each channel to the record of this name on a circuit whose end is open, in order of index. A removal of the
-/// record sends a SERVER_DISCONN to each.
+/// record sends a SERVER_DISCONN to each. Refused without memory, only if there is one.
 pub fn channels_to(
     core: &ServerCore,
     circuit: Handle,
     name: &[u8],
 ) -> Result<Vec<(u32, u32)>, AllocError>
-    ensures { IfOk result (λ all.
+    ensures ok { IfOk result (λ all.
         all.items ≡ channels_under name.now (under core.now.circuits circuit)) }
+    ensures some { OnErr result
+        (channels_under name.now (under core.now.circuits circuit) ≢ []) }
 {
     match core.circuits.by_handle(circuit) {
         Some(found) => found.channels_to(core.alloc, name),
