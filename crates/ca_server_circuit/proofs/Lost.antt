@@ -125,10 +125,14 @@ told-some name n e now within told some =
     let f : Listed = first_of name n e.channels in
     let r = first-part name n e.channels in
     let here : leading_at name n e.channels ≢ [] = subst (λ (x : ServerEnd). leading_at name n x.channels ≢ []) told some in
-    let long : length (channels_of name e) ≡ length f + length r.0 = ap (λ (cs : Listed). length cs) r.1 ∙ length-append f r.0 in (
+    let own : Listed = leading_at name n e.channels in
+    let more = first-part name (n + 1) e.channels in
+    let one : 0 < length own = some-long own here in
+    let most : length (first_of name (n + 1) e.channels) ≡ length f + length own = ap (λ (cs : Listed). length cs) (first-more name n e.channels within) ∙ length-append f own in
+    let long : length (channels_of name e) ≡ length (first_of name (n + 1) e.channels) + length more.0 = ap (λ (cs : Listed). length cs) more.1 ∙ length-append (first_of name (n + 1) e.channels) more.0 in (
       length f,
       (λ none. here (none-at (leads_to name) e.channels n within none)),
-      omega (arith, long),
+      omega (arith, one, most, long),
       told ∙ sym (ap (λ (ms : List Fields). replied ms e) (cut f r.0 r.1)),
     )
   where
@@ -137,6 +141,10 @@ told-some name n e now within told some =
         ap (λ (cs : Listed). take (length f) (notices cs)) is
         ∙ ap (λ (ms : List Fields). take (length f) ms) (map-append (λ (c : Handle × OpenChannel). disconnect c.1.cid) f rest)
         ∙ take_at (notices f) (notices rest) (length f) (length-map f (λ (c : Handle × OpenChannel). disconnect c.1.cid))
+
+    some-long : (cs : Listed) → cs ≢ [] → 0 < length cs
+    some-long [] some = absurd (some refl)
+    some-long (c ∷ cs) some = omega (arith)
 
 -- a message to the channel of an index
 pub tells-none : (name : List ℕ) (n : ℕ) (e : ServerEnd) → leading_at name n e.channels ≡ [] → e ≡ replied (notices (leading_at name n e.channels)) e

@@ -1,5 +1,5 @@
 -- Working: a record is removed, on one circuit.
-use Rattle.std.specs.Prelude.{ℕ, ◌≡◌, ◌≢◌, ◌≤◌, ◌&&◌, ◌||◌, ◌⊎◌, ◌++◌, Bool, true, not, List, [], Option, filter, length, map, option_map, option_to_list, take}
+use Rattle.std.specs.Prelude.{ℕ, ◌≡◌, ◌≢◌, ◌<◌, ◌&&◌, ◌||◌, ◌⊎◌, ◌++◌, Bool, true, not, List, [], Option, filter, length, map, option_map, option_to_list, take}
 use Rattle.std.specs.Str.{bytes_eq}
 use Rattle.ca_arena.specs.declared.handle.Handle.{Handle}
 use Rattle.ca_arena.specs.Arena.{Place, place_at}
@@ -57,10 +57,10 @@ without_at name i e =
 abbrev pub without_channels : List ℕ → ServerEnd → ServerEnd
 without_channels name e = without_subscriptions (is_on (channels_of name e)) (record e { channels = with_each (retired name) e.channels })
 
--- Some SERVER_DISCONNs are due, and the first of them wait to be sent.
+-- Some SERVER_DISCONNs are due, and the first of them wait to be sent, but not all.
 abbrev pub TellsSome : List ℕ → ServerEnd → ServerEnd → Type 0
 TellsSome name e new =
-    (k : ℕ) × (channels_of name e ≢ []) × (k ≤ length (channels_of name e)) × (new ≡ replied (take k (disconnects name e)) e)
+    (k : ℕ) × (channels_of name e ≢ []) × (k < length (channels_of name e)) × (new ≡ replied (take k (disconnects name e)) e)
 
 -- ---- one circuit
 
@@ -69,10 +69,10 @@ abbrev pub MayLose : List Record → Handle → ServerCircuit → Type 0
 MayLose rs h (server.Open e) = IsOpen e.link × ArePuts h rs e.channels
 MayLose rs h (server.Ended w left) = Unit {0}
 
--- A circuit loses a record: or its end has ended out of memory, and left a beginning of its SERVER_DISCONNs.
+-- A circuit loses a record: or its end has ended out of memory for a SERVER_DISCONN, and left those before it.
 abbrev pub LosesAt : Handle → (name : List ℕ) → ServerCircuit → Store → ServerCircuit → Store → Type 0
 LosesAt h name (server.Open e) s new t =
     ((new ≡ server.Open (end_without name e)) × HasRoom (events_of (end_without name e)) × (t ≡ s))
-    ⊎ ((k : ℕ) × (channels_of name e ≢ []) × (k ≤ length (channels_of name e))
+    ⊎ ((k : ℕ) × (channels_of name e ≢ []) × (k < length (channels_of name e))
     × (new ≡ server.Ended why.OutOfMemory (e.link.output ++ spelled (take k (disconnects name e)))) × WithdrawsAll h s t)
 LosesAt h name (server.Ended w left) s new t = (new ≡ server.Ended w left) × (t ≡ s)

@@ -393,7 +393,7 @@ module _ (name : List ℕ) where
         by : (c new : ServerCircuit) → (under after h ≡ Some c) × (h.index ≡ n) → LosesAt h name c u new x → last ≡ with_changed (λ (y : ServerCircuit). new) h after → Losing (n + 1) t s last x
         by (Open e) new there (inl p) changed = losing-on h there.1 last x e there.0 (became after last h new (Open (end_without name e)) changed p.0) p.1 p.2
         by (Open e) new there (inr p) changed =
-            losing-out h there.1 last x e p.0 there.0 p.1 p.2 (became after last h new (Ended why.OutOfMemory (e.link.output ++ spelled (take p.0 (disconnects name e)))) changed p.3) p.4
+            losing-out h there.1 last x e p.0 there.0 p.1 (let lt = p.2 in omega (arith, lt)) (became after last h new (Ended why.OutOfMemory (e.link.output ++ spelled (take p.0 (disconnects name e)))) changed p.3) p.4
         by (Ended w left) new there p changed =
             losing-past last x (stayed after last h new (Ended w left) there.0 changed p.0) p.1
             (λ k c at here. ended k c at here (one k c at here))
