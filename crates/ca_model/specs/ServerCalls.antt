@@ -57,16 +57,16 @@ finish_reply p = record { command = command_number command.WriteNotify; data_typ
 abbrev pub with_finish : List ℕ → Record → Server → Server
 with_finish name r y = record y { records = with_record name (λ (q : Record). finished y.stamp q q.waiting) y.records }
 
--- The finish of a busy put: its reply, if it is awaited; and the next put that waits, if there is one.
-pub record Finish (y : Server) (name : List ℕ) : Type 0 where
+-- The finish of a busy put, by which this is sent: its reply, if it is awaited; and the next put that waits, if there is one.
+pub record Finish (y : Server) (name : List ℕ) (sent : List (Handle × Fields)) : Type 0 where
   pub r : Record
   pub named : record_named y.records name ≡ Some r
   pub p : Put
   pub busy : r.busy ≡ Some p
-  -- the circuits that end out of memory: for the reply, or for an update of the next put
+  -- the circuits that end out of memory: for the reply, if it is not sent; or for an update of the next put
   pub gone : Handle → Bool
   pub may : (h : Handle) → gone h ≡ true
-      → ((h ≡ p.circuit) × ((e : ServerEnd) × IsAwaited y p e)) ⊎ ((c : ServerCircuit) × (under y.circuits h ≡ Some c) × (r.waiting ≢ []) × (is_concerned name write_mask c ≡ true))
+      → ((h ≡ p.circuit) × ((e : ServerEnd) × IsAwaited y p e) × (sent ≡ [])) ⊎ ((c : ServerCircuit) × (under y.circuits h ≡ Some c) × (r.waiting ≢ []) × (is_concerned name write_mask c ≡ true))
 
 -- the server with this message of its circuit sent
 abbrev pub with_message : Handle → ServerEnd → Fields → Server → Server
@@ -92,7 +92,7 @@ after_next name (p ∷ ps) gone y = after_post name write_mask (stored_now y p.v
 -- `finish`: refused if no record has the name, or none of its puts is busy. Else the busy put ends, with its reply, and the next is applied.
 abbrev pub Finishes : Server → List ℕ → (sent : List (Handle × Fields)) → Result (Unit {0}) Refusal → Server → Type 0
 Finishes old name sent (Ok _) new =
-    (f : Finish old name) × (mid : Server) × Replies (with_finish name f.r old) f.p f.gone sent mid × (new ≡ after_next name f.r.waiting f.gone mid)
+    (f : Finish old name sent) × (mid : Server) × Replies (with_finish name f.r old) f.p f.gone sent mid × (new ≡ after_next name f.r.waiting f.gone mid)
 Finishes old name sent (Err refusal.UnknownRecord) new = (record_named old.records name ≡ None) × (sent ≡ []) × (new ≡ old)
 Finishes old name sent (Err refusal.NotBusy) new = ((r : Record) × (record_named old.records name ≡ Some r) × (r.busy ≡ None)) × (sent ≡ []) × (new ≡ old)
 Finishes old name sent (Err e) new = ⊥
@@ -126,12 +126,12 @@ circuit_without name gone left h (Open e) =
     if gone h then Ended why.OutOfMemory (e.link.output ++ spelled (take (left h) (disconnects name e))) else Open (end_without name e)
 circuit_without name gone left h (Ended w l) = Ended w l
 
--- `remove_record`: refused if no record has the name. Its waiting puts go with it, unapplied; circuits with a channel of it may end
--- out of memory.
+-- `remove_record`: refused if no record has the name. Its waiting puts go with it, unapplied. A circuit may end out of memory for one of
+-- its SERVER_DISCONNs, and leaves those before it.
 abbrev pub Removes : Server → List ℕ → (gone : Handle → Bool) → (left : Handle → ℕ) → Result (Unit {0}) Refusal → Server → Type 0
 Removes old name gone left (Ok _) new =
     (is_some (record_named old.records name) ≡ true)
-    × ((h : Handle) → gone h ≡ true → (e : ServerEnd) × HasEnd old h e × (channels_of name e ≢ []) × (left h ≤ length (channels_of name e)))
+    × ((h : Handle) → gone h ≡ true → (e : ServerEnd) × HasEnd old h e × (left h < length (channels_of name e)))
     × (new ≡ record old {
       records = withdrawn (λ (p : Put). gone p.circuit) (removed name old.records);
       circuits = with_each (circuit_without name gone left) old.circuits;

@@ -131,7 +131,6 @@ told-some name n e now within told some =
     let most : length (first_of name (n + 1) e.channels) ≡ length f + length own = ap (λ (cs : Listed). length cs) (first-more name n e.channels within) ∙ length-append f own in
     let long : length (channels_of name e) ≡ length (first_of name (n + 1) e.channels) + length more.0 = ap (λ (cs : Listed). length cs) more.1 ∙ length-append (first_of name (n + 1) e.channels) more.0 in (
       length f,
-      (λ none. here (none-at (leads_to name) e.channels n within none)),
       omega (arith, one, most, long),
       told ∙ sym (ap (λ (ms : List Fields). replied ms e) (cut f r.0 r.1)),
     )

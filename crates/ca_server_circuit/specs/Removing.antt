@@ -1,5 +1,5 @@
 -- Working: a record is removed, on one circuit.
-use Rattle.std.specs.Prelude.{ℕ, ◌≡◌, ◌≢◌, ◌<◌, ◌&&◌, ◌||◌, ◌⊎◌, ◌++◌, Bool, true, not, List, [], Option, filter, length, map, option_map, option_to_list, take}
+use Rattle.std.specs.Prelude.{ℕ, ◌≡◌, ◌<◌, ◌&&◌, ◌||◌, ◌⊎◌, ◌++◌, Bool, true, not, List, Option, filter, length, map, option_map, option_to_list, take}
 use Rattle.std.specs.Str.{bytes_eq}
 use Rattle.ca_arena.specs.declared.handle.Handle.{Handle}
 use Rattle.ca_arena.specs.Arena.{Place, place_at}
@@ -60,7 +60,7 @@ without_channels name e = without_subscriptions (is_on (channels_of name e)) (re
 -- Some SERVER_DISCONNs are due, and the first of them wait to be sent, but not all.
 abbrev pub TellsSome : List ℕ → ServerEnd → ServerEnd → Type 0
 TellsSome name e new =
-    (k : ℕ) × (channels_of name e ≢ []) × (k < length (channels_of name e)) × (new ≡ replied (take k (disconnects name e)) e)
+    (k : ℕ) × (k < length (channels_of name e)) × (new ≡ replied (take k (disconnects name e)) e)
 
 -- ---- one circuit
 
@@ -73,6 +73,6 @@ MayLose rs h (server.Ended w left) = Unit {0}
 abbrev pub LosesAt : Handle → (name : List ℕ) → ServerCircuit → Store → ServerCircuit → Store → Type 0
 LosesAt h name (server.Open e) s new t =
     ((new ≡ server.Open (end_without name e)) × HasRoom (events_of (end_without name e)) × (t ≡ s))
-    ⊎ ((k : ℕ) × (channels_of name e ≢ []) × (k < length (channels_of name e))
+    ⊎ ((k : ℕ) × (k < length (channels_of name e))
     × (new ≡ server.Ended why.OutOfMemory (e.link.output ++ spelled (take k (disconnects name e)))) × WithdrawsAll h s t)
 LosesAt h name (server.Ended w left) s new t = (new ≡ server.Ended w left) × (t ≡ s)

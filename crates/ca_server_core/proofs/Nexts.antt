@@ -237,11 +237,11 @@ module _ (port now n : ℕ) (b : Clock) where
               busy = did.1;
               gone = λ (k : Handle). same_handle k f.ended.circuit || gone k;
               may = λ g is. elim (or-true (same_handle g f.ended.circuit) (gone g) is) [
-                | inl its ↦ inl (same-is g f.ended.circuit its, (e, (there, awaited)))
+                | inl its ↦ inl (same-is g f.ended.circuit its, (e, (there, awaited)), refl)
                 | inr after ↦
                     let c = next.may g after in
                     elim (changed-back (λ (x : ServerCircuit). Ended why.OutOfMemory e.link.output) t g f.ended.circuit c.0 (subst (λ (x : Circuits). under x g ≡ Some c.0) at c.1)) [
-                      | inl its ↦ inl (its.0, (e, (there, awaited)))
+                      | inl its ↦ inl (its.0, (e, (there, awaited)), refl)
                       | inr old ↦ inr (c.0, old.1, c.2, c.3)
                     ]
               ];

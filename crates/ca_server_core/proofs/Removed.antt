@@ -122,7 +122,7 @@ module _ (name : List ℕ) where
   pub record Losing (n : ℕ) (t : Circuits) (s : Store) (after : Circuits) (u : Store) : Type 0 where
     pub gone : Handle → Bool
     pub left : Handle → ℕ
-    pub may : (h : Handle) → gone h ≡ true → (e : ServerEnd) × (under t h ≡ Some (Open e)) × (channels_of name e ≢ []) × (left h ≤ length (channels_of name e))
+    pub may : (h : Handle) → gone h ≡ true → (e : ServerEnd) × (under t h ≡ Some (Open e)) × (left h < length (channels_of name e))
     pub only : (h : Handle) → gone h ≡ true → h.index < n
     pub circuits : after ≡ with_each (passed n gone left) t
     pub records : records_of u ≡ withdrawn (λ (p : Put). gone p.circuit) (records_of s)
@@ -279,8 +279,8 @@ module _ (name : List ℕ) where
               subst (λ (z : ServerEnd). HasRoom (events_of z)) (sym (open-is y (end_without name e) is_y)) full
 
       -- it ended out of memory
-      losing-out : (last : Circuits) (x : Store) (e : ServerEnd) (k : ℕ) → under after h ≡ Some (Open e) → channels_of name e ≢ [] → k ≤ length (channels_of name e) → last ≡ with_changed (λ (c : ServerCircuit). Ended why.OutOfMemory (e.link.output ++ spelled (take k (disconnects name e)))) h after → WithdrawsAll h u x → Losing (n + 1) t s last x
-      losing-out last x e k there some few changed taken = record {
+      losing-out : (last : Circuits) (x : Store) (e : ServerEnd) (k : ℕ) → under after h ≡ Some (Open e) → k < length (channels_of name e) → last ≡ with_changed (λ (c : ServerCircuit). Ended why.OutOfMemory (e.link.output ++ spelled (take k (disconnects name e)))) h after → WithdrawsAll h u x → Losing (n + 1) t s last x
+      losing-out last x e k there few changed taken = record {
         gone = to;
         left = long;
         may = λ g z. elim (or-true (l.gone g) (same_handle g h) z) [
@@ -317,19 +317,18 @@ module _ (name : List ℕ) where
           not-it g other true hit = absurd (other (same-is g h hit))
           not-it g other false miss = miss
 
-          may-own : (g : Handle) → same_handle g h ≡ true → (y : ServerEnd) × (under t g ≡ Some (Open y)) × (channels_of name y ≢ []) × (long g ≤ length (channels_of name y))
+          may-own : (g : Handle) → same_handle g h ≡ true → (y : ServerEnd) × (under t g ≡ Some (Open y)) × (long g < length (channels_of name y))
           may-own g own = (
             e,
             subst (λ (y : Handle). under t y ≡ Some (Open e)) (sym (same-is g h own)) first,
-            some,
-            subst (λ (m : ℕ). m ≤ length (channels_of name e)) (sym (own-long g own)) few,
+            subst (λ (m : ℕ). m < length (channels_of name e)) (sym (own-long g own)) few,
           )
 
-          may-old : (g : Handle) → l.gone g ≡ true → (y : ServerEnd) × (under t g ≡ Some (Open y)) × (channels_of name y ≢ []) × (long g ≤ length (channels_of name y))
+          may-old : (g : Handle) → l.gone g ≡ true → (y : ServerEnd) × (under t g ≡ Some (Open y)) × (long g < length (channels_of name y))
           may-old g old =
               let m = l.may g old in
               let miss : same_handle g h ≡ false = by (same_handle g h) refl in
-              (m.0, m.1, m.2, subst (λ (j : ℕ). j ≤ length (channels_of name m.0)) (sym (other-long g miss)) m.3)
+              (m.0, m.1, subst (λ (j : ℕ). j < length (channels_of name m.0)) (sym (other-long g miss)) m.2)
             where
               by : (b : Bool) → same_handle g h ≡ b → same_handle g h ≡ false
               by false miss = miss
@@ -393,7 +392,7 @@ module _ (name : List ℕ) where
         by : (c new : ServerCircuit) → (under after h ≡ Some c) × (h.index ≡ n) → LosesAt h name c u new x → last ≡ with_changed (λ (y : ServerCircuit). new) h after → Losing (n + 1) t s last x
         by (Open e) new there (inl p) changed = losing-on h there.1 last x e there.0 (became after last h new (Open (end_without name e)) changed p.0) p.1 p.2
         by (Open e) new there (inr p) changed =
-            losing-out h there.1 last x e p.0 there.0 p.1 (let lt = p.2 in omega (arith, lt)) (became after last h new (Ended why.OutOfMemory (e.link.output ++ spelled (take p.0 (disconnects name e)))) changed p.3) p.4
+            losing-out h there.1 last x e p.0 there.0 p.1 (became after last h new (Ended why.OutOfMemory (e.link.output ++ spelled (take p.0 (disconnects name e)))) changed p.2) p.3
         by (Ended w left) new there p changed =
             losing-past last x (stayed after last h new (Ended w left) there.0 changed p.0) p.1
             (λ k c at here. ended k c at here (one k c at here))

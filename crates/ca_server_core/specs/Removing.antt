@@ -1,5 +1,5 @@
 -- Working: a record is removed, in the table of circuits.
-use Rattle.std.specs.Prelude.{ℕ, ◌≡◌, ◌≢◌, ◌≤◌, ◌⊎◌, Bool, true, List, [], Some, None, length}
+use Rattle.std.specs.Prelude.{ℕ, ◌≡◌, ◌<◌, ◌⊎◌, Bool, true, List, Some, None, length}
 use Rattle.ca_arena.specs.declared.handle.Handle.{Handle}
 use Rattle.ca_arena.specs.Arena.{place_at}
 use Rattle.ca_ids.specs.Table.{Table, held_at, under, with_changed, with_each}
@@ -30,7 +30,7 @@ LosesIn t index name s after u =
 
 -- Each circuit has lost the record, but for those that ended, and left that many SERVER_DISCONNs.
 pub record IsLost (name : List ℕ) (gone : Handle → Bool) (left : Handle → ℕ) (t : Table ServerCircuit) (s : Store) (after : Table ServerCircuit) (u : Store) : Type 0 where
-  pub may : (h : Handle) → gone h ≡ true → (e : ServerEnd) × (under t h ≡ Some (server.Open e)) × (channels_of name e ≢ []) × (left h ≤ length (channels_of name e))
+  pub may : (h : Handle) → gone h ≡ true → (e : ServerEnd) × (under t h ≡ Some (server.Open e)) × (left h < length (channels_of name e))
   pub circuits : after ≡ with_each (circuit_without name gone left) t
   pub records : records_of u ≡ withdrawn (λ (p : Put). gone p.circuit) (records_of s)
   pub rules : u.rules ≡ s.rules
