@@ -1,4 +1,4 @@
-ghost use Rattle.std.specs.Prelude.{◌≡◌, ◌≤◌, IfOk};
+ghost use Rattle.std.specs.Prelude.{◌≡◌, ◌≢◌, ◌≤◌, IfOk, OnErr};
 ghost use Rattle.ca_text.specs.Limits.{element_limit};
 ghost use Rattle.ca_dbr.specs.Elements.{count_of, elements};
 
@@ -29,10 +29,11 @@ impl Model for Update {
 }
 
 impl Update {
-    /// One of this value, which it copies. Refused without memory.
+    /// One of this value, which it copies. Refused without memory, only if there are elements.
     pub fn of(alloc: Global, value: &Value, meta: Meta) -> Result<Update, AllocError>
         requires { count_of (elements value.now) ≤ element_limit }
-        ensures { IfOk result (λ u. u ≡ record { value = elements value.now; meta = meta }) }
+        ensures ok { IfOk result (λ u. u ≡ record { value = elements value.now; meta = meta }) }
+        ensures some { OnErr result (count_of (elements value.now) ≢ 0) }
     {
         match value.copy(alloc) {
             Ok(value) => Ok(Update { value, meta }),

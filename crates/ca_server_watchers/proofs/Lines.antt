@@ -14,7 +14,7 @@ use Rattle.indexmap.specs.IndexMap.{insert_entry}
 use Rattle.ca_arena.specs.declared.handle.Handle.{Handle}
 use Rattle.ca_text.specs.Place.{At}
 use Rattle.ca_text.proofs.Places.{At-mapped, At-set-other, At-within, some_is}
-use Rattle.ca_server_watchers.specs.Watching.{AreApart, IsAmong, Joins, Leaves, LeavesAt, OthersStay, Watches, handle_of, handles_in, lines_in, watching}
+use Rattle.ca_server_watchers.specs.Watching.{AreApart, IsAmong, Joins, Leaves, LeavesAt, OthersStay, Watches, handle_of, handles_in, line_of, lines_in, watching}
 
 abbrev Entries : Type 0
 Entries = List (ℕ × ℕ)
@@ -254,13 +254,17 @@ module _ {K : Type 0} (bytes : K → List ℕ) where
   kept-others name other old new keeps miss =
       keeps (λ k. bytes_eq other (bytes k)) (key-test other) (λ k hit. apart name other (bytes k) miss hit)
 
-  -- the other records are watched as before
+  -- the other records have the lines that they had
   pub others-stay : {S : Type 0} (m n : HashMap K (List Handle) S) (name : List ℕ) (w : Option (List Handle)) → hash.UpdatesBy equal (is_named name) m n w → OthersStay name (lines_in bytes m.entries) (lines_in bytes n.entries)
   others-stay m n name w h other miss =
-      ap (λ (o : Option (List Handle)). unwrap_or o []) (looked other n.entries ∙ kept-others name other m.entries n.entries h.3 miss ∙ sym (looked other m.entries))
+      looked other n.entries ∙ kept-others name other m.entries n.entries h.3 miss ∙ sym (looked other m.entries)
 
   pub own-is : {S : Type 0} (m n : HashMap K (List Handle) S) (name : List ℕ) (w : Option (List Handle)) → hash.UpdatesBy equal (is_named name) m n w → watching (lines_in bytes n.entries) name ≡ unwrap_or w []
   own-is m n name w h = ap (λ (o : Option (List Handle)). unwrap_or o []) (looked name n.entries ∙ h.1)
+
+  -- its line is gone
+  pub own-gone : {S : Type 0} (m n : HashMap K (List Handle) S) (name : List ℕ) → hash.UpdatesBy equal (is_named name) m n None → (let none : Option (List Handle) = None in line_of (lines_in bytes n.entries) name ≡ none)
+  own-gone m n name h = looked name n.entries ∙ h.1
 
   some-there : (o : Option (List Handle)) (v : List Handle) → o ≡ Some v → IsSome o
   some-there None v is = absurd cc

@@ -1,5 +1,5 @@
 -- Working: the circuits that watch records, each by its handle.
-use Rattle.std.specs.Prelude.{ℕ, ◌≡◌, ◌<◌, ◌⊎◌, false, List, [], map, slice_get, unwrap_or}
+use Rattle.std.specs.Prelude.{ℕ, ◌≡◌, ◌<◌, ◌⊎◌, false, List, [], Option, None, map, slice_get, unwrap_or}
 use Rattle.std.specs.Map.{lookup}
 use Rattle.std.specs.Str.{bytes_eq}
 use Rattle.ca_arena.specs.declared.handle.Handle.{Handle}
@@ -9,9 +9,13 @@ use Rattle.ca_text.specs.Place.{At}
 abbrev pub Watched : Type 0
 Watched = List (List ℕ × List Handle)
 
+-- the line of the record of this name, if it has one
+abbrev pub line_of : Watched → List ℕ → Option (List Handle)
+line_of w name = lookup (bytes_eq name) w
+
 -- the circuits that watch the record of this name
 abbrev pub watching : Watched → List ℕ → List Handle
-watching w name = unwrap_or (lookup (bytes_eq name) w) []
+watching w name = unwrap_or (line_of w name) []
 
 -- it is one of these
 abbrev pub IsAmong : List Handle → Handle → Type 0
@@ -46,9 +50,9 @@ pub record Leaves (k : ℕ) (old new : List Handle) : Type 0 where
   pub others : (i : ℕ) (g : Handle) → At old i g → (i ≡ k → ⊥) → IsAmong new g
   pub gone : (g : Handle) → At old k g → IsAmong new g → ⊥
 
--- all other records are watched as before
+-- all other records have the lines that they had
 abbrev pub OthersStay : List ℕ → Watched → Watched → Type 0
-OthersStay name old new = (other : List ℕ) → bytes_eq other name ≡ false → watching new other ≡ watching old other
+OthersStay name old new = (other : List ℕ) → bytes_eq other name ≡ false → line_of new other ≡ line_of old other
 
 -- This circuit watches the record of this name.
 pub record Watches (name : List ℕ) (h : Handle) (old new : Watched) : Type 0 where
@@ -60,7 +64,7 @@ pub record LeavesAt (name : List ℕ) (k : ℕ) (old new : Watched) : Type 0 whe
   pub leaves : Leaves k (watching old name) (watching new name)
   pub stay : OthersStay name old new
 
--- Nobody watches the record of this name.
+-- The record of this name has no line: nobody watches it.
 pub record Clears (name : List ℕ) (old new : Watched) : Type 0 where
-  pub none : watching new name ≡ []
+  pub gone : line_of new name ≡ None
   pub stay : OthersStay name old new

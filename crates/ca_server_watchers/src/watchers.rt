@@ -138,7 +138,7 @@ impl Watchers {
         }
     }
 
-    /// Nobody watches the record of this name.
+    /// Nobody watches the record of this name, and nothing is kept of those that did.
     pub fn forget_all(&mut self, name: &[u8])
         ensures { Clears name.now self.old self.new }
     {
