@@ -1,6 +1,6 @@
 -- The calls answer so, and not otherwise.
 use Rattle.std.proofs.Common.{◌≡◌, ◌≢◌, ℕ, ◌<◌, ◌≤◌, ◌+◌, inl, inr, List, [], ◌∷◌, length, refl, sym, ap, subst, ◌∙◌, arith, rules}
-use Rattle.std.specs.Prelude.{◌%◌, map, is_some, zero, suc, true, false, Some, None, replicate}
+use Rattle.std.specs.Prelude.{◌%◌, Bool, if◌then◌else◌, map, is_some, zero, suc, true, false, Some, None, replicate}
 use Rattle.std.specs.List.{flat_map}
 use Rattle.ca_arena.specs.declared.handle.Handle.{Handle}
 use Rattle.ca_text.specs.Place.{At}
@@ -10,7 +10,7 @@ use Rattle.ca_dbr.specs.Elements.{signed_bytes_4}
 use Rattle.ca_queue.specs.Queue.{Queue, no_queue}
 use Rattle.ca_queue.specs.Waiting.{taken}
 use Rattle.ca_records.specs.declared.puts.Put.{Put}
-use Rattle.ca_records.specs.Puts.{Record}
+use Rattle.ca_records.specs.Puts.{Record, WaitingPut}
 use Rattle.ca_wire.specs.declared.header.Header.{Header}
 use Rattle.ca_wire.specs.Fields.{Fields}
 use Rattle.ca_wire.specs.Header.{header_spelling, short_header, extended_header, number16, number32}
@@ -18,16 +18,18 @@ use Rattle.ca_wire.specs.Message.{spelled, spelling}
 use Rattle.ca_wire.specs.Stream.{BadAt, NoneBegins, NotBad}
 use Rattle.ca_wire.specs.Messages.{version_reply}
 use Rattle.ca_wire.proofs.Fronts.{no-header, none-below}
-use Rattle.ca_ids.specs.Table.{under}
+use Rattle.ca_ids.specs.Table.{Table, under, with_changed, with_each}
+use Rattle.ca_link.specs.Link.{with_sent}
 use Rattle.ca_model.specs.Ends.{Why}
 use Rattle.ca_model.specs.Ends as why
 use Rattle.ca_model.specs.ServerSteps as stepped
 use Rattle.ca_model.specs.Server.{Ended, Open, Server, ServerCircuit, ServerEnd, key_of}
+use Rattle.ca_model.specs.ServerCalls.{after_next, finish_reply, lacking, with_finish, with_message}
 use Rattle.ca_model.specs.ServerSteps.{HasEnd, Leaves, Update, is_concerned}
 use Rattle.ca_model.specs.Speech.{Stored}
 use Rattle.ca_model_examples.specs.ServerHappens.{update_told}
 use Rattle.ca_model_examples.specs.ServerRows.{slow_name}
-use Rattle.ca_model_examples.specs.ServerAnswers.{AcceptsFirst, AcceptsNotSo, AddsNotSo, AddsToFirst, AnnouncesItself, AnswersSearches, ClearsItsOwn, ClosesOnBadHeader, EndsNoOther, FinishesNotSo, FinishesUnawaited, GivesBytes, IsFullAt, LeavesNotSo, NeedsBytes, PacksReplies, PumpsOn, ReportsOnce, SendsBytes, cleared_end, full_queue, misaligned, one_reply, two_queues, with_slow}
+use Rattle.ca_model_examples.specs.ServerAnswers.{AcceptsFirst, AcceptsNotSo, AddsNotSo, AddsToFirst, AnnouncesItself, AnswersSearches, ClearsItsOwn, ClosesOnBadHeader, EndsNoOther, FinishKeepsOpen, FinishesNotSo, FinishesUnawaited, GivesBytes, IsFullAt, LeavesNotSo, NeedsBytes, PacksReplies, PumpsOn, ReportsOnce, SendsBytes, cleared_end, full_queue, misaligned, one_reply, quiet, two_queues, with_slow}
 use Rattle.ca_model_examples.specs.ServerWorld.{first, on_temp, put_by, second, slow_now, written}
 use Rattle.ca_model_examples.specs.Worlds.{long, temp_name}
 use Rattle.ca_model_examples.proofs.Lists.{each-at, none-at}
@@ -261,6 +263,47 @@ finishes-not-so sent new h =
           no-slow a.0 (some_is _ _ has) open'
       | inr b ↦ no-sent b.1
     ]
+
+open-not : (e : ServerEnd) (w : Why) (left : List ℕ) → Some (Open e) ≡ Some (Ended w left) → ⊥
+open-not e w left is = cc
+
+pub finish-keeps-open : FinishKeepsOpen
+finish-keeps-open sent new left h ended =
+    elim h.2 [
+      | inl a ↦ by a.0 a.3 (h.0.gone second) refl
+      | inr b ↦ no-sent b.1
+    ]
+  where
+    y : Server
+    y = with_slow (slow_now (written 30) (Some (put_by second 40)) [] ∷ []) 0 quiet
+
+    r : slow_now (written 30) (Some (put_by second 40)) [] ≡ h.0.r
+    r = some_is _ h.0.r h.0.named
+
+    p : put_by second 40 ≡ h.0.p
+    p = some_is _ h.0.p (subst (λ (x : Record). x.busy ≡ Some h.0.p) (sym r) h.0.busy)
+
+    none-waits : h.0.r.waiting ≡ []
+    none-waits = ap (λ (x : Record). x.waiting) (sym r)
+
+    by : (e : ServerEnd) → h.1 ≡ with_message h.0.p.circuit e (finish_reply h.0.p) (with_finish slow_name h.0.r y) → (b : Bool) → h.0.gone second ≡ b → ⊥
+    by e mid true gone =
+        elim (h.0.may second gone) [
+          | inl own ↦ no-sent own.2
+          | inr next ↦ next.2 none-waits
+        ]
+    by e mid false stays =
+        let done : new ≡ after_next slow_name [] h.0.gone h.1 = subst (λ (ws : List WaitingPut). new ≡ after_next slow_name ws h.0.gone h.1) none-waits h.3 in
+        let circuits : h.1.circuits ≡ with_changed (λ (c : ServerCircuit). Open (with_reply e)) second y.circuits =
+        ap (λ (x : Server). x.circuits) mid ∙ ap (λ (q : Put). with_changed (λ (c : ServerCircuit). Open (record e { link = with_sent (finish_reply h.0.p ∷ []) e.link })) q.circuit y.circuits) (sym p) in
+        open-not (with_reply e) why.OutOfMemory left
+        (sym (ap (λ (b : Bool). let c : ServerCircuit = if b then Ended why.OutOfMemory (with_reply e).link.output else Open (with_reply e) in Some c) stays)
+        ∙ sym (ap (λ (t : Table ServerCircuit). under (with_each (lacking h.0.gone) t) second) circuits)
+        ∙ sym (ap (λ (x : Server). under x.circuits second) done)
+        ∙ ended)
+      where
+        with_reply : ServerEnd → ServerEnd
+        with_reply x = record x { link = with_sent (finish_reply h.0.p ∷ []) x.link }
 
 -- ---- adding a record
 

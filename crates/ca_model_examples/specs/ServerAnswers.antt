@@ -1,7 +1,7 @@
 -- Vocabulary: calls of a small server, with their answers and what they leave, and what they never answer.
 use Rattle.std.specs.Prelude.{ℕ, ◌≡◌, ◌≤◌, Bool, true, false, List, [], ◌∷◌, Some, None, Ok, Err, length, replicate}
 use Rattle.ca_arena.specs.declared.handle.Handle.{Handle}
-use Rattle.ca_ids.specs.Table.{Table}
+use Rattle.ca_ids.specs.Table.{Table, under}
 use Rattle.ca_text.specs.declared.refusal.Refusal.TheVariants as refusal
 use Rattle.ca_dbr.specs.Elements.{longs}
 use Rattle.ca_queue.specs.Queue.{Queue, no_queue}
@@ -186,6 +186,13 @@ abbrev pub FinishesNotSo : Type 0
 FinishesNotSo =
     (sent : Handle × Fields) (new : Server)
     → Finishes (with_slow (slow_now (written 30) (Some (put_by second 40)) [] ∷ []) 0 (cleared_end [])) slow_name (sent ∷ []) (Ok tt) new → ⊥
+
+-- where it was sent, and no put waits, the circuit does not end
+abbrev pub FinishKeepsOpen : Type 0
+FinishKeepsOpen =
+    (sent : Handle × Fields) (new : Server) (left : List ℕ)
+    → Finishes (with_slow (slow_now (written 30) (Some (put_by second 40)) [] ∷ []) 0 quiet) slow_name (sent ∷ []) (Ok tt) new
+    → under new.circuits second ≡ Some (Ended why.OutOfMemory left) → ⊥
 
 -- ---- adding a record
 

@@ -1,4 +1,4 @@
-ghost use Rattle.ca_model_examples.specs.ServerAnswers.{AcceptsFirst, AcceptsNotSo, AddsNotSo, AddsToFirst, AnnouncesItself, AnswersSearches, AnswersVersions, ClearsItsOwn, ClosesOnBadHeader, EndsNoOther, FinishesNotSo, FinishesUnawaited, GivesBytes, IsFullAt, LeavesNotSo, NeedsBytes, PacksReplies, PumpsOn, ReportsOnce, SendsBytes};
+ghost use Rattle.ca_model_examples.specs.ServerAnswers.{AcceptsFirst, AcceptsNotSo, AddsNotSo, AddsToFirst, AnnouncesItself, AnswersSearches, AnswersVersions, ClearsItsOwn, ClosesOnBadHeader, EndsNoOther, FinishKeepsOpen, FinishesNotSo, FinishesUnawaited, GivesBytes, IsFullAt, LeavesNotSo, NeedsBytes, PacksReplies, PumpsOn, ReportsOnce, SendsBytes};
 
 /// Circuits are accepted under a free index, and bytes move while their ends are open.
 pub fn circuits_come_and_get_bytes()
@@ -36,10 +36,11 @@ pub fn a_server_is_found()
     ensures packs { PacksReplies }
 {}
 
-/// The finish of a put whose channel was cleared is not answered.
+/// The finish of a put whose channel was cleared is not answered, and a circuit whose put was answered ends for nothing but an update.
 pub fn a_finish_is_answered_if_awaited()
     ensures unawaited { FinishesUnawaited }
     ensures not_so { FinishesNotSo }
+    ensures keeps_open { FinishKeepsOpen }
 {}
 
 /// The engine of a circuit writes the reply to a message, and nothing if none is due.
