@@ -1,6 +1,7 @@
 -- The lists of those that watch records stay complete, as circuits and lists change.
 use Rattle.std.proofs.Common.{◌≡◌, ℕ, zero, suc, inl, inr, Bool, true, false, ◌||◌, nat_eq, List, [], ◌∷◌, Option, Some, None, refl, sym, ap, ◌∙◌, slice_get, subst}
 use Rattle.std.specs.List.{list_any}
+use Rattle.std.specs.Prelude.{unwrap_or}
 use Rattle.std.specs.Str.{bytes_eq}
 use Rattle.std.proofs.lemmas.Bool.{eq-eqb, eqb-true}
 use Rattle.std.proofs.lemmas.Slice.Eq.{bytes_eq-Decides}
@@ -10,7 +11,7 @@ use Rattle.ca_ids.specs.Table.{MayGive, Table, under, with_changed, with_freed, 
 use Rattle.ca_text.specs.Place.{At}
 use Rattle.ca_text.proofs.Places.{some_is}
 use Rattle.ca_server_subscriptions.specs.Subscribed.{is_on}
-use Rattle.ca_server_watchers.specs.Watching.{IsAmong, LeavesAt, Watched, Watches, watching}
+use Rattle.ca_server_watchers.specs.Watching.{IsAmong, LeavesAt, Watched, Watches, line_of, watching}
 use Rattle.ca_model.specs.Ends.{Why}
 use Rattle.ca_model.specs.Server.{Ended, Open, ServerCircuit, ServerEnd, Subscription, new_end}
 use Rattle.ca_model.specs.Speech.{In}
@@ -96,6 +97,10 @@ covers-none w h e s at i = no-circuit h (Open e) at
 
 -- ---- lists change
 
+-- who watches a record is in its line
+pub same-watch : (w v : Watched) (name : List ℕ) → line_of v name ≡ line_of w name → watching v name ≡ watching w name
+same-watch w v name same = ap (λ (o : Option (List Handle)). unwrap_or o []) same
+
 -- one that has no subscription on the record is taken out of its list
 pub covers-left : (w v : Watched) (t : Circuits) (name : List ℕ) (k : ℕ) (h : Handle) → LeavesAt name k w v → At (watching w name) k h → watches_under name (under t h) ≡ false → Covers w t → Covers v t
 covers-left w v t name k h l at none c g e s there i = by (bytes_eq s.name name) refl
@@ -114,7 +119,7 @@ covers-left w v t name k h l at none c g e s there i = by (bytes_eq s.name name)
     it hit same = both (list_any (is_on name) e.subscriptions) (seen e.subscriptions i.0 i.1 hit) (ap (λ (o : Option ServerCircuit). watches_under name o) (sym there ∙ ap (λ (x : Handle). under t x) same) ∙ none)
 
     by : (b : Bool) → bytes_eq s.name name ≡ b → IsAmong (watching v s.name) g
-    by false miss = subst (λ (hs : List Handle). IsAmong hs g) (sym (l.stay s.name miss)) (c g e s there i)
+    by false miss = subst (λ (hs : List Handle). IsAmong hs g) (sym (same-watch w v s.name (l.stay s.name miss))) (c g e s there i)
     by true hit =
         let same : s.name ≡ name = (bytes_eq-Decides s.name name).0 hit in
         let a = subst (λ (n : List ℕ). IsAmong (watching w n) g) same (c g e s there i) in
@@ -129,7 +134,7 @@ covers-watched w v t name h c l here but g e s there i = elim (but g e s there i
 ]
   where
     by : (b : Bool) → bytes_eq s.name name ≡ b → IsAmong (watching w s.name) g → IsAmong (watching v s.name) g
-    by false miss old = subst (λ (hs : List Handle). IsAmong hs g) (sym (l.stay s.name miss)) old
+    by false miss old = subst (λ (hs : List Handle). IsAmong hs g) (sym (same-watch w v s.name (l.stay s.name miss))) old
     by true hit old =
         let same : s.name ≡ name = (bytes_eq-Decides s.name name).0 hit in
         subst (λ (n : List ℕ). IsAmong (watching v n) g) (sym same) (index (nat_eq g.index h.index) refl (subst (λ (n : List ℕ). IsAmong (watching w n) g) same old))

@@ -31,6 +31,7 @@ use Rattle.ca_server_core.specs.Sound.{IsSound}
 use Rattle.ca_server_circuit.specs.Subscribing.{AreOnChannels, events_of}
 use Rattle.ca_server_subscriptions.specs.Subscribed.{HasRoom}
 use Rattle.ca_server_circuit.proofs.Cleared.{is-same, same-is}
+use Rattle.ca_server_core.proofs.Covered.{same-watch}
 use Rattle.ca_server_core.proofs.Each.{at-index, each-back, each-ext, each-length, each-one-more, index-at, under-each, withdrawn-both}
 use Rattle.ca_server_core.proofs.Servers.{became, same-parts, server_of, stayed}
 use Rattle.ca_server_circuit.proofs.Stays.{at-filtered, named-still, withdrawn-keeps}
@@ -563,7 +564,7 @@ covers-removed w v name gone left rs t sound clears covers h x s at i =
     let c = (sound.ends h b.0 b.1).on s (f.0, f.1) in
     let other : bytes_eq s.name name ≡ false =
     ap (λ (n : List ℕ). bytes_eq n name) (sym c.4) ∙ unlisted name b.0.channels c.0 c.1 s c.2 c.3 c.5 (not-true (is_on (channels_of name b.0) (key_of s)) f.2) in
-    subst (λ (hs : List Handle). IsAmong hs h) (sym (clears.stay s.name other)) (covers h b.0 s b.1 (f.0, f.1))
+    subst (λ (hs : List Handle). IsAmong hs h) (sym (same-watch w v s.name (clears.stay s.name other))) (covers h b.0 s b.1 (f.0, f.1))
 
 -- all of it
 pub server-removed : (name : List ℕ) (s u x : Store) (w v : Watched) (t last : Circuits) → IsServer (records_of s) w t → records_of u ≡ removed name (records_of s) → LosesAll name t u last x → Clears name w v → IsServer (records_of x) v last
