@@ -18,3 +18,4 @@ pub mod Removed
 pub mod Peeked
 pub mod Histories
 pub mod Ordered
+pub mod Listed

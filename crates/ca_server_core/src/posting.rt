@@ -4,7 +4,7 @@ ghost use Rattle.ca_dbr.specs.Elements.{elements};
 ghost use Rattle.ca_ids.specs.Table.{under};
 ghost use Rattle.ca_model.specs.ServerCalls.{Posts};
 ghost use Rattle.ca_records.specs.Store.{IsThere, records_of};
-ghost use Rattle.ca_server_core.specs.Covering.{Covers, watches_under};
+ghost use Rattle.ca_server_core.specs.Covering.{AreListed, Covers, watches_under};
 ghost use Rattle.ca_server_core.specs.Reaching.{PostsIn, ReachesFrom, ReachesNext};
 ghost use Rattle.ca_server_core.specs.Sound.{IsSound};
 
@@ -53,9 +53,11 @@ pub(crate) fn post_to_all(
     requires there { IsThere records.old place }
     requires sound { IsSound (records_of records.old) circuits.old }
     requires covered { Covers watchers.old circuits.old }
+    requires listed { AreListed (records_of records.old) watchers.old }
     ensures reaches { ReachesFrom place mask circuits.old records.old circuits.new records.new }
     ensures sound { IsSound (records_of records.new) circuits.new }
     ensures covered { Covers watchers.new circuits.new }
+    ensures listed { AreListed (records_of records.new) watchers.new }
 {
     let mut left = watchers.count(records.at(place).state().name());
     'posting: while left > 0 {

@@ -1,6 +1,7 @@
 use Rattle.std.proofs.Common.{◌≡◌, ℕ, ◌-◌, ◌<◌, List, length, sym, ap, ◌∙◌, subst, arith}
 use Rattle.ca_records.specs.Record.{RecordState}
 use Rattle.ca_server_watchers.specs.Watching.{AreApart, Watched, watching}
+use Rattle.ca_server_core.proofs.Listed.{listed-walked}
 use Rattle.ca_server_core.proofs.Reached.{Walk, walk-begins, walk-ends, walk-next}
 use Rattle.ca_server_core.proofs.posting.post_to_all.Goals as goal
 
@@ -24,3 +25,7 @@ pub returns-clause-reaches : goal.returns-clause-reaches
 returns-clause-reaches c =
     let none = c.posting-test.false in
     walk-ends c.args.place c.args.mask c.args.watchers.now c.args.circuits.now c.args.records.now c.posting.left c.posting.watchers c.posting.circuits c.posting.records (omega (arith, none)) c.requires.covered c.posting.invariant
+
+pub returns-clause-listed : goal.returns-clause-listed
+returns-clause-listed c =
+    listed-walked c.args.place c.args.mask c.args.watchers.now c.args.circuits.now c.args.records.now c.posting.left c.posting.watchers c.posting.circuits c.posting.records c.posting.invariant c.requires.listed

@@ -9,4 +9,5 @@ invariant_of-result c =
     (record {
       sound = sound-new (records_of c.in_ok-records.records) c.args.records.now c.in_ok-records.ensures.list;
       covered = covers-none _;
+      listed = λ name none. refl;
     })
