@@ -72,57 +72,84 @@ fn has_images(
     Ok(plain && status && time)
 }
 
-// The images of few elements are lines of tools/calls/by-hand.
+fn strings_have_images(alloc: Global) -> Result<bool, Refusal> {
+    has_images(
+        alloc,
+        BaseType::String,
+        &text(b"OK"),
+        b"\0\x03\0\x01OK\0",
+        b"\0\x03\0\x01\x01\x02\x03\x04\x0a\x0b\x0c\x0dOK\0",
+    )
+}
+
+fn ints_have_images(alloc: Global) -> Result<bool, Refusal> {
+    has_images(
+        alloc,
+        BaseType::Int,
+        b"\xff\xfe",
+        b"\0\x03\0\x01\xff\xfe",
+        b"\0\x03\0\x01\x01\x02\x03\x04\x0a\x0b\x0c\x0d\0\0\xff\xfe",
+    )
+}
+
+fn floats_have_images(alloc: Global) -> Result<bool, Refusal> {
+    has_images(
+        alloc,
+        BaseType::Float,
+        b"\x3f\x80\0\0",
+        b"\0\x03\0\x01\x3f\x80\0\0",
+        b"\0\x03\0\x01\x01\x02\x03\x04\x0a\x0b\x0c\x0d\x3f\x80\0\0",
+    )
+}
+
+fn enums_have_images(alloc: Global) -> Result<bool, Refusal> {
+    has_images(
+        alloc,
+        BaseType::Enum,
+        b"\x01\x02",
+        b"\0\x03\0\x01\x01\x02",
+        b"\0\x03\0\x01\x01\x02\x03\x04\x0a\x0b\x0c\x0d\0\0\x01\x02",
+    )
+}
+
+fn chars_have_images(alloc: Global) -> Result<bool, Refusal> {
+    has_images(
+        alloc,
+        BaseType::Char,
+        b"\xc8",
+        b"\0\x03\0\x01\0\xc8",
+        b"\0\x03\0\x01\x01\x02\x03\x04\x0a\x0b\x0c\x0d\0\0\0\xc8",
+    )
+}
+
+fn longs_have_images(alloc: Global) -> Result<bool, Refusal> {
+    has_images(
+        alloc,
+        BaseType::Long,
+        b"\xff\xff\xff\xfe",
+        b"\0\x03\0\x01\xff\xff\xff\xfe",
+        b"\0\x03\0\x01\x01\x02\x03\x04\x0a\x0b\x0c\x0d\xff\xff\xff\xfe",
+    )
+}
+
+fn doubles_have_images(alloc: Global) -> Result<bool, Refusal> {
+    has_images(
+        alloc,
+        BaseType::Double,
+        b"\x3f\xf0\0\0\0\0\0\0",
+        b"\0\x03\0\x01\0\0\0\0\x3f\xf0\0\0\0\0\0\0",
+        b"\0\x03\0\x01\x01\x02\x03\x04\x0a\x0b\x0c\x0d\0\0\0\0\x3f\xf0\0\0\0\0\0\0",
+    )
+}
+
+// The images of few elements are lines of tools/calls/by-hand. A function for each type, since a table of rows takes long to prove.
 #[test]
 fn greatest_counts_have_images(rt: HostRuntime) -> Result<(), Fail> {
-    let ok = text(b"OK");
-    let rows: [(BaseType, &[u8], &[u8], &[u8]); 7] = [
-        (
-            BaseType::String,
-            &ok,
-            b"\0\x03\0\x01OK\0",
-            b"\0\x03\0\x01\x01\x02\x03\x04\x0a\x0b\x0c\x0dOK\0",
-        ),
-        (
-            BaseType::Int,
-            b"\xff\xfe",
-            b"\0\x03\0\x01\xff\xfe",
-            b"\0\x03\0\x01\x01\x02\x03\x04\x0a\x0b\x0c\x0d\0\0\xff\xfe",
-        ),
-        (
-            BaseType::Float,
-            b"\x3f\x80\0\0",
-            b"\0\x03\0\x01\x3f\x80\0\0",
-            b"\0\x03\0\x01\x01\x02\x03\x04\x0a\x0b\x0c\x0d\x3f\x80\0\0",
-        ),
-        (
-            BaseType::Enum,
-            b"\x01\x02",
-            b"\0\x03\0\x01\x01\x02",
-            b"\0\x03\0\x01\x01\x02\x03\x04\x0a\x0b\x0c\x0d\0\0\x01\x02",
-        ),
-        (
-            BaseType::Char,
-            b"\xc8",
-            b"\0\x03\0\x01\0\xc8",
-            b"\0\x03\0\x01\x01\x02\x03\x04\x0a\x0b\x0c\x0d\0\0\0\xc8",
-        ),
-        (
-            BaseType::Long,
-            b"\xff\xff\xff\xfe",
-            b"\0\x03\0\x01\xff\xff\xff\xfe",
-            b"\0\x03\0\x01\x01\x02\x03\x04\x0a\x0b\x0c\x0d\xff\xff\xff\xfe",
-        ),
-        (
-            BaseType::Double,
-            b"\x3f\xf0\0\0\0\0\0\0",
-            b"\0\x03\0\x01\0\0\0\0\x3f\xf0\0\0\0\0\0\0",
-            b"\0\x03\0\x01\x01\x02\x03\x04\x0a\x0b\x0c\x0d\0\0\0\0\x3f\xf0\0\0\0\0\0\0",
-        ),
-    ];
-    for (base, element, status, time) in rows {
-        assert!(rt; has_images(rt.alloc(), base, element, status, time)?);
-    }
+    let alloc = rt.alloc();
+    assert!(rt; strings_have_images(alloc)? && ints_have_images(alloc)?);
+    assert!(rt; floats_have_images(alloc)? && enums_have_images(alloc)?);
+    assert!(rt; chars_have_images(alloc)? && longs_have_images(alloc)?);
+    assert!(rt; doubles_have_images(alloc)?);
     Ok(())
 }
 
@@ -135,31 +162,44 @@ fn fault(alloc: Global, texts: &str, number: u16) -> Result<Option<Refusal>, Ref
     Ok(convert(alloc, &Value::Strings(elements), number).err())
 }
 
+/// Whether a conversion to LONG of each of these texts is refused so.
+fn are_refused(alloc: Global, rows: &[&str], refusal: Refusal) -> Result<bool, Refusal> {
+    for texts in rows {
+        if fault(alloc, texts, 5)? != Some(refusal) {
+            return Ok(false);
+        }
+    }
+    Ok(true)
+}
+
+/// Whether the first fault decides, and the type is refused before any element.
+fn is_first(alloc: Global) -> Result<bool, Refusal> {
+    let range = fault(alloc, "1|70000|x", 1)?;
+    let text = fault(alloc, "1|x|70000", 1)?;
+    let unknown = fault(alloc, "1|x|70000", 7)?;
+    let double = fault(alloc, "1|x|70000", 6)?;
+    Ok(
+        range == Some(Refusal::OutOfRange)
+            && text == Some(Refusal::BadText)
+            && unknown == Some(Refusal::BadType)
+            && double == Some(Refusal::NoConvert),
+    )
+}
+
 // No status tells a text that is no number from a number that does not fit.
 #[test]
 fn first_fault_decides(rt: HostRuntime) -> Result<(), Fail> {
-    let rows = [
-        ("1|-2|007", 5, None),
-        ("4x2|1|1", 5, Some(Refusal::BadText)),
-        ("|1|1", 5, Some(Refusal::BadText)),
-        ("   |1|1", 5, Some(Refusal::BadText)),
-        ("-|1|1", 5, Some(Refusal::BadText)),
-        ("+1|1|1", 5, Some(Refusal::BadText)),
-        ("1 2|1|1", 5, Some(Refusal::BadText)),
-        ("\t1|1|1", 5, Some(Refusal::BadText)),
-        ("2147483648|1|1", 5, Some(Refusal::OutOfRange)),
-        (
-            "-9999999999999999999999999999999999999999|1|1",
-            5,
-            Some(Refusal::OutOfRange),
-        ),
-        ("1|70000|x", 1, Some(Refusal::OutOfRange)),
-        ("1|x|70000", 1, Some(Refusal::BadText)),
-        ("1|x|70000", 7, Some(Refusal::BadType)),
-        ("1|x|70000", 6, Some(Refusal::NoConvert)),
+    let alloc = rt.alloc();
+    let texts = [
+        "4x2|1|1", "|1|1", "   |1|1", "-|1|1", "+1|1|1", "1 2|1|1", "\t1|1|1",
     ];
-    for (texts, number, refusal) in rows {
-        assert!(rt; fault(rt.alloc(), texts, number)? == refusal, "at {texts}");
-    }
+    let numbers = [
+        "2147483648|1|1",
+        "-9999999999999999999999999999999999999999|1|1",
+    ];
+    assert!(rt; fault(alloc, "1|-2|007", 5)?.is_none());
+    assert!(rt; are_refused(alloc, &texts, Refusal::BadText)?);
+    assert!(rt; are_refused(alloc, &numbers, Refusal::OutOfRange)?);
+    assert!(rt; is_first(alloc)?);
     Ok(())
 }

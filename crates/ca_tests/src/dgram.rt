@@ -3,25 +3,9 @@ use std::net::Ipv4Addr;
 
 #[test]
 fn fixed_messages_are_written(rt: HostRuntime) {
-    let rows: [([u8; 16], &[u8; 16]); 4] = [
-        (
-            beacon(0, 5_064),
-            b"\x00\x0d\x00\x00\x00\x0d\x13\xc8\0\0\0\0\0\0\0\0",
-        ),
-        (
-            beacon(7, 5_064),
-            b"\x00\x0d\x00\x00\x00\x0d\x13\xc8\0\0\0\x07\0\0\0\0",
-        ),
-        (
-            register(Ipv4Addr::LOCALHOST),
-            b"\x00\x18\x00\x00\x00\x00\x00\x00\0\0\0\0\x7f\x00\x00\x01",
-        ),
-        (
-            confirm(),
-            b"\x00\x11\x00\x00\x00\x00\x00\x00\0\0\0\0\x7f\x00\x00\x01",
-        ),
-    ];
-    for (written, wanted) in rows {
-        assert!(rt; written == *wanted);
-    }
+    assert!(rt; beacon(0, 5_064) == *b"\x00\x0d\x00\x00\x00\x0d\x13\xc8\0\0\0\0\0\0\0\0");
+    assert!(rt; beacon(7, 5_064) == *b"\x00\x0d\x00\x00\x00\x0d\x13\xc8\0\0\0\x07\0\0\0\0");
+    let register = register(Ipv4Addr::LOCALHOST);
+    assert!(rt; register == *b"\x00\x18\x00\x00\x00\x00\x00\x00\0\0\0\0\x7f\x00\x00\x01");
+    assert!(rt; confirm() == *b"\x00\x11\x00\x00\x00\x00\x00\x00\0\0\0\0\x7f\x00\x00\x01");
 }

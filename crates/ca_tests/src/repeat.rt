@@ -37,20 +37,23 @@ fn fans(
     Ok(go_to(&sends, ports, bytes))
 }
 
+/// Whether the members at these ports register, and each is confirmed.
+fn registers(repeater: &mut RepeaterCore, ports: &[u16]) -> Result<bool, Refusal> {
+    for port in ports {
+        if !fans(repeater, *port, REGISTER, &[*port], CONFIRM)? {
+            return Ok(false);
+        }
+    }
+    Ok(true)
+}
+
 #[test]
 fn a_beacon_goes_to_the_others(rt: HostRuntime) -> Result<(), Fail> {
     let mut repeater = RepeaterCore::new(rt.alloc());
-    let others = [40_001, 40_002].as_slice();
-    let rows: [(u16, &[u8], &[u16], &[u8]); 5] = [
-        (40_000, REGISTER, &[40_000], CONFIRM),
-        (40_001, REGISTER, &[40_001], CONFIRM),
-        (40_002, REGISTER, &[40_002], CONFIRM),
-        (40_000, BLANK, others, FILLED),
-        (40_000, FILLED, others, FILLED),
-    ];
-    for (from, datagram, ports, bytes) in rows {
-        assert!(rt; fans(&mut repeater, from, datagram, ports, bytes)?);
-    }
+    let others = [40_001, 40_002];
+    assert!(rt; registers(&mut repeater, &[40_000, 40_001, 40_002])?);
+    assert!(rt; fans(&mut repeater, 40_000, BLANK, &others, FILLED)?);
+    assert!(rt; fans(&mut repeater, 40_000, FILLED, &others, FILLED)?);
     repeater.refused(local(40_001));
     assert!(rt; fans(&mut repeater, 40_000, BLANK, &[40_002], FILLED)?);
     Ok(())
