@@ -6,8 +6,8 @@ use std::alloc::Global;
 use std::io::Write;
 use std::thread::Threads;
 
-/// What came of it is `stdout`.
-pub(crate) fn show_all<W: Write>(
+/// Shows a ticket from its arming to its end, a fill beside a give-up, and all cells with four callers.
+pub fn show_all<W: Write>(
     rt: &(impl Threads + Sync),
     alloc: Global,
     out: &mut W,

@@ -1,13 +1,13 @@
 //! A client, with its thread of input and output.
 
 use crate::callers::talk;
+use crate::example::setting;
 use crate::timing::{Course, timed};
-use ca_client_context::{Context, Engine, Nobody, Setting, start};
-use ca_client_core::Address;
+use ca_client_context::{Context, Engine, Nobody, start};
 use ca_text::Refusal;
 use std::alloc::Global;
 use std::io::Write;
-use std::net::{Ipv4Addr, Net, TcpListener, TcpStream};
+use std::net::{Net, TcpListener, TcpStream};
 use std::sync::{Arc, Wait};
 use std::thread::Threads;
 use std::time::Clock;
@@ -35,17 +35,6 @@ pub(crate) fn use_client<
     let (context, engine) = Context::new(rt, alloc, setting)?;
     let context = Arc::new(alloc, context)?;
     talk_beside(rt, alloc, &context, engine, task, out)
-}
-
-fn setting(alloc: Global, port: u16) -> Result<Setting, Refusal> {
-    let host = Ipv4Addr::LOCALHOST.to_bits();
-    Ok(Setting {
-        user: Vec::from_slice(alloc, b"ca")?,
-        host: Vec::from_slice(alloc, b"localhost")?,
-        servers: Vec::from_slice(alloc, &[Address { host, port }])?,
-        names: Vec::new(alloc),
-        repeater: None,
-    })
 }
 
 fn talk_beside<

@@ -1,16 +1,21 @@
-//! What lies under a client's lock (`desk`), and servers and clients in one process, each with a thread of its own. What came of it is `stdout`:
+//! A complete client (`example`), what lies under a client's lock (`desk`), and servers and clients in one process, each with a thread of its own. What
+//! came of it is `stdout`:
 //!
+//! - a client that reads a record, writes it, and reads it again (`example`);
+//! - boards, one by one and with four callers (`ca_bench`);
+//! - more requests than there are cells, and a socket that fails (`desk`);
 //! - a server whose device holds a put until a read on another circuit was answered (`holding`);
 //! - the lines `get`, `put` and `monitor`, what each says, and its status (`lines`);
 //! - a client whose callers are four threads (`callers`).
 //!
-//! With the words PORT CALLERS READS WINDOW it prints instead the microseconds that so many reads of TEMP by each caller took, with so many outstanding
-//! at each, from when the channel was live (`timing`).
+//! With the words WHAT SIZE ROUNDS it goes rounds of calls instead, to be timed from outside (`ca_bench`). With the words PORT CALLERS READS WINDOW it prints the
+//! microseconds that so many reads of TEMP by each caller took, with so many outstanding at each, from when the channel was live (`timing`).
 #![tactic(auto)]
 
 mod callers;
 mod client;
 mod desk;
+mod example;
 mod holding;
 mod lines;
 mod server;
@@ -30,17 +35,42 @@ use std::thread::Threads;
 use std::time::Clock;
 
 fn main(rt: HostRuntime) -> ExitCode {
-    let mut out = rt.stdout();
     let done = match words(&rt) {
-        Ok(words) => match read_words(words.as_slice()) {
-            Some(course) => use_client(rt, rt.alloc(), course.port, Task::Read(course), &mut out),
-            None => show(rt, rt.alloc(), &mut out, &mut rt.stdout()),
-        },
+        Ok(words) => run(
+            rt,
+            rt.alloc(),
+            words.as_slice(),
+            &mut rt.stdout(),
+            &mut rt.stdout(),
+        ),
         Err(refusal) => Err(refusal),
     };
     match done {
         Ok(()) => ExitCode::SUCCESS,
         Err(_) => ExitCode::FAILURE,
+    }
+}
+
+fn run<
+    R: Threads
+        + Wait
+        + Clock
+        + Net<Stream = TcpStream, Listener = TcpListener>
+        + Files
+        + Copy
+        + Drop
+        + Send
+        + Sync
+        + 'static,
+    W: Write,
+    E: Write,
+>(rt: R, alloc: Global, words: &[String], out: &mut W, err: &mut E) -> Result<(), Refusal> {
+    if words.is_empty() {
+        return show(rt, alloc, out, err);
+    }
+    match read_words(words) {
+        Some(course) => use_client(rt, alloc, course.port, Task::Read(course), out),
+        None => ca_bench::run(&rt, alloc, words),
     }
 }
 
@@ -60,10 +90,13 @@ fn show<
         + Copy
         + Drop
         + Send
+        + Sync
         + 'static,
     W: Write,
     E: Write,
 >(rt: R, alloc: Global, out: &mut W, err: &mut E) -> Result<(), Refusal> {
+    example::show(rt, alloc, out)?;
+    ca_bench::show_all(&rt, alloc, out)?;
     desk::show(alloc, out)?;
     holding::show(rt, alloc, out)?;
     lines::show(rt, alloc, out, err)?;

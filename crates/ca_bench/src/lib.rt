@@ -1,5 +1,5 @@
-//! Rounds of calls, to be timed from outside: `ca_bench WHAT SIZE ROUNDS`. The size of a board or a
-//! queue under a lock is not used. Without words it shows boards.
+//! Rounds of calls, to be timed from outside, and boards that are shown. `ca_tests_callers` is the program that runs both: with the words WHAT SIZE ROUNDS it
+//! goes the rounds, and without words it shows the boards. The size of a board or a queue under a lock is not used.
 #![tactic(auto)]
 
 mod arenas;
@@ -11,15 +11,13 @@ mod records;
 mod rounds;
 mod tickets;
 
+pub use crate::boards::show_all;
 use ca_dbr::{Meta, Value, read_value, write_value};
 use ca_ids::IdTable;
 use ca_link::Link;
 use ca_text::{Command, Refusal};
 use ca_wire::{Ioid, Message, Sid, Wanted, put_request};
 use std::alloc::Global;
-use std::env;
-use std::io::Write;
-use std::process::ExitCode;
 use std::sync::Wait;
 use std::thread::Threads;
 
@@ -36,36 +34,14 @@ const META: Meta = Meta {
     nanos: 0,
 };
 
-fn main(rt: HostRuntime) -> ExitCode {
-    let Ok(words) = words_of(&rt) else {
-        return ExitCode::FAILURE;
-    };
-    let mut out = rt.stdout();
-    match run(&rt, rt.alloc(), &words, &mut out) {
-        Ok(()) => ExitCode::SUCCESS,
-        Err(_) => ExitCode::FAILURE,
-    }
-}
-
-fn words_of(rt: &HostRuntime) -> Result<Vec<String>, Refusal> {
-    match env::args(rt) {
-        Ok(words) => Ok(words.skip(1).collect(rt.alloc())?),
-        Err(_) => Err(Refusal::Device),
-    }
-}
-
-fn run<R: Threads + Wait + Sync, W: Write>(
+/// Goes rounds of what the words WHAT SIZE ROUNDS name. Other words are refused as BadText.
+pub fn run<R: Threads + Wait + Sync>(
     rt: &R,
     alloc: Global,
     words: &[String],
-    out: &mut W,
 ) -> Result<(), Refusal> {
     let [what, size, rounds] = words else {
-        return if words.is_empty() {
-            boards::show_all(rt, alloc, out)
-        } else {
-            Err(Refusal::BadText)
-        };
+        return Err(Refusal::BadText);
     };
     match (size.as_str().parse::<u32>(), rounds.as_str().parse::<u32>()) {
         (Ok(size), Ok(rounds)) => measured(rt, alloc, what.as_str(), size, rounds),
