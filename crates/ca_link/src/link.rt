@@ -67,6 +67,7 @@ impl Link {
     /// Takes the first message that came, if it is complete.
     ///
     /// Refused as CircuitClosed, Misaligned or TooLarge, and as OutOfMemory only for a payload.
+    #[inline(always)]
     pub fn next_message(&mut self) -> Result<Option<Message>, Refusal>
         ensures { Nexts self.old result self.new }
     {

@@ -168,7 +168,8 @@ impl ServedRecord {
         Ok(Begun::Waiting)
     }
 
-    // Sets its value, and what goes with it.
+    // Sets its value, and what goes with it. In line, so that the value goes there in registers.
+    #[inline(always)]
     pub(crate) fn apply(&mut self, value: Value, meta: Meta)
         requires { IsFit self.old.state (elements value) }
         ensures { self.new ≡ with_value (elements value) meta self.old }

@@ -66,6 +66,8 @@ impl Deframer {
     /// Takes the message at the front, if a complete one is there.
     ///
     /// After 2 or 3 every call answers 17. After 1 the message is still there.
+    // In line: a message that is handed back in memory is stored field by field, and a load of 16 bytes of it right after has to wait.
+    #[inline(always)]
     pub fn next_message(&mut self) -> Result<Option<Message>, Refusal>
         ensures { Nexts self.old result self.new }
     {
@@ -100,6 +102,7 @@ impl Deframer {
 }
 
 /// The bytes in this room, of which nothing is left then. No bytes take no memory, and leave the room.
+#[inline(always)]
 fn copied(room: &mut Vec<u8>, bytes: &[u8]) -> Result<Vec<u8>, AllocError>
     ensures ok { IfOk result (λ v. v.items ≡ bytes.now) }
     ensures err { OnErr result (bytes.now ≢ []) }
