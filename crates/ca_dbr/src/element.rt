@@ -253,6 +253,7 @@ pub(crate) fn put_all<E: Element>(items: &[E], out: &mut Vec<u8>)
 }
 
 /// Reads n elements from the front, into this room, of which nothing else is left.
+#[inline(always)]
 pub(crate) fn read_all<E: Element>(
     room: Vec<E>,
     count: usize,
@@ -265,14 +266,43 @@ pub(crate) fn read_all<E: Element>(
     ensures fits { IfOk result (λ v. All E.fits v.items) }
     ensures some { OnErr result (count ≢ 0) }
 {
-    let mut items = room;
-    items.clear();
-    items.reserve(count)?;
+    let mut items = emptied(room, count)?;
     let mut rest = bytes;
     for _ in 0..count {
         let (front, behind) = rest.split_at(E::SIZE);
-        items.push(E::read(front))?;
+        items.push_reserved(E::read(front));
         rest = behind;
     }
+    Ok(items)
+}
+
+/// This room, empty, with place for n elements.
+#[inline(always)]
+fn emptied<E: Element>(room: Vec<E>, count: usize) -> Result<Vec<E>, AllocError>
+    ensures empty { IfOk result (λ v. v.items ≡ []) }
+    ensures len { IfOk result (λ v. vec_len v ≡ 0) }
+    ensures room { IfOk result (λ v. count ≤ vec_capacity v) }
+    ensures some { OnErr result (count ≢ 0) }
+{
+    let mut items = room;
+    items.clear();
+    if items.capacity() >= count {
+        return Ok(items);
+    }
+    grown(items, count)
+}
+
+/// This empty room, grown to have place for n elements. It takes the room and hands it back, so that whoever has it keeps it in registers.
+#[inline(never)]
+fn grown<E: Element>(room: Vec<E>, count: usize) -> Result<Vec<E>, AllocError>
+    requires empty { room.items ≡ [] }
+    requires len { vec_len room ≡ 0 }
+    ensures empty { IfOk result (λ v. v.items ≡ []) }
+    ensures len { IfOk result (λ v. vec_len v ≡ 0) }
+    ensures room { IfOk result (λ v. count ≤ vec_capacity v) }
+    ensures some { OnErr result (count ≢ 0) }
+{
+    let mut items = room;
+    items.reserve(count)?;
     Ok(items)
 }

@@ -56,6 +56,7 @@ fn read_text(bytes: &[u8]) -> [u8; 40]
 }
 
 /// The elements at the front. They take the memory of a value of their type, if one is given.
+#[inline(always)]
 fn read_elements(
     alloc: Global,
     room: Option<Value>,
@@ -104,6 +105,7 @@ pub fn read_value(
 }
 
 /// The same into the memory of a value that is used no more, if there is one and its elements are of that type.
+#[inline(always)]
 pub fn read_value_into(
     alloc: Global,
     room: Option<Value>,

@@ -20,6 +20,7 @@ pub(crate) enum Judged {
 }
 
 // Judges elements for a record of this type, on which the write may find no place to wait.
+#[inline(always)]
 pub(crate) fn judge(alloc: Global, value: Value, base: BaseType, is_crowded: bool) -> Judged
     ensures { Judges (elements value) base is_crowded result }
 {
@@ -52,6 +53,7 @@ fn refused(refusal: Refusal, is_crowded: bool) -> Judged
 }
 
 // The elements in another type. Those of this type are handed on as they are.
+#[inline(always)]
 fn in_type(alloc: Global, value: Value, base: BaseType) -> Result<Value, Refusal>
     ensures ok { IfOk result (λ v. converted (elements value) base ≡ Ok (elements v)) }
     ensures err { IfErr result (Fails (converted (elements value) base)) }
@@ -60,5 +62,15 @@ fn in_type(alloc: Global, value: Value, base: BaseType) -> Result<Value, Refusal
     if value.base_type() == base {
         return Ok(value);
     }
+    changed(alloc, value, base)
+}
+
+// The elements in another type than theirs. It takes the value and stands out of line, so that a value of this type is lent to nobody, and stays in registers.
+#[inline(never)]
+fn changed(alloc: Global, value: Value, base: BaseType) -> Result<Value, Refusal>
+    requires { base_of (elements value) ≢ base }
+    ensures ok { IfOk result (λ v. converted (elements value) base ≡ Ok (elements v)) }
+    ensures err { IfErr result (Fails (converted (elements value) base)) }
+{
     convert_to(alloc, &value, base)
 }

@@ -90,6 +90,7 @@ impl ServedRecord {
     }
 
     // Begins a write; one that is to wait needs that it can be counted.
+    #[inline(always)]
     pub(crate) fn begin(
         &mut self,
         put: Option<Put>,
@@ -124,6 +125,7 @@ impl ServedRecord {
     }
 
     // Takes a write without a fault.
+    #[inline(always)]
     fn take(
         &mut self,
         put: Option<Put>,

@@ -16,6 +16,7 @@ impl ServedRecords {
     /// A plain write is applied at once. A put is applied at once too if the record is not busy, and makes a slow one
     /// busy; if it is busy the put waits, after the others. A refused write changes nothing, and neither does one
     /// for which there is no memory.
+    #[inline(always)]
     pub fn begin_write(
         &mut self,
         place: usize,

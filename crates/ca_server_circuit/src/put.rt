@@ -20,6 +20,7 @@ pub(crate) enum Given {
 
 /// Begins the write of this message to the record at this place under these rights: a put with notification, or a plain write,
 /// which has none. Without memory nothing changes.
+#[inline(always)]
 pub(crate) fn begin(
     alloc: Global,
     records: &mut ServedRecords,
@@ -45,6 +46,7 @@ pub(crate) fn begin(
 
 /// The elements of a put to this record under these rights, or its first fault before they are read. They may take the memory of a value that
 /// is used no more.
+#[inline(always)]
 fn read_elements(
     alloc: Global,
     room: Option<Value>,

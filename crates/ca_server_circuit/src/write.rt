@@ -19,6 +19,7 @@ use std::alloc::AllocError;
 
 impl End {
     /// WRITE: applied at once, with no reply; a refused one is answered by ERROR. Says where it was applied.
+    #[inline(never)]
     pub(crate) fn write(
         &mut self,
         records: &mut ServedRecords,

@@ -1,4 +1,4 @@
-use Rattle.std.proofs.Common.{◌≡◌, ◌+◌, ◌*◌, ◌++◌, All, length}
+use Rattle.std.proofs.Common.{◌≡◌, ◌+◌, ◌*◌, ◌++◌, ◌≤◌, All, length, vec_capacity, vec_len}
 use Rattle.std.specs.List.{flat_map}
 use Rattle.ca_dbr.proofs.element.read_all.Given as goal
 
@@ -8,4 +8,6 @@ invariant-loop g l = record {
   count : length l.items.items ≡ l.counter;
   len : length l.rest + l.counter * g.E.Element.SIZE ≡ length l.bytes;
   fits : All g.E.Element.fits l.items.items;
+  held : vec_len l.items ≡ l.counter;
+  room : l.count ≤ vec_capacity l.items;
 }
