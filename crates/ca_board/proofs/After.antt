@@ -13,7 +13,7 @@ use Rattle.atomic_table.specs.Seated.{TableId}
 use Rattle.atomic_table.proofs.Lists.{at_snoc}
 use Rattle.ca_board.specs.declared.ticket.Ticket.{Ticket}
 use Rattle.ca_text.specs.Limits.{board_cells}
-use Rattle.ca_board.specs.History.{IsStock, both_parts, ticket, Slot, IsOpen, Has, IsLatest, Reading, looked, grabbed, filled, returned, refused_too, took, gave_back, gave_up, Entry, Sat, core_view, core_log, caller_view, caller_log, no_caller}
+use Rattle.ca_board.specs.History.{IsStock, both_parts, ticket, Slot, IsOpen, Has, IsLatest, Reading, looked, filled, returned, holding, refused_too, took, gave_back, gave_up, Entry, Sat, core_view, core_log, caller_view, caller_log, no_caller}
 use Rattle.ca_board.specs.Seats.{BoardSeat, IsCoreSeat, IsCallerSeat, IsInside, seen_by_core, seen_by_caller}
 
 abbrev pub core_sat : List Ticket → List Entry → List Ticket → List Ticket → ℕ → List (ℕ × Slot) → Sat
@@ -51,17 +51,16 @@ armed_after m m' ts fs rs cs k g e e' = e' ∙ ap (λ (x : Sat). (core_view (cor
 pub freed_after : (m m' : Sat) (ts : List Ticket) (fs : List Entry) (rs cs : List Ticket) (k g : ℕ) → m ≡ core_sat ts fs rs cs 0 [] → m' ≡ (core_view (core_log m.0.core.arms m.0.core.fills m.0.core.refused (m.0.core.recycles ++ ticket k g ∷ []) 0) m.0.caller, m.1) → m' ≡ core_sat ts fs rs (cs ++ ticket k g ∷ []) 0 []
 freed_after m m' ts fs rs cs k g e e' = e' ∙ ap (λ (x : Sat). (core_view (core_log x.0.core.arms x.0.core.fills x.0.core.refused (x.0.core.recycles ++ ticket k g ∷ []) 0) x.0.caller, x.1)) e
 
--- the fill was refused at its first step
-pub missed : (n k g first second r : ℕ) (m m' : Sat) (ts : List Ticket) (fs : List Entry) (rs cs : List Ticket) → m ≡ core_sat ts fs rs cs 0 [] → grabbed (step n k first second maybe.none) m r m' → first ≡ 8 * g + 1 → r ≢ first → m' ≡ core_sat ts fs (rs ++ ticket k g ∷ []) cs 0 []
-missed n k g first second r m m' ts fs rs cs e f one miss = (f g one).1 miss ∙ ap (λ (x : Sat). (refused_too x.0 (ticket k g), x.1)) e
+-- the core's seat, by what `grab` says of it: the ticket was given up, or its cell's slot is held, empty
+pub refused_sat : (t : Ticket) (m m' : Sat) (ts : List Ticket) (fs : List Entry) (rs cs : List Ticket) → m ≡ core_sat ts fs rs cs 0 [] → m' ≡ (refused_too m.0 t, []) → m' ≡ core_sat ts fs (rs ++ t ∷ []) cs 0 []
+refused_sat t m m' ts fs rs cs e f = f ∙ ap (λ (x : Sat). (refused_too x.0 t, [])) e
+
+pub taken_sat : (k : ℕ) (m m' : Sat) (ts : List Ticket) (fs : List Entry) (rs cs : List Ticket) → m ≡ core_sat ts fs rs cs 0 [] → m' ≡ (holding m.0 (suc k), (k, None) ∷ []) → m' ≡ core_sat ts fs rs cs (suc k) ((k, None) ∷ [])
+taken_sat k m m' ts fs rs cs e f = f ∙ ap (λ (x : Sat). (holding x.0 (suc k), (k, None) ∷ [])) e
 
 -- the core holds the slot, and has put the outcome into it
-pub granted : (n k g first second r : ℕ) (m m1 m2 : Sat) (ts : List Ticket) (fs : List Entry) (rs cs : List Ticket) (o : Outcome) → m ≡ core_sat ts fs rs cs 0 [] → grabbed (step n k first second maybe.none) m r m1 → first ≡ 8 * g + 1 → r ≡ first → m2 ≡ (m1.0, (k, Some o) ∷ rest m1.1) → m2 ≡ core_sat ts fs rs cs (suc k) ((k, Some o) ∷ [])
-granted n k g first second r m m1 m2 ts fs rs cs o e f one hit e2 = e2 ∙ ap (λ (x : Sat). (x.0, (k, Some o) ∷ rest x.1)) ((f g one).0 hit ∙ ap (λ (x : Sat). (core_view (core_log x.0.core.arms x.0.core.fills x.0.core.refused x.0.core.recycles (suc k)) x.0.caller, (k, None) ∷ x.1)) e)
-
--- the core has the slot of the word, empty
-pub grabbed_slot : (n k g first second r : ℕ) (m m1 : Sat) (ts : List Ticket) (fs : List Entry) (rs cs : List Ticket) → m ≡ core_sat ts fs rs cs 0 [] → grabbed (step n k first second maybe.none) m r m1 → first ≡ 8 * g + 1 → r ≡ first → m1 ≡ core_sat ts fs rs cs (suc k) ((k, None) ∷ [])
-grabbed_slot n k g first second r m m1 ts fs rs cs e f one hit = (f g one).0 hit ∙ ap (λ (x : Sat). (core_view (core_log x.0.core.arms x.0.core.fills x.0.core.refused x.0.core.recycles (suc k)) x.0.caller, (k, None) ∷ x.1)) e
+pub loaded : (k : ℕ) (m m' : Sat) (ts : List Ticket) (fs : List Entry) (rs cs : List Ticket) (o : Outcome) → m ≡ core_sat ts fs rs cs (suc k) ((k, None) ∷ []) → m' ≡ (m.0, (k, Some o) ∷ rest m.1) → m' ≡ core_sat ts fs rs cs (suc k) ((k, Some o) ∷ [])
+loaded k m m' ts fs rs cs o e f = f ∙ ap (λ (x : Sat). (x.0, (k, Some o) ∷ rest x.1)) e
 
 -- the one slot that a seat holds
 pub holds_one : (m : Sat) (k : ℕ) (v : View) (x : Slot) → m ≡ (v, (k, x) ∷ []) → m.1 ≡ (k, x) ∷ rest m.1

@@ -1,5 +1,5 @@
 -- The core fills a cell.
-use Rattle.std.proofs.Common.{◌≡◌, ◌≢◌, ℕ, suc, ◌+◌, ◌*◌, ◌<◌, ◌≤◌, List, [], ◌∷◌, ◌++◌, length, set, get_or, Some, None, true≢false, eqb, inl, refl, sym, ap, ◌∙◌, subst, ⊎_elim, arith, length-set, get_or-set_other, get_or-set_same}
+use Rattle.std.proofs.Common.{◌≡◌, ◌≢◌, ℕ, suc, ◌+◌, ◌*◌, ◌/◌, ◌%◌, ◌<◌, ◌≤◌, List, [], ◌∷◌, ◌++◌, length, set, get_or, Some, None, true≢false, eqb, inl, refl, sym, ap, ◌∙◌, subst, ⊎_elim, arith, length-set, get_or-set_other, get_or-set_same}
 use Rattle.std.specs.Option.{IsSome}
 use mathlib.Core.Logic.{dite}
 use mathlib.Core.Option.{some, some-ne-none, some-injective}
@@ -15,8 +15,8 @@ use Rattle.ca_board.specs.declared.ticket.Ticket.{Ticket}
 use Rattle.ca_dbr.specs.declared.value.Outcome.{Outcome}
 use Rattle.ca_board.specs.declared.steps.CoreLog.{CoreLog}
 use Rattle.ca_board.specs.declared.steps.View.{View}
-use Rattle.ca_board.specs.History.{ticket, Has, Entry, Slot, Table, Sat, IsUnfilled, core_log, no_caller, core_view, CellOk, FillOk, IsGivenUp, WaitOk, SeatOk, KeptAt, Kept, grabbed, filled, returned}
-use Rattle.ca_board.proofs.Rule.{Takers, grows, others_know, seats_stay, given_stays, wait_stays, wait_same, found, core_sat, core_ok}
+use Rattle.ca_board.specs.History.{ticket, Has, Entry, Slot, Table, Sat, IsUnfilled, core_log, no_caller, core_view, CellOk, FillOk, IsGivenUp, WaitOk, SeatOk, KeptAt, Kept, grabbed, looked_at, filled, returned}
+use Rattle.ca_board.proofs.Rule.{Takers, still, grows, others_know, seats_stay, given_stays, wait_stays, wait_same, found, core_sat, core_ok}
 
 -- the core takes the slot of a waiting cell
 pub grabs_kept : (s : Table) (id k g : ℕ) (ts : List Ticket) (fs : List Entry) (rs cs : List Ticket) (taker : Takers) → KeptAt id (core_log ts fs rs cs 0) taker s → k < length s.homes → get_or s.words k 0 ≡ 8 * g + 1 → get_elem? s.views id ≡ some (core_view (core_log ts fs rs cs 0) no_caller)
@@ -103,6 +103,27 @@ grabs_as slots id k g first second m ts fs rs cs is has un one two = subst (λ (
       tt,
       subst (λ (ws : List ℕ). Kept record { words = ws; homes = s.homes; views = set s.views id u }) (sym (set-get_or s.words k 0)) (id, core_log ts fs (rs ++ ticket k g ∷ []) cs 0, f.0, refuses_kept s id (ticket k g) 0 ts fs rs cs f.0 f.1 gone.1 at),
       λ h e. let same : g ≡ h = omega arith in ((λ hit. absurd (miss hit)), λ _ i. (core_view (core_log ts fs (rs ++ ticket k (same i) ∷ []) cs 0) no_caller, [])),
+    )))
+
+-- the core takes the slot of a cell that waits, under whichever ticket
+pub looks_as : (slots id k : ℕ) (m : Sat) (ts : List Ticket) (fs : List Entry) (rs cs : List Ticket) → m ≡ core_sat ts fs rs cs 0 [] → k < slots → Allows Kept slots id m k (λ n. n) (looked_at (step slots k 0 0 maybe.none) m)
+looks_as slots id k m ts fs rs cs is near = subst (λ (x : Sat). Allows Kept slots id x k (λ n. n) (looked_at (step slots k 0 0 maybe.none) x)) (sym is) (λ s r long at _.
+    let f = found s r id (core_log ts fs rs cs 0) no_caller at in let n : ℕ = get_or s.words k 0 in let m' : Sat = core_sat ts fs rs cs 0 [] in
+    let v : View = core_view (core_log ts fs rs cs 0) no_caller in let w : View = core_view (core_log ts fs rs cs (suc k)) no_caller in let inside : k < length s.homes = omega arith in let c = f.1.each_cell k inside in
+    dite (ℕ_discrete (n % 8) 1)
+    (λ e. let hit : get_or s.words k 0 ≡ 8 * (n / 8) + 1 = omega arith in (
+      w,
+      takes k None,
+      c.waiting (n / 8) hit (λ e'. absurd (omega arith)),
+      subst (λ (ws : List ℕ). Kept record { words = ws; homes = set s.homes k maybe.none; views = set s.views id w }) (sym (set-get_or s.words k 0)) (id, core_log ts fs rs cs (suc k), f.0, grabs_kept s id k (n / 8) ts fs rs cs f.0 f.1 inside hit at),
+      ((λ h e'. refl), λ miss. absurd (miss (n / 8) hit)),
+    ))
+    (λ ne. (
+      v,
+      keeps,
+      tt,
+      still s r k id [] v at,
+      ((λ h e'. absurd (ne (omega arith))), λ miss. refl),
     )))
 
 -- the value of the first slot

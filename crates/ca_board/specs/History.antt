@@ -190,6 +190,11 @@ recycled st m r m' = (g : ℕ) → (st.first ≡ 8 * g + 4) ⊎ (st.first ≡ 8 
     → (r ≡ st.first → Frees m.0.core.arms m.0.core.recycles st.word g × (m' ≡ (recycled_too m.0 (ticket st.word g), m.1)))
     × (r ≢ st.first → m' ≡ m)
 
+-- the core holds the slot of a cell that waits, under whichever ticket; else nothing was done
+abbrev pub looked_at : Step Slot → Sat → ℕ → Sat → Type 0
+looked_at st m r m' = ((g : ℕ) → r ≡ 8 * g + 1 → m' ≡ (holding m.0 (suc st.word), (st.word, None) ∷ m.1))
+    × (((g : ℕ) → r ≢ 8 * g + 1) → m' ≡ m)
+
 -- the core holds the slot of a waiting cell, or its ticket was given up
 abbrev pub grabbed : Step Slot → Sat → ℕ → Sat → Type 0
 grabbed st m r m' = (g : ℕ) → st.first ≡ 8 * g + 1

@@ -1,17 +1,19 @@
-ghost use Rattle.std.specs.Prelude.{◌≡◌, ◌≢◌, ◌≤◌, ◌+◌, ◌*◌, ◌⊎◌, ℕ, [], IfOk, IfErr, IsTrue, IsFalse};
+ghost use Rattle.std.specs.Prelude.{◌≡◌, ◌≢◌, ◌≤◌, ◌+◌, ◌*◌, ◌⊎◌, ◌∷◌, ℕ, suc, None, [], IfOk, IfErr, IsTrue, IsFalse};
 ghost use Rattle.std.specs.Vec.{vec_capacity};
 ghost use Rattle.ca_text.specs.Limits.{board_cells};
 ghost use Rattle.ca_text.specs.declared.refusal.Refusal.TheVariants.{OutOfMemory};
-ghost use Rattle.ca_board.specs.History.{IsStock};
+ghost use Rattle.ca_board.specs.History.{IsStock, holding, refused_too};
+ghost use Rattle.ca_board.specs.Seats.{IsIdle, IsWaiting};
 ghost use Rattle.ca_board.specs.Views.{core_start, caller_start, with_give_up, Found, IsDue, IsOutside, IsOwnOpen};
 ghost use Rattle.ca_board.specs.Views.{HasArmed, HasCollected, HasFilled, HasGivenUp, HasRecycled};
 
 use crate::seats::{CallerSeat, CoreSeat};
 use crate::steps::{
-    Arms, Cells, GivesUp, Grabs, HandsBack, Newcomer, Puts, Recycles, Returns, Takes,
+    Arms, BoardSeat, Cells, GivesUp, Grabs, HandsBack, Looks, Newcomer, Puts, Recycles, Returns,
+    Takes,
 };
 use crate::ticket::{Filled, Ticket};
-use crate::word::{State, has_ended, word};
+use crate::word::{State, has_ended, is_waiting, word};
 use ca_dbr::Outcome;
 use ca_text::{BOARD_CELLS, LAST_GENERATION, Refusal};
 use std::alloc::{AllocError, Global};
@@ -75,6 +77,8 @@ impl Board {
 
     /// Hands over the outcome of a ticket that was armed and not filled yet, or gives it back where the ticket was given
     /// up, also after its cell was recycled.
+    // In line, since an outcome that is handed on through memory has the processor wait for what was just written.
+    #[inline(always)]
     pub fn fill(&self, core: &mut CoreSeat, ticket: Ticket, outcome: Outcome) -> Filled
         requires board { core.old.board ≡ self.now }
         requires due { IsDue core.old ticket }
@@ -84,7 +88,7 @@ impl Board {
         let cell = ticket.cell;
         let waiting = word(ticket, State::Waiting);
         let done = word(ticket, State::Done);
-        if words.compare_exchange::<Grabs>(&mut core.seat, cell, waiting, waiting) != waiting {
+        if !self.grab(&mut core.seat, ticket) {
             return Filled::GivenUp(outcome);
         }
         match words.exchange(&mut core.seat, cell, Some(outcome)) {
@@ -97,6 +101,30 @@ impl Board {
         let outcome = words.exchange(&mut core.seat, cell, None);
         words.load::<Returns>(&mut core.seat, cell);
         Filled::GivenUp(outcome.unwrap())
+    }
+
+    // Takes the slot of a ticket's cell, or finds that the ticket was given up, and says which.
+    //
+    // The slot of any cell that waits may be taken. So a look at the word does, which costs less than an exchange; and where the cell waits under a later
+    // ticket, the fill finds that.
+    fn grab(&self, seat: &mut BoardSeat, ticket: Ticket) -> bool
+        requires board { seat.old.table_id ≡ self.now }
+        requires idle { IsIdle seat.old }
+        requires due { IsWaiting seat.old ticket }
+        ensures board { (seat.new.table_id ≡ seat.old.table_id) × (seat.new.id ≡ seat.old.id) }
+        ensures taken { IsTrue result
+            → seat.new.me ≡ (holding seat.old.me.0 (suc ticket.cell), (ticket.cell, None) ∷ []) }
+        ensures gone { IsFalse result → seat.new.me ≡ (refused_too seat.old.me.0 ticket, []) }
+    {
+        let words = &self.cells.shared;
+        if is_waiting(words.load::<Looks>(seat, ticket.cell)) {
+            return true;
+        }
+        let waiting = word(ticket, State::Waiting);
+        if words.compare_exchange::<Grabs>(seat, ticket.cell, waiting, waiting) != waiting {
+            return false;
+        }
+        true
     }
 
     /// The outcome of a ticket, if it is there. One holder of a ticket gets it, once: a ticket that has ended never gives it

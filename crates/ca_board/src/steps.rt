@@ -75,7 +75,16 @@ impl Play<Option<Outcome>, View> for Recycles {
     ghost then = { recycled };
 }
 
-/// The core takes the slot of a cell if it waits.
+/// The core looks at a cell, and takes its slot if it waits, under whichever ticket.
+pub(crate) struct Looks;
+
+impl Play<Option<Outcome>, View> for Looks {
+    ghost use Rattle.ca_board.specs.History.{looked_at};
+
+    ghost then = { looked_at };
+}
+
+/// The core takes the slot of a cell if it waits under this ticket.
 pub(crate) struct Grabs;
 
 impl Play<Option<Outcome>, View> for Grabs {

@@ -32,6 +32,14 @@ pub(crate) fn has_ended(word: u64) -> bool
     word % 8 == number(State::Empty) || word % 8 == number(State::GivenUp)
 }
 
+/// The cell with this word waits.
+pub(crate) fn is_waiting(word: u64) -> bool
+    ensures waits { IsTrue result → word ≡ 8 * (word / 8) + 1 }
+    ensures other { IsFalse result → word ≢ 8 * (word / 8) + 1 }
+{
+    word % 8 == number(State::Waiting)
+}
+
 // The number of a state in a word.
 fn number(state: State) -> u64
     ensures is { result ≡ state_number state }

@@ -3,7 +3,7 @@ use Rattle.ca_board.specs.History.{ticket, Sat, IsStock, Frees}
 use Rattle.ca_board.specs.Views.{CoreView, with_recycle}
 use Rattle.ca_board.proofs.After.{core_sound, core_seen, freed_after}
 use Rattle.ca_board.proofs.Stock.{freed_stock, stock_fits}
-use Rattle.ca_board.proofs.Arming.{recycles_as, Ends, ends_by}
+use Rattle.ca_board.proofs.Arming.{recycles_as, Ends}
 use Rattle.ca_board.proofs.board.Board.recycle.Goals as goal
 
 pub compare_exchange-requires : goal.compare_exchange-requires
