@@ -20,8 +20,8 @@ pub(crate) struct End {
     // How the peer named itself.
     pub(crate) user: Vec<u8>,
     pub(crate) host: Vec<u8>,
-    pub(crate) channels: Channels,
     pub(crate) subscriptions: Subscriptions,
+    pub(crate) channels: Channels,
     // Whether the peer sent a VERSION.
     pub(crate) greeted: bool,
     // Whether a channel was created, so that the names count for good.

@@ -112,8 +112,9 @@ impl Buffer {
         ensures { self.new ≡ self.old }
     {
         if self.bytes.capacity() == 0 {
-            spare.clear();
+            // The length is set after the swap: a load of the whole row right after a store of its length would wait for that store.
             mem::swap(&mut self.bytes, spare);
+            self.bytes.clear();
         }
     }
 
