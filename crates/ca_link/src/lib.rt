@@ -8,6 +8,7 @@ mod link;
 mod mark;
 mod sink;
 mod source;
+mod spares;
 
 pub use fused::Fused;
 pub use keep::Keep;
@@ -15,3 +16,4 @@ pub use link::Link;
 pub use mark::Mark;
 pub use sink::{Sink, Writer};
 pub use source::{Fault, Reader, Source};
+pub use spares::Spares;

@@ -5,6 +5,7 @@ ghost use Rattle.ca_link.specs.Link.{kept, mark_of, new_link, noted, restored, w
 
 use crate::keep::Keep;
 use crate::mark::Mark;
+use crate::spares::Spares;
 use ca_text::{CLOSE_SILENCE, ECHO_SILENCE, OUTPUT_LIMIT, Refusal};
 use ca_wire::{Deframer, Message, Payload, Pipe};
 use std::alloc::Global;
@@ -62,6 +63,22 @@ impl Link {
             self.echoed = false;
         }
         Ok(())
+    }
+
+    /// Takes the memory of the spare rows, where it has none.
+    pub fn borrow_from(&mut self, spares: &mut Spares)
+        ensures { self.new ≡ self.old }
+    {
+        self.input.borrow_from(&mut spares.input);
+        self.output.borrow_from(&mut spares.output);
+    }
+
+    /// Gives memory without bytes to the spare rows that have none.
+    pub fn give_back(&mut self, spares: &mut Spares)
+        ensures { self.new ≡ self.old }
+    {
+        self.input.give_back(&mut spares.input);
+        self.output.give_back(&mut spares.output);
     }
 
     /// Takes the first message that came, if it is complete.

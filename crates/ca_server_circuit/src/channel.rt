@@ -1,6 +1,7 @@
 ghost use Rattle.std.specs.Prelude.{◌≡◌, ◌&&◌, false, not, true};
 ghost use Rattle.std.specs.Str.{bytes_eq};
 
+use crate::name::Name;
 use ca_wire::Cid;
 use std::marker::Model;
 
@@ -8,10 +9,10 @@ use std::marker::Model;
 #[derive(Debug, Drop)]
 pub(crate) struct Channel {
     cid: Cid,
-    // Its record was removed. It stands beside the CID, so that a channel in its table takes 48 bytes.
+    // Its record was removed. It stands beside the CID, so that a channel in its table takes 56 bytes.
     retired: bool,
     // The name of its record.
-    name: Vec<u8>,
+    name: Name,
     // Where its record was as the channel was created. The record is mostly there still; its name decides.
     place: usize,
 }
@@ -21,7 +22,7 @@ impl Model for Channel {
 
     ghost Value = { OpenChannel };
 
-    ghost view = { λ c. record { cid = c.cid; name = c.name.items; retired = c.retired } };
+    ghost view = { λ c. record { cid = c.cid; name = c.name; retired = c.retired } };
 }
 
 impl Channel {
@@ -32,7 +33,7 @@ impl Channel {
         Channel {
             cid,
             retired: false,
-            name,
+            name: Name::of(name),
             place,
         }
     }
@@ -48,7 +49,7 @@ impl Channel {
     pub(crate) fn name(&self) -> &[u8]
         ensures { result.now ≡ self.now.name }
     {
-        &self.name
+        self.name.as_slice()
     }
 
     // Where its record was. It promises nothing.

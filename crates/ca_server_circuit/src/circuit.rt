@@ -20,6 +20,7 @@ use crate::cause::Cause;
 use crate::end::{End, hand_over};
 use crate::step::EndStep;
 use ca_arena::Handle;
+use ca_link::Spares;
 use ca_records::{Put, ServedRecords};
 use ca_text::Refusal;
 use ca_wire::{Pipe, Sid};
@@ -68,6 +69,26 @@ impl Circuit {
         match &mut self.state {
             State::Open(end) => end.link.give(now, bytes),
             State::Ended(_, _) => Err(Refusal::CircuitClosed),
+        }
+    }
+
+    /// Takes the memory of the spare rows for its bytes, where it has none.
+    pub fn borrow_from(&mut self, spares: &mut Spares)
+        ensures { self.new ≡ self.old }
+    {
+        match &mut self.state {
+            State::Open(end) => end.link.borrow_from(spares),
+            State::Ended(_, _) => {}
+        }
+    }
+
+    /// Gives memory without bytes to the spare rows that have none.
+    pub fn give_back(&mut self, spares: &mut Spares)
+        ensures { self.new ≡ self.old }
+    {
+        match &mut self.state {
+            State::Open(end) => end.link.give_back(spares),
+            State::Ended(_, _) => {}
         }
     }
 

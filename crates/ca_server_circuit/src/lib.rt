@@ -20,6 +20,7 @@ mod finishing;
 mod handle;
 mod leading;
 mod losing;
+mod name;
 mod names;
 mod next_put;
 mod put;

@@ -8,6 +8,7 @@ ghost use Rattle.ca_server_core.specs.Circuits.{AreLive, GivesIn, OpensIn, Sends
 use ca_arena::Handle;
 use ca_beacon::BeaconClock;
 use ca_ids::HeldTable;
+use ca_link::Spares;
 use ca_records::{Records, Rule, ServedRecords};
 use ca_server_circuit::Circuit;
 use ca_server_watchers::Watchers;
@@ -25,6 +26,8 @@ pub struct ServerCore {
     // The moment that was given last.
     pub(crate) moment: u64,
     pub(crate) circuits: HeldTable<Circuit>,
+    // Memory for the bytes of a circuit: one that has none to read and none to send keeps none.
+    pub(crate) spares: Spares,
     // The circuits with subscriptions on each record.
     pub(crate) watchers: Watchers,
     pub(crate) beacons: BeaconClock,
@@ -76,6 +79,7 @@ impl ServerCore {
             records,
             moment: now,
             circuits: HeldTable::new(alloc),
+            spares: Spares::new(alloc),
             watchers: Watchers::new(alloc),
             beacons: BeaconClock::new(now),
             applied: 0,
@@ -97,7 +101,13 @@ impl ServerCore {
     pub fn give(&mut self, circuit: Handle, bytes: &[u8]) -> Result<(), Refusal>
         ensures { Gives self.old circuit bytes.now result self.new }
     {
-        give_on(&mut self.circuits, circuit, self.moment, bytes)
+        give_on(
+            &mut self.circuits,
+            &mut self.spares,
+            circuit,
+            self.moment,
+            bytes,
+        )
     }
 
     /// The bytes that wait to be sent on a circuit: none if its end is not open.
@@ -115,7 +125,7 @@ impl ServerCore {
         requires { n ≤ length (output_of (under self.old.circuits circuit)) }
         ensures { Sends self.old circuit n self.new }
     {
-        sent_on(&mut self.circuits, circuit, n);
+        sent_on(&mut self.circuits, &mut self.spares, circuit, n);
     }
 
     /// Writes that are applied from now on have this time stamp: seconds since 1990-01-01 00:00:00 UTC, and nanoseconds.
@@ -161,6 +171,7 @@ fn refusal_in(refused: (Circuit, Refusal)) -> Refusal
 // Takes bytes that came on a circuit at this moment.
 fn give_on(
     circuits: &mut HeldTable<Circuit>,
+    spares: &mut Spares,
     circuit: Handle,
     now: u64,
     bytes: &[u8],
@@ -171,11 +182,17 @@ fn give_on(
     let Some(found) = circuits.by_handle_mut(circuit) else {
         return Err(Refusal::CircuitClosed);
     };
+    found.borrow_from(spares);
     found.give(now, bytes)
 }
 
 // The first n of the bytes that wait on a circuit were handed over.
-fn sent_on(circuits: &mut HeldTable<Circuit>, circuit: Handle, n: usize)
+fn sent_on(
+    circuits: &mut HeldTable<Circuit>,
+    spares: &mut Spares,
+    circuit: Handle,
+    n: usize,
+)
     requires { n ≤ length (output_of (under circuits.old circuit)) }
     ensures { SendsIn circuits.old circuit n circuits.new }
 {
@@ -183,4 +200,5 @@ fn sent_on(circuits: &mut HeldTable<Circuit>, circuit: Handle, n: usize)
         return;
     };
     found.sent(n);
+    found.give_back(spares);
 }

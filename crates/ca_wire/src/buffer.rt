@@ -8,6 +8,7 @@ use crate::message::{Message, spell};
 use ca_text::Refusal;
 use std::alloc::{AllocError, Global};
 use std::marker::Model;
+use std::mem;
 
 /// Bytes in a row: new ones come at the end, and old ones go at the front.
 #[derive(Debug, Drop)]
@@ -104,6 +105,27 @@ impl Buffer {
         ensures { self.new ≡ drop n self.old }
     {
         self.start += n;
+    }
+
+    /// Takes the memory of a spare row, if it has none.
+    pub fn borrow_from(&mut self, spare: &mut Vec<u8>)
+        ensures { self.new ≡ self.old }
+    {
+        if self.bytes.capacity() == 0 {
+            // The length is set after the swap: a load of the whole row right after a store of its length would wait for that store.
+            mem::swap(&mut self.bytes, spare);
+            self.bytes.clear();
+        }
+    }
+
+    /// Without bytes it gives its memory to a spare row that has none.
+    pub fn give_back(&mut self, spare: &mut Vec<u8>)
+        ensures { self.new ≡ self.old }
+    {
+        if spare.capacity() == 0 && self.start == self.bytes.len() {
+            mem::swap(&mut self.bytes, spare);
+            self.start = 0;
+        }
     }
 
     /// Lets go of the memory of bytes that went, once they are at least half of all: each byte is moved at most once

@@ -63,6 +63,20 @@ impl Deframer {
         Ok(())
     }
 
+    /// Takes the memory of a spare row, if it has none.
+    pub fn borrow_from(&mut self, spare: &mut Vec<u8>)
+        ensures { self.new ≡ self.old }
+    {
+        self.buffer.borrow_from(spare);
+    }
+
+    /// If it holds no bytes it gives its memory to a spare row that has none.
+    pub fn give_back(&mut self, spare: &mut Vec<u8>)
+        ensures { self.new ≡ self.old }
+    {
+        self.buffer.give_back(spare);
+    }
+
     /// Takes the message at the front, if a complete one is there.
     ///
     /// After 2 or 3 every call answers 17. After 1 the message is still there.

@@ -88,4 +88,18 @@ impl Pipe {
     {
         self.buffer.drop_front(n);
     }
+
+    /// Takes the memory of a spare row, if it has none.
+    pub fn borrow_from(&mut self, spare: &mut Vec<u8>)
+        ensures { self.new ≡ self.old }
+    {
+        self.buffer.borrow_from(spare);
+    }
+
+    /// If nothing waits it gives its memory to a spare row that has none.
+    pub fn give_back(&mut self, spare: &mut Vec<u8>)
+        ensures { self.new ≡ self.old }
+    {
+        self.buffer.give_back(spare);
+    }
 }

@@ -1,0 +1,18 @@
+use std::alloc::Global;
+
+/// Memory for the bytes of one link, which many links have in turn: one without bytes need keep none.
+#[derive(Debug, Drop)]
+pub struct Spares {
+    pub(crate) input: Vec<u8>,
+    pub(crate) output: Vec<u8>,
+}
+
+impl Spares {
+    /// No memory yet.
+    pub fn new(alloc: Global) -> Spares {
+        Spares {
+            input: Vec::new(alloc),
+            output: Vec::new(alloc),
+        }
+    }
+}

@@ -1,0 +1,96 @@
+ghost use Rattle.std.specs.Prelude.{◌≡◌, IfSome};
+
+use std::marker::Model;
+
+// The longest name that needs no memory of its own.
+const SHORT: usize = 22;
+
+/// A name that does not change. A short one is kept in its place, beside what it belongs to.
+#[derive(Debug, Drop)]
+pub(crate) struct Name {
+    kept: Kept,
+}
+
+// Where it is kept.
+#[derive(Debug, Drop)]
+enum Kept {
+    Short(Short),
+    Long(Vec<u8>),
+}
+
+/// So many bytes of these.
+#[derive(Debug, Drop)]
+struct Short {
+    bytes: [u8; SHORT],
+    len: u8,
+}
+
+impl Model for Short {
+    ghost use Rattle.std.specs.Prelude.{List, ℕ, ◌≤◌, take};
+
+    ghost Value = { List ℕ };
+
+    ghost view = { λ s. take s.len s.bytes };
+
+    ghost invariant = { λ s. s.len ≤ 22 };
+}
+
+impl Model for Name {
+    ghost use Rattle.std.specs.Prelude.{List, ℕ};
+
+    ghost Value = { List ℕ };
+
+    ghost use Rattle.ca_server_circuit.specs.Names.{bytes_of};
+
+    ghost view = { λ n. bytes_of n.kept };
+}
+
+impl Short {
+    // These bytes, if they are few enough.
+    fn of(name: &[u8]) -> Option<Short>
+        ensures { IfSome result (λ s. s ≡ name.now) }
+    {
+        let len = name.len();
+        if len > SHORT {
+            return None;
+        }
+        let mut bytes = [0; SHORT];
+        bytes[..len].copy_from_slice(name);
+        Some(Short {
+            bytes,
+            len: len as u8,
+        })
+    }
+
+    fn as_slice(&self) -> &[u8]
+        ensures { result.now ≡ self.now }
+    {
+        &self.bytes[..usize::from(self.len)]
+    }
+}
+
+impl Name {
+    // This name.
+    pub(crate) fn of(name: Vec<u8>) -> Name
+        ensures { result ≡ name.items }
+    {
+        match Short::of(&name) {
+            Some(short) => Name {
+                kept: Kept::Short(short),
+            },
+            None => Name {
+                kept: Kept::Long(name),
+            },
+        }
+    }
+
+    // Its bytes.
+    pub(crate) fn as_slice(&self) -> &[u8]
+        ensures { result.now ≡ self.now }
+    {
+        match &self.kept {
+            Kept::Short(short) => short.as_slice(),
+            Kept::Long(name) => name.as_slice(),
+        }
+    }
+}
