@@ -9,3 +9,4 @@ pub mod LineRefusals
 pub mod Leading
 pub mod FileLines
 pub mod RuleLines
+pub mod OtherWords
