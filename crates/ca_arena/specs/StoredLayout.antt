@@ -4,7 +4,7 @@ use Rattle.ca_arena.specs.Filled.{block_slots}
 use Rattle.ca_arena.specs.Stored.{Stored}
 
 module _ {T : Type 0} where
-  -- what lies in the place of an index: index 32 is the first of the second block
+  -- what lies in the place of an index: index 64 is the first of the second block
   abbrev pub cell_at : List (List (Option T)) → ℕ → Option T
   cell_at blocks index = get_or (get_or blocks (index / block_slots) []) (index % block_slots) None
 
@@ -22,7 +22,7 @@ module _ {T : Type 0} where
   abbrev pub stored_of : List (List (Option T)) → ℕ → Stored T
   stored_of blocks len = record { items = items_from 0 len blocks; room = length blocks * block_slots }
 
-  -- each block has its 32 places, and the first `len` places of all hold an item, and no other
+  -- each block has its 64 places, and the first `len` places of all hold an item, and no other
   pub record IsStored (blocks : List (List (Option T))) (len : ℕ) : Type 0 where
     pub sized : (k : ℕ) → k < length blocks → length (get_or blocks k []) ≡ block_slots
     pub filled : (index : ℕ) → index < len → (item : T) × (cell_at blocks index ≡ Some item)

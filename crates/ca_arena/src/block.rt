@@ -1,4 +1,4 @@
-//! A block of 32 places, each empty or holding a value. It never moves.
+//! A block of 64 places, each empty or holding a value. It never moves.
 ghost use Rattle.std.specs.Prelude.{◌≡◌, ◌<◌, None, Some, get_or, length, replicate, slice_set, IfOk};
 ghost use Rattle.std.specs.Borrow.{sem};
 ghost use Rattle.ca_arena.specs.Filled.{block_slots, IsFilled};
@@ -9,7 +9,7 @@ use std::marker::Model;
 use std_alloc::room::may_hold;
 
 /// How many places a block has.
-pub(crate) const BLOCK_SLOTS: usize = 32;
+pub(crate) const BLOCK_SLOTS: usize = 64;
 
 /// A block: where it begins, its places, and the right to free it.
 pub struct Block<T> {

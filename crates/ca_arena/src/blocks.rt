@@ -8,7 +8,7 @@ use crate::block::{BLOCK_SLOTS, Block};
 use std::alloc::{AllocError, Global};
 use std::marker::Model;
 
-/// Items by index from 0 on, in blocks of 32 that never move.
+/// Items by index from 0 on, in blocks of 64 that never move.
 pub struct Blocks<T> {
     blocks: Vec<Block<T>>,
     // How many items there are. They stand in the first places.

@@ -71,7 +71,7 @@ impl End {
         let state = served.state();
         let rights = records.rights(&self.user, &self.host, state.name());
         let name = Vec::from_slice(self.alloc, state.name())?;
-        let channel = Channel::new(message.channel_cid(), name, place);
+        let channel = Channel::new(self.alloc, message.channel_cid(), name, place)?;
         let handle = self.channels.open(channel)?;
         let sid = Sid::new(WireId::of(handle).number());
         let data_type = state.value().base_type().number();
