@@ -4,6 +4,7 @@ pub mod Onward
 pub mod Closing
 pub mod Servers
 pub mod Stepped
+pub mod Noted
 pub mod Finished
 pub mod Covered
 pub mod Each

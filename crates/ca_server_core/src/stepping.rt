@@ -75,7 +75,7 @@ impl ServerCore {
 /// One step of a circuit's end, which has ended if it broke, and how many bytes waited to be sent before it. None if there is no circuit, or its
 /// end had ended.
 #[inline(always)]
-fn step_on(
+pub(crate) fn step_on(
     port: u16,
     circuits: &mut HeldTable<Circuit>,
     records: &mut ServedRecords,
@@ -95,7 +95,7 @@ fn step_on(
 }
 
 /// Whether nothing is left to do: so it is after most messages.
-fn is_quiet(effect: Effect) -> bool
+pub(crate) fn is_quiet(effect: Effect) -> bool
     ensures { result ≡ true → effect ≡ Quiet }
 {
     match effect {
@@ -106,7 +106,12 @@ fn is_quiet(effect: Effect) -> bool
 
 /// What a step of a circuit that handled a message answers. If its end has ended since, out of memory, nothing is left of its replies:
 /// these come after the first bytes that waited, and these alone are left.
-fn settle(alloc: Global, circuits: &mut HeldTable<Circuit>, circuit: Handle, waited: usize) -> Step
+pub(crate) fn settle(
+    alloc: Global,
+    circuits: &mut HeldTable<Circuit>,
+    circuit: Handle,
+    waited: usize,
+) -> Step
     ensures { Settles circuits.old circuit waited result circuits.new }
 {
     if is_open(circuits, circuit) {
@@ -139,7 +144,7 @@ pub(crate) fn is_open(circuits: &HeldTable<Circuit>, circuit: Handle) -> bool
 
 /// Takes a circuit out whose end has ended, and reports that.
 #[inline(never)]
-fn report(alloc: Global, circuits: &mut HeldTable<Circuit>, circuit: Handle) -> Step
+pub(crate) fn report(alloc: Global, circuits: &mut HeldTable<Circuit>, circuit: Handle) -> Step
     ensures { Reports circuits.old circuit result circuits.new }
 {
     match circuits.free(circuit) {
