@@ -1,6 +1,7 @@
 -- Which record a step made busy.
-use Rattle.std.proofs.Common.{◌≡◌, ℕ, inl, inr, Bool, true, false, cond, List, map, Option, Some, None, refl, sym, ap, ◌∙◌, subst}
-use Rattle.std.specs.Prelude.{is_some}
+use Rattle.std.proofs.Common.{◌≡◌, ℕ, ◌⊎◌, inl, inr, Bool, true, false, cond, List, [], map, Option, Some, None, Result, Ok, Err, refl, sym, ap, ◌∙◌, subst}
+use Rattle.std.specs.Prelude.{OnErr, is_some}
+use Rattle.std.specs.declared.alloc.AllocError.{AllocError}
 use Rattle.std.specs.Str.{bytes_eq}
 use Rattle.std.proofs.lemmas.Slice.Eq.{bytes_eq-Decides}
 use Rattle.ca_arena.specs.declared.handle.Handle.{Handle}
@@ -14,25 +15,28 @@ use Rattle.ca_records.specs.Store.{HasAt, Store, records_of}
 use Rattle.ca_text.proofs.Places.{At-mapped, some_is}
 use Rattle.ca_wire.specs.Fields.{Fields}
 use Rattle.ca_model.specs.Due.{Action, Adds, Applies, Clears, Drops, Greets, Names, Nothing, Opens, Switches, Waits}
+use Rattle.ca_model.specs.Ends.{Why}
 use Rattle.ca_model.specs.Ends as why
 use Rattle.ca_model.specs.Server.{Ended, Open, Server, ServerCircuit, ServerEnd}
 use Rattle.ca_model.specs.ServerSteps.{Stepped, Steps}
 use Rattle.ca_model.specs.ServerSteps as steps
 use Rattle.ca_model.specs.Speech.{In}
+use Rattle.ca_server_circuit.specs.declared.cause.Cause.{Cause}
 use Rattle.ca_server_circuit.specs.declared.step.Effect.{Effect}
 use Rattle.ca_server_circuit.specs.declared.step.Effect.TheVariants as effect
 use Rattle.ca_server_circuit.specs.declared.step.EndStep.TheVariants as step
 use Rattle.ca_server_circuit.specs.Ending.{EndsAt, KeepsPlaces}
 use Rattle.ca_server_circuit.specs.Handling.{Recorded, Tells}
 use Rattle.ca_server_circuit.specs.Serving.{CircuitSteps}
-use Rattle.ca_server_circuit.proofs.Tables.{find-at, none-some}
-use Rattle.ca_server_watchers.specs.Watching.{Watched}
+use Rattle.ca_server_circuit.specs.Stepping.{after_first, why_is}
+use Rattle.ca_server_circuit.proofs.Tables.{changed-own, find-at, none-some}
 use Rattle.ca_server_core.specs.Ending.{EndsIn}
-use Rattle.ca_server_core.specs.Following.{CoversFor, Follows}
+use Rattle.ca_server_core.specs.Following.{Follows}
 use Rattle.ca_server_core.specs.Noting.{BusyBut, IsBusy, LeadsTo, Notes, NotesAt, StepsNoting}
-use Rattle.ca_server_core.specs.Serving.{StepsIn}
+use Rattle.ca_server_core.specs.Serving.{IsReport, Reports, StepsIn, stepped}
+use Rattle.ca_server_core.specs.declared.stepping.Step.{Step}
 use Rattle.ca_server_core.proofs.Reached.{there-is}
-use Rattle.ca_server_core.proofs.Servers.{server_of}
+use Rattle.ca_server_core.proofs.Servers.{became, server_of, stayed}
 use Rattle.ca_server_core.proofs.Stepped.{not-some}
 
 abbrev Circuits : Type 0
@@ -187,7 +191,7 @@ notes-after port s u x t after last h did noted (inl g) f n = by g.0 g.1 g.3
     by : (c new : ServerCircuit) → CircuitSteps port h c s (Some (step.Handled did)) new u → Notes (records_of s) (records_of x) noted
     by (Open e) new d = record {
       busy = noted-busy did x noted n;
-      others = busy-both (records_of s) (records_of u) (records_of x) noted (recorded-busy (records_of s) s.stamp h _ d.1.0.m d.1.1.action did u x after last noted d.1.1.records d.1.1.tells f n) (followed-busy did h after last u x noted f);
+      others = busy-both (records_of s) (records_of u) (records_of x) noted (recorded-busy (records_of s) s.stamp h (after_first d.1.0) d.1.0.m d.1.1.action did u x after last noted d.1.1.records d.1.1.tells f n) (followed-busy did h after last u x noted f);
     }
     by (Ended w left) new d = not-some (step.Handled did) d.0
 
@@ -204,12 +208,46 @@ viewed-noting y port now n k b s u x t after last final h did result noted is g 
     steps-noting y h result (server_of port x now final b k) noted made
     (subst (λ (z : Server). Notes z.records (records_of x) noted) is (notes-after port s u x t after last h did noted g f at))
 
--- nothing was to be noted of a step that handled no message
+-- ---- steps that handled no message
+
+never-closed : (w : Why) (left : List ℕ) → steps.Closed w left ≡ steps.Handled → ⊥
+never-closed w left is = cc
+
+-- an end that broke is reported
+pub broke-closes : (port : ℕ) (s u : Store) (t after last : Circuits) (h : Handle) (c : Cause) (did : Step) → StepsIn port t h s (Some (step.Breaks c)) after u → Reports after h did last → stepped did ≡ steps.Handled → ⊥
+broke-closes port s u t after last h c did (inr none) r handled = not-some (step.Breaks c) none.1
+broke-closes port s u t after last h c did (inl g) r handled = by g.0 g.1 g.2 g.3 g.4
+  where
+    by : (x new : ServerCircuit) → under t h ≡ Some x → CircuitSteps port h x s (Some (step.Breaks c)) new u → after ≡ with_changed (λ (z : ServerCircuit). new) h t → ⊥
+    by (Open e) new there broke changed =
+        let now_ended = became t after h new (Ended (why_is c) e.link.output) changed broke.1 in
+        let found : under after h ≡ Some (Ended (why_is c) e.link.output) = ap (λ (z : Circuits). under z h) now_ended ∙ changed-own (λ (z : ServerCircuit). Ended (why_is c) e.link.output) t h (Open e) there in
+        never-closed (why_is c) e.link.output (sym (subst (λ (o : Option ServerCircuit). IsReport o (stepped did)) found r.0) ∙ handled)
+    by (Ended w left) new there broke changed = not-some (step.Breaks c) broke.0
+
+-- and so is one that had ended, or none
+pub none-closes : (port : ℕ) (s u : Store) (t after last : Circuits) (h : Handle) (did : Step) → StepsIn port t h s None after u → Reports after h did last → stepped did ≡ steps.Handled → ⊥
+none-closes port s u t after last h did (inr none) r handled =
+    never-closed why.Cut [] (sym (subst (λ (o : Option ServerCircuit). IsReport o (stepped did)) (ap (λ (z : Circuits). under z h) none.2 ∙ none.0) r.0) ∙ handled)
+none-closes port s u t after last h did (inl g) r handled = by g.0 g.1 g.2 g.3 g.4
+  where
+    by : (x new : ServerCircuit) → under t h ≡ Some x → CircuitSteps port h x s None new u → after ≡ with_changed (λ (z : ServerCircuit). new) h t → ⊥
+    by (Open e) new there was changed = absurd was
+    by (Ended w left) new there was changed =
+        let found : under after h ≡ Some (Ended w left) = ap (λ (z : Circuits). under z h) (stayed t after h new (Ended w left) there changed was.1) ∙ there in
+        never-closed w left (sym (subst (λ (o : Option ServerCircuit). IsReport o (stepped did)) found r.0) ∙ handled)
+
+-- nothing is to be noted of them
 pub noting-none : (y : Server) (h : Handle) (did : Stepped) (new : Server) (noted : Option (List ℕ)) → (did ≡ steps.Handled → ⊥) → Steps y h did new → StepsNoting y h did noted new
 noting-none y h steps.Handled new noted other s = absurd (other refl)
 noting-none y h steps.NeedBytes new noted other s = s
 noting-none y h steps.OutputFull new noted other s = s
 noting-none y h (steps.Closed w left) new noted other s = s
+
+-- the step was done, also if its put could not be noted
+pub steps-err : (y : Server) (h : Handle) (new : Server) (r : Result Step AllocError) (did : Stepped) → Steps y h did new → OnErr r ((x : Stepped) × Steps y h x new)
+steps-err y h new (Ok x) did s = tt
+steps-err y h new (Err e) did s = (did, s)
 
 -- ---- before it is noted
 

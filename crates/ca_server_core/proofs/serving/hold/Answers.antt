@@ -10,6 +10,5 @@ returns-then-eq c =
     let same : bytes_eq room name ≡ true = ap (λ (t : List ℕ). bytes_eq t name) (sym c.as_slice.ensures.value) ∙ sym c.eq.ensures ∙ c.if-eq.true in
     (bytes_eq-Decides room name).0 same
 
-pub returns-in_ok-extend_from_slice : goal.returns-in_ok-extend_from_slice
-returns-in_ok-extend_from_slice c =
-    c.in_ok-extend_from_slice.ensures.items ∙ ap (λ (was : List ℕ). was ++ c.args.name.now) c.clear.ensures.items
+pub returns : goal.returns
+returns c = c.in_ok-extend_from_slice.ensures.items ∙ ap (λ (was : List ℕ). was ++ c.args.name.now) c.clear.ensures.items
