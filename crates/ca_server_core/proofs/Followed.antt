@@ -17,7 +17,7 @@ use Rattle.ca_server_watchers.specs.Watching.{IsAmong, Watched, watching}
 use Rattle.ca_model.specs.Due.{Action, Adds, Applies, Clears, Drops, Greets, Names, Nothing, Opens, Switches, Waits}
 use Rattle.ca_model.specs.Ends as why
 use Rattle.ca_model.specs.Server.{Ended, Open, Server, ServerCircuit, ServerEnd, Subscription, key_of, with_post}
-use Rattle.ca_model.specs.ServerSteps.{Acts, MayEnd, NeedsMemory, Next, Reaches, Stepped, after_post, closed, is_write, output_of, reached, stored_now, write_mask}
+use Rattle.ca_model.specs.ServerSteps.{Acts, MayEnd, NeedsMemory, Next, Reaches, Stepped, Steps, after_post, closed, is_write, output_of, reached, stored_now, write_mask}
 use Rattle.ca_model.specs.ServerSteps as steps
 use Rattle.ca_model.specs.Speech.{In, Stored}
 use Rattle.ca_server_circuit.specs.declared.cause.Cause.{Cause}
@@ -330,9 +330,9 @@ module _ (port now n : ℕ) (b : Clock) (s u : Store) (t : Circuits) (h : Handle
 
 -- ---- the same along the view of the fields
 
-pub viewed-followed : (y : Server) (port now n k waited : ℕ) (b : Clock) (s u x : Store) (t after last final : Circuits) (h : Handle) (did : Effect) (q : Bool) (result : Step) → server_of port s now t b n ≡ y → q ≡ is_wrote did → k ≡ more_applied q n → waited ≡ length (output_of (under y.circuits h))
+pub made-followed : (y : Server) (port now n k waited : ℕ) (b : Clock) (s u x : Store) (t after last final : Circuits) (h : Handle) (did : Effect) (q : Bool) (result : Step) → server_of port s now t b n ≡ y → q ≡ is_wrote did → k ≡ more_applied q n → waited ≡ length (output_of (under y.circuits h))
     → StepsIn port t h s (Some (step.Handled did)) after u → Follows did h after u last x → IsSound (records_of x) last → Settles last h waited result final → Makes y h (stepped result) (server_of port x now final b k)
-viewed-followed y port now n k waited b s u x t after last final h did q result is wrote more long steps_in f sound settled =
+made-followed y port now n k waited b s u x t after last final h did q result is wrote more long steps_in f sound settled =
     subst (λ (z : Server). Makes z h (stepped result) (server_of port x now final b k)) is
     (subst (λ (m : ℕ). Makes (server_of port s now t b n) h (stepped result) (server_of port x now final b m)) (sym (more ∙ ap (λ (z : Bool). more_applied z n) wrote))
     (go steps_in))
@@ -393,3 +393,9 @@ none-thins port s u t after last h did (inl g) r = by g.0 g.1 g.2 g.3 g.4
     by (Open e) new there was changed = absurd was
     by (Ended w left) new there was changed =
         subst (λ (z : Circuits). Thins t z) (sym (r.1 ∙ ap (λ (z : Circuits). with_freed h z) (stayed t after h new (Ended w left) there changed was.1))) (thins-freed t h)
+
+-- what the statement says of it
+pub viewed-followed : (y : Server) (port now n k waited : ℕ) (b : Clock) (s u x : Store) (t after last final : Circuits) (h : Handle) (did : Effect) (q : Bool) (result : Step) → server_of port s now t b n ≡ y → q ≡ is_wrote did → k ≡ more_applied q n → waited ≡ length (output_of (under y.circuits h))
+    → StepsIn port t h s (Some (step.Handled did)) after u → Follows did h after u last x → IsSound (records_of x) last → Settles last h waited result final → Steps y h (stepped result) (server_of port x now final b k)
+viewed-followed y port now n k waited b s u x t after last final h did q result is wrote more long steps_in f sound settled =
+    (made-followed y port now n k waited b s u x t after last final h did q result is wrote more long steps_in f sound settled).0

@@ -368,16 +368,29 @@ steps-none port now n b s u t after last h did (inl g) r i = by g.0 g.1 g.2 g.3 
 
 -- ---- the same along the view of the fields
 
-pub viewed-idle : (y : Server) (port now n : ℕ) (b : Clock) (s u : Store) (t after : Table ServerCircuit) (h : Handle) → server_of port s now t b n ≡ y → StepsIn port t h s (Some step.NeedBytes) after u → Makes y h steps.NeedBytes (server_of port u now after b n)
-viewed-idle y port now n b s u t after h is did = subst (λ (x : Server). Makes x h steps.NeedBytes (server_of port u now after b n)) is (steps-idle port now n b s u t after h did)
+pub made-idle : (y : Server) (port now n : ℕ) (b : Clock) (s u : Store) (t after : Table ServerCircuit) (h : Handle) → server_of port s now t b n ≡ y → StepsIn port t h s (Some step.NeedBytes) after u → Makes y h steps.NeedBytes (server_of port u now after b n)
+made-idle y port now n b s u t after h is did = subst (λ (x : Server). Makes x h steps.NeedBytes (server_of port u now after b n)) is (steps-idle port now n b s u t after h did)
 
-pub viewed-full : (y : Server) (port now n : ℕ) (b : Clock) (s u : Store) (t after : Table ServerCircuit) (h : Handle) → server_of port s now t b n ≡ y → StepsIn port t h s (Some step.OutputFull) after u → Makes y h steps.OutputFull (server_of port u now after b n)
-viewed-full y port now n b s u t after h is did = subst (λ (x : Server). Makes x h steps.OutputFull (server_of port u now after b n)) is (steps-full port now n b s u t after h did)
+pub made-full : (y : Server) (port now n : ℕ) (b : Clock) (s u : Store) (t after : Table ServerCircuit) (h : Handle) → server_of port s now t b n ≡ y → StepsIn port t h s (Some step.OutputFull) after u → Makes y h steps.OutputFull (server_of port u now after b n)
+made-full y port now n b s u t after h is did = subst (λ (x : Server). Makes x h steps.OutputFull (server_of port u now after b n)) is (steps-full port now n b s u t after h did)
 
-pub viewed-broke : (y : Server) (port now n : ℕ) (b : Clock) (s u : Store) (t after last : Table ServerCircuit) (h : Handle) (c : Cause) (did : Step) → server_of port s now t b n ≡ y → StepsIn port t h s (Some (step.Breaks c)) after u → Reports after h did last → IsSound (records_of s) t → Makes y h (stepped did) (server_of port u now last b n)
-viewed-broke y port now n b s u t after last h c did is g r i =
+pub made-broke : (y : Server) (port now n : ℕ) (b : Clock) (s u : Store) (t after last : Table ServerCircuit) (h : Handle) (c : Cause) (did : Step) → server_of port s now t b n ≡ y → StepsIn port t h s (Some (step.Breaks c)) after u → Reports after h did last → IsSound (records_of s) t → Makes y h (stepped did) (server_of port u now last b n)
+made-broke y port now n b s u t after last h c did is g r i =
     subst (λ (x : Server). Makes x h (stepped did) (server_of port u now last b n)) is (steps-broke port now n b s u t after last h c did g r i)
 
-pub viewed-none : (y : Server) (port now n : ℕ) (b : Clock) (s u : Store) (t after last : Table ServerCircuit) (h : Handle) (did : Step) → server_of port s now t b n ≡ y → StepsIn port t h s None after u → Reports after h did last → IsSound (records_of s) t → Makes y h (stepped did) (server_of port u now last b n)
-viewed-none y port now n b s u t after last h did is g r i =
+pub made-none : (y : Server) (port now n : ℕ) (b : Clock) (s u : Store) (t after last : Table ServerCircuit) (h : Handle) (did : Step) → server_of port s now t b n ≡ y → StepsIn port t h s None after u → Reports after h did last → IsSound (records_of s) t → Makes y h (stepped did) (server_of port u now last b n)
+made-none y port now n b s u t after last h did is g r i =
     subst (λ (x : Server). Makes x h (stepped did) (server_of port u now last b n)) is (steps-none port now n b s u t after last h did g r i)
+
+-- what the statement says of it
+pub viewed-idle : (y : Server) (port now n : ℕ) (b : Clock) (s u : Store) (t after : Table ServerCircuit) (h : Handle) → server_of port s now t b n ≡ y → StepsIn port t h s (Some step.NeedBytes) after u → Steps y h steps.NeedBytes (server_of port u now after b n)
+viewed-idle y port now n b s u t after h is did = (made-idle y port now n b s u t after h is did).0
+
+pub viewed-full : (y : Server) (port now n : ℕ) (b : Clock) (s u : Store) (t after : Table ServerCircuit) (h : Handle) → server_of port s now t b n ≡ y → StepsIn port t h s (Some step.OutputFull) after u → Steps y h steps.OutputFull (server_of port u now after b n)
+viewed-full y port now n b s u t after h is did = (made-full y port now n b s u t after h is did).0
+
+pub viewed-broke : (y : Server) (port now n : ℕ) (b : Clock) (s u : Store) (t after last : Table ServerCircuit) (h : Handle) (c : Cause) (did : Step) → server_of port s now t b n ≡ y → StepsIn port t h s (Some (step.Breaks c)) after u → Reports after h did last → IsSound (records_of s) t → Steps y h (stepped did) (server_of port u now last b n)
+viewed-broke y port now n b s u t after last h c did is g r i = (made-broke y port now n b s u t after last h c did is g r i).0
+
+pub viewed-none : (y : Server) (port now n : ℕ) (b : Clock) (s u : Store) (t after last : Table ServerCircuit) (h : Handle) (did : Step) → server_of port s now t b n ≡ y → StepsIn port t h s None after u → Reports after h did last → IsSound (records_of s) t → Steps y h (stepped did) (server_of port u now last b n)
+viewed-none y port now n b s u t after last h did is g r i = (made-none y port now n b s u t after last h did is g r i).0
