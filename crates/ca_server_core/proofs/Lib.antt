@@ -20,3 +20,4 @@ pub mod Histories
 pub mod Ordered
 pub mod Handed
 pub mod Idle
+pub mod Listed
