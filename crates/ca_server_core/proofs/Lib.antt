@@ -21,3 +21,4 @@ pub mod Histories
 pub mod Ordered
 pub mod Handed
 pub mod Idle
+pub mod Listed

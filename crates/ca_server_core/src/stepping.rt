@@ -5,7 +5,7 @@ ghost use Rattle.ca_records.specs.Store.{records_of};
 ghost use Rattle.ca_server_core.specs.Following.{Settles};
 ghost use Rattle.ca_server_circuit.specs.declared.step.Effect.TheVariants.{Quiet};
 ghost use Rattle.ca_server_circuit.specs.Circuits.{is_open};
-ghost use Rattle.ca_server_core.specs.Serving.{Reports, StepsIn, more_applied, stepped};
+ghost use Rattle.ca_server_core.specs.Serving.{Closes, Reports, StepsIn, more_applied, stepped};
 ghost use Rattle.ca_server_core.specs.Sound.{IsSound};
 
 use crate::following::follow;
@@ -36,11 +36,12 @@ impl ServerCore {
     /// its record, on all circuits. An end without memory for an update has ended.
     ///
     /// The end closes at a header that is refused, and out of memory if there is none for the message, which changes nothing then, or
-    /// for an update of its own write, which is applied then; its replies are not sent. The puts of the circuit that wait are never applied.
+    /// for its own update of its write, which is applied then; its replies are not sent. The puts of the circuit that wait are never applied.
     /// The end of a circuit is reported once, whichever call ended it. From then on, and under a handle without a circuit, a step reports a
     /// cut.
     pub fn step(&mut self, circuit: Handle) -> Step
-        ensures { Steps self.old circuit (stepped result) self.new }
+        ensures steps { Steps self.old circuit (stepped result) self.new }
+        ensures closes { Closes self.old circuit (stepped result) self.new }
     {
         let mut waited = 0;
         match step_on(
