@@ -6,6 +6,7 @@ use Rattle.ca_model.specs.ServerSteps as steps
 use Rattle.ca_records.specs.Store.{records_of}
 use Rattle.ca_server_core.proofs.Covered.{covers-thinned}
 use Rattle.ca_server_core.proofs.Followed.{broke-thins, none-thins, settled-sound, settled-thins, step-covers, viewed-followed}
+use Rattle.ca_server_core.proofs.Listed.{listed-broke, listed-none, listed-step}
 use Rattle.ca_server_core.proofs.Noted.{broke-closes, leads-after, none-closes, noting-none, steps-err, viewed-noting}
 use Rattle.ca_server_core.proofs.Servers.{server_of}
 use Rattle.ca_server_core.proofs.Stepped.{broke-sound, handled-settles, none-sound, step-sound, viewed-broke, viewed-none}
@@ -23,6 +24,7 @@ invariant_of-self c =
     record {
       sound = step-sound i.port i.records c.step_on.new.records i.circuits c.step_on.new.circuits c.args.circuit Quiet did c.self.invariant.sound;
       covered = step-covers i.port i.watchers i.records c.step_on.new.records i.circuits c.step_on.new.circuits c.args.circuit Quiet did c.self.invariant.covered;
+      listed = listed-step i.port i.records c.step_on.new.records i.circuits c.step_on.new.circuits c.args.circuit Quiet i.watchers did c.self.invariant.listed;
     }
 
 pub returns-then-is_quiet-clause-ok : goal.returns-then-is_quiet-clause-ok
@@ -49,6 +51,12 @@ follow-requires-clause-covered c =
     let did = rw c.in-Some-Handled.field-0-is at c.in-Some-Handled.ensures.steps in
     step-covers i.port i.watchers i.records c.step_on.new.records i.circuits c.step_on.new.circuits c.args.circuit c.in-Some-Handled.effect did c.self.invariant.covered
 
+pub follow-requires-clause-listed : goal.follow-requires-clause-listed
+follow-requires-clause-listed c =
+    let i = c.self.inside in
+    let did = rw c.in-Some-Handled.field-0-is at c.in-Some-Handled.ensures.steps in
+    listed-step i.port i.records c.step_on.new.records i.circuits c.step_on.new.circuits c.args.circuit c.in-Some-Handled.effect i.watchers did c.self.invariant.listed
+
 pub note-requires : goal.note-requires
 note-requires c =
     leads-after c.in-Some-Handled.effect c.args.circuit c.step_on.new.circuits c.follow.new.circuits c.step_on.new.records c.follow.new.records c.follow.ensures.follows
@@ -59,6 +67,7 @@ invariant_of-self-in_err-is_noted-in-Some-Handled c =
     record {
       sound = settled-sound (records_of f.records) f.circuits c.settle-did.new.circuits c.args.circuit _ c.settle-did.result c.settle-did.ensures c.follow.ensures.sound;
       covered = covers-thinned f.watchers f.circuits c.settle-did.new.circuits (settled-thins f.circuits c.settle-did.new.circuits c.args.circuit _ c.settle-did.result c.settle-did.ensures) c.follow.ensures.covered;
+      listed = c.follow.ensures.listed;
     }
 
 pub returns-in_err-is_noted-in-Some-Handled-clause-err : goal.returns-in_err-is_noted-in-Some-Handled-clause-err
@@ -76,6 +85,7 @@ invariant_of-self-in-Some-Handled c =
     record {
       sound = settled-sound (records_of f.records) f.circuits c.settle-did.new.circuits c.args.circuit _ c.settle-did.result c.settle-did.ensures c.follow.ensures.sound;
       covered = covers-thinned f.watchers f.circuits c.settle-did.new.circuits (settled-thins f.circuits c.settle-did.new.circuits c.args.circuit _ c.settle-did.result c.settle-did.ensures) c.follow.ensures.covered;
+      listed = c.follow.ensures.listed;
     }
 
 pub invariant_of-self-in-Some-Breaks : goal.invariant_of-self-in-Some-Breaks
@@ -85,6 +95,7 @@ invariant_of-self-in-Some-Breaks c =
     record {
       sound = broke-sound i.port i.records c.step_on.new.records i.circuits c.step_on.new.circuits c.report.new.circuits c.args.circuit c.in-Some-Breaks.field-0-0 c.report.result did c.report.ensures c.self.invariant.sound;
       covered = covers-thinned i.watchers i.circuits c.report.new.circuits (broke-thins i.port i.records c.step_on.new.records i.circuits c.step_on.new.circuits c.report.new.circuits c.args.circuit c.in-Some-Breaks.field-0-0 c.report.result did c.report.ensures) c.self.invariant.covered;
+      listed = listed-broke i.port i.records c.step_on.new.records i.circuits c.step_on.new.circuits c.args.circuit c.in-Some-Breaks.field-0-0 i.watchers did c.self.invariant.listed;
     }
 
 pub invariant_of-self-in-None : goal.invariant_of-self-in-None
@@ -93,6 +104,7 @@ invariant_of-self-in-None c =
     record {
       sound = none-sound i.port i.records c.step_on.new.records i.circuits c.step_on.new.circuits c.report-in-None.new.circuits c.args.circuit c.report-in-None.result c.in-None.ensures.steps c.report-in-None.ensures c.self.invariant.sound;
       covered = covers-thinned i.watchers i.circuits c.report-in-None.new.circuits (none-thins i.port i.records c.step_on.new.records i.circuits c.step_on.new.circuits c.report-in-None.new.circuits c.args.circuit c.report-in-None.result c.in-None.ensures.steps c.report-in-None.ensures) c.self.invariant.covered;
+      listed = listed-none i.port i.records c.step_on.new.records i.circuits c.step_on.new.circuits c.args.circuit i.watchers c.in-None.ensures.steps c.self.invariant.listed;
     }
 
 pub returns-in_ok-is_noted-in-Some-Handled-clause-ok : goal.returns-in_ok-is_noted-in-Some-Handled-clause-ok
