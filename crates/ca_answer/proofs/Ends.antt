@@ -22,7 +22,7 @@ use Rattle.ca_model.specs.Speech.{Stored}
 use Rattle.ca_server_circuit.proofs.Cleared.{is-same, same-is}
 use Rattle.ca_server_core.proofs.Each.{under-each}
 use Rattle.ca_server_circuit.proofs.Tables.{changed-other, changed-own}
-use Rattle.ca_answer.specs.Engines.{Tries}
+use Rattle.ca_server_core.specs.Noting.{Tries}
 
 -- The circuit is open with this left to be read, or its end has ended out of memory.
 abbrev pub Stays : Server → Handle → List ℕ → Type 0

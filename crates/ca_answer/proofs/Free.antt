@@ -21,7 +21,7 @@ use Rattle.ca_model.specs.ServerCalls.{Finishes, Replies, after_next, with_finis
 use Rattle.ca_model.specs.ServerSteps.{Pumps, Reaches, Records, Update, known_record, knows}
 use Rattle.ca_model.specs.Speech.{In}
 use Rattle.ca_server_circuit.proofs.Tables.{find-at, none-some}
-use Rattle.ca_answer.specs.Engines.{Tries}
+use Rattle.ca_server_core.specs.Noting.{Notes, Tries}
 use Rattle.ca_answer.specs.Serving.{AreFree}
 use Rattle.ca_answer.proofs.Doing.{Busies}
 
@@ -216,6 +216,21 @@ tried-free None (Some name) y new same free is = finishes-free y name is.0 is.1 
 tried-free (Some name) None y new same free is = absurd same
 tried-free (Some name) (Some n) y new same free is =
     finishes-busy y name is.0 is.1 new free (subst (λ (x : List ℕ). Finishes y x is.0 is.1 new) same is.2)
+
+-- The put that was noted is that of the record that is busy, if one is.
+pub noted-free : (o put : Option (List ℕ)) (was now : List Record) → AreFree was → AreFreeBut o now → Notes was now put → (p : Option (List ℕ)) × AreFreeBut p now × Matches p put
+noted-free None put was now free but notes = (None, but, tt)
+noted-free (Some name) put was now free but notes = go (record_named now name) refl
+  where
+    go : (o : Option Record) → record_named now name ≡ o → (p : Option (List ℕ)) × AreFreeBut p now × Matches p put
+    go None none = (None, nobody-free name now but none, tt)
+    go (Some r) is =
+        let n = named-in now name r is in
+        let busy : is_some r.busy ≡ true = (but r n.0).1 n.1 in
+        elim (notes.others r n.0 busy) [
+          | inl noted ↦ (Some name, but, subst (λ (p : Option (List ℕ)). Matches (Some name) p) (sym noted) n.1)
+          | inr q ↦ absurd (both-bools (is_some q.0.busy) q.3 (ap is_some (free q.0 q.1).0))
+        ]
 
 -- ---- a pump
 

@@ -6,14 +6,15 @@ use Rattle.ca_arena.specs.declared.handle.Handle.{Handle}
 use Rattle.ca_model.specs.Server.{Server}
 use Rattle.ca_model.specs.ServerSteps.{Pumps, Update}
 use Rattle.ca_server_core.specs.Pumping.{PumpsOut}
-use Rattle.ca_answer.specs.Engines.{EngineState, FinishesOne, Gathers, HandlesOne, PumpsAndGathers}
+use Rattle.ca_server_core.specs.Noting.{FinishesOne}
+use Rattle.ca_answer.specs.Engines.{EngineState, Gathers, HandlesOne, PumpsAndGathers}
 
 pumped-one : (old mid new : Server) (h : Handle) (us : List Update) → FinishesOne old h mid → Pumps mid h us new → HandlesOne old h new
 pumped-one old mid new h us d p = record {
   put = d.put;
-  next = d.next;
   stepped = d.stepped;
   steps = d.steps;
+  notes = d.notes;
   finished = mid;
   tries = d.tries;
   updates = us;

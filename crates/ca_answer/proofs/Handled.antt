@@ -20,14 +20,12 @@ use Rattle.ca_model.specs.Server.{Open, OpenChannel, Server, ServerCircuit, Serv
 use Rattle.ca_model.specs.ServerSteps.{Handles, HasEnd, Records, Sends, Stepped, Steps, StepsAt, StepsOpen, knows, known_channel, output_of, with_end}
 use Rattle.ca_model.specs.ServerSteps as did
 use Rattle.ca_model.specs.Speech.{In}
-use Rattle.ca_server_core.specs.NextPut.{IsNextPut}
-use Rattle.ca_server_circuit.specs.NextPut.{PutsFirst}
 use Rattle.ca_server_core.proofs.Moves.{changed-nothing}
 use Rattle.ca_answer.specs.Engines.{HandlesOne}
-use Rattle.ca_answer.specs.Serving.{Over, Served}
+use Rattle.ca_answer.specs.Serving.{AreFree, Over, Served}
 use Rattle.ca_answer.proofs.Doing.{Busies, due-busies}
 use Rattle.ca_answer.proofs.Ends.{changed-twice, end-there, handles-has, one-end, pumped-stays, reaches-has, records-circuits, tried-stays}
-use Rattle.ca_answer.proofs.Free.{AreFreeBut, Matches, busied, pumped-free, reached-free, recorded-free, tried-free}
+use Rattle.ca_answer.proofs.Free.{AreFreeBut, busied, noted-free, pumped-free, reached-free, recorded-free, tried-free}
 
 -- ---- bytes and answers in a row
 
@@ -99,33 +97,6 @@ handles-before y h c z e m replies a new there handles =
     recorded (action.Drops key) r is = ap back is
     recorded (action.Switches on) r is = ap back is
 
--- ---- the put that comes next
-
--- The record that a message makes busy is the one that was asked for.
-put-matches : (y now : Server) (h : Handle) (e : ServerEnd) (l : LinkState) (m : Fields) (rest : List ℕ) (a : Action) (put : Option (List ℕ)) → HasEnd y h (record e { link = l }) → TakesFirst l m rest
-    → Busies (knows now (record e { link = with_rest rest l })) m a → IsNextPut y h put → Matches (busied a) put
-put-matches y now h e l m rest (Applies name value true) put has takes busies next =
-    let c = busies.1.0 in
-    let b = At-mapped known_channel (held e.channels) c.open_there.0 c.channel c.open_there.1 in
-    let wire : wire_of b.0.0 ≡ m.p1 = ap (λ (k : KnownChannel). k.sid) (sym b.2) ∙ c.under in
-    go put next b.0 (c.open_there.0, b.1) wire (ap (λ (k : KnownChannel). k.retired) (sym b.2) ∙ c.there) (ap (λ (k : KnownChannel). k.name) (sym b.2) ∙ busies.1.1)
-  where
-    go : (put : Option (List ℕ)) → IsNextPut y h put → (x : Handle × OpenChannel) → In (held e.channels) x → wire_of x.0 ≡ m.p1 → x.1.retired ≡ false → x.1.name ≡ name → Matches (Some name) put
-    go None none x there wire stays named = none (record e { link = l }) has m rest x takes busies.0 (there, wire, stays)
-    go (Some n) (z, there_z, first) x there wire stays named =
-        let puts = subst (λ (k : ServerEnd). PutsFirst k (Some n)) (one-end y h z (record e { link = l }) there_z has) first in
-        sym ((puts.1 m rest takes).named x (there, wire, stays)) ∙ named
-put-matches y now h e l m rest (Applies name value false) put has takes busies next = tt
-put-matches y now h e l m rest (action.Waits name value) put has takes busies next = tt
-put-matches y now h e l m rest (action.Clears sid) put has takes busies next = tt
-put-matches y now h e l m rest action.Nothing put has takes busies next = tt
-put-matches y now h e l m rest action.Greets put has takes busies next = tt
-put-matches y now h e l m rest (action.Names p) put has takes busies next = tt
-put-matches y now h e l m rest (action.Opens k) put has takes busies next = tt
-put-matches y now h e l m rest (action.Adds s) put has takes busies next = tt
-put-matches y now h e l m rest (action.Drops k) put has takes busies next = tt
-put-matches y now h e l m rest (action.Switches on) put has takes busies next = tt
-
 -- ---- one message
 
 -- the end that is there takes a step
@@ -164,8 +135,9 @@ module _ (rules : List Rule) (states : List RecordState) (bytes : List ℕ) (h :
       let freed : AreFreeBut (busied next.action) next.after.records =
       subst (λ (rs : List Record). AreFreeBut (busied next.action) rs) handles.1 (recorded-free s.now h e' next.m next.action handles.0.recorded s.free busies handles.0.records) in
       let reached = reached-free next.action (busied next.action) step.1 next.after d.stepped step.3 freed in
-      let matches = put-matches y s.now h s.e s.link next.m rest next.action d.put has next.takes busies d.next in
-      let tried = tried-free (busied next.action) d.put d.stepped d.finished matches reached d.tries in
+      let was : AreFree y.records = subst (λ (z : Server). AreFree z.records) (sym s.is) s.free in
+      let noted = noted-free (busied next.action) d.put y.records d.stepped.records was reached d.notes in
+      let tried = tried-free noted.0 d.put d.stepped d.finished noted.2 noted.1 d.tries in
       let first = handles-has s.now h (Open s.e) e' next.m next.replies next.action next.after s.has handles.0 in
       let second = reaches-has next.action step.1 next.after h first.0 d.stepped step.3 step.2 first.1 in
       let third = tried-stays d.put d.stepped d.finished h rest d.tries (inl (second.0, second.1, second.2 ∙ first.2)) in

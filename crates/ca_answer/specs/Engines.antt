@@ -1,5 +1,5 @@
 -- Working: the state of an engine, and what its calls leave.
-use Rattle.std.specs.Prelude.{ℕ, ◌≡◌, ◌++◌, if◌then◌else◌, Bool, List, [], Option, None, Some, Result, Ok, length}
+use Rattle.std.specs.Prelude.{ℕ, ◌≡◌, ◌++◌, List, [], Option, Some, Ok, length}
 use Rattle.ca_arena.specs.declared.handle.Handle.{Handle}
 use Rattle.ca_ids.specs.Table.{under}
 use Rattle.ca_records.specs.Record.{RecordState}
@@ -7,13 +7,11 @@ use Rattle.ca_records.specs.Rules.{Rule}
 use Rattle.ca_text.specs.declared.refusal.Refusal.{Refusal}
 use Rattle.ca_text.specs.declared.refusal.Refusal.TheVariants as refusal
 use Rattle.ca_text.specs.Limits.{server_port}
-use Rattle.ca_wire.specs.Fields.{Fields}
 use Rattle.ca_model.specs.Ends.{Why}
 use Rattle.ca_model.specs.Ends as why
 use Rattle.ca_model.specs.Server.{Open, Server, ServerCircuit, new_server}
-use Rattle.ca_model.specs.ServerCalls.{Finishes}
-use Rattle.ca_model.specs.ServerSteps.{Accepts, Handled, Pumps, Sends, Stepped, Steps, Update, output_of}
-use Rattle.ca_server_core.specs.NextPut.{IsNextPut}
+use Rattle.ca_model.specs.ServerSteps.{Accepts, Handled, Pumps, Sends, Steps, Update, output_of}
+use Rattle.ca_server_core.specs.Noting.{Notes, Tries}
 
 -- A server, its circuit, and the bytes that wait to be handed to the sink.
 pub record EngineState : Type 0 where
@@ -25,38 +23,16 @@ pub record EngineState : Type 0 where
 abbrev pub IsNew : List Rule → List RecordState → EngineState → Type 0
 IsNew rules states x = Accepts (new_server server_port 0 rules states) (Ok x.circuit) x.core × (x.waits ≡ [])
 
--- the record of this name, if a message is to put
-abbrev pub put_of : Bool → (name : List ℕ) → Option (List ℕ)
-put_of puts name = if puts then Some name else None
-
--- the busy put of this record was finished, if there is one
-abbrev pub Tries : Server → Option (List ℕ) → Server → Type 0
-Tries y None new = new ≡ y
-Tries y (Some name) new = (sent : List (Handle × Fields)) × (r : Result (Unit {0}) Refusal) × Finishes y name sent r new
-
 -- A message was handled: the record that it made busy was finished, and updates were pumped.
 pub record HandlesOne (old : Server) (h : Handle) (new : Server) : Type 0 where
   pub put : Option (List ℕ)
-  pub next : IsNextPut old h put
   pub stepped : Server
   pub steps : Steps old h Handled stepped
+  pub notes : Notes old.records stepped.records put
   pub finished : Server
   pub tries : Tries stepped put finished
   pub updates : List Update
   pub pumps : Pumps finished h updates new
-
--- The same before the pump.
-pub record FinishesOne (old : Server) (h : Handle) (new : Server) : Type 0 where
-  pub put : Option (List ℕ)
-  pub next : IsNextPut old h put
-  pub stepped : Server
-  pub steps : Steps old h Handled stepped
-  pub tries : Tries stepped put new
-
--- What was done with the next message.
-abbrev pub ServesNext : Server → Handle → Stepped → Server → Type 0
-ServesNext old h Handled new = FinishesOne old h new
-ServesNext old h did new = Steps old h did new
 
 -- what waits to be sent on the circuit was put after the bytes that wait
 abbrev pub Gathers : EngineState → EngineState → Type 0

@@ -1,13 +1,13 @@
-ghost use Rattle.std.specs.Prelude.{◌≡◌, ◌+◌, ◌<◌, ◌≤◌, ◌^◌, List, IfErr, IfOk, OnErr, OnOk, true};
+ghost use Rattle.std.specs.Prelude.{◌≡◌, ◌+◌, ◌<◌, ◌≤◌, ◌^◌, List, IfErr, IfOk, OnOk, true};
 ghost use Rattle.ca_text.specs.declared.refusal.Refusal.TheVariants as refusal;
 ghost use Rattle.ca_text.specs.Limits.{engine_turns};
 ghost use Rattle.ca_records.specs.Record.{RecordState};
 ghost use Rattle.ca_records.specs.Rules.{Rule};
 ghost use Rattle.ca_model.specs.ServerSteps.{Gives};
-ghost use Rattle.ca_server_core.specs.NextPut.{IsNextPut};
+ghost use Rattle.ca_server_core.specs.Noting.{ServesNext};
 ghost use Rattle.ca_server_core.specs.Serving.{stepped};
 ghost use Rattle.ca_server_circuit.specs.Stepping.{why_is};
-ghost use Rattle.ca_answer.specs.Engines.{IsNew, PumpsAndGathers, ServesNext, Tries, put_of, refusal_for, unread_size};
+ghost use Rattle.ca_answer.specs.Engines.{IsNew, PumpsAndGathers, refusal_for, unread_size};
 ghost use Rattle.ca_answer.specs.Serving.{Comes, Drains, Flushes};
 
 use ca_arena::Handle;
@@ -24,7 +24,7 @@ pub(crate) struct Engine {
     core: ServerCore,
     circuit: Handle,
     waits: Vec<u8>,
-    // Room for the name of the record that the next message may make busy.
+    // Room for the name of the record that a message makes busy.
     name: Vec<u8>,
 }
 
@@ -116,18 +116,8 @@ impl Engine {
         ensures served { IfOk result (λ did.
             ServesNext self.old.core self.old.circuit (stepped did) self.new.core) }
         ensures stays { self.new ≡ record self.old { core = self.new.core } }
-        ensures err { OnErr result (self.new ≡ self.old) }
     {
-        let puts = next_put(&self.core, self.circuit, &mut self.name)?;
-        match self.core.step(self.circuit) {
-            Step::Handled => {
-                finish(&mut self.core, puts, &self.name);
-                Ok(Step::Handled)
-            }
-            Step::NeedBytes => Ok(Step::NeedBytes),
-            Step::OutputFull => Ok(Step::OutputFull),
-            Step::Closed(cause, left) => Ok(Step::Closed(cause, left)),
-        }
+        self.core.serve(self.circuit, &mut self.name)
     }
 
     // Pumps once, and moves what the circuit has to send to the end of the bytes that wait.
@@ -158,34 +148,6 @@ impl Engine {
         sink.write(&self.waits)?;
         self.waits.clear();
         Ok(())
-    }
-}
-
-// Whether the next message may make a record busy. Then its name is in the room.
-fn next_put(core: &ServerCore, circuit: Handle, room: &mut Vec<u8>) -> Result<bool, AllocError>
-    ensures { IfOk result (λ puts. IsNextPut core.now circuit (put_of puts room.new.items)) }
-{
-    match core.next_put(circuit) {
-        None => Ok(false),
-        Some(name) => {
-            // Mostly it is there from the put before.
-            if room.as_slice() == name {
-                return Ok(true);
-            }
-            room.clear();
-            room.extend_from_slice(name)?;
-            Ok(true)
-        }
-    }
-}
-
-// Finishes the busy put of the record of this name, if the message was to put.
-fn finish(core: &mut ServerCore, puts: bool, name: &[u8])
-    ensures { Tries core.old (put_of puts name.now) core.new }
-{
-    if puts {
-        // It is refused if the put was, or if the record is quick.
-        let _ended = core.finish(name);
     }
 }
 

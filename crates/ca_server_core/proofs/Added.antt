@@ -57,6 +57,12 @@ module _ (s u : Store) (state : RecordState) (place : ℕ) (added : writes.Adds 
       subst (λ (rs : List Record). IsSound rs t) (sym e.are)
       (sound-kept (e.before ++ e.after) (e.before ++ new_record state ∷ e.after) t (added-keeps e.before e.after (new_record state) refl) (subst (λ (rs : List Record). IsSound rs t) e.were i))
 
+  -- each record is found still
+  pub named-added : (n : List ℕ) (x : Record) → record_named (records_of s) n ≡ Some x → (q : Record) × (record_named (records_of u) n ≡ Some q)
+  named-added n x is =
+      let q = named-in e.before e.after (new_record state) n x (ap (λ (rs : List Record). record_named rs n) (sym e.were) ∙ is) in
+      (q.0, ap (λ (rs : List Record). record_named rs n) e.are ∙ q.1)
+
   rules-same : u.rules ≡ s.rules
   rules-same = elim e.leaves [
     | inl slot ↦ ap (λ (x : Store). x.rules) slot.1

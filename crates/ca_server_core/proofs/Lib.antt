@@ -4,6 +4,7 @@ pub mod Onward
 pub mod Closing
 pub mod Servers
 pub mod Stepped
+pub mod Noted
 pub mod Finished
 pub mod Covered
 pub mod Each
@@ -20,3 +21,4 @@ pub mod Histories
 pub mod Ordered
 pub mod Handed
 pub mod Idle
+pub mod Listed

@@ -6,7 +6,7 @@ use Rattle.std.proofs.lemmas.Slice.Eq.{bytes_eq-Decides}
 use Rattle.ca_text.specs.Place.{At}
 use Rattle.ca_text.proofs.Places.{some_is}
 use Rattle.ca_records.specs.Puts.{Record, record_named}
-use Rattle.ca_records.specs.Store.{Finds, Store, present, records_of}
+use Rattle.ca_records.specs.Store.{Finds, HasAt, Store, present, records_of}
 use Rattle.ca_server_core.specs.ForHistories.{AreNamedApart}
 
 -- how many of the first p places have a record
@@ -66,3 +66,7 @@ named-some (x ∷ rs) name i r at named none = go (bytes_eq x.state.name name) r
     go true is e i at rest = absurd cc
     go false is e zero at rest = both_ways (bytes_eq x.state.name name) is ((bytes_eq-Decides x.state.name name).1 (ap (λ (y : Record). y.state.name) (some_is x r at) ∙ named))
     go false is e (suc i) at rest = rest i at e
+
+-- so is the record at a place
+pub named-there : (s : Store) (p : ℕ) (r : Record) → HasAt s p r → record_named (records_of s) r.state.name ≡ None → ⊥
+named-there s p r at none = named-some (records_of s) r.state.name (before p s.slots) r (before-at s.slots p r at) refl none

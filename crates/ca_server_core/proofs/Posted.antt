@@ -24,7 +24,7 @@ use Rattle.ca_server_core.proofs.Servers.{same-parts, server_of}
 use Rattle.ca_server_circuit.proofs.Stays.{record-keeps}
 
 -- the records after the value of one was set
-posted-records : (s u : Store) (name : List ℕ) (e : Elements) (meta : Meta) (place : ℕ) → writes.Posts s name e meta (Ok place) u → records_of u ≡ with_record name (with_value e meta) (records_of s)
+pub posted-records : (s u : Store) (name : List ℕ) (e : Elements) (meta : Meta) (place : ℕ) → writes.Posts s name e meta (Ok place) u → records_of u ≡ with_record name (with_value e meta) (records_of s)
 posted-records s u name e meta place did =
     did.1.1.becomes.records (with_value e meta) refl ∙ ap (λ (x : List ℕ). with_record x (with_value e meta) (records_of s)) did.1.1.named
 

@@ -14,7 +14,7 @@ use Rattle.ca_records.specs.Record.{RecordState}
 use Rattle.ca_records.specs.Store.{HasAt, Store, records_of}
 use Rattle.ca_text.specs.Place.{At}
 use Rattle.ca_text.proofs.Places.{At-one, At-within, some_is}
-use Rattle.ca_server_watchers.specs.Watching.{AreApart, IsAmong, LeavesAt, Watched, watching}
+use Rattle.ca_server_watchers.specs.Watching.{AreApart, IsAmong, LeavesAt, OthersStay, Watched, line_of, watching}
 use Rattle.ca_model.specs.Ends as why
 use Rattle.ca_model.specs.Server.{Ended, Open, ServerCircuit, ServerEnd, Subscription, concerns, key_of, with_post}
 use Rattle.ca_model.specs.ServerSteps.{is_concerned, reached}
@@ -247,6 +247,7 @@ pub record Walk (place mask : ℕ) (w0 : Watched) (t0 : Circuits) (s0 : Store) (
   pub walked : Walked r.state.name mask (stored r) ds gone t0 s0 t s
   pub sound : IsSound (records_of s) t
   pub covered : Covers w t
+  pub stay : OthersStay r.state.name w0 w
 
 pub walk-begins : (place mask k : ℕ) (w : Watched) (t : Circuits) (s : Store) (r : Record) → HasAt s place r → AreApart (watching w r.state.name) → k ≡ length (watching w r.state.name) → IsSound (records_of s) t → Covers w t → Walk place mask w t s k w t s
 walk-begins place mask k w t s r at apart is sound covered = record {
@@ -262,6 +263,7 @@ walk-begins place mask k w t s r at apart is sound covered = record {
   walked = walked-none r.state.name mask (stored r) t s;
   sound = sound;
   covered = covered;
+  stay = λ other miss. refl;
 }
 
 pub there-is : (s : Store) (place : ℕ) (r q : Record) → HasAt s place r → HasAt s place q → r ≡ q
@@ -353,6 +355,7 @@ module _ (place mask : ℕ) (w0 : Watched) (t0 : Circuits) (s0 : Store) (k : ℕ
         walked = a.walked;
         sound = a.sound;
         covered = a.covered;
+        stay = a.stay;
       })))
     where
       not-some : {A : Type 0} (h : Handle) → (let none : Option Handle = None in none ≡ Some h) → A
@@ -387,8 +390,8 @@ module _ (place mask : ℕ) (w0 : Watched) (t0 : Circuits) (s0 : Store) (k : ℕ
 
     -- the walk with one more
     pub with-more : (v : Watched) (after : Circuits) (u : Store) (gone : Handle → Bool) → ((q : Record) × HasAt u place q × (q.state ≡ a.r.state)) → ((i : ℕ) → i < j → slice_get (watching v name) i ≡ slice_get (watching w name) i)
-        → Walked name mask (stored a.r) (h ∷ a.ds) gone t0 s0 after u → IsSound (records_of u) after → Covers v after → Next v after u
-    with-more v after u gone here same walked sound covered = record {
+        → Walked name mask (stored a.r) (h ∷ a.ds) gone t0 s0 after u → IsSound (records_of u) after → Covers v after → OthersStay name w v → Next v after u
+    with-more v after u gone here same walked sound covered stay = record {
       r = a.r;
       at = a.at;
       here = here;
@@ -401,7 +404,11 @@ module _ (place mask : ℕ) (w0 : Watched) (t0 : Circuits) (s0 : Store) (k : ℕ
       walked = walked;
       sound = sound;
       covered = covered;
+      stay = λ other miss. stay other miss ∙ a.stay other miss;
     }
+
+    same-lines : (v : Watched) → v ≡ w → OthersStay name w v
+    same-lines v same other miss = ap (λ (x : Watched). line_of x other) same
 
     -- it has no subscription on the record
     next-forgotten : (v : Watched) (after : Circuits) (u : Store) → watches_under name (under t h) ≡ false → LeavesAt name j w v → after ≡ t → u ≡ s → Next v after u
@@ -410,6 +417,7 @@ module _ (place mask : ℕ) (w0 : Watched) (t0 : Circuits) (s0 : Store) (k : ℕ
         (walked-past name mask (stored a.r) a.ds a.gone t0 s0 t s a.walked h new_one after u at us (λ c was. unwatched name mask c (ap (λ (o : Option ServerCircuit). watches_under name o) (sym (there-now c was)) ∙ none)))
         (subst (λ (x : Circuits). IsSound (records_of u) x) (sym at) (subst (λ (x : Store). IsSound (records_of x) t) (sym us) a.sound))
         (subst (λ (x : Circuits). Covers v x) (sym at) (covers-left w v t name j h l listed none a.covered))
+        l.stay
 
     next-posted : (v : Watched) (after : Circuits) (u : Store) → PostsIn t h place mask s after u → v ≡ w → Next v after u
     next-posted v after u (inr none) vw =
@@ -417,6 +425,7 @@ module _ (place mask : ℕ) (w0 : Watched) (t0 : Circuits) (s0 : Store) (k : ℕ
         (walked-past name mask (stored a.r) a.ds a.gone t0 s0 t s a.walked h new_one after u none.1 none.2 (λ c was. not-there c (sym none.0 ∙ there-now c was)))
         (subst (λ (x : Circuits). IsSound (records_of u) x) (sym none.1) (subst (λ (x : Store). IsSound (records_of x) t) (sym none.2) a.sound))
         (subst (λ (x : Watched). Covers x after) (sym vw) (subst (λ (x : Circuits). Covers w x) (sym none.1) a.covered))
+        (same-lines v vw)
       where
         not-there : {A : Type 0} (c : ServerCircuit) → (let none : Option ServerCircuit = None in none ≡ Some c) → A
         not-there c e = absurd cc
@@ -435,6 +444,7 @@ module _ (place mask : ℕ) (w0 : Watched) (t0 : Circuits) (s0 : Store) (k : ℕ
             (walked-past name mask (stored a.r) a.ds a.gone t0 s0 t s a.walked h new_one after u same p.1 (λ c was. subst (λ (x : ServerCircuit). is_concerned name mask x ≡ false) (some_is (Ended y left) c (sym there ∙ there-now c was)) refl))
             (subst (λ (x : Circuits). IsSound (records_of u) x) (sym same) (subst (λ (x : Store). IsSound (records_of x) t) (sym p.1) a.sound))
             (subst (λ (x : Watched). Covers x after) (sym vw) (subst (λ (x : Circuits). Covers w x) (sym same) a.covered))
+            (same-lines v vw)
         by (Open e) new there (q, at, inl p) changed =
             let st = state-of q at in
             let is_new = p.0 ∙ ap (λ (x : ServerEnd). Open x) (posted-is a.r q mask e st) in
@@ -446,6 +456,7 @@ module _ (place mask : ℕ) (w0 : Watched) (t0 : Circuits) (s0 : Store) (k : ℕ
             (walked-on name mask (stored a.r) a.ds a.gone t0 s0 t s a.walked h new_one after u e there became_it p.2)
             (subst (λ (x : Circuits). IsSound (records_of u) x) (sym became_it) (subst (λ (x : Store). IsSound (records_of x) (with_changed (λ (c : ServerCircuit). Open (with_post name mask (stored a.r) e)) h t)) (sym p.2) (sound-changed (records_of s) t h e (with_post name mask (stored a.r) e) a.sound there end_sound)))
             (subst (λ (x : Watched). Covers x after) (sym vw) (subst (λ (x : Circuits). Covers w x) (sym became_it) (covers-thinned w t _ (thins-changed t h e (with_post name mask (stored a.r) e) there (λ x i. i)) a.covered)))
+            (same-lines v vw)
         by (Open e) new there (q, at, inr p) changed =
             let st = state-of q at in
             let concerned = subst (λ (x : RecordState). is_concerned x.name mask (Open e) ≡ true) st p.0 in
@@ -455,6 +466,7 @@ module _ (place mask : ℕ) (w0 : Watched) (t0 : Circuits) (s0 : Store) (k : ℕ
             (walked-out name mask (stored a.r) a.ds a.gone t0 s0 t s a.walked h new_one after u e there concerned became_it p.2)
             (subst (λ (x : Circuits). IsSound (records_of u) x) (sym became_it) (subst (λ (rs : List Record). IsSound rs (with_changed (λ (c : ServerCircuit). Ended why.OutOfMemory e.link.output) h t)) (sym p.2.records) (sound-ended (records_of s) t h why.OutOfMemory e.link.output a.sound)))
             (subst (λ (x : Watched). Covers x after) (sym vw) (subst (λ (x : Circuits). Covers w x) (sym became_it) (covers-thinned w t _ (thins-ended t h why.OutOfMemory e.link.output) a.covered)))
+            (same-lines v vw)
 
     next-one : (v : Watched) (after : Circuits) (u : Store) → ReachesOne name place mask j h (watches_under name (under t h)) w t s v after u → Next v after u
     next-one v after u one = by (watches_under name (under t h)) refl one

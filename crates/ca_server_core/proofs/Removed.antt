@@ -15,14 +15,14 @@ use Rattle.ca_text.specs.declared.refusal.Refusal.{Refusal}
 use Rattle.ca_text.specs.declared.refusal.Refusal.TheVariants as refusal
 use Rattle.ca_text.specs.Place.{At}
 use Rattle.ca_text.proofs.Places.{At-within, some_is}
-use Rattle.ca_server_watchers.specs.Watching.{Clears, IsAmong, Watched}
+use Rattle.ca_server_watchers.specs.Watching.{Clears, IsAmong, Watched, line_of}
 use Rattle.ca_wire.specs.Message.{spelled}
 use Rattle.ca_model.specs.Ends as why
 use Rattle.ca_model.specs.Server.{Ended, Open, OpenChannel, Server, ServerCircuit, ServerEnd, Subscription, key_of}
 use Rattle.ca_model.specs.ServerCalls.{Removes, channels_of, circuit_without, disconnects, end_without, is_on, retired}
 use Rattle.ca_model.specs.Speech.{In}
 use Rattle.ca_server_circuit.specs.Clearing.{ArePuts}
-use Rattle.ca_server_core.specs.Covering.{Covers, IsServer}
+use Rattle.ca_server_core.specs.Covering.{AreListed, Covers, IsServer}
 use Rattle.ca_server_circuit.specs.Ending.{WithdrawsAll}
 use Rattle.ca_server_core.specs.Removing.{LosesAll, LosesIn, MayAllLose, MayLoseIn}
 use Rattle.ca_server_circuit.specs.Removing.{LosesAt, MayLose, leads_to}
@@ -33,6 +33,7 @@ use Rattle.ca_server_subscriptions.specs.Subscribed.{HasRoom}
 use Rattle.ca_server_circuit.proofs.Cleared.{is-same, same-is}
 use Rattle.ca_server_core.proofs.Covered.{same-watch}
 use Rattle.ca_server_core.proofs.Each.{at-index, each-back, each-ext, each-length, each-one-more, index-at, under-each, withdrawn-both}
+use Rattle.ca_server_core.proofs.Listed.{found-withdrawn, listed-kept, none-found}
 use Rattle.ca_server_core.proofs.Servers.{became, same-parts, server_of, stayed}
 use Rattle.ca_server_circuit.proofs.Stays.{at-filtered, named-still, withdrawn-keeps}
 use Rattle.ca_server_core.proofs.Stepped.{each-same, none-gone}
@@ -566,6 +567,18 @@ covers-removed w v name gone left rs t sound clears covers h x s at i =
     ap (λ (n : List ℕ). bytes_eq n name) (sym c.4) ∙ unlisted name b.0.channels c.0 c.1 s c.2 c.3 c.5 (not-true (is_on (channels_of name b.0) (key_of s)) f.2) in
     subst (λ (hs : List Handle). IsAmong hs h) (sym (same-watch w v s.name (clears.stay s.name other))) (covers h b.0 s b.1 (f.0, f.1))
 
+-- a record goes, and its line
+listed-removed : (name : List ℕ) (test : Put → Bool) (rs qs : List Record) (w v : Watched) → qs ≡ withdrawn test (removed name rs) → Clears name w v → AreListed rs w → AreListed qs v
+listed-removed name test rs qs w v are clears listed = listed-kept (removed name rs) qs v (found-withdrawn test (removed name rs) qs are) (λ other none. by other none (bytes_eq other name) refl)
+  where
+    by : (other : List ℕ) → record_named (removed name rs) other ≡ None → (b : Bool) → bytes_eq other name ≡ b → line_of v other ≡ None
+    by other none true hit = ap (λ (n : List ℕ). line_of v n) ((bytes_eq-Decides other name).0 hit) ∙ clears.gone
+    by other none false miss = clears.stay other miss ∙ was (record_named rs other) refl
+      where
+        was : (o : Option Record) → record_named rs other ≡ o → line_of w other ≡ None
+        was None is = listed other is
+        was (Some r) is = none-found (record_named (removed name rs) other) r none (named-left name other rs r miss is)
+
 -- all of it
 pub server-removed : (name : List ℕ) (s u x : Store) (w v : Watched) (t last : Circuits) → IsServer (records_of s) w t → records_of u ≡ removed name (records_of s) → LosesAll name t u last x → Clears name w v → IsServer (records_of x) v last
 server-removed name s u x w v t last i left lost clears =
@@ -578,6 +591,7 @@ server-removed name s u x w v t last i left lost clears =
           (subst (λ (y : Circuits). IsSound (qs name gone long (records_of s) t) y) (sym l.circuits)
           (sound-removed name gone long (records_of s) t i.sound (subst (λ (y : Circuits). (h : Handle) (e : ServerEnd) → under y h ≡ Some (Open e) → HasRoom (events_of e)) l.circuits l.rooms)));
       covered = subst (λ (y : Circuits). Covers v y) (sym l.circuits) (covers-removed w v name gone long (records_of s) t i.sound clears i.covered);
+      listed = listed-removed name (λ (p : Put). gone p.circuit) (records_of s) (records_of x) w v are clears i.listed;
     }
 
 -- ---- the call

@@ -2,8 +2,8 @@
 use Rattle.std.specs.Prelude.{ℕ, ◌≡◌, Bool, false, List, Option, Some, None}
 use Rattle.ca_arena.specs.declared.handle.Handle.{Handle}
 use Rattle.ca_ids.specs.Table.{Table, under}
-use Rattle.ca_records.specs.Puts.{Record}
-use Rattle.ca_server_watchers.specs.Watching.{IsAmong, Watched, watching}
+use Rattle.ca_records.specs.Puts.{Record, record_named}
+use Rattle.ca_server_watchers.specs.Watching.{IsAmong, Watched, line_of, watching}
 use Rattle.ca_model.specs.Server.{Open, ServerCircuit, ServerEnd, Subscription}
 use Rattle.ca_model.specs.Speech.{In}
 use Rattle.ca_server_core.specs.Sound.{IsSound}
@@ -13,10 +13,15 @@ use Rattle.ca_server_circuit.specs.Circuits.{watches}
 abbrev pub Covers : Watched → Table ServerCircuit → Type 0
 Covers w t = (h : Handle) (e : ServerEnd) (s : Subscription) → under t h ≡ Some (Open e) → In e.subscriptions s → IsAmong (watching w s.name) h
 
+-- a name without a record has no line
+abbrev pub AreListed : List Record → Watched → Type 0
+AreListed rs w = (name : List ℕ) → record_named rs name ≡ None → line_of w name ≡ None
+
 -- what holds of a server
 pub record IsServer (rs : List Record) (w : Watched) (t : Table ServerCircuit) : Type 0 where
   pub sound : IsSound rs t
   pub covered : Covers w t
+  pub listed : AreListed rs w
 
 -- the circuit under a handle is there, and watches the record of this name
 abbrev pub watches_under : List ℕ → Option ServerCircuit → Bool

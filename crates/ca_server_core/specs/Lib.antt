@@ -11,4 +11,5 @@ pub mod Following
 pub mod Pumping
 pub mod Removing
 pub mod NextPut
+pub mod Noting
 pub mod ForHistories

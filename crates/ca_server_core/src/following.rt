@@ -1,5 +1,5 @@
 ghost use Rattle.ca_records.specs.Store.{records_of};
-ghost use Rattle.ca_server_core.specs.Covering.{Covers};
+ghost use Rattle.ca_server_core.specs.Covering.{AreListed, Covers};
 ghost use Rattle.ca_server_core.specs.Following.{Begins, CoversAt, CoversFor, Follows};
 ghost use Rattle.ca_server_core.specs.Sound.{IsSound};
 
@@ -25,9 +25,11 @@ pub(crate) fn follow(
 )
     requires sound { IsSound (records_of records.old) circuits.old }
     requires covered { CoversFor effect circuit records.old watchers.old circuits.old }
+    requires listed { AreListed (records_of records.old) watchers.old }
     ensures follows { Follows effect circuit circuits.old records.old circuits.new records.new }
     ensures sound { IsSound (records_of records.new) circuits.new }
     ensures covered { Covers watchers.new circuits.new }
+    ensures listed { AreListed (records_of records.new) watchers.new }
 {
     match effect {
         Effect::Quiet => {}
@@ -47,9 +49,11 @@ fn watch(
 )
     requires sound { IsSound (records_of records.old) circuits.old }
     requires covered { CoversAt place circuit records.old watchers.old circuits.old }
+    requires listed { AreListed (records_of records.old) watchers.old }
     ensures follows { Begins circuit circuits.old records.old circuits.new records.new }
     ensures sound { IsSound (records_of records.new) circuits.new }
     ensures covered { Covers watchers.new circuits.new }
+    ensures listed { AreListed (records_of records.new) watchers.new }
 {
     match watchers.watch(records.at(place).state().name(), circuit) {
         Ok(()) => {}

@@ -19,6 +19,7 @@ mod posting;
 mod pumping;
 mod removing;
 mod server;
+mod serving;
 mod stepping;
 
 pub use ca_server_circuit::Cause;

@@ -4,7 +4,7 @@ ghost use Rattle.ca_dbr.specs.Elements.{elements};
 ghost use Rattle.ca_ids.specs.Table.{under};
 ghost use Rattle.ca_model.specs.ServerCalls.{Posts};
 ghost use Rattle.ca_records.specs.Store.{IsThere, records_of};
-ghost use Rattle.ca_server_core.specs.Covering.{Covers};
+ghost use Rattle.ca_server_core.specs.Covering.{AreListed, Covers};
 ghost use Rattle.ca_server_core.specs.Reaching.{IsListed, PostsIn, ReachesFrom, ReachesNext, WatchesIn};
 ghost use Rattle.ca_server_core.specs.Sound.{IsSound};
 
@@ -53,9 +53,11 @@ pub(crate) fn post_to_all(
     requires there { IsThere records.old place }
     requires sound { IsSound (records_of records.old) circuits.old }
     requires covered { Covers watchers.old circuits.old }
+    requires listed { AreListed (records_of records.old) watchers.old }
     ensures reaches { ReachesFrom place mask circuits.old records.old circuits.new records.new }
     ensures sound { IsSound (records_of records.new) circuits.new }
     ensures covered { Covers watchers.new circuits.new }
+    ensures listed { AreListed (records_of records.new) watchers.new }
 {
     let mut before = 0;
     let Some(circuit) = watchers.last(records.at(place).state().name(), &mut before) else {

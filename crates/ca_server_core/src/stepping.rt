@@ -5,7 +5,7 @@ ghost use Rattle.ca_records.specs.Store.{records_of};
 ghost use Rattle.ca_server_core.specs.Following.{Settles};
 ghost use Rattle.ca_server_circuit.specs.declared.step.Effect.TheVariants.{Quiet};
 ghost use Rattle.ca_server_circuit.specs.Circuits.{is_open};
-ghost use Rattle.ca_server_core.specs.Serving.{Reports, StepsIn, more_applied, stepped};
+ghost use Rattle.ca_server_core.specs.Serving.{Closes, Reports, StepsIn, more_applied, stepped};
 ghost use Rattle.ca_server_core.specs.Sound.{IsSound};
 
 use crate::following::follow;
@@ -36,11 +36,12 @@ impl ServerCore {
     /// its record, on all circuits. An end without memory for an update has ended.
     ///
     /// The end closes at a header that is refused, and out of memory if there is none for the message, which changes nothing then, or
-    /// for an update of its own write, which is applied then; its replies are not sent. The puts of the circuit that wait are never applied.
+    /// for its own update of its write, which is applied then; its replies are not sent. The puts of the circuit that wait are never applied.
     /// The end of a circuit is reported once, whichever call ended it. From then on, and under a handle without a circuit, a step reports a
     /// cut.
     pub fn step(&mut self, circuit: Handle) -> Step
-        ensures { Steps self.old circuit (stepped result) self.new }
+        ensures steps { Steps self.old circuit (stepped result) self.new }
+        ensures closes { Closes self.old circuit (stepped result) self.new }
     {
         let mut waited = 0;
         match step_on(
@@ -75,7 +76,7 @@ impl ServerCore {
 /// One step of a circuit's end, which has ended if it broke, and how many bytes waited to be sent before it. None if there is no circuit, or its
 /// end had ended.
 #[inline(always)]
-fn step_on(
+pub(crate) fn step_on(
     port: u16,
     circuits: &mut HeldTable<Circuit>,
     records: &mut ServedRecords,
@@ -95,7 +96,7 @@ fn step_on(
 }
 
 /// Whether nothing is left to do: so it is after most messages.
-fn is_quiet(effect: Effect) -> bool
+pub(crate) fn is_quiet(effect: Effect) -> bool
     ensures { result ≡ true → effect ≡ Quiet }
 {
     match effect {
@@ -106,7 +107,12 @@ fn is_quiet(effect: Effect) -> bool
 
 /// What a step of a circuit that handled a message answers. If its end has ended since, out of memory, nothing is left of its replies:
 /// these come after the first bytes that waited, and these alone are left.
-fn settle(alloc: Global, circuits: &mut HeldTable<Circuit>, circuit: Handle, waited: usize) -> Step
+pub(crate) fn settle(
+    alloc: Global,
+    circuits: &mut HeldTable<Circuit>,
+    circuit: Handle,
+    waited: usize,
+) -> Step
     ensures { Settles circuits.old circuit waited result circuits.new }
 {
     if is_open(circuits, circuit) {
@@ -139,7 +145,7 @@ pub(crate) fn is_open(circuits: &HeldTable<Circuit>, circuit: Handle) -> bool
 
 /// Takes a circuit out whose end has ended, and reports that.
 #[inline(never)]
-fn report(alloc: Global, circuits: &mut HeldTable<Circuit>, circuit: Handle) -> Step
+pub(crate) fn report(alloc: Global, circuits: &mut HeldTable<Circuit>, circuit: Handle) -> Step
     ensures { Reports circuits.old circuit result circuits.new }
 {
     match circuits.free(circuit) {

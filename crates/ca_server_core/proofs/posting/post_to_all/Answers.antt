@@ -1,11 +1,13 @@
 use Rattle.std.proofs.Common.{◌≡◌, ℕ, ◌+◌, ◌-◌, ◌<◌, List, length, slice_get, refl, sym, ap, ◌∙◌, subst, arith}
 use Rattle.ca_records.specs.Record.{RecordState}
+use Rattle.ca_records.specs.Store.{records_of}
 use Rattle.ca_text.specs.Place.{At}
 use Rattle.ca_text.proofs.Places.{At-within}
 use Rattle.ca_server_watchers.specs.Watching.{AreApart, Watched, watching}
-use Rattle.ca_server_core.specs.Covering.{Covers}
+use Rattle.ca_server_core.specs.Covering.{AreListed, Covers}
 use Rattle.ca_server_core.specs.Reaching.{ReachesNext}
 use Rattle.ca_server_core.proofs.Idle.{none-last}
+use Rattle.ca_server_core.proofs.Listed.{listed-walked}
 use Rattle.ca_server_core.proofs.Reached.{Walk, walk-begins, walk-ends, walk-next}
 use Rattle.ca_server_core.proofs.posting.post_to_all.Goals as goal
 
@@ -24,6 +26,9 @@ returns-in_default-clause-reaches c =
 
 pub returns-in_default-clause-covered : goal.returns-in_default-clause-covered
 returns-in_default-clause-covered c = subst (λ (v : Watched). Covers v c.args.circuits.now) (sym c.last.ensures.stays) c.requires.covered
+
+pub returns-in_default-clause-listed : goal.returns-in_default-clause-listed
+returns-in_default-clause-listed c = subst (λ (v : Watched). AreListed (records_of c.args.records.now) v) (sym c.last.ensures.stays) c.requires.listed
 
 pub post_to_this-requires-clause-listed : goal.post_to_this-requires-clause-listed
 post_to_this-requires-clause-listed c =
@@ -62,3 +67,7 @@ pub returns-clause-reaches : goal.returns-clause-reaches
 returns-clause-reaches c =
     let none = c.posting-test.false in
     walk-ends c.args.place c.args.mask c.args.watchers.now c.args.circuits.now c.args.records.now c.posting.left c.posting.watchers c.posting.circuits c.posting.records (omega (arith, none)) c.requires.covered c.posting.invariant
+
+pub returns-clause-listed : goal.returns-clause-listed
+returns-clause-listed c =
+    listed-walked c.args.place c.args.mask c.args.watchers.now c.args.circuits.now c.args.records.now c.posting.left c.posting.watchers c.posting.circuits c.posting.records c.posting.invariant c.requires.listed

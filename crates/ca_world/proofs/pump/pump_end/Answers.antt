@@ -59,7 +59,7 @@ tell_behind-read-requires-2-clause-within c =
     let fit = c.requires.fits us mid c.pump.ensures.1 in
     let r : Ending old j.at_server us mid = pumped-over old mid j.at_server us c.requires.serves c.pump.ensures.1 (sym c.serves.ensures ∙ c.if-serves.false) in
     over-within old mid j us (length c.out_bytes-waited.result.now) c.bytes.result.now fit r (ap (λ (l : List ℕ). length l) c.out_bytes-waited.ensures)
-    (stepped c.step-did.result) c.step-did.new.self c.step-did.ensures (c.bytes.ensures ∙ c.left_by-left.ensures)
+    (stepped c.step-did.result) c.step-did.new.self c.step-did.ensures.steps (c.bytes.ensures ∙ c.left_by-left.ensures)
 
 pub tell_behind-read-requires-2-clause-spelled : goal.tell_behind-read-requires-2-clause-spelled
 tell_behind-read-requires-2-clause-spelled c =
@@ -70,7 +70,7 @@ tell_behind-read-requires-2-clause-spelled c =
     let fit = c.requires.fits us mid c.pump.ensures.1 in
     let r : Ending old j.at_server us mid = pumped-over old mid j.at_server us c.requires.serves c.pump.ensures.1 (sym c.serves.ensures ∙ c.if-serves.false) in
     over-spelled old mid j us (length c.out_bytes-waited.result.now) c.bytes.result.now fit r (ap (λ (l : List ℕ). length l) c.out_bytes-waited.ensures)
-    (stepped c.step-did.result) c.step-did.new.self c.step-did.ensures (c.bytes.ensures ∙ c.left_by-left.ensures)
+    (stepped c.step-did.result) c.step-did.new.self c.step-did.ensures.steps (c.bytes.ensures ∙ c.left_by-left.ensures)
 
 pub returns : goal.returns
 returns c =
@@ -81,6 +81,6 @@ returns c =
     let fit = c.requires.fits us mid c.pump.ensures.1 in
     let r : Ending old j.at_server us mid = pumped-over old mid j.at_server us c.requires.serves c.pump.ensures.1 (sym c.serves.ensures ∙ c.if-serves.false) in
     over-told old mid j us (length c.out_bytes-waited.result.now) c.bytes.result.now fit r (ap (λ (l : List ℕ). length l) c.out_bytes-waited.ensures)
-    (stepped c.step-did.result) c.step-did.new.self c.step-did.ensures (c.bytes.ensures ∙ c.left_by-left.ensures)
+    (stepped c.step-did.result) c.step-did.new.self c.step-did.ensures.steps (c.bytes.ensures ∙ c.left_by-left.ensures)
     (joined_of c.tell_behind-read-2.new.joined) c.tell_behind-read-2.result c.tell_behind-read-2.ensures.tells
     c.first_of-2.result (c.first_of-2.ensures ∙ ap (take c.tell_behind-read-2.result) (sym c.bytes.ensures))

@@ -29,7 +29,7 @@ tell_step-requires-clause-was c =
       λ j here.
           let one : joined_of x ≡ j = At-one ks k (joined_of x) j there here in
           let m = c.requires.may j here in
-          (ap (λ (z : model.Joined). z.at_server) one, handled-step core j.at_server m.e c.step.new.self m.has (subst (λ (z : model.Joined). steps.Steps core z.at_server steps.Handled c.step.new.self) one c.in-Handled.ensures)),
+          (ap (λ (z : model.Joined). z.at_server) one, handled-step core j.at_server m.e c.step.new.self m.has (subst (λ (z : model.Joined). steps.Steps core z.at_server steps.Handled c.step.new.self) one c.in-Handled.ensures.steps)),
     )
 
 pub close_stepped-requires-clause-done : goal.close_stepped-requires-clause-done
@@ -43,7 +43,7 @@ close_stepped-requires-clause-done c = λ busies is.
     let there : At ks k (joined_of x) = At-map joined_of items k x (found items k x x within c.index.ensures) in
     let core : Server = c.args.side.now.core in
     let m = c.requires.may (joined_of x) there in
-    let did = open-steps core x.at_server m.e (steps.Closed (why_is c.in-Closed.field-0) c.in-Closed.left) c.step.new.self m.has c.in-Closed.ensures in
+    let did = open-steps core x.at_server m.e (steps.Closed (why_is c.in-Closed.field-0) c.in-Closed.left) c.step.new.self m.has c.in-Closed.ensures.steps in
     let wrote = closed-wrote core c.step.new.self c.args.server (joined_of x) ks rs c.args.ahead c.args.counts m c.in-Closed.left (why_is c.in-Closed.field-0) did in
     let l = wrote busies is in
     (core, x.at_server, l.next.action, lacks-done core c.step.new.self c.args.server (joined_of x) ks rs c.args.ahead c.args.counts m l busies is)
@@ -59,7 +59,7 @@ close_stepped-requires-clause-counts c = λ busies is.
     let there : At ks k (joined_of x) = At-map joined_of items k x (found items k x x within c.index.ensures) in
     let core : Server = c.args.side.now.core in
     let m = c.requires.may (joined_of x) there in
-    let did = open-steps core x.at_server m.e (steps.Closed (why_is c.in-Closed.field-0) c.in-Closed.left) c.step.new.self m.has c.in-Closed.ensures in
+    let did = open-steps core x.at_server m.e (steps.Closed (why_is c.in-Closed.field-0) c.in-Closed.left) c.step.new.self m.has c.in-Closed.ensures.steps in
     let wrote = closed-wrote core c.step.new.self c.args.server (joined_of x) ks rs c.args.ahead c.args.counts m c.in-Closed.left (why_is c.in-Closed.field-0) did in
     let l = wrote busies is in
     let known =
@@ -78,7 +78,7 @@ close_stepped-requires-clause-alike c = λ busies is.
     let there : At ks k (joined_of x) = At-map joined_of items k x (found items k x x within c.index.ensures) in
     let core : Server = c.args.side.now.core in
     let m = c.requires.may (joined_of x) there in
-    let did = open-steps core x.at_server m.e (steps.Closed (why_is c.in-Closed.field-0) c.in-Closed.left) c.step.new.self m.has c.in-Closed.ensures in
+    let did = open-steps core x.at_server m.e (steps.Closed (why_is c.in-Closed.field-0) c.in-Closed.left) c.step.new.self m.has c.in-Closed.ensures.steps in
     let wrote = closed-wrote core c.step.new.self c.args.server (joined_of x) ks rs c.args.ahead c.args.counts m c.in-Closed.left (why_is c.in-Closed.field-0) did in
     lacks-alike core c.step.new.self c.args.server (joined_of x) ks rs c.args.ahead c.args.counts m (wrote busies is) busies is
 
@@ -94,7 +94,7 @@ returns-in-Handled-clause-steps c = λ j here.
     let one : joined_of x ≡ j = At-one ks k (joined_of x) j there here in
     let m = c.requires.may j here in
     c.tell_step.ensures.steps core j here m
-    (handled-step core j.at_server m.e c.step.new.self m.has (subst (λ (z : model.Joined). steps.Steps core z.at_server steps.Handled c.step.new.self) one c.in-Handled.ensures))
+    (handled-step core j.at_server m.e c.step.new.self m.has (subst (λ (z : model.Joined). steps.Steps core z.at_server steps.Handled c.step.new.self) one c.in-Handled.ensures.steps))
 
 pub returns-in-Closed-clause-steps : goal.returns-in-Closed-clause-steps
 returns-in-Closed-clause-steps c = λ j here.
@@ -107,7 +107,7 @@ returns-in-Closed-clause-steps c = λ j here.
     let core : Server = c.args.side.now.core in
     let one : joined_of x ≡ j = At-one ks k (joined_of x) j there here in
     let m = c.requires.may j here in
-    let did = open-steps core j.at_server m.e (steps.Closed (why_is c.in-Closed.field-0) c.in-Closed.left) c.step.new.self m.has (subst (λ (z : model.Joined). steps.Steps core z.at_server (steps.Closed (why_is c.in-Closed.field-0) c.in-Closed.left) c.step.new.self) one c.in-Closed.ensures) in
+    let did = open-steps core j.at_server m.e (steps.Closed (why_is c.in-Closed.field-0) c.in-Closed.left) c.step.new.self m.has (subst (λ (z : model.Joined). steps.Steps core z.at_server (steps.Closed (why_is c.in-Closed.field-0) c.in-Closed.left) c.step.new.self) one c.in-Closed.ensures.steps) in
     let y : ServerSide = record c.args.side.now { core = c.step.new.self } in
     closed-at k c.args.server core j y ks here c.args.ahead c.args.counts m x.at_server (ap (λ (z : model.Joined). z.at_server) one) c.in-Closed.left ks refl (entries_in c.args.logs.now.items) c.close_stepped.new.side (map joined_of c.close_stepped.new.circuits.items) (entries_in c.close_stepped.new.logs.items)
     c.close_stepped.ensures.none c.close_stepped.ensures.some (why_is c.in-Closed.field-0) did
@@ -123,7 +123,7 @@ returns-in-Closed-clause-numbers c =
     let there : At ks k (joined_of x) = At-map joined_of items k x (found items k x x within c.index.ensures) in
     let core : Server = c.args.side.now.core in
     let m = c.requires.may (joined_of x) there in
-    let did = open-steps core x.at_server m.e (steps.Closed (why_is c.in-Closed.field-0) c.in-Closed.left) c.step.new.self m.has c.in-Closed.ensures in
+    let did = open-steps core x.at_server m.e (steps.Closed (why_is c.in-Closed.field-0) c.in-Closed.left) c.step.new.self m.has c.in-Closed.ensures.steps in
     let wrote = closed-wrote core c.step.new.self c.args.server (joined_of x) ks rs c.args.ahead c.args.counts m c.in-Closed.left (why_is c.in-Closed.field-0) did in
     let y : ServerSide = record c.args.side.now { core = c.step.new.self } in
     closed-numbers k c.args.server core (joined_of x) y ks there c.args.ahead c.args.counts m x.at_server refl c.in-Closed.left ks refl (entries_in c.args.logs.now.items) c.close_stepped.new.side (map joined_of c.close_stepped.new.circuits.items) (entries_in c.close_stepped.new.logs.items)
@@ -140,7 +140,7 @@ returns-in-NeedBytes-clause-steps c = λ j here.
     let core : Server = c.args.side.now.core in
     let one : joined_of x ≡ j = At-one ks k (joined_of x) j there here in
     let m = c.requires.may j here in
-    let did = open-steps core j.at_server m.e steps.NeedBytes c.step.new.self m.has (subst (λ (z : model.Joined). steps.Steps core z.at_server steps.NeedBytes c.step.new.self) one c.in-NeedBytes.ensures) in
+    let did = open-steps core j.at_server m.e steps.NeedBytes c.step.new.self m.has (subst (λ (z : model.Joined). steps.Steps core z.at_server steps.NeedBytes c.step.new.self) one c.in-NeedBytes.ensures.steps) in
     let y : ServerSide = record c.args.side.now { core = c.step.new.self } in
     rests-at k core j (server_of y) ks (entries_in c.args.logs.now.items) m.e m.has false did
 
@@ -155,6 +155,6 @@ returns-in-OutputFull-clause-steps c = λ j here.
     let core : Server = c.args.side.now.core in
     let one : joined_of x ≡ j = At-one ks k (joined_of x) j there here in
     let m = c.requires.may j here in
-    let did = open-steps core j.at_server m.e steps.OutputFull c.step.new.self m.has (subst (λ (z : model.Joined). steps.Steps core z.at_server steps.OutputFull c.step.new.self) one c.in-OutputFull.ensures) in
+    let did = open-steps core j.at_server m.e steps.OutputFull c.step.new.self m.has (subst (λ (z : model.Joined). steps.Steps core z.at_server steps.OutputFull c.step.new.self) one c.in-OutputFull.ensures.steps) in
     let y : ServerSide = record c.args.side.now { core = c.step.new.self } in
     rests-at k core j (server_of y) ks (entries_in c.args.logs.now.items) m.e m.has true did

@@ -5,7 +5,8 @@ use Rattle.ca_text.specs.declared.refusal.Refusal.TheVariants.{OutOfMemory}
 use Rattle.ca_server_core.specs.declared.stepping.Step.{Step}
 use Rattle.ca_server_core.specs.Serving.{stepped}
 use Rattle.ca_server_circuit.specs.Stepping.{why_is}
-use Rattle.ca_answer.specs.Engines.{EngineState, ServesNext}
+use Rattle.ca_server_core.specs.Noting.{ServesNext}
+use Rattle.ca_answer.specs.Engines.{EngineState}
 use Rattle.ca_answer.specs.Serving.{Comes}
 use Rattle.ca_answer.proofs.Gathered.{handled-gathered}
 use Rattle.ca_answer.proofs.Servings.{closes-comes, comes-full, comes-handled, comes-lacking, comes-stopped, rests, same-error}

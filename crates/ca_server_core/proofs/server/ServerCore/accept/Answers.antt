@@ -9,6 +9,7 @@ invariant_of-self c =
     record {
       sound = sound-opened (records_of i.records) i.circuits c.open_on.new.circuits i.moment c.new-circuit.result c.open_on.result c.self.invariant.sound c.new-circuit.ensures c.open_on.ensures;
       covered = covers-opened i.watchers i.circuits c.open_on.new.circuits i.moment c.new-circuit.result c.open_on.result c.self.invariant.covered c.new-circuit.ensures c.open_on.ensures;
+      listed = c.self.invariant.listed;
     }
 
 pub returns : goal.returns

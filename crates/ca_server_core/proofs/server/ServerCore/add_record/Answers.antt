@@ -1,10 +1,12 @@
 use Rattle.ca_server_core.proofs.Added.{adds-ok, sound-added}
+use Rattle.ca_server_core.proofs.Listed.{listed-added}
 use Rattle.ca_server_core.proofs.server.ServerCore.add_record.Goals as goal
 
 pub invariant_of-self-2 : goal.invariant_of-self-2
 invariant_of-self-2 c = record {
   sound = sound-added c.self.inside.records c.add.new.self _ c.in_ok-add.field-0 c.in_ok-add.ensures c.self.inside.circuits c.self.invariant.sound;
   covered = c.self.invariant.covered;
+  listed = listed-added c.self.inside.records c.add.new.self _ c.in_ok-add.field-0 c.self.inside.watchers c.in_ok-add.ensures c.self.invariant.listed;
 }
 
 pub returns : goal.returns

@@ -1,4 +1,5 @@
 use Rattle.ca_server_core.proofs.Covered.{covers-thinned, thins-out}
+use Rattle.ca_server_core.proofs.Listed.{listed-ended}
 use Rattle.ca_server_core.proofs.Servers.{cuts-at, sound-end}
 use Rattle.ca_server_core.proofs.server.ServerCore.cut.Goals as goal
 
@@ -11,6 +12,7 @@ invariant_of-self c =
     record {
       sound = sound-end i.records c.end_on.new.records i.circuits c.end_on.new.circuits c.args.circuit _ c.end_on.ensures c.self.invariant.sound;
       covered = covers-thinned i.watchers i.circuits c.end_on.new.circuits (thins-out i.circuits c.end_on.new.circuits c.args.circuit i.records c.end_on.new.records _ c.end_on.ensures) c.self.invariant.covered;
+      listed = listed-ended i.records c.end_on.new.records i.circuits c.end_on.new.circuits c.args.circuit _ i.watchers c.end_on.ensures c.self.invariant.listed;
     }
 
 pub returns : goal.returns

@@ -3,6 +3,7 @@ use Rattle.ca_server_circuit.specs.declared.step.Effect.{Effect}
 use Rattle.ca_server_core.specs.Following.{CoversFor}
 use Rattle.ca_server_core.proofs.Covered.{covers-thinned}
 use Rattle.ca_server_core.proofs.Finished.{finished-sound, replied-sound}
+use Rattle.ca_server_core.proofs.Listed.{listed-finished}
 use Rattle.ca_server_core.proofs.Nexts.{finished-covers, viewed-finish}
 use Rattle.ca_server_core.proofs.Thinned.{thins-replied}
 use Rattle.ca_server_core.proofs.server.ServerCore.finish.Goals as goal
@@ -23,6 +24,12 @@ follow-requires-clause-covered c =
     let kept = covers-thinned i.watchers i.circuits c.reply_on.new.circuits (thins-replied c.finish.new.self c.reply_on.new.records i.circuits c.reply_on.new.circuits f.ended c.reply_on.ensures) c.self.invariant.covered in
     subst (λ (d : Effect). CoversFor d f.ended.circuit c.reply_on.new.records i.watchers c.reply_on.new.circuits) (sym c.effect_of-effect.ensures)
     (finished-covers i.watchers i.records c.finish.new.self c.reply_on.new.records i.circuits c.reply_on.new.circuits c.args.name.now f c.in_ok-finished.ensures c.reply_on.ensures kept)
+
+pub follow-requires-clause-listed : goal.follow-requires-clause-listed
+follow-requires-clause-listed c =
+    let i = c.self.inside in
+    let f = c.in_ok-finished.finished in
+    listed-finished i.records c.finish.new.self c.reply_on.new.records i.circuits c.reply_on.new.circuits c.args.name.now f i.watchers c.in_ok-finished.ensures c.reply_on.ensures c.self.invariant.listed
 
 pub returns : goal.returns
 returns c =

@@ -14,6 +14,7 @@ invariant_of-self c =
     record {
       sound = sound-given (records_of i.records) i.circuits c.give_on.new.circuits c.args.circuit i.moment c.args.bytes.now c.give_on.result c.self.invariant.sound c.give_on.ensures;
       covered = covers-thinned i.watchers i.circuits c.give_on.new.circuits (thins-given i.circuits c.give_on.new.circuits c.args.circuit i.moment c.args.bytes.now c.give_on.result c.give_on.ensures) c.self.invariant.covered;
+      listed = c.self.invariant.listed;
     }
 
 pub returns : goal.returns

@@ -1,5 +1,6 @@
 use Rattle.ca_records.specs.Store.{records_of}
 use Rattle.ca_server_core.proofs.Covered.{covers-none}
+use Rattle.ca_server_core.proofs.Listed.{listed-empty}
 use Rattle.ca_server_core.proofs.Sounds.{sound-new}
 use Rattle.ca_server_core.proofs.server.ServerCore.new.Goals as goal
 
@@ -9,4 +10,5 @@ invariant_of-result c =
     (record {
       sound = sound-new (records_of c.in_ok-records.records) c.args.records.now c.in_ok-records.ensures.list;
       covered = covers-none _;
+      listed = listed-empty _ c.new-2.result c.new-2.ensures;
     })

@@ -4,6 +4,7 @@ use Rattle.ca_dbr.specs.Elements.{elements}
 use Rattle.ca_text.specs.declared.refusal.Refusal.{Refusal}
 use Rattle.std.proofs.Common.{Bool}
 use Rattle.ca_model.specs.ServerCalls.{Posts}
+use Rattle.ca_server_core.proofs.Listed.{listed-posted}
 use Rattle.ca_server_core.proofs.Posted.{posted-sound, same-error, viewed-post, viewed-refused}
 use Rattle.ca_server_core.proofs.Servers.{server_of}
 use Rattle.ca_server_core.proofs.server.ServerCore.post.Goals as goal
@@ -20,6 +21,11 @@ pub post_to_all-requires-clause-sound : goal.post_to_all-requires-clause-sound
 post_to_all-requires-clause-sound c =
     let i = c.self.inside in
     posted-sound i.records c.post.new.self i.circuits c.args.name.now (elements c.args.value) c.args.meta c.in_ok-place.place c.in_ok-place.ensures c.self.invariant.sound
+
+pub post_to_all-requires-clause-listed : goal.post_to_all-requires-clause-listed
+post_to_all-requires-clause-listed c =
+    let i = c.self.inside in
+    listed-posted i.records c.post.new.self c.args.name.now (elements c.args.value) c.args.meta c.in_ok-place.place i.watchers c.in_ok-place.ensures c.self.invariant.listed
 
 pub returns : goal.returns
 returns c =

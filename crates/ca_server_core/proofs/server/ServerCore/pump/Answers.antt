@@ -1,4 +1,5 @@
 use Rattle.ca_server_core.proofs.Covered.{covers-thinned}
+use Rattle.ca_server_core.proofs.Listed.{listed-pumped}
 use Rattle.ca_server_core.proofs.Pumped.{pumps-at, sound-pumped}
 use Rattle.ca_server_core.proofs.Thinned.{thins-pumped}
 use Rattle.ca_server_core.proofs.server.ServerCore.pump.Goals as goal
@@ -9,6 +10,7 @@ invariant_of-self c =
     record {
       sound = sound-pumped i.records c.pump_on.new.records i.circuits c.pump_on.new.circuits c.args.circuit c.pump_on.ensures c.self.invariant.sound;
       covered = covers-thinned i.watchers i.circuits c.pump_on.new.circuits (thins-pumped i.records c.pump_on.new.records i.circuits c.pump_on.new.circuits c.args.circuit c.pump_on.ensures) c.self.invariant.covered;
+      listed = listed-pumped i.records c.pump_on.new.records i.circuits c.pump_on.new.circuits c.args.circuit i.watchers c.pump_on.ensures c.self.invariant.listed;
     }
 
 pub returns : goal.returns

@@ -11,6 +11,7 @@ invariant_of-self c =
     record {
       sound = sound-sent (records_of i.records) i.circuits c.sent_on.new.circuits c.args.circuit c.args.n c.self.invariant.sound c.sent_on.ensures;
       covered = covers-thinned i.watchers i.circuits c.sent_on.new.circuits (thins-sent i.circuits c.sent_on.new.circuits c.args.circuit c.args.n c.sent_on.ensures) c.self.invariant.covered;
+      listed = c.self.invariant.listed;
     }
 
 pub returns : goal.returns

@@ -1,0 +1,258 @@
+-- Which record a step made busy.
+use Rattle.std.proofs.Common.{◌≡◌, ℕ, ◌⊎◌, inl, inr, Bool, true, false, cond, List, [], map, Option, Some, None, Result, Ok, Err, refl, sym, ap, ◌∙◌, subst}
+use Rattle.std.specs.Prelude.{OnErr, is_some}
+use Rattle.std.specs.declared.alloc.AllocError.{AllocError}
+use Rattle.std.specs.Str.{bytes_eq}
+use Rattle.std.proofs.lemmas.Slice.Eq.{bytes_eq-Decides}
+use Rattle.ca_arena.specs.declared.handle.Handle.{Handle}
+use Rattle.ca_beacon.specs.Clock.{Clock}
+use Rattle.ca_ids.specs.Table.{Table, same_handle, under, with_changed}
+use Rattle.ca_records.specs.declared.puts.Put.{Put}
+use Rattle.ca_records.specs.declared.puts.Stamp.{Stamp}
+use Rattle.ca_records.specs.Puts.{Record, record_named, with_record, with_value, with_waiting, without_puts, withdrawn, written_meta}
+use Rattle.ca_records.specs.Record.{RecordState}
+use Rattle.ca_records.specs.Store.{HasAt, Store, records_of}
+use Rattle.ca_text.proofs.Places.{At-mapped, some_is}
+use Rattle.ca_wire.specs.Fields.{Fields}
+use Rattle.ca_model.specs.Due.{Action, Adds, Applies, Clears, Drops, Greets, Names, Nothing, Opens, Switches, Waits}
+use Rattle.ca_model.specs.Ends.{Why}
+use Rattle.ca_model.specs.Ends as why
+use Rattle.ca_model.specs.Server.{Ended, Open, Server, ServerCircuit, ServerEnd}
+use Rattle.ca_model.specs.ServerSteps.{Stepped, Steps}
+use Rattle.ca_model.specs.ServerSteps as steps
+use Rattle.ca_model.specs.Speech.{In}
+use Rattle.ca_server_circuit.specs.declared.cause.Cause.{Cause}
+use Rattle.ca_server_circuit.specs.declared.step.Effect.{Effect}
+use Rattle.ca_server_circuit.specs.declared.step.Effect.TheVariants as effect
+use Rattle.ca_server_circuit.specs.declared.step.EndStep.TheVariants as step
+use Rattle.ca_server_circuit.specs.Ending.{EndsAt, KeepsPlaces}
+use Rattle.ca_server_circuit.specs.Handling.{Recorded, Tells}
+use Rattle.ca_server_circuit.specs.Serving.{CircuitSteps}
+use Rattle.ca_server_circuit.specs.Stepping.{after_first, why_is}
+use Rattle.ca_server_circuit.proofs.Tables.{changed-own, find-at, none-some}
+use Rattle.ca_server_core.specs.Ending.{EndsIn}
+use Rattle.ca_server_core.specs.Following.{Follows}
+use Rattle.ca_server_core.specs.Noting.{BusyBut, IsBusy, LeadsTo, Notes, NotesAt, StepsNoting}
+use Rattle.ca_server_core.specs.Serving.{IsReport, Reports, StepsIn, stepped}
+use Rattle.ca_server_core.specs.declared.stepping.Step.{Step}
+use Rattle.ca_server_core.proofs.Reached.{there-is}
+use Rattle.ca_server_core.proofs.Servers.{became, server_of, stayed}
+use Rattle.ca_server_core.proofs.Stepped.{not-some}
+
+abbrev Circuits : Type 0
+Circuits = Table ServerCircuit
+
+both-bools : (b : Bool) → b ≡ true → b ≡ false → ⊥
+both-bools b t f = cc
+
+-- each of the changed records is one that was there, changed
+in-mapped : (f : Record → Record) (rs : List Record) (r : Record) → In (map f rs) r → (q : Record) × In rs q × (r ≡ f q)
+in-mapped f rs r h = (let b = At-mapped f rs h.0 r h.1 in (b.0, (h.0, b.1), b.2))
+
+named-in : (rs : List Record) (name : List ℕ) (r : Record) → record_named rs name ≡ Some r → In rs r × (r.state.name ≡ name)
+named-in rs name r is = (let f = find-at (λ (x : Record). bytes_eq x.state.name name) rs r is in ((f.0, f.1), (bytes_eq-Decides r.state.name name).0 f.2))
+
+-- ---- records that change
+
+busy-same : (rs : List Record) (noted : Option (List ℕ)) → BusyBut rs rs noted
+busy-same rs noted r i busy = inr (r, i, refl, busy)
+
+busy-both : (rs mid new : List Record) (noted : Option (List ℕ)) → BusyBut rs mid noted → BusyBut mid new noted → BusyBut rs new noted
+busy-both rs mid new noted first second r i busy = elim (second r i busy) [
+  | inl own ↦ inl own
+  | inr q ↦ elim (first q.0 q.1 q.3) [
+    | inl own ↦ inl (own ∙ ap (λ (n : List ℕ). Some n) q.2)
+    | inr p ↦ inr (p.0, p.1, p.2 ∙ q.2, p.3)
+  ]
+]
+
+-- a change that leaves names, and who is busy
+busy-mapped : (f : Record → Record) (rs : List Record) (noted : Option (List ℕ)) → ((q : Record) → (f q).state.name ≡ q.state.name) → ((q : Record) → (f q).busy ≡ q.busy) → BusyBut rs (map f rs) noted
+busy-mapped f rs noted n b r i busy =
+    let q = in-mapped f rs r i in
+    inr (
+      q.0,
+      q.1,
+      sym (ap (λ (z : Record). z.state.name) q.2 ∙ n q.0),
+      ap (λ (o : Option Put). is_some o) (sym (ap (λ (z : Record). z.busy) q.2 ∙ b q.0)) ∙ busy,
+    )
+
+busy-withdrawn : (which : Put → Bool) (rs new : List Record) (noted : Option (List ℕ)) → new ≡ withdrawn which rs → BusyBut rs new noted
+busy-withdrawn which rs new noted is = subst (λ (z : List Record). BusyBut rs z noted) (sym is) (busy-mapped (without_puts which) rs noted (λ q. refl) (λ q. refl))
+
+-- the same of the record of a name
+busy-with : (name : List ℕ) (f : Record → Record) (rs new : List Record) (noted : Option (List ℕ)) → ((q : Record) → (f q).state.name ≡ q.state.name) → ((q : Record) → (f q).busy ≡ q.busy) → new ≡ with_record name f rs → BusyBut rs new noted
+busy-with name f rs new noted n b is =
+    subst (λ (z : List Record). BusyBut rs z noted) (sym is)
+    (busy-mapped (λ (r : Record). cond (bytes_eq r.state.name name) (f r) r) rs noted (λ q. names q (bytes_eq q.state.name name)) (λ q. busies q (bytes_eq q.state.name name)))
+  where
+    names : (q : Record) (t : Bool) → (cond t (f q) q).state.name ≡ q.state.name
+    names q true = n q
+    names q false = refl
+
+    busies : (q : Record) (t : Bool) → (cond t (f q) q).busy ≡ q.busy
+    busies q true = b q
+    busies q false = refl
+
+-- a put makes the record of a name busy
+module _ (name : List ℕ) (f : Record → Record) (rs : List Record) (n : (q : Record) → (f q).state.name ≡ q.state.name) (p : Put) (b : (q : Record) → (f q).busy ≡ Some p) where
+  made-busy : (r : Record) → In (with_record name f rs) r → r.state.name ≡ name → is_some r.busy ≡ true
+  made-busy r i named =
+      let q = in-mapped (λ (r : Record). cond (bytes_eq r.state.name name) (f r) r) rs r i in
+      subst (λ (z : Record). z.state.name ≡ name → is_some z.busy ≡ true) (sym q.2) (go q.0 (bytes_eq q.0.state.name name) refl) named
+    where
+      go : (q : Record) (t : Bool) → bytes_eq q.state.name name ≡ t → (cond t (f q) q).state.name ≡ name → is_some (cond t (f q) q).busy ≡ true
+      go q true e named = ap (λ (o : Option Put). is_some o) (b q)
+      go q false e named = absurd (both-bools (bytes_eq q.state.name name) ((bytes_eq-Decides q.state.name name).1 named) e)
+
+  busy-put : (noted : Option (List ℕ)) → noted ≡ Some name → BusyBut rs (with_record name f rs) noted
+  busy-put noted is r i busy =
+      let q = in-mapped (λ (r : Record). cond (bytes_eq r.state.name name) (f r) r) rs r i in
+      elim (go q.0 (bytes_eq q.0.state.name name) refl) [
+        | inl own ↦ inl (is ∙ ap (λ (m : List ℕ). Some m) (sym (ap (λ (z : Record). z.state.name) q.2 ∙ own)))
+        | inr same ↦ inr (q.0, q.1, ap (λ (z : Record). z.state.name) (sym same ∙ sym q.2), ap (λ (z : Record). is_some z.busy) (sym same ∙ sym q.2) ∙ busy)
+      ]
+    where
+      go : (q : Record) (t : Bool) → bytes_eq q.state.name name ≡ t → ((cond t (f q) q).state.name ≡ name) ⊎ (cond t (f q) q ≡ q)
+      go q true e = inl (n q ∙ (bytes_eq-Decides q.state.name name).0 e)
+      go q false e = inr refl
+
+-- ---- what follows from a message
+
+followed-busy : (did : Effect) (h : Handle) (t last : Circuits) (u x : Store) (noted : Option (List ℕ)) → Follows did h t u last x → BusyBut (records_of u) (records_of x) noted
+followed-busy effect.Quiet h t last u x noted f = subst (λ (z : Store). BusyBut (records_of u) (records_of z) noted) (sym f.1) (busy-same (records_of u) noted)
+followed-busy (effect.Wrote place) h t last u x noted f =
+    busy-withdrawn (λ (p : Put). f.2.0 p.circuit) (records_of u) (records_of x) noted f.2.1.records
+followed-busy (effect.Began place) h t last u x noted f = by f
+  where
+    same : x ≡ u → BusyBut (records_of u) (records_of x) noted
+    same is = subst (λ (z : Store). BusyBut (records_of u) (records_of z) noted) (sym is) (busy-same (records_of u) noted)
+
+    on : (c new : ServerCircuit) → EndsAt h c u why.OutOfMemory new x → BusyBut (records_of u) (records_of x) noted
+    on (Open e) new did = busy-withdrawn (λ (p : Put). same_handle p.circuit h) (records_of u) (records_of x) noted did.1.records
+    on (Ended w left) new did = same did.1
+
+    by : ((last ≡ t) × (x ≡ u)) ⊎ EndsIn t h u why.OutOfMemory last x → BusyBut (records_of u) (records_of x) noted
+    by (inl is) = same is.1
+    by (inr (inl g)) = on g.0 g.1 g.3
+    by (inr (inr none)) = same none.2
+
+-- what is noted is busy
+noted-busy : (did : Effect) (x : Store) (noted : Option (List ℕ)) → NotesAt did x noted → IsBusy (records_of x) noted
+noted-busy effect.Quiet x noted n name is = absurd (none-some name (sym n ∙ is))
+noted-busy (effect.Began place) x noted n name is = absurd (none-some name (sym n ∙ is))
+noted-busy (effect.Wrote place) x noted n name is = by (is_some n.0.busy) refl (sym n.3 ∙ is)
+  where
+    by : (b : Bool) → is_some n.0.busy ≡ b → cond b (Some n.0.state.name) None ≡ Some name → (r : Record) × (record_named (records_of x) name ≡ Some r) × (is_some r.busy ≡ true)
+    by true busy same = (n.0, ap (λ (m : List ℕ). record_named (records_of x) m) (sym (some_is n.0.state.name name same)) ∙ n.2, busy)
+    by false free same = absurd (none-some name same)
+
+-- the record that a put made busy is noted
+wrote-noted : (name : List ℕ) (u x : Store) (which : Put → Bool) (place : ℕ) (noted : Option (List ℕ)) → ((r : Record) → In (records_of u) r → r.state.name ≡ name → is_some r.busy ≡ true) → records_of x ≡ withdrawn which (records_of u) → KeepsPlaces u x
+    → (was : Record) → HasAt u place was → was.state.name ≡ name → NotesAt (effect.Wrote place) x noted → noted ≡ Some name
+wrote-noted name u x which place noted busy is places was at named n =
+    let kept = places place was at in
+    let r : Record = n.0 in
+    let same : kept.0 ≡ r = there-is x place kept.0 r kept.1 n.1 in
+    let name_is : r.state.name ≡ name = ap (λ (z : Record). z.state.name) (sym same) ∙ ap (λ (z : RecordState). z.name) kept.2 ∙ named in
+    let there : In (records_of x) r = (named-in (records_of x) r.state.name r n.2).0 in
+    let q = in-mapped (without_puts which) (records_of u) r (subst (λ (z : List Record). In z r) is there) in
+    let before : is_some q.0.busy ≡ true = busy q.0 q.1 (ap (λ (z : Record). z.state.name) (sym q.2) ∙ name_is) in
+    let now : is_some r.busy ≡ true = ap (λ (z : Record). is_some z.busy) q.2 ∙ before in
+    n.3 ∙ ap (λ (b : Bool). cond b (Some r.state.name) None) now ∙ ap (λ (m : List ℕ). Some m) name_is
+
+-- ---- a step
+
+-- what a message made of the records, and what followed
+recorded-busy : (rs : List Record) (stamp : Stamp) (h : Handle) (e : ServerEnd) (m : Fields) (a : Action) (did : Effect) (u x : Store) (t last : Circuits) (noted : Option (List ℕ)) → Recorded rs stamp h e m a (records_of u) → Tells a did u → Follows did h t u last x → NotesAt did x noted → BusyBut rs (records_of u) noted
+recorded-busy rs stamp h e m (Applies name value false) did u x t last noted is told f n = busy-with name (with_value value (written_meta stamp)) rs (records_of u) noted (λ q. refl) (λ q. refl) is
+recorded-busy rs stamp h e m (Applies name value true) did u x t last noted (p, put, is) told f n =
+    let change : Record → Record = λ (r : Record). record (with_value value (written_meta stamp) r) { busy = Some p } in
+    let from = subst (λ (d : Effect). Follows d h t u last x) told.2 f in
+    let at = subst (λ (d : Effect). NotesAt d x noted) told.2 n in
+    let named : noted ≡ Some name =
+    wrote-noted name u x (λ (q : Put). from.2.0 q.circuit) told.0 noted (λ r i own. made-busy name (λ (r : Record). record (with_value value (written_meta stamp) r) { busy = Some p }) rs (λ q. refl) p (λ q. refl) r (subst (λ (z : List Record). In z r) is i) own) from.2.1.records from.2.1.places told.1 told.3 told.4 at in
+    subst (λ (z : List Record). BusyBut rs z noted) (sym is) (busy-put name (λ (r : Record). record (with_value value (written_meta stamp) r) { busy = Some p }) rs (λ q. refl) p (λ q. refl) noted named)
+recorded-busy rs stamp h e m (Waits name value) did u x t last noted (p, put, is) told f n =
+    busy-with name (with_waiting (record { put = p; value = value })) rs (records_of u) noted (λ q. refl) (λ q. refl) is
+recorded-busy rs stamp h e m (Clears sid) did u x t last noted is told f n = busy-withdrawn _ rs (records_of u) noted is
+recorded-busy rs stamp h e m Nothing did u x t last noted is told f n = subst (λ (z : List Record). BusyBut rs z noted) (sym is) (busy-same rs noted)
+recorded-busy rs stamp h e m Greets did u x t last noted is told f n = subst (λ (z : List Record). BusyBut rs z noted) (sym is) (busy-same rs noted)
+recorded-busy rs stamp h e m (Names p) did u x t last noted is told f n = subst (λ (z : List Record). BusyBut rs z noted) (sym is) (busy-same rs noted)
+recorded-busy rs stamp h e m (Opens c) did u x t last noted is told f n = subst (λ (z : List Record). BusyBut rs z noted) (sym is) (busy-same rs noted)
+recorded-busy rs stamp h e m (Adds s) did u x t last noted is told f n = subst (λ (z : List Record). BusyBut rs z noted) (sym is) (busy-same rs noted)
+recorded-busy rs stamp h e m (Drops k) did u x t last noted is told f n = subst (λ (z : List Record). BusyBut rs z noted) (sym is) (busy-same rs noted)
+recorded-busy rs stamp h e m (Switches on) did u x t last noted is told f n = subst (λ (z : List Record). BusyBut rs z noted) (sym is) (busy-same rs noted)
+
+notes-after : (port : ℕ) (s u x : Store) (t after last : Circuits) (h : Handle) (did : Effect) (noted : Option (List ℕ)) → StepsIn port t h s (Some (step.Handled did)) after u → Follows did h after u last x → NotesAt did x noted → Notes (records_of s) (records_of x) noted
+notes-after port s u x t after last h did noted (inr none) f n = not-some (step.Handled did) none.1
+notes-after port s u x t after last h did noted (inl g) f n = by g.0 g.1 g.3
+  where
+    by : (c new : ServerCircuit) → CircuitSteps port h c s (Some (step.Handled did)) new u → Notes (records_of s) (records_of x) noted
+    by (Open e) new d = record {
+      busy = noted-busy did x noted n;
+      others = busy-both (records_of s) (records_of u) (records_of x) noted (recorded-busy (records_of s) s.stamp h (after_first d.1.0) d.1.0.m d.1.1.action did u x after last noted d.1.1.records d.1.1.tells f n) (followed-busy did h after last u x noted f);
+    }
+    by (Ended w left) new d = not-some (step.Handled did) d.0
+
+steps-noting : (y : Server) (h : Handle) (did : Stepped) (new : Server) (noted : Option (List ℕ)) → Steps y h did new → Notes y.records new.records noted → StepsNoting y h did noted new
+steps-noting y h steps.Handled new noted s n = (s, n)
+steps-noting y h steps.NeedBytes new noted s n = s
+steps-noting y h steps.OutputFull new noted s n = s
+steps-noting y h (steps.Closed w left) new noted s n = s
+
+-- the same along the view of the fields
+pub viewed-noting : (y : Server) (port now n k : ℕ) (b : Clock) (s u x : Store) (t after last final : Circuits) (h : Handle) (did : Effect) (result : Stepped) (noted : Option (List ℕ)) → server_of port s now t b n ≡ y → StepsIn port t h s (Some (step.Handled did)) after u → Follows did h after u last x → NotesAt did x noted
+    → Steps y h result (server_of port x now final b k) → StepsNoting y h result noted (server_of port x now final b k)
+viewed-noting y port now n k b s u x t after last final h did result noted is g f at made =
+    steps-noting y h result (server_of port x now final b k) noted made
+    (subst (λ (z : Server). Notes z.records (records_of x) noted) is (notes-after port s u x t after last h did noted g f at))
+
+-- ---- steps that handled no message
+
+never-closed : (w : Why) (left : List ℕ) → steps.Closed w left ≡ steps.Handled → ⊥
+never-closed w left is = cc
+
+-- an end that broke is reported
+pub broke-closes : (port : ℕ) (s u : Store) (t after last : Circuits) (h : Handle) (c : Cause) (did : Step) → StepsIn port t h s (Some (step.Breaks c)) after u → Reports after h did last → stepped did ≡ steps.Handled → ⊥
+broke-closes port s u t after last h c did (inr none) r handled = not-some (step.Breaks c) none.1
+broke-closes port s u t after last h c did (inl g) r handled = by g.0 g.1 g.2 g.3 g.4
+  where
+    by : (x new : ServerCircuit) → under t h ≡ Some x → CircuitSteps port h x s (Some (step.Breaks c)) new u → after ≡ with_changed (λ (z : ServerCircuit). new) h t → ⊥
+    by (Open e) new there broke changed =
+        let now_ended = became t after h new (Ended (why_is c) e.link.output) changed broke.1 in
+        let found : under after h ≡ Some (Ended (why_is c) e.link.output) = ap (λ (z : Circuits). under z h) now_ended ∙ changed-own (λ (z : ServerCircuit). Ended (why_is c) e.link.output) t h (Open e) there in
+        never-closed (why_is c) e.link.output (sym (subst (λ (o : Option ServerCircuit). IsReport o (stepped did)) found r.0) ∙ handled)
+    by (Ended w left) new there broke changed = not-some (step.Breaks c) broke.0
+
+-- and so is one that had ended, or none
+pub none-closes : (port : ℕ) (s u : Store) (t after last : Circuits) (h : Handle) (did : Step) → StepsIn port t h s None after u → Reports after h did last → stepped did ≡ steps.Handled → ⊥
+none-closes port s u t after last h did (inr none) r handled =
+    never-closed why.Cut [] (sym (subst (λ (o : Option ServerCircuit). IsReport o (stepped did)) (ap (λ (z : Circuits). under z h) none.2 ∙ none.0) r.0) ∙ handled)
+none-closes port s u t after last h did (inl g) r handled = by g.0 g.1 g.2 g.3 g.4
+  where
+    by : (x new : ServerCircuit) → under t h ≡ Some x → CircuitSteps port h x s None new u → after ≡ with_changed (λ (z : ServerCircuit). new) h t → ⊥
+    by (Open e) new there was changed = absurd was
+    by (Ended w left) new there was changed =
+        let found : under after h ≡ Some (Ended w left) = ap (λ (z : Circuits). under z h) (stayed t after h new (Ended w left) there changed was.1) ∙ there in
+        never-closed w left (sym (subst (λ (o : Option ServerCircuit). IsReport o (stepped did)) found r.0) ∙ handled)
+
+-- nothing is to be noted of them
+pub noting-none : (y : Server) (h : Handle) (did : Stepped) (new : Server) (noted : Option (List ℕ)) → (did ≡ steps.Handled → ⊥) → Steps y h did new → StepsNoting y h did noted new
+noting-none y h steps.Handled new noted other s = absurd (other refl)
+noting-none y h steps.NeedBytes new noted other s = s
+noting-none y h steps.OutputFull new noted other s = s
+noting-none y h (steps.Closed w left) new noted other s = s
+
+-- the step was done, also if its put could not be noted
+pub steps-err : (y : Server) (h : Handle) (new : Server) (r : Result Step AllocError) (did : Stepped) → Steps y h did new → OnErr r ((x : Stepped) × Steps y h x new)
+steps-err y h new (Ok x) did s = tt
+steps-err y h new (Err e) did s = (did, s)
+
+-- ---- before it is noted
+
+-- the record to which a message wrote is there after what followed
+pub leads-after : (did : Effect) (h : Handle) (t last : Circuits) (u x : Store) → Follows did h t u last x → LeadsTo did x
+leads-after effect.Quiet h t last u x f = tt
+leads-after (effect.Wrote place) h t last u x f = (let kept = f.2.1.places place f.0 f.1 in (kept.0, kept.1))
+leads-after (effect.Began place) h t last u x f = tt
