@@ -2,7 +2,7 @@ ghost use Rattle.ca_board.specs.Views.{HasCollected, HasGivenUp};
 
 use crate::addresses::to_system;
 use crate::engine::{Engine, moment};
-use crate::lead::Eye;
+use crate::lead::SocketPoll;
 use crate::links::Tries;
 use crate::listener::{Change, Ear, Ears, Listener};
 use crate::shared::{Locked, Shared};
@@ -204,10 +204,23 @@ impl<L: Listener> Context<L> {
         ticket: Ticket,
         turns: u64,
     ) -> Option<Outcome> {
+        if let Some(outcome) = caller.collect(ticket) {
+            return Some(outcome);
+        }
+        self.wait_on(rt, caller, ticket, turns)
+    }
+
+    // The same, of an outcome that was not there. Most are there, once one was waited for, and a function pays for the locals of all that it takes into
+    // itself: so this stands out of line.
+    #[inline(never)]
+    fn wait_on<R: Wait>(
+        &self,
+        rt: &R,
+        caller: &mut Caller,
+        ticket: Ticket,
+        turns: u64,
+    ) -> Option<Outcome> {
         for _ in 0..turns {
-            if let Some(outcome) = caller.collect(ticket) {
-                return Some(outcome);
-            }
             let seen = self.shared.turns();
             match self.lead(rt, caller, ticket) {
                 Led::Found(outcome) => return Some(outcome),
@@ -221,6 +234,9 @@ impl<L: Listener> Context<L> {
                         break;
                     }
                 }
+            }
+            if let Some(outcome) = caller.collect(ticket) {
+                return Some(outcome);
             }
         }
         self.collect(caller, ticket)
@@ -340,11 +356,11 @@ impl<L: Listener> Locked<L> {
 // What an engine is made of, beside the client's state.
 #[derive(Drop)]
 struct Parts<L: Listener> {
-    eye: Eye,
-    waker: Waker,
+    sockets: SocketPoll,
+    sockets_waker: Waker,
     registry: Registry,
-    bell: Poll,
-    bell_waker: Waker,
+    call_poll: Poll,
+    thread_waker: Waker,
     events: Events<Global>,
     datagrams: UdpSocket,
     ears: Ears<L>,
@@ -361,24 +377,24 @@ impl<L: Listener> Parts<L> {
         let Ok(began) = Instant::now(rt) else {
             return Err(Refusal::Device);
         };
-        let eye = Eye {
+        let sockets = SocketPoll {
             poll: poll(rt)?,
             events: Events::with_capacity(alloc, 256)?,
         };
-        let bell = poll(rt)?;
-        let Ok(registry) = eye.poll.registry().try_clone() else {
+        let call_poll = poll(rt)?;
+        let Ok(registry) = sockets.poll.registry().try_clone() else {
             return Err(Refusal::Device);
         };
-        let datagrams = datagrams(rt, &registry, bell.registry())?;
+        let datagrams = datagrams(rt, &registry, call_poll.registry())?;
         if let Some(address) = repeater {
             let _ = datagrams.send_to(&register(Ipv4Addr::LOCALHOST), to_system(address));
         }
         Ok(Parts {
-            waker: waker(&registry)?,
-            bell_waker: waker(bell.registry())?,
-            eye,
+            sockets_waker: waker(&registry)?,
+            thread_waker: waker(call_poll.registry())?,
+            sockets,
             registry,
-            bell,
+            call_poll,
             datagrams,
             events: Events::with_capacity(alloc, 4)?,
             ears: Ears::new(alloc)?,
@@ -394,23 +410,26 @@ fn joined<R: Net + Clock + Copy + Drop, L: Listener>(
     parts: Parts<L>,
 ) -> Result<(Context<L>, Engine<R, L>), Refusal> {
     let Parts {
-        eye,
-        waker,
+        sockets,
+        sockets_waker,
         registry,
-        bell,
-        bell_waker,
+        call_poll,
+        thread_waker,
         events,
         datagrams,
         ears,
         began,
     } = parts;
     let locked = Locked::new(alloc, desk);
-    let shared = Arc::new(alloc, Shared::new(locked, eye, waker, bell_waker))?;
+    let shared = Arc::new(
+        alloc,
+        Shared::new(locked, sockets, sockets_waker, thread_waker),
+    )?;
     let engine = Engine {
         net: rt,
         shared: Arc::try_clone(&shared)?,
         registry,
-        bell,
+        call_poll,
         events,
         datagrams,
         tries: Tries::new(alloc),
@@ -436,7 +455,7 @@ fn waker(registry: &Registry) -> Result<Waker, Refusal> {
 }
 
 // A socket for datagrams. Those that come end the wait of the thread of input and output, at either place.
-fn datagrams<R: Net>(rt: &R, sockets: &Registry, bell: &Registry) -> Result<UdpSocket, Refusal> {
+fn datagrams<R: Net>(rt: &R, sockets: &Registry, call: &Registry) -> Result<UdpSocket, Refusal> {
     let any = SocketAddr::from((Ipv4Addr::UNSPECIFIED, 0));
     let Ok(mut datagrams) = UdpSocket::bind(rt, any) else {
         return Err(Refusal::Device);
@@ -448,7 +467,7 @@ fn datagrams<R: Net>(rt: &R, sockets: &Registry, bell: &Registry) -> Result<UdpS
     let Ok(()) = sockets.register(&mut datagrams, DATAGRAMS, Interest::READABLE) else {
         return Err(Refusal::Device);
     };
-    let Ok(()) = bell.register(&mut datagrams, DATAGRAMS, Interest::READABLE) else {
+    let Ok(()) = call.register(&mut datagrams, DATAGRAMS, Interest::READABLE) else {
         return Err(Refusal::Device);
     };
     Ok(datagrams)

@@ -49,8 +49,8 @@ pub struct Engine<N: Net + Drop, L: Listener> {
     pub(crate) shared: Arc<Shared<L>>,
     // What waits for the sockets.
     pub(crate) registry: Registry,
-    // What waits to be woken, while callers wait for the sockets.
-    pub(crate) bell: Poll,
+    // What waits to be called, while callers wait for the sockets.
+    pub(crate) call_poll: Poll,
     pub(crate) events: Events<Global>,
     pub(crate) datagrams: UdpSocket,
     pub(crate) tries: Tries,
@@ -92,10 +92,10 @@ impl<N: Net + Drop, L: Listener> Engine<N, L> {
     fn rest<R: Wait>(&mut self, rt: &R, place: Place) {
         match place {
             Place::Nowhere => {}
-            Place::Eye => self.shared.watch(rt),
-            Place::Bell => {
+            Place::Sockets => self.shared.watch(rt),
+            Place::Call => {
                 let _ = self
-                    .bell
+                    .call_poll
                     .poll(&mut self.events, Some(Duration::from_millis(TURN)));
             }
         }
@@ -176,7 +176,7 @@ fn turn<N: Net, L: Listener>(
 ) -> Brought {
     // A caller found that a circuit ended.
     let told_before = !locked.told.is_empty();
-    locked.unsent = 0;
+    locked.count_anew();
     ears.follow(&mut locked.changes);
     hear(&mut locked.desk, datagrams, now);
     let ended = tick(&mut locked.desk, datagrams, &mut locked.links, now);

@@ -10,12 +10,12 @@ pub(crate) const LATELY: u64 = 2;
 
 // Waits for the sockets. One thread at a time does.
 #[derive(Drop)]
-pub(crate) struct Eye {
+pub(crate) struct SocketPoll {
     pub(crate) poll: Poll,
     pub(crate) events: Events<Global>,
 }
 
-impl Eye {
+impl SocketPoll {
     pub(crate) fn watch(&mut self) {
         let _ = self
             .poll
@@ -72,18 +72,12 @@ impl Lead {
 
     // Whether nobody waits for the sockets.
     fn is_free(&self) -> bool {
-        match self.watcher {
-            Watcher::Nobody => true,
-            _ => false,
-        }
+        matches!(self.watcher, Watcher::Nobody)
     }
 
     // Whether a caller waits for the sockets.
     pub(crate) fn is_led(&self) -> bool {
-        match self.watcher {
-            Watcher::Caller => true,
-            _ => false,
-        }
+        matches!(self.watcher, Watcher::Caller)
     }
 
     // A caller waits for the sockets from now on.

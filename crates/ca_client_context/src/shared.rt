@@ -1,4 +1,4 @@
-use crate::lead::{Eye, LATELY, Lead};
+use crate::lead::{LATELY, Lead, SocketPoll};
 use crate::links::{Brought, Heard, Link, send_all, serve};
 use crate::listener::{Change, Listener};
 use ca_client::Desk;
@@ -7,8 +7,11 @@ use std::alloc::Global;
 use std::sync::atomic::{AtomicU64, Ordering};
 use std::sync::{Mutex, MutexGuard, Wait};
 
-// Requests that callers make while none of them looks for an outcome go out so many at a time: then the server answers them while the next are made.
-const TOGETHER: u64 = 256;
+// Of the requests that callers make while none of them looks for an outcome the first go out together, so many: then the server answers them while the next
+// are made. Those go out with the next look, or so many at a time: each time costs as much as some 50 requests, and whoever looks has answers to read then.
+const FIRST: u64 = 256;
+
+const LATER: u64 = 768;
 
 // The thread of input and output is told of one request in so many, and of the first that was not sent.
 const SOME: u64 = 8;
@@ -27,9 +30,9 @@ const PATIENCE: usize = 500;
 // Where the thread of input and output may be waiting: what `asleep` says.
 const NOWHERE: u64 = 0;
 
-const EYE: u64 = 1;
+const AT_SOCKETS: u64 = 1;
 
-const BELL: u64 = 2;
+const AT_CALL: u64 = 2;
 
 // Where the thread of input and output waits.
 #[derive(Clone, Copy, Drop)]
@@ -37,9 +40,9 @@ pub(crate) enum Place {
     // It takes another turn at once.
     Nowhere,
     // For the sockets.
-    Eye,
-    // To be woken, while callers wait for the sockets.
-    Bell,
+    Sockets,
+    // To be called, while callers wait for the sockets.
+    Call,
 }
 
 // What lies under the lock.
@@ -52,7 +55,9 @@ pub(crate) struct Locked<L: Listener> {
     // What became of listeners, in the order of the calls. The thread of input and output has not followed yet.
     pub(crate) changes: Vec<Change<L>>,
     // How many requests were made since all were last sent.
-    pub(crate) unsent: u64,
+    unsent: u64,
+    // With how many they go out, if nobody looks for an outcome before.
+    together: u64,
     pub(crate) lead: Lead,
     pub(crate) ending: bool,
 }
@@ -65,6 +70,7 @@ impl<L: Listener> Locked<L> {
             told: Vec::new(alloc),
             changes: Vec::new(alloc),
             unsent: 0,
+            together: FIRST,
             lead: Lead::new(),
             ending: false,
         }
@@ -73,7 +79,18 @@ impl<L: Listener> Locked<L> {
     // A request was made. It says whether there is nothing more to be done for it now.
     pub(crate) fn note(&mut self) -> bool {
         self.unsent = self.unsent.saturating_add(1);
-        self.unsent < TOGETHER || self.send()
+        if self.unsent < self.together {
+            return true;
+        }
+        let all = self.send();
+        self.together = LATER;
+        all
+    }
+
+    // All requests that were made go out now.
+    pub(crate) fn count_anew(&mut self) {
+        self.unsent = 0;
+        self.together = FIRST;
     }
 
     // Whether the thread of input and output is to be told of the request that was made.
@@ -83,7 +100,7 @@ impl<L: Listener> Locked<L> {
 
     // Sends what waits on all circuits, as far as that can be now. It says whether nothing is left for the thread of input and output.
     pub(crate) fn send(&mut self) -> bool {
-        self.unsent = 0;
+        self.count_anew();
         send_all(&mut self.desk, &mut self.links, &mut self.told)
     }
 
@@ -106,7 +123,7 @@ impl<L: Listener> Locked<L> {
 
     // Moves bytes for a caller, and reads what came. It says whether something came.
     pub(crate) fn move_all(&mut self) -> bool {
-        self.unsent = 0;
+        self.count_anew();
         serve(&mut self.desk, &mut self.links, &mut self.told).any
     }
 
@@ -121,11 +138,11 @@ impl<L: Listener> Locked<L> {
 pub(crate) struct Shared<L: Listener> {
     pub(crate) locked: Mutex<Locked<L>>,
     // Whoever waits for the sockets has it. What lies under the other lock says who that is, so nobody waits for this one for long.
-    eye: Mutex<Eye>,
+    sockets: Mutex<SocketPoll>,
     // Ends a wait for the sockets.
-    waker: Waker,
+    sockets_waker: Waker,
     // Ends the wait of the thread of input and output while callers wait for the sockets.
-    bell: Waker,
+    thread_waker: Waker,
     // Where the thread of input and output may be waiting, if it was not woken since.
     asleep: AtomicU64,
     // How many requests were made that may not have been sent.
@@ -141,12 +158,17 @@ pub(crate) struct Shared<L: Listener> {
 }
 
 impl<L: Listener> Shared<L> {
-    pub(crate) fn new(locked: Locked<L>, eye: Eye, waker: Waker, bell: Waker) -> Shared<L> {
+    pub(crate) fn new(
+        locked: Locked<L>,
+        sockets: SocketPoll,
+        sockets_waker: Waker,
+        thread_waker: Waker,
+    ) -> Shared<L> {
         Shared {
             locked: Mutex::new(locked),
-            eye: Mutex::new(eye),
-            waker,
-            bell,
+            sockets: Mutex::new(sockets),
+            sockets_waker,
+            thread_waker,
             asleep: AtomicU64::new(NOWHERE),
             asked: AtomicU64::new(0),
             turns: AtomicU64::new(0),
@@ -189,19 +211,19 @@ impl<L: Listener> Shared<L> {
     pub(crate) fn doze(&self, lead: &mut Lead) -> Place {
         self.asked.store(0, Ordering::SeqCst);
         if lead.is_left(self.crowded.load(Ordering::SeqCst) != 0) {
-            self.asleep.store(BELL, Ordering::SeqCst);
+            self.asleep.store(AT_CALL, Ordering::SeqCst);
             if lead.is_led() || !self.is_awaited() {
-                return Place::Bell;
+                return Place::Call;
             }
         }
         lead.take();
-        self.asleep.store(EYE, Ordering::SeqCst);
-        Place::Eye
+        self.asleep.store(AT_SOCKETS, Ordering::SeqCst);
+        Place::Sockets
     }
 
     // Waits for the sockets.
     pub(crate) fn watch<R: Wait>(&self, rt: &R) {
-        let mut guard = self.eye.lock(rt);
+        let mut guard = self.sockets.lock(rt);
         guard.watch();
     }
 
@@ -301,7 +323,7 @@ impl<L: Listener> Shared<L> {
     // Somebody looks for an outcome, and does not wait. If the sockets are left to callers it reads what came, for its next look; while several wait the
     // thread of input and output does.
     pub(crate) fn look(&self) {
-        if self.asleep.load(Ordering::SeqCst) == BELL {
+        if self.asleep.load(Ordering::SeqCst) == AT_CALL {
             if self.is_crowded() {
                 self.wake();
             } else if self.move_now() {
@@ -333,10 +355,10 @@ impl<L: Listener> Shared<L> {
     // Ends its wait, once for all that was changed under the lock meanwhile.
     pub(crate) fn wake(&self) {
         let place = self.asleep.swap(NOWHERE, Ordering::SeqCst);
-        if place == EYE {
-            let _ = self.waker.wake();
-        } else if place == BELL {
-            let _ = self.bell.wake();
+        if place == AT_SOCKETS {
+            let _ = self.sockets_waker.wake();
+        } else if place == AT_CALL {
+            let _ = self.thread_waker.wake();
         }
     }
 
@@ -362,7 +384,7 @@ impl<L: Listener> Shared<L> {
     // Waits until another turn is over, and says whether the thread of input and output has ended.
     pub(crate) fn park<R: Wait>(&self, rt: &R, seen: u64) -> bool {
         self.waiting.fetch_add(1, Ordering::SeqCst);
-        if self.asleep.load(Ordering::SeqCst) == BELL {
+        if self.asleep.load(Ordering::SeqCst) == AT_CALL {
             self.wake();
         }
         for _ in rt.forever() {
