@@ -9,4 +9,3 @@ pub mod LineRefusals
 pub mod Leading
 pub mod FileLines
 pub mod RuleLines
-pub mod OtherWords
