@@ -3,16 +3,28 @@ use Rattle.std.proofs.Common.{◌≡◌, ℕ, zero, suc, List, ap, ◌∙◌, �
 use Rattle.ca_arena.specs.declared.handle.Handle.{Handle}
 use Rattle.ca_model.specs.Answers.{Closing}
 use Rattle.ca_client.specs.declared.ask.Ask.{Ask}
-use Rattle.ca_client.specs.declared.ask.Ask.TheVariants.{Cut}
+use Rattle.ca_client.specs.declared.ask.Ask.TheVariants.{Cut, Step}
 use Rattle.ca_client.specs.declared.answer.Answer.{Answer}
-use Rattle.ca_client.specs.declared.answer.Answer.TheVariants.{Closed}
+use Rattle.ca_client.specs.declared.answer.Answer.TheVariants.{Closed, Filled}
+use Rattle.ca_client.specs.declared.answer.Steps.{Steps}
 use Rattle.ca_client.specs.Awaited.{StateView, completions}
 use Rattle.ca_client.specs.Calls.{HasSteppedUnderLock}
+use Rattle.ca_client.specs.Replies.{HasSteppedOn, Replies}
 use Rattle.ca_client.specs.Turns.{Chain, IsRead, IsWritten, Moves, Turns}
 use Rattle.ca_client.proofs.Tickets.{filled_board}
 
 pub stepped_board : (v w : StateView) (asked : Ask) (r : Answer) → HasSteppedUnderLock v asked r w → w.seat.board ≡ v.seat.board
 stepped_board v w asked r f = filled_board v.tickets v.seat w.seat (completions f.0) f.2
+
+replies_board : (c : Handle) (k : ℕ) (v w : StateView) → Replies c k v w → w.seat.board ≡ v.seat.board
+replies_board c zero v w f = ap (λ (x : StateView). x.seat.board) f
+replies_board c (suc k) v w f = stepped_board f.0 w (Step c) Filled f.2 ∙ replies_board c k v f.0 f.1
+
+pub stepped_on_board : (c : Handle) (most : ℕ) (v w : StateView) (r : Steps) → HasSteppedOn c most v r w → w.seat.board ≡ v.seat.board
+stepped_on_board c most v w r h = ⊎_elim
+    (λ e. replies_board c most v w e.2)
+    (λ e. stepped_board e.2.0 w (Step c) r.answer e.2.2 ∙ replies_board c r.replies v e.2.0 e.2.1)
+    h
 
 module _ {S : Type 0} (faults : S → ℕ) (gives takes : S → List ℕ → S → Type 0) (c : Handle) where
   read_board : (s s' : S) (v w : StateView) → IsRead faults gives takes c s v s' w → w.seat.board ≡ v.seat.board

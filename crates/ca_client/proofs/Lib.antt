@@ -13,3 +13,4 @@ pub mod Drained
 pub mod Ticked
 pub mod Boards
 pub mod Tapes
+pub mod Begun

@@ -76,3 +76,12 @@ pub enum Answer {
     /// It refused, and is as it was.
     Refused(Refusal),
 }
+
+/// Steps of a circuit in a row.
+#[derive(Debug, Drop)]
+pub struct Steps {
+    /// How many of them read a reply.
+    pub replies: usize,
+    /// What the last one answered: `Filled` if as many read a reply as may.
+    pub answer: Answer,
+}

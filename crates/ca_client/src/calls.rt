@@ -82,6 +82,13 @@ impl State {
         self.core.datagram(now, from, bytes)
     }
 
+    // A value that is used no more gives its memory to the value of a read, as `ClientCore::recycle_value`.
+    pub(crate) fn recycle(&mut self, value: Value)
+        ensures { self.new ≡ self.old }
+    {
+        self.core.recycle_value(value);
+    }
+
     // The circuits that are wanted and not connected, as `ClientCore::wanted`.
     pub(crate) fn wanted(&self) -> Result<Vec<WantedCircuit>, AllocError>
         ensures ok { IfOk result (λ found. found.items ≡ wanted self.now.core) }

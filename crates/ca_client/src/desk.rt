@@ -8,12 +8,14 @@ ghost use Rattle.ca_model.specs.ClientCalls as client;
 ghost use Rattle.ca_model.specs.ClientEnds.{ClientReceives};
 ghost use Rattle.ca_client.specs.Calls.{HasIssuedUnderLock, HasNotBegun, HasSteppedUnderLock, IsFresh};
 ghost use Rattle.ca_client.specs.Desks.{with_state};
+ghost use Rattle.ca_client.specs.Replies.{HasSteppedOn};
 ghost use Rattle.ca_client.specs.Turns.{Turns, with_core};
 
-use crate::answer::{Answer, Ended};
+use crate::answer::{Answer, Ended, Steps};
 use crate::ask::{Ask, Request};
 use crate::caller::Caller;
 use crate::issuing::issue_under_lock;
+use crate::replying::step_all;
 use crate::socket::Socket;
 use crate::state::State;
 use crate::stepping::step_under_lock;
@@ -103,6 +105,21 @@ impl Desk {
         ensures own { self.new.own ≡ self.old.own }
     {
         step_under_lock(&mut self.state, asked)
+    }
+
+    /// Steps a circuit in a row, as `step_all`.
+    pub fn step_all(&mut self, circuit: Handle, most: usize) -> Steps
+        ensures steps { HasSteppedOn circuit most self.old.state result self.new.state }
+        ensures own { self.new.own ≡ self.old.own }
+    {
+        step_all(&mut self.state, circuit, most)
+    }
+
+    /// A value that is used no more gives its memory to the value of a read, as `ClientCore::recycle_value`.
+    pub fn recycle(&mut self, value: Value)
+        ensures { self.new ≡ self.old }
+    {
+        self.state.recycle(value);
     }
 
     /// Moves bytes between a circuit and its socket, as `turn_over`.

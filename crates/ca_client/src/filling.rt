@@ -44,6 +44,7 @@ pub(crate) fn fill_all(
 }
 
 // Fills the ticket of the one request that a reply completed.
+#[inline(always)]
 pub(crate) fn fill_one(
     board: &Board,
     seat: &mut CoreSeat,

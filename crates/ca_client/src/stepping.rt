@@ -1,9 +1,12 @@
 ghost use Rattle.std.specs.Prelude.{◌≡◌};
-ghost use Rattle.ca_client.specs.Awaited.{AreFirst, Fillable, FillsAll, completions, others};
+ghost use Rattle.ca_client.specs.Awaited.{AreFirst, Fillable, FillsAll, StateView, completions, others};
+ghost use Rattle.ca_client.specs.Beginning.{Begins};
 ghost use Rattle.ca_client.specs.Calls.{HasSteppedUnderLock};
+ghost use Rattle.ca_client.specs.Replies.{IsOther};
 ghost use Rattle.ca_client.specs.Stepping.{handed_over, notices_in};
 ghost use Rattle.ca_client.specs.declared.ask.Ask.TheVariants as ask;
 ghost use Rattle.ca_client.specs.declared.answer.Answer.TheVariants as answer;
+ghost use Rattle.ca_client.specs.declared.stepping.Begun.TheVariants as begun;
 
 use crate::answer::{Answer, Ended};
 use crate::ask::Ask;
@@ -13,6 +16,7 @@ use crate::ticking::tick;
 use ca_arena::Handle;
 use ca_board::{Board, CoreSeat, Ticket};
 use ca_client_core::{Advanced, Closing, Stepped};
+use ca_client_tables::First;
 
 /// Makes one call of the core, hands the outcome of each request that it completes to the request's ticket, and hands back the other
 /// notices.
@@ -43,6 +47,29 @@ fn step_any(state: &mut State, asked: Ask) -> Answer
 fn step(state: &mut State, circuit: Handle) -> Answer
     ensures { HasSteppedUnderLock state.old (ask.Step circuit) result state.new }
 {
+    match begin(state, circuit) {
+        Begun::Filled => Answer::Filled,
+        Begun::NeedBytes => Answer::NeedBytes,
+        Begun::Other(first) => finish(state, circuit, first),
+    }
+}
+
+// How a step began, of which the outcome of a reply was handed over.
+#[derive(Drop)]
+pub(crate) enum Begun {
+    // It read a reply, and is over.
+    Filled,
+    // No complete message is there, and it is over.
+    NeedBytes,
+    // This came first. `finish` is to do the rest.
+    Other(First),
+}
+
+// Begins a step. Most messages are replies, for which that is all: so this is small.
+#[inline(always)]
+pub(crate) fn begin(state: &mut State, circuit: Handle) -> Begun
+    ensures { Begins state.old circuit result state.new }
+{
     let State {
         core,
         board,
@@ -52,12 +79,29 @@ fn step(state: &mut State, circuit: Handle) -> Answer
     let first = match core.advance(circuit) {
         Advanced::Completed(request, outcome) => {
             fill_one(board, seat, tickets, request, outcome);
-            return Answer::Filled;
+            return Begun::Filled;
         }
-        Advanced::Unawaited => return Answer::Filled,
-        Advanced::NeedBytes => return Answer::NeedBytes,
+        Advanced::Unawaited => return Begun::Filled,
+        Advanced::NeedBytes => return Begun::NeedBytes,
         Advanced::Begun(first) => first,
     };
+    Begun::Other(first)
+}
+
+// Does the rest of a step that began so.
+#[inline(never)]
+pub(crate) fn finish(state: &mut State, circuit: Handle, first: First) -> Answer
+    requires { (before : StateView) × Begins before circuit (begun.Other first) state.old }
+    ensures steps { (before : StateView) → Begins before circuit (begun.Other first) state.old
+        → HasSteppedUnderLock before (ask.Step circuit) result state.new }
+    ensures other { IsOther result }
+{
+    let State {
+        core,
+        board,
+        seat,
+        tickets,
+    } = state;
     let stepped = core.finish(circuit, first);
     hand_over(board, seat, tickets, stepped)
 }

@@ -17,7 +17,7 @@ use mio::net::UdpSocket;
 use mio::{Events, Interest, Poll, Registry, Token, Waker};
 use std::alloc::{AllocError, Global};
 use std::net::{Ipv4Addr, Net, SocketAddr};
-use std::sync::{Arc, Wait};
+use std::sync::{Arc, MutexGuard, Wait};
 use std::time::{Clock, Instant};
 
 const WAKER: Token = Token(0);
@@ -117,6 +117,20 @@ impl<L: Listener> Context<L> {
         self.issue(rt, &Request::Read(channel, data_type, count))
     }
 
+    /// Asks for the value of a channel as `get`, into the memory of a value that is used no more.
+    pub fn get_into<R: Wait>(
+        &self,
+        rt: &R,
+        channel: Handle,
+        data_type: u16,
+        count: u32,
+        room: Value,
+    ) -> Result<Ticket, Refusal> {
+        let mut guard = self.shared.hold(rt);
+        guard.desk.recycle(room);
+        self.issue_under(guard, &Request::Read(channel, data_type, count))
+    }
+
     /// Writes a value, with an outcome. Refused as NoCell if too many requests are in flight, and then as
     /// `ClientCore::write_notify`.
     ///
@@ -131,7 +145,17 @@ impl<L: Listener> Context<L> {
     }
 
     fn issue<R: Wait>(&self, rt: &R, request: &Request) -> Result<Ticket, Refusal> {
-        let mut guard = self.shared.hold(rt);
+        let guard = self.shared.hold(rt);
+        self.issue_under(guard, request)
+    }
+
+    // Makes a request, and lets the lock go.
+    fn issue_under(
+        &self,
+        guard: MutexGuard<'_, Locked<L>>,
+        request: &Request,
+    ) -> Result<Ticket, Refusal> {
+        let mut guard = guard;
         let issued = guard.desk.issue(request);
         let all = guard.note();
         if guard.is_told() {

@@ -9,6 +9,7 @@ use ca_wire::Message;
 
 impl ClientCore {
     // Takes the first message of a circuit.
+    #[inline(always)]
     pub(crate) fn take_first(&mut self, circuit: Handle) -> First
         ensures { FirstOn self.old circuit result self.new }
     {
@@ -19,6 +20,7 @@ impl ClientCore {
     }
 
     // A message of a circuit that was handled gives its memory to the next one.
+    #[inline(always)]
     pub(crate) fn recycle(&mut self, circuit: Handle, message: Message)
         ensures { self.new ≡ self.old }
     {

@@ -99,6 +99,7 @@ impl ClientCore {
     }
 
     // READ_NOTIFY and WRITE_NOTIFY: the request that is complete, with its outcome. Only a value takes memory.
+    #[inline(always)]
     pub(crate) fn hear_reply(
         &mut self,
         circuit: Handle,

@@ -37,6 +37,7 @@ impl ClientCore {
     }
 
     // Issues a request whose message was queued after this many bytes; without memory the message is taken back.
+    #[inline(always)]
     pub(crate) fn issue_or_cut(
         &mut self,
         waiting: usize,

@@ -1,9 +1,10 @@
-ghost use Rattle.std.specs.Prelude.{List};
+ghost use Rattle.std.specs.Prelude.{◌≡◌, List};
 ghost use Rattle.ca_model.specs.Answers.{Sending};
 ghost use Rattle.ca_model.specs.ClientCalls.{ClientReads};
 
 use crate::client::ClientCore;
 use ca_arena::Handle;
+use ca_dbr::Value;
 use ca_ids::WireId;
 use ca_requests::Asked;
 use ca_text::Refusal;
@@ -42,5 +43,12 @@ impl ClientCore {
             Ok(()) => Ok(request),
             Err(_) => Err(Refusal::OutOfMemory),
         }
+    }
+
+    /// A value that is used no more gives its memory to the value of a read. Without memory to keep it, or with many kept, it is dropped.
+    pub fn recycle_value(&mut self, value: Value)
+        ensures { self.new ≡ self.old }
+    {
+        self.requests.recycle(value);
     }
 }

@@ -63,6 +63,7 @@ impl ClientCore {
     }
 
     /// Begins a step, which is over if the next message is a reply, or is not complete. Else `finish` is to do the rest, before any other call.
+    #[inline(always)]
     pub fn advance(&mut self, circuit: Handle) -> Advanced
         ensures { HasAdvanced self.old circuit result self.new }
     {
@@ -139,6 +140,7 @@ fn is_reply(message: &Message) -> bool
 }
 
 // How a step began that read a reply, which came to this.
+#[inline(always)]
 fn begun_by(told: Result<Option<(Handle, Outcome)>, AllocError>) -> Advanced
     ensures { result ≡ advanced_by told }
 {

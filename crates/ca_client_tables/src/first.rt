@@ -29,6 +29,7 @@ pub enum First {
 
 impl Circuit {
     /// Takes the first message, if it is connected. After a header that is refused nothing is left on its link.
+    #[inline(always)]
     pub fn take_first(&mut self, alloc: Global) -> First
         ensures { FirstAt self.old result self.new }
     {
@@ -50,6 +51,7 @@ impl Circuit {
 
 impl Connection {
     // Takes the first message. After a header that is refused nothing is left on the link.
+    #[inline(always)]
     fn take_first(&mut self, alloc: Global) -> First
         ensures { FirstIn self.old result self.new }
     {

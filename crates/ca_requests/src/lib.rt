@@ -10,6 +10,6 @@ mod request;
 mod requests;
 
 pub use asked::{Asked, Stage};
-pub use outcome::{image_outcome, status_outcome};
+pub use outcome::{image_outcome, image_outcome_into, status_outcome};
 pub use request::Request;
 pub use requests::Requests;

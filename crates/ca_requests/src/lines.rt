@@ -9,6 +9,7 @@ use ca_ids::HeldTable;
 use std::alloc::{AllocError, Global};
 
 /// Makes room for one more request of this owner.
+#[inline(always)]
 pub(crate) fn prepare(
     alloc: Global,
     lines: &mut Vec<Line>,

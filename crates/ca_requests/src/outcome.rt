@@ -2,7 +2,7 @@ ghost use Rattle.std.specs.Prelude.{IfOk, OnErr};
 ghost use Rattle.ca_requests.specs.Meaning.{ImageMeans, StatusMeans};
 ghost use Rattle.ca_requests.specs.Calls.{HasImage};
 
-use ca_dbr::{Outcome, read_value};
+use ca_dbr::{Outcome, Value, read_value_into};
 use ca_text::{Refusal, Status};
 use ca_wire::Message;
 use std::alloc::{AllocError, Global};
@@ -14,12 +14,26 @@ pub fn image_outcome(alloc: Global, message: &Message) -> Result<Outcome, AllocE
     ensures ok { IfOk result (ImageMeans message.now) }
     ensures err { OnErr result (HasImage message.now) }
 {
+    image_outcome_into(alloc, None, message)
+}
+
+/// The same, into the memory of a value that is used no more, if there is one and its elements are of that type.
+#[inline(always)]
+pub fn image_outcome_into(
+    alloc: Global,
+    room: Option<Value>,
+    message: &Message,
+) -> Result<Outcome, AllocError>
+    ensures ok { IfOk result (ImageMeans message.now) }
+    ensures err { OnErr result (HasImage message.now) }
+{
     let number = message.p1();
     if number != Status::NORMAL.number {
         return Ok(Outcome::Failed(Status { number }));
     }
-    match read_value(
+    match read_value_into(
         alloc,
+        room,
         message.data_type(),
         message.count(),
         message.payload(),

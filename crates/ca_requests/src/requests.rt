@@ -9,14 +9,17 @@ use crate::asked::{Asked, Stage};
 use crate::drops::{Which, end_each, free_all};
 use crate::line::{GROWTH, Line};
 use crate::lines::{hand_out, note, prepare};
-use crate::outcome::{image_outcome, status_outcome};
+use crate::outcome::{image_outcome_into, status_outcome};
 use crate::request::Request;
 use ca_arena::Handle;
-use ca_dbr::Outcome;
+use ca_dbr::{Outcome, Value};
 use ca_ids::{HeldTable, WireId};
 use ca_wire::Message;
 use std::alloc::{AllocError, Global};
 use std::marker::Model;
+
+// The memory of so many values is kept at most.
+const MOST_SPARE: usize = 1_024;
 
 /// A client's requests: by their handles, by their IOIDs, and in order of issue.
 ///
@@ -34,6 +37,8 @@ pub struct Requests {
     circuits: Vec<Line>,
     // Those of each channel, by its index.
     channels: Vec<Line>,
+    // Values that are used no more: those that come take their memory.
+    spare: Vec<Value>,
 }
 
 impl Model for Requests {
@@ -64,6 +69,7 @@ impl Requests {
             limit: 64,
             circuits: Vec::new(alloc),
             channels: Vec::new(alloc),
+            spare: Vec::new(alloc),
         }
     }
 
@@ -143,6 +149,7 @@ impl Requests {
     /// if it drained.
     ///
     /// Only a value takes memory; without it nothing changes.
+    #[inline(always)]
     pub fn answer(
         &mut self,
         circuit: Handle,
@@ -158,11 +165,23 @@ impl Requests {
             return Ok(None);
         }
         let outcome = match request.asked {
-            Asked::Read(_, _) => image_outcome(*self.listed.allocator(), message)?,
+            Asked::Read(_, _) => {
+                let room = self.spare.pop();
+                image_outcome_into(*self.listed.allocator(), room, message)?
+            }
             Asked::Put => status_outcome(message),
         };
         self.free(handle);
         Ok(Some((handle, outcome)))
+    }
+
+    /// A value that is used no more gives its memory to one that comes. Without memory to keep it, or with many kept, it is dropped.
+    pub fn recycle(&mut self, value: Value)
+        ensures { self.new ≡ self.old }
+    {
+        if self.spare.len() < MOST_SPARE {
+            let _ = self.spare.push(value);
+        }
     }
 
     /// An ERROR was read on this circuit that quotes a header of this command and id: the open request that failed. Its IOID

@@ -1,6 +1,6 @@
 use Rattle.std.proofs.Common.{◌∙◌, ℕ, List, sym, subst}
 use Rattle.ca_dbr.specs.Reading.{ReadRefused}
-use Rattle.ca_requests.proofs.outcome.image_outcome.Goals as goal
+use Rattle.ca_requests.proofs.outcome.image_outcome_into.Goals as goal
 
 pub returns-in_default-clause-ok : goal.returns-in_default-clause-ok
 returns-in_default-clause-ok c =
