@@ -17,12 +17,15 @@ use mio::net::UdpSocket;
 use mio::{Events, Interest, Poll, Registry, Token, Waker};
 use std::alloc::{AllocError, Global};
 use std::net::{Ipv4Addr, Net, SocketAddr};
-use std::sync::{Arc, Wait};
+use std::sync::{Arc, MutexGuard, Wait};
 use std::time::{Clock, Instant};
 
 const WAKER: Token = Token(0);
 
 const DATAGRAMS: Token = Token(1);
+
+// So many requests are made under one hold of the lock at most: some microseconds, as long as a thread that finds the lock taken pauses between its tries.
+const AT_ONCE: usize = 32;
 
 /// A client that threads share, whose subscriptions are heard by an `L` each.
 #[derive(Drop)]
@@ -117,6 +120,55 @@ impl<L: Listener> Context<L> {
         self.issue(rt, &Request::Read(channel, data_type, count))
     }
 
+    /// Asks for the value of a channel as `get`, into the memory of a value that is used no more.
+    pub fn get_into<R: Wait>(
+        &self,
+        rt: &R,
+        channel: Handle,
+        data_type: u16,
+        count: u32,
+        room: Value,
+    ) -> Result<Ticket, Refusal> {
+        let mut guard = self.shared.hold(rt);
+        guard.desk.recycle(room);
+        self.issue_under(guard, &Request::Read(channel, data_type, count))
+    }
+
+    /// Makes requests in order, each as `get` and `put_notify` do, and adds their tickets: one hold of the lock serves several. The memory of the rooms, which
+    /// are values that are used no more, is used again.
+    ///
+    /// It ends with the first that is refused, as `get` and `put_notify` refuse it, and as OutOfMemory where there is none for a ticket: the tickets of those
+    /// before it were added.
+    pub fn request_all<R: Wait>(
+        &self,
+        rt: &R,
+        requests: &[Request],
+        rooms: &mut Vec<Value>,
+        tickets: &mut Vec<Ticket>,
+    ) -> Result<(), Refusal> {
+        for some in requests.chunks(AT_ONCE) {
+            self.request_some(rt, some, rooms, tickets)?;
+        }
+        Ok(())
+    }
+
+    fn request_some<R: Wait>(
+        &self,
+        rt: &R,
+        requests: &[Request],
+        rooms: &mut Vec<Value>,
+        tickets: &mut Vec<Ticket>,
+    ) -> Result<(), Refusal> {
+        let mut guard = self.shared.hold(rt);
+        let (made, all) = guard.request_each(requests, rooms, tickets);
+        self.shared.ask();
+        drop(guard);
+        if !all {
+            self.wake();
+        }
+        made
+    }
+
     /// Writes a value, with an outcome. Refused as NoCell if too many requests are in flight, and then as
     /// `ClientCore::write_notify`.
     ///
@@ -131,7 +183,17 @@ impl<L: Listener> Context<L> {
     }
 
     fn issue<R: Wait>(&self, rt: &R, request: &Request) -> Result<Ticket, Refusal> {
-        let mut guard = self.shared.hold(rt);
+        let guard = self.shared.hold(rt);
+        self.issue_under(guard, request)
+    }
+
+    // Makes a request, and lets the lock go.
+    fn issue_under(
+        &self,
+        guard: MutexGuard<'_, Locked<L>>,
+        request: &Request,
+    ) -> Result<Ticket, Refusal> {
+        let mut guard = guard;
         let issued = guard.desk.issue(request);
         let all = guard.note();
         if guard.is_told() {

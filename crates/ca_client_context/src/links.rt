@@ -302,16 +302,22 @@ fn serve_one(desk: &mut Desk, link: &mut Link, told: &mut Vec<Heard>) -> Served 
 // Handles the messages that came on a circuit.
 fn handle_all(desk: &mut Desk, circuit: Handle, told: &mut Vec<Heard>) -> Served {
     let mut served = Served::Idle;
+    let mut left = STEPS;
     for _ in 0..STEPS {
         if told.reserve(1).is_err() {
             return served;
         }
-        match desk.step(Ask::Step(circuit)) {
+        let steps = desk.step_all(circuit, left);
+        if steps.replies > 0 {
+            served = Served::Busy;
+        }
+        left = left.saturating_sub(steps.replies.saturating_add(1));
+        match steps.answer {
             Answer::Notices(notices) => {
                 keep(told, notices);
                 served = Served::Busy;
             }
-            Answer::Filled => served = Served::Busy,
+            Answer::Filled => return Served::Behind,
             Answer::Closed(ended) => {
                 keep(told, ended.told);
                 return Served::Over;

@@ -1,7 +1,10 @@
 use crate::lead::{LATELY, Lead, SocketPoll};
 use crate::links::{Brought, Heard, Link, send_all, serve};
 use crate::listener::{Change, Listener};
-use ca_client::Desk;
+use ca_board::Ticket;
+use ca_client::{Desk, Request};
+use ca_dbr::Value;
+use ca_text::Refusal;
 use mio::Waker;
 use std::alloc::Global;
 use std::sync::atomic::{AtomicU64, Ordering};
@@ -85,6 +88,38 @@ impl<L: Listener> Locked<L> {
         let all = self.send();
         self.together = LATER;
         all
+    }
+
+    // Makes requests, until one is refused. It says what came of them, and whether there is nothing more to be done for those that were made.
+    pub(crate) fn request_each(
+        &mut self,
+        requests: &[Request],
+        rooms: &mut Vec<Value>,
+        tickets: &mut Vec<Ticket>,
+    ) -> (Result<(), Refusal>, bool) {
+        let mut all = true;
+        for index in 0..requests.len() {
+            match self.request_one(&requests[index], rooms, tickets) {
+                Ok(done) => all = all && done,
+                Err(refusal) => return (Err(refusal), all),
+            }
+        }
+        (Ok(()), all)
+    }
+
+    fn request_one(
+        &mut self,
+        request: &Request,
+        rooms: &mut Vec<Value>,
+        tickets: &mut Vec<Ticket>,
+    ) -> Result<bool, Refusal> {
+        tickets.reserve(1)?;
+        if let Some(room) = rooms.pop() {
+            self.desk.recycle(room);
+        }
+        let (_, ticket) = self.desk.issue(request)?;
+        tickets.push_reserved(ticket);
+        Ok(self.note())
     }
 
     // All requests that were made go out now.

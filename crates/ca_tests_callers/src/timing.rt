@@ -3,6 +3,7 @@ use ca_arena::Handle;
 use ca_board::Ticket;
 use ca_client::Caller;
 use ca_client_context::{Context, Nobody, Work, start};
+use ca_dbr::{Outcome, Value};
 use ca_text::Refusal;
 use std::alloc::Global;
 use std::io::Write;
@@ -126,14 +127,19 @@ fn read_all<R: Wait>(rt: &R, reader: &Reader) -> Result<(), Refusal> {
     let mut caller = reader.context.caller(rt)?;
     let mut tickets = Vec::new(reader.alloc);
     tickets.reserve(reader.window)?;
+    let mut rooms = Vec::new(reader.alloc);
+    rooms.reserve(reader.window)?;
     for _ in 0..reader.reads {
-        let ticket = reader.context.get(rt, reader.channel, 5, 1)?;
+        let ticket = match rooms.pop() {
+            Some(room) => reader.context.get_into(rt, reader.channel, 5, 1, room)?,
+            None => reader.context.get(rt, reader.channel, 5, 1)?,
+        };
         tickets.push(ticket)?;
         if tickets.len() >= reader.window {
-            collect_all(rt, &reader.context, &mut caller, &mut tickets)?;
+            collect_all(rt, &reader.context, &mut caller, &mut tickets, &mut rooms)?;
         }
     }
-    collect_all(rt, &reader.context, &mut caller, &mut tickets)
+    collect_all(rt, &reader.context, &mut caller, &mut tickets, &mut rooms)
 }
 
 fn collect_all<R: Wait>(
@@ -141,10 +147,12 @@ fn collect_all<R: Wait>(
     context: &Context<Nobody>,
     caller: &mut Caller,
     tickets: &mut Vec<Ticket>,
+    rooms: &mut Vec<Value>,
 ) -> Result<(), Refusal> {
     for index in 0..tickets.len() {
-        if context.wait(rt, caller, tickets[index], TURNS).is_none() {
-            return Err(Refusal::Disconnected);
+        match context.wait(rt, caller, tickets[index], TURNS) {
+            Some(Outcome::Value(value, _)) => rooms.push(value)?,
+            _ => return Err(Refusal::Disconnected),
         }
     }
     tickets.clear();
