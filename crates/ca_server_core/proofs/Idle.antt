@@ -5,7 +5,7 @@ use Rattle.ca_ids.specs.Table.{Table, under, with_changed}
 use Rattle.ca_records.specs.Puts.{Record}
 use Rattle.ca_records.specs.Store.{HasAt, Store}
 use Rattle.ca_text.specs.Place.{At}
-use Rattle.ca_server_watchers.specs.Watching.{LeavesAt, Watched, watching}
+use Rattle.ca_server_watchers.specs.Watching.{LeavesAt, Watched}
 use Rattle.ca_model.specs.Server.{Ended, Open, ServerCircuit, ServerEnd}
 use Rattle.ca_model.specs.ServerSteps.{is_concerned}
 use Rattle.ca_server_circuit.specs.Posting.{PostsAt}

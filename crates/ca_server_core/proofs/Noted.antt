@@ -18,7 +18,7 @@ use Rattle.ca_model.specs.Due.{Action, Adds, Applies, Clears, Drops, Greets, Nam
 use Rattle.ca_model.specs.Ends.{Why}
 use Rattle.ca_model.specs.Ends as why
 use Rattle.ca_model.specs.Server.{Ended, Open, Server, ServerCircuit, ServerEnd}
-use Rattle.ca_model.specs.ServerSteps.{Stepped, Steps}
+use Rattle.ca_model.specs.ServerSteps.{Stepped}
 use Rattle.ca_model.specs.ServerSteps as steps
 use Rattle.ca_model.specs.Speech.{In}
 use Rattle.ca_server_circuit.specs.declared.cause.Cause.{Cause}
@@ -32,12 +32,12 @@ use Rattle.ca_server_circuit.specs.Stepping.{after_first, why_is}
 use Rattle.ca_server_circuit.proofs.Tables.{changed-own, find-at, none-some}
 use Rattle.ca_server_core.specs.Ending.{EndsIn}
 use Rattle.ca_server_core.specs.Following.{Follows}
-use Rattle.ca_server_core.specs.Noting.{BusyBut, IsBusy, LeadsTo, Notes, NotesAt, StepsNoting}
+use Rattle.ca_server_core.specs.Noting.{BusyBut, IsBusy, LeadsTo, Notes, NotesAt, StepsNoting, Unnoted}
 use Rattle.ca_server_core.specs.Serving.{IsReport, Reports, StepsIn, stepped}
 use Rattle.ca_server_core.specs.declared.stepping.Step.{Step}
 use Rattle.ca_server_core.proofs.Reached.{there-is}
 use Rattle.ca_server_core.proofs.Servers.{became, server_of, stayed}
-use Rattle.ca_server_core.proofs.Stepped.{not-some}
+use Rattle.ca_server_core.proofs.Stepped.{Makes, not-some}
 
 abbrev Circuits : Type 0
 Circuits = Table ServerCircuit
@@ -195,18 +195,30 @@ notes-after port s u x t after last h did noted (inl g) f n = by g.0 g.1 g.3
     }
     by (Ended w left) new d = not-some (step.Handled did) d.0
 
-steps-noting : (y : Server) (h : Handle) (did : Stepped) (new : Server) (noted : Option (List ℕ)) → Steps y h did new → Notes y.records new.records noted → StepsNoting y h did noted new
-steps-noting y h steps.Handled new noted s n = (s, n)
-steps-noting y h steps.NeedBytes new noted s n = s
-steps-noting y h steps.OutputFull new noted s n = s
-steps-noting y h (steps.Closed w left) new noted s n = s
+steps-noting : (y : Server) (h : Handle) (did : Stepped) (new : Server) (noted : Option (List ℕ)) → Makes y h did new → Notes y.records new.records noted → StepsNoting y h did noted new
+steps-noting y h steps.Handled new noted made n = (made.0, n)
+steps-noting y h steps.NeedBytes new noted made n = made
+steps-noting y h steps.OutputFull new noted made n = made
+steps-noting y h (steps.Closed w left) new noted made n = made
 
 -- the same along the view of the fields
 pub viewed-noting : (y : Server) (port now n k : ℕ) (b : Clock) (s u x : Store) (t after last final : Circuits) (h : Handle) (did : Effect) (result : Stepped) (noted : Option (List ℕ)) → server_of port s now t b n ≡ y → StepsIn port t h s (Some (step.Handled did)) after u → Follows did h after u last x → NotesAt did x noted
-    → Steps y h result (server_of port x now final b k) → StepsNoting y h result noted (server_of port x now final b k)
+    → Makes y h result (server_of port x now final b k) → StepsNoting y h result noted (server_of port x now final b k)
 viewed-noting y port now n k b s u x t after last final h did result noted is g f at made =
     steps-noting y h result (server_of port x now final b k) noted made
     (subst (λ (z : Server). Notes z.records (records_of x) noted) is (notes-after port s u x t after last h did noted g f at))
+
+-- the step was done, also if its put could not be noted
+pub viewed-unnoted : (y : Server) (port now n k : ℕ) (b : Clock) (s u x : Store) (t after last final : Circuits) (h : Handle) (did : Effect) (result : Stepped) (r : Result Step AllocError) → server_of port s now t b n ≡ y → StepsIn port t h s (Some (step.Handled did)) after u → Follows did h after u last x
+    → ((name : List ℕ) × NotesAt did x (Some name)) → Makes y h result (server_of port x now final b k) → OnErr r (Unnoted y h (server_of port x now final b k))
+viewed-unnoted y port now n k b s u x t after last final h did result (Ok z) is g f at made = tt
+viewed-unnoted y port now n k b s u x t after last final h did result (Err z) is g f at made = record {
+  did = result;
+  steps = made.0;
+  closes = made.1;
+  name = at.0;
+  notes = subst (λ (w : Server). Notes w.records (records_of x) (Some at.0)) is (notes-after port s u x t after last h did (Some at.0) g f at.1);
+}
 
 -- ---- steps that handled no message
 
@@ -238,18 +250,19 @@ none-closes port s u t after last h did (inl g) r handled = by g.0 g.1 g.2 g.3 g
         never-closed w left (sym (subst (λ (o : Option ServerCircuit). IsReport o (stepped did)) found r.0) ∙ handled)
 
 -- nothing is to be noted of them
-pub noting-none : (y : Server) (h : Handle) (did : Stepped) (new : Server) (noted : Option (List ℕ)) → (did ≡ steps.Handled → ⊥) → Steps y h did new → StepsNoting y h did noted new
-noting-none y h steps.Handled new noted other s = absurd (other refl)
-noting-none y h steps.NeedBytes new noted other s = s
-noting-none y h steps.OutputFull new noted other s = s
-noting-none y h (steps.Closed w left) new noted other s = s
-
--- the step was done, also if its put could not be noted
-pub steps-err : (y : Server) (h : Handle) (new : Server) (r : Result Step AllocError) (did : Stepped) → Steps y h did new → OnErr r ((x : Stepped) × Steps y h x new)
-steps-err y h new (Ok x) did s = tt
-steps-err y h new (Err e) did s = (did, s)
+pub noting-none : (y : Server) (h : Handle) (did : Stepped) (new : Server) (noted : Option (List ℕ)) → (did ≡ steps.Handled → ⊥) → Makes y h did new → StepsNoting y h did noted new
+noting-none y h steps.Handled new noted other made = absurd (other refl)
+noting-none y h steps.NeedBytes new noted other made = made
+noting-none y h steps.OutputFull new noted other made = made
+noting-none y h (steps.Closed w left) new noted other made = made
 
 -- ---- before it is noted
+
+-- the name of a record that is busy could not be held
+pub unheld : (did : Effect) (place : ℕ) (x : Store) (r : Record) (result : Result Bool AllocError) → did ≡ effect.Wrote place → HasAt x place r → record_named (records_of x) r.state.name ≡ Some r → is_some r.busy ≡ true → OnErr result ((name : List ℕ) × NotesAt did x (Some name))
+unheld did place x r (Ok b) is at found busy = tt
+unheld did place x r (Err e) is at found busy =
+    (r.state.name, subst (λ (d : Effect). NotesAt d x (Some r.state.name)) (sym is) (r, at, found, ap (λ (b : Bool). cond b (Some r.state.name) None) (sym busy)))
 
 -- the record to which a message wrote is there after what followed
 pub leads-after : (did : Effect) (h : Handle) (t last : Circuits) (u x : Store) → Follows did h t u last x → LeadsTo did x

@@ -12,6 +12,7 @@ use Rattle.ca_model.specs.ServerSteps.{Handled, Stepped, Steps}
 use Rattle.ca_model.specs.Speech.{In}
 use Rattle.ca_server_circuit.specs.declared.step.Effect.{Effect}
 use Rattle.ca_server_circuit.specs.declared.step.Effect.TheVariants as effect
+use Rattle.ca_server_core.specs.Serving.{Closes}
 
 -- ---- what is noted
 
@@ -50,7 +51,15 @@ NotesAt did s noted = noted ≡ None
 -- A step, after which it is noted what its message made busy.
 abbrev pub StepsNoting : Server → Handle → Stepped → Option (List ℕ) → Server → Type 0
 StepsNoting old h Handled noted new = Steps old h Handled new × Notes old.records new.records noted
-StepsNoting old h did noted new = Steps old h did new
+StepsNoting old h did noted new = Steps old h did new × Closes old h did new
+
+-- A step was done, after which a record is busy that is not noted.
+pub record Unnoted (old : Server) (h : Handle) (new : Server) : Type 0 where
+  pub did : Stepped
+  pub steps : Steps old h did new
+  pub closes : Closes old h did new
+  pub name : List ℕ
+  pub notes : Notes old.records new.records (Some name)
 
 -- the busy put of the record of this name was finished, if there is one
 abbrev pub Tries : Server → Option (List ℕ) → Server → Type 0
@@ -68,4 +77,4 @@ pub record FinishesOne (old : Server) (h : Handle) (new : Server) : Type 0 where
 -- `serve`: what was done with the next message
 abbrev pub ServesNext : Server → Handle → Stepped → Server → Type 0
 ServesNext old h Handled new = FinishesOne old h new
-ServesNext old h did new = Steps old h did new
+ServesNext old h did new = Steps old h did new × Closes old h did new

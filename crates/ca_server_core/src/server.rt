@@ -187,12 +187,7 @@ fn give_on(
 }
 
 // The first n of the bytes that wait on a circuit were handed over.
-fn sent_on(
-    circuits: &mut HeldTable<Circuit>,
-    spares: &mut Spares,
-    circuit: Handle,
-    n: usize,
-)
+fn sent_on(circuits: &mut HeldTable<Circuit>, spares: &mut Spares, circuit: Handle, n: usize)
     requires { n ≤ length (output_of (under circuits.old circuit)) }
     ensures { SendsIn circuits.old circuit n circuits.new }
 {

@@ -1,6 +1,5 @@
-ghost use Rattle.std.specs.Prelude.{◌≡◌, IfOk, OnErr, OnOk};
-ghost use Rattle.ca_model.specs.ServerSteps.{Stepped, Steps};
-ghost use Rattle.ca_server_core.specs.Noting.{LeadsTo, NotesAt, ServesNext, StepsNoting, Tries, noted_by};
+ghost use Rattle.std.specs.Prelude.{ℕ, ◌≡◌, List, Some, IfOk, OnErr, OnOk};
+ghost use Rattle.ca_server_core.specs.Noting.{LeadsTo, NotesAt, ServesNext, StepsNoting, Tries, Unnoted, noted_by};
 ghost use Rattle.ca_server_core.specs.Serving.{stepped};
 
 use crate::following::follow;
@@ -15,10 +14,10 @@ impl ServerCore {
     /// Handles the next message of a circuit as `step` does, and then finishes the put by which it made a record busy, as `finish` does. A
     /// record that was busy before is finished too if the message wrote to it. The room is for the name of the record.
     ///
-    /// Refused without memory for that name: then the step was done, and no put is finished.
+    /// Refused without memory for that name, so only if a record is busy after the step: that was done then, and no put is finished.
     pub fn serve(&mut self, circuit: Handle, room: &mut Vec<u8>) -> Result<Step, AllocError>
         ensures ok { IfOk result (λ did. ServesNext self.old circuit (stepped did) self.new) }
-        ensures err { OnErr result ((did : Stepped) × Steps self.old circuit did self.new) }
+        ensures err { OnErr result (Unnoted self.old circuit self.new) }
     {
         let mut is_noted = false;
         match self.step_noting(circuit, &mut is_noted, room)? {
@@ -41,7 +40,7 @@ impl ServerCore {
     ) -> Result<Step, AllocError>
         ensures ok { IfOk result (λ did. StepsNoting self.old circuit (stepped did)
             (noted_by is_noted.new room.new.items) self.new) }
-        ensures err { OnErr result ((did : Stepped) × Steps self.old circuit did self.new) }
+        ensures err { OnErr result (Unnoted self.old circuit self.new) }
     {
         *is_noted = false;
         let mut waited = 0;
@@ -76,11 +75,12 @@ impl ServerCore {
     }
 }
 
-/// Whether the record to which a message wrote is busy. Then its name is in the room.
+/// Whether the record to which a message wrote is busy. Then its name is in the room, if there is memory for it.
 fn note(records: &ServedRecords, effect: Effect, room: &mut Vec<u8>) -> Result<bool, AllocError>
     requires { LeadsTo effect records.now }
-    ensures { IfOk result (λ is_noted. NotesAt effect records.now
+    ensures ok { IfOk result (λ is_noted. NotesAt effect records.now
         (noted_by is_noted room.new.items)) }
+    ensures err { OnErr result ((name : List ℕ) × NotesAt effect records.now (Some name)) }
 {
     match effect {
         Effect::Wrote(place) => {

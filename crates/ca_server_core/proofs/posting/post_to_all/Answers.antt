@@ -8,7 +8,7 @@ use Rattle.ca_server_core.specs.Covering.{AreListed, Covers}
 use Rattle.ca_server_core.specs.Reaching.{ReachesNext}
 use Rattle.ca_server_core.proofs.Idle.{none-last}
 use Rattle.ca_server_core.proofs.Listed.{listed-walked}
-use Rattle.ca_server_core.proofs.Reached.{Walk, walk-begins, walk-ends, walk-next}
+use Rattle.ca_server_core.proofs.Reached.{walk-begins, walk-ends, walk-next}
 use Rattle.ca_server_core.proofs.posting.post_to_all.Goals as goal
 
 pub returns-in_default-clause-reaches : goal.returns-in_default-clause-reaches

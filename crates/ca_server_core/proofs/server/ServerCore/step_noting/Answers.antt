@@ -5,11 +5,11 @@ use Rattle.ca_model.specs.ServerSteps.{output_of}
 use Rattle.ca_model.specs.ServerSteps as steps
 use Rattle.ca_records.specs.Store.{records_of}
 use Rattle.ca_server_core.proofs.Covered.{covers-thinned}
-use Rattle.ca_server_core.proofs.Followed.{broke-thins, none-thins, settled-sound, settled-thins, step-covers, viewed-followed}
+use Rattle.ca_server_core.proofs.Followed.{broke-thins, made-followed, none-thins, settled-sound, settled-thins, step-covers}
 use Rattle.ca_server_core.proofs.Listed.{listed-broke, listed-none, listed-step}
-use Rattle.ca_server_core.proofs.Noted.{broke-closes, leads-after, none-closes, noting-none, steps-err, viewed-noting}
+use Rattle.ca_server_core.proofs.Noted.{broke-closes, leads-after, none-closes, noting-none, viewed-noting, viewed-unnoted}
 use Rattle.ca_server_core.proofs.Servers.{server_of}
-use Rattle.ca_server_core.proofs.Stepped.{broke-sound, handled-settles, none-sound, step-sound, viewed-broke, viewed-none}
+use Rattle.ca_server_core.proofs.Stepped.{broke-sound, handled-settles, made-broke, made-none, none-sound, step-sound}
 use Rattle.ca_server_circuit.specs.declared.step.Effect.TheVariants.{Quiet}
 use Rattle.ca_server_core.specs.Noting.{noted_by}
 use Rattle.ca_server_core.specs.Serving.{stepped}
@@ -37,7 +37,7 @@ returns-then-is_quiet-clause-ok c =
     let sound = step-sound i.port i.records u.records i.circuits u.circuits c.args.circuit Quiet did c.self.invariant.sound in
     let settles = handled-settles i.port i.records u.records i.circuits u.circuits c.args.circuit Quiet _ did in
     viewed-noting c.args.self.now i.port i.moment i.applied i.applied i.beacons i.records u.records u.records i.circuits u.circuits u.circuits u.circuits c.args.circuit Quiet steps.Handled None c.self.view_is did (refl, refl) refl
-    (viewed-followed c.args.self.now i.port i.moment i.applied i.applied _ i.beacons i.records u.records u.records i.circuits u.circuits u.circuits u.circuits c.args.circuit Quiet false own.Handled c.self.view_is refl refl long did (refl, refl) sound settles)
+    (made-followed c.args.self.now i.port i.moment i.applied i.applied _ i.beacons i.records u.records u.records i.circuits u.circuits u.circuits u.circuits c.args.circuit Quiet false own.Handled c.self.view_is refl refl long did (refl, refl) sound settles)
 
 pub follow-requires-clause-sound : goal.follow-requires-clause-sound
 follow-requires-clause-sound c =
@@ -76,8 +76,8 @@ returns-in_err-is_noted-in-Some-Handled-clause-err c =
     let did = rw c.in-Some-Handled.field-0-is at c.in-Some-Handled.ensures.steps in
     let f = c.follow.new in
     let long = c.in-Some-Handled.ensures.waited ∙ ap (λ (z : Server). length (output_of (under z.circuits c.args.circuit))) c.self.view_is in
-    steps-err c.args.self.now c.args.circuit (server_of i.port f.records i.moment c.settle-did.new.circuits i.beacons c.more_applied-self-inside.result) c.from_residual.result (stepped c.settle-did.result)
-    (viewed-followed c.args.self.now i.port i.moment i.applied c.more_applied-self-inside.result _ i.beacons i.records c.step_on.new.records f.records i.circuits c.step_on.new.circuits f.circuits c.settle-did.new.circuits c.args.circuit c.in-Some-Handled.effect c.is_write.result c.settle-did.result c.self.view_is c.is_write.ensures c.more_applied-self-inside.ensures long did c.follow.ensures.follows c.follow.ensures.sound c.settle-did.ensures)
+    viewed-unnoted c.args.self.now i.port i.moment i.applied c.more_applied-self-inside.result i.beacons i.records c.step_on.new.records f.records i.circuits c.step_on.new.circuits f.circuits c.settle-did.new.circuits c.args.circuit c.in-Some-Handled.effect (stepped c.settle-did.result) c.from_residual.result c.self.view_is did c.follow.ensures.follows c.in_err-is_noted-in-Some-Handled.ensures.err
+    (made-followed c.args.self.now i.port i.moment i.applied c.more_applied-self-inside.result _ i.beacons i.records c.step_on.new.records f.records i.circuits c.step_on.new.circuits f.circuits c.settle-did.new.circuits c.args.circuit c.in-Some-Handled.effect c.is_write.result c.settle-did.result c.self.view_is c.is_write.ensures c.more_applied-self-inside.ensures long did c.follow.ensures.follows c.follow.ensures.sound c.settle-did.ensures)
 
 pub invariant_of-self-in-Some-Handled : goal.invariant_of-self-in-Some-Handled
 invariant_of-self-in-Some-Handled c =
@@ -113,8 +113,8 @@ returns-in_ok-is_noted-in-Some-Handled-clause-ok c =
     let did = rw c.in-Some-Handled.field-0-is at c.in-Some-Handled.ensures.steps in
     let f = c.follow.new in
     let long = c.in-Some-Handled.ensures.waited ∙ ap (λ (z : Server). length (output_of (under z.circuits c.args.circuit))) c.self.view_is in
-    viewed-noting c.args.self.now i.port i.moment i.applied c.more_applied-self-inside.result i.beacons i.records c.step_on.new.records f.records i.circuits c.step_on.new.circuits f.circuits c.settle-did.new.circuits c.args.circuit c.in-Some-Handled.effect (stepped c.settle-did.result) (noted_by c.in_ok-is_noted-in-Some-Handled.field-0 c.note.new.room.items) c.self.view_is did c.follow.ensures.follows c.in_ok-is_noted-in-Some-Handled.ensures
-    (viewed-followed c.args.self.now i.port i.moment i.applied c.more_applied-self-inside.result _ i.beacons i.records c.step_on.new.records f.records i.circuits c.step_on.new.circuits f.circuits c.settle-did.new.circuits c.args.circuit c.in-Some-Handled.effect c.is_write.result c.settle-did.result c.self.view_is c.is_write.ensures c.more_applied-self-inside.ensures long did c.follow.ensures.follows c.follow.ensures.sound c.settle-did.ensures)
+    viewed-noting c.args.self.now i.port i.moment i.applied c.more_applied-self-inside.result i.beacons i.records c.step_on.new.records f.records i.circuits c.step_on.new.circuits f.circuits c.settle-did.new.circuits c.args.circuit c.in-Some-Handled.effect (stepped c.settle-did.result) (noted_by c.in_ok-is_noted-in-Some-Handled.field-0 c.note.new.room.items) c.self.view_is did c.follow.ensures.follows c.in_ok-is_noted-in-Some-Handled.ensures.ok
+    (made-followed c.args.self.now i.port i.moment i.applied c.more_applied-self-inside.result _ i.beacons i.records c.step_on.new.records f.records i.circuits c.step_on.new.circuits f.circuits c.settle-did.new.circuits c.args.circuit c.in-Some-Handled.effect c.is_write.result c.settle-did.result c.self.view_is c.is_write.ensures c.more_applied-self-inside.ensures long did c.follow.ensures.follows c.follow.ensures.sound c.settle-did.ensures)
 
 pub returns-in-Some-Breaks-clause-ok : goal.returns-in-Some-Breaks-clause-ok
 returns-in-Some-Breaks-clause-ok c =
@@ -122,11 +122,11 @@ returns-in-Some-Breaks-clause-ok c =
     let did = rw c.in-Some-Breaks.field-0-is at c.in-Some-Breaks.ensures.steps in
     noting-none c.args.self.now c.args.circuit (stepped c.report.result) (server_of i.port c.step_on.new.records i.moment c.report.new.circuits i.beacons i.applied) None
     (broke-closes i.port i.records c.step_on.new.records i.circuits c.step_on.new.circuits c.report.new.circuits c.args.circuit c.in-Some-Breaks.field-0-0 c.report.result did c.report.ensures)
-    (viewed-broke c.args.self.now i.port i.moment i.applied i.beacons i.records c.step_on.new.records i.circuits c.step_on.new.circuits c.report.new.circuits c.args.circuit c.in-Some-Breaks.field-0-0 c.report.result c.self.view_is did c.report.ensures c.self.invariant.sound)
+    (made-broke c.args.self.now i.port i.moment i.applied i.beacons i.records c.step_on.new.records i.circuits c.step_on.new.circuits c.report.new.circuits c.args.circuit c.in-Some-Breaks.field-0-0 c.report.result c.self.view_is did c.report.ensures c.self.invariant.sound)
 
 pub returns-in-None-clause-ok : goal.returns-in-None-clause-ok
 returns-in-None-clause-ok c =
     let i = c.self.inside in
     noting-none c.args.self.now c.args.circuit (stepped c.report-in-None.result) (server_of i.port c.step_on.new.records i.moment c.report-in-None.new.circuits i.beacons i.applied) None
     (none-closes i.port i.records c.step_on.new.records i.circuits c.step_on.new.circuits c.report-in-None.new.circuits c.args.circuit c.report-in-None.result c.in-None.ensures.steps c.report-in-None.ensures)
-    (viewed-none c.args.self.now i.port i.moment i.applied i.beacons i.records c.step_on.new.records i.circuits c.step_on.new.circuits c.report-in-None.new.circuits c.args.circuit c.report-in-None.result c.self.view_is c.in-None.ensures.steps c.report-in-None.ensures c.self.invariant.sound)
+    (made-none c.args.self.now i.port i.moment i.applied i.beacons i.records c.step_on.new.records i.circuits c.step_on.new.circuits c.report-in-None.new.circuits c.args.circuit c.report-in-None.result c.self.view_is c.in-None.ensures.steps c.report-in-None.ensures c.self.invariant.sound)
