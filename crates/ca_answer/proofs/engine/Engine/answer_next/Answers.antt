@@ -53,15 +53,15 @@ returns-clause-comes g c = λ rules states.
           let d = subst (λ (s : Step). ServesNext x.core x.circuit (stepped s) mid.core) w.in-Closed.is c.in_ok-serve_next.ensures.served in
           let flushed = w.in_ok-flush-in-Closed.ensures.flushes in
           rw (w.self-is, w.sink-is, w.turns-is, w.result-is, w.refusal_of.ensures)
-          (closes-comes g.K.Sink.takes g.K.Sink.fault_count rules states c.args.sink.now w.flush.new.sink x mid w.flush.new.self mid.core w.in-Closed.field-1 (ap (λ (z : EngineState). z.waits) stays) flushed.1 (why_is w.in-Closed.cause) w.flush.new.turns flushed.0 d)
+          (closes-comes g.K.Sink.takes g.K.Sink.fault_count rules states c.args.sink.now w.flush.new.sink x mid w.flush.new.self mid.core w.in-Closed.field-1 (ap (λ (z : EngineState). z.waits) stays) flushed.1 (why_is w.in-Closed.cause) w.flush.new.turns flushed.0 d.0)
       | in-NeedBytes+in_ok-flush-in-NeedBytes w ↦
           let d = subst (λ (s : Step). ServesNext x.core x.circuit (stepped s) mid.core) w.in-NeedBytes.is c.in_ok-serve_next.ensures.served in
           let flushed = w.in_ok-flush-in-NeedBytes.ensures.flushes in
           rw (w.self-is, w.sink-is, w.turns-is, w.result-is)
-          (flushed.0, rests g.K.Sink.takes g.K.Sink.fault_count rules states c.args.sink.now w.flush-in-NeedBytes.new.sink x mid w.flush-in-NeedBytes.new.self mid.core d stays flushed.1)
+          (flushed.0, rests g.K.Sink.takes g.K.Sink.fault_count rules states c.args.sink.now w.flush-in-NeedBytes.new.sink x mid w.flush-in-NeedBytes.new.self mid.core d.0 stays flushed.1)
       | in-OutputFull w ↦
           let d = subst (λ (s : Step). ServesNext x.core x.circuit (stepped s) mid.core) w.in-OutputFull.is c.in_ok-serve_next.ensures.served in
-          rw (w.self-is, w.sink-is, w.turns-is, w.result-is) (comes-full g.K.Sink.takes g.K.Sink.fault_count rules states c.args.sink.now x mid c.args.turns.now d)
+          rw (w.self-is, w.sink-is, w.turns-is, w.result-is) (comes-full g.K.Sink.takes g.K.Sink.fault_count rules states c.args.sink.now x mid c.args.turns.now d.0)
     ]
 
 pub returns-clause-smaller : goal.returns-clause-smaller
