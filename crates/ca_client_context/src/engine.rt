@@ -176,7 +176,7 @@ fn turn<N: Net, L: Listener>(
 ) -> Brought {
     // A caller found that a circuit ended.
     let told_before = !locked.told.is_empty();
-    locked.count_anew();
+    locked.unsent = 0;
     ears.follow(&mut locked.changes);
     hear(&mut locked.desk, datagrams, now);
     let ended = tick(&mut locked.desk, datagrams, &mut locked.links, now);

@@ -10,11 +10,8 @@ use std::alloc::Global;
 use std::sync::atomic::{AtomicU64, Ordering};
 use std::sync::{Mutex, MutexGuard, Wait};
 
-// Of the requests that callers make while none of them looks for an outcome the first go out together, so many: then the server answers them while the next
-// are made. Those go out with the next look, or so many at a time: each time costs as much as some 50 requests, and whoever looks has answers to read then.
-const FIRST: u64 = 256;
-
-const LATER: u64 = 768;
+// Requests that callers make while none of them looks for an outcome go out so many at a time: then the server answers them while the next are made.
+const TOGETHER: u64 = 256;
 
 // The thread of input and output is told of one request in so many, and of the first that was not sent.
 const SOME: u64 = 8;
@@ -58,9 +55,7 @@ pub(crate) struct Locked<L: Listener> {
     // What became of listeners, in the order of the calls. The thread of input and output has not followed yet.
     pub(crate) changes: Vec<Change<L>>,
     // How many requests were made since all were last sent.
-    unsent: u64,
-    // With how many they go out, if nobody looks for an outcome before.
-    together: u64,
+    pub(crate) unsent: u64,
     pub(crate) lead: Lead,
     pub(crate) ending: bool,
 }
@@ -73,7 +68,6 @@ impl<L: Listener> Locked<L> {
             told: Vec::new(alloc),
             changes: Vec::new(alloc),
             unsent: 0,
-            together: FIRST,
             lead: Lead::new(),
             ending: false,
         }
@@ -82,12 +76,7 @@ impl<L: Listener> Locked<L> {
     // A request was made. It says whether there is nothing more to be done for it now.
     pub(crate) fn note(&mut self) -> bool {
         self.unsent = self.unsent.saturating_add(1);
-        if self.unsent < self.together {
-            return true;
-        }
-        let all = self.send();
-        self.together = LATER;
-        all
+        self.unsent < TOGETHER || self.send()
     }
 
     // Makes requests, until one is refused. It says what came of them, and whether there is nothing more to be done for those that were made.
@@ -122,12 +111,6 @@ impl<L: Listener> Locked<L> {
         Ok(self.note())
     }
 
-    // All requests that were made go out now.
-    pub(crate) fn count_anew(&mut self) {
-        self.unsent = 0;
-        self.together = FIRST;
-    }
-
     // Whether the thread of input and output is to be told of the request that was made.
     pub(crate) fn is_told(&self) -> bool {
         self.unsent % SOME == 1
@@ -135,7 +118,7 @@ impl<L: Listener> Locked<L> {
 
     // Sends what waits on all circuits, as far as that can be now. It says whether nothing is left for the thread of input and output.
     pub(crate) fn send(&mut self) -> bool {
-        self.count_anew();
+        self.unsent = 0;
         send_all(&mut self.desk, &mut self.links, &mut self.told)
     }
 
@@ -158,7 +141,7 @@ impl<L: Listener> Locked<L> {
 
     // Moves bytes for a caller, and reads what came. It says whether something came.
     pub(crate) fn move_all(&mut self) -> bool {
-        self.count_anew();
+        self.unsent = 0;
         serve(&mut self.desk, &mut self.links, &mut self.told).any
     }
 
