@@ -10,5 +10,5 @@ invariant_of-result c =
     (record {
       sound = sound-new (records_of c.in_ok-records.records) c.args.records.now c.in_ok-records.ensures.list;
       covered = covers-none _;
-      listed = listed-empty _ c.new-2.result c.new-2.ensures;
+      listed = listed-empty _ c.new-3.result c.new-3.ensures;
     })
