@@ -116,8 +116,6 @@ impl ServedRecords {
     }
 
     /// The access rights of a user on a host to the record of this name: the bits 1 to read and 2 to write.
-    // In line: without rules the user and the host are not loaded then, which stand in a cache line of their own.
-    #[inline(always)]
     pub fn rights(&self, user: &[u8], host: &[u8], name: &[u8]) -> u32
         ensures { result ≡ rights self.now.rules user.now host.now name.now }
     {
