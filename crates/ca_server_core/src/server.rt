@@ -17,7 +17,7 @@ use std::alloc::{AllocError, Global};
 use std::marker::Model;
 
 // So many circuits keep the memory of their bytes each for itself: of more, what a message needs is not in the nearest caches any more.
-const FEW: usize = 256;
+const FEW: usize = 64;
 
 /// A server: its records, and its ends of circuits. It does no input and no output: bytes that came are given to it, and
 /// those that wait to be sent are asked of it.
