@@ -10,8 +10,8 @@ use Rattle.ca_text.specs.Limits.{server_port}
 use Rattle.ca_model.specs.Ends.{Why}
 use Rattle.ca_model.specs.Ends as why
 use Rattle.ca_model.specs.Server.{Open, Server, ServerCircuit, new_server}
-use Rattle.ca_model.specs.ServerSteps.{Accepts, Handled, Pumps, Sends, Steps, Update, output_of}
-use Rattle.ca_server_core.specs.Noting.{Notes, Tries}
+use Rattle.ca_model.specs.ServerSteps.{Accepts, Handled, Pumps, Sends, Stepped, Steps, Update, output_of}
+use Rattle.ca_server_core.specs.Noting.{Notes, ServesNext, Tries}
 
 -- A server, its circuit, and the bytes that wait to be handed to the sink.
 pub record EngineState : Type 0 where
@@ -39,10 +39,10 @@ abbrev pub Gathers : EngineState → EngineState → Type 0
 Gathers x new =
     (new.waits ≡ x.waits ++ output_of (under x.core.circuits x.circuit)) × (new.circuit ≡ x.circuit) × Sends x.core x.circuit (length (output_of (under x.core.circuits x.circuit))) new.core
 
--- updates were pumped before that
-abbrev pub PumpsAndGathers : EngineState → EngineState → Type 0
-PumpsAndGathers x new =
-    (updates : List Update) × (pumped : Server) × Pumps x.core x.circuit updates pumped × Gathers (record x { core = pumped }) new
+-- the next message was served, and what the circuit has to send then was put after the bytes that wait
+abbrev pub ServesAndGathers : EngineState → Stepped → EngineState → Type 0
+ServesAndGathers x Handled new = (pumped : Server) × HandlesOne x.core x.circuit pumped × Gathers (record x { core = pumped }) new
+ServesAndGathers x did new = ServesNext x.core x.circuit did new.core × (new ≡ record x { core = new.core })
 
 -- what came on a circuit and was not read: nothing if its end is not open
 abbrev pub unread : Option ServerCircuit → List ℕ

@@ -1,13 +1,12 @@
-ghost use Rattle.std.specs.Prelude.{◌≡◌, ◌+◌, ◌<◌, ◌≤◌, ◌^◌, List, IfErr, IfOk, OnOk, true};
+ghost use Rattle.std.specs.Prelude.{◌≡◌, ◌+◌, ◌<◌, ◌≤◌, ◌^◌, List, IfErr, IfOk, true};
 ghost use Rattle.ca_text.specs.declared.refusal.Refusal.TheVariants as refusal;
 ghost use Rattle.ca_text.specs.Limits.{engine_turns};
 ghost use Rattle.ca_records.specs.Record.{RecordState};
 ghost use Rattle.ca_records.specs.Rules.{Rule};
 ghost use Rattle.ca_model.specs.ServerSteps.{Gives};
-ghost use Rattle.ca_server_core.specs.Noting.{ServesNext};
 ghost use Rattle.ca_server_core.specs.Serving.{stepped};
 ghost use Rattle.ca_server_circuit.specs.Stepping.{why_is};
-ghost use Rattle.ca_answer.specs.Engines.{IsNew, PumpsAndGathers, refusal_for, unread_size};
+ghost use Rattle.ca_answer.specs.Engines.{IsNew, ServesAndGathers, refusal_for, unread_size};
 ghost use Rattle.ca_answer.specs.Serving.{Comes, Drains, Flushes};
 
 use ca_arena::Handle;
@@ -90,11 +89,8 @@ impl Engine {
         ensures within { turns.new ≤ engine_turns }
         ensures calls { K.call_count sink.new + turns.old ≡ K.call_count sink.old + turns.new }
     {
-        match self.serve_next() {
-            Step::Handled => {
-                self.gather()?;
-                Ok(true)
-            }
+        match self.serve_next()? {
+            Step::Handled => Ok(true),
             Step::Closed(cause, _) => {
                 self.flush(sink, turns, 1)?;
                 Err(refusal_of(cause))
@@ -108,19 +104,12 @@ impl Engine {
         }
     }
 
-    // Handles the next message, and finishes the record that it made busy.
-    fn serve_next(&mut self) -> Step
-        ensures served { ServesNext self.old.core self.old.circuit (stepped result) self.new.core }
-        ensures stays { self.new ≡ record self.old { core = self.new.core } }
+    // Handles the next message, and finishes the record that it made busy. After a message it pumps once, and moves what the circuit has to
+    // send to the end of the bytes that wait.
+    fn serve_next(&mut self) -> Result<Step, AllocError>
+        ensures { IfOk result (λ did. ServesAndGathers self.old (stepped did) self.new) }
     {
-        self.core.serve(self.circuit)
-    }
-
-    // Pumps once, and moves what the circuit has to send to the end of the bytes that wait.
-    fn gather(&mut self) -> Result<(), AllocError>
-        ensures ok { OnOk result (PumpsAndGathers self.old self.new) }
-    {
-        self.core.pump_into(self.circuit, &mut self.waits)
+        self.core.serve_into(self.circuit, &mut self.waits)
     }
 
     // Hands what waits to the sink in one call, or makes none where fewer bytes wait than the least.

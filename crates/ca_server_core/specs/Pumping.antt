@@ -1,12 +1,17 @@
 -- Working: updates leave the queues of an end, in the table of circuits. What waits is moved to a buffer (vocabulary: `PumpsOut`).
-use Rattle.std.specs.Prelude.{ℕ, ◌≡◌, ◌≢◌, ◌⊎◌, ◌++◌, List, [], Some, None, Ok, Err, Result, length}
+use Rattle.std.specs.Prelude.{ℕ, ◌≡◌, ◌≢◌, ◌⊎◌, ◌++◌, Bool, true, false, List, [], Option, Some, None, Ok, Err, Result, length}
 use Rattle.std.specs.declared.alloc.AllocError.{AllocError}
 use Rattle.ca_arena.specs.declared.handle.Handle.{Handle}
 use Rattle.ca_ids.specs.Table.{Table, under, with_changed}
 use Rattle.ca_records.specs.Store.{Store}
 use Rattle.ca_model.specs.Server.{Server, ServerCircuit}
-use Rattle.ca_model.specs.ServerSteps.{Pumps, Sends, Update, output_of}
+use Rattle.ca_model.specs.ServerSteps.{Handled, Pumps, Sends, Stepped, Update, output_of}
+use Rattle.ca_server_circuit.specs.declared.step.Effect.TheVariants as effect
+use Rattle.ca_server_circuit.specs.declared.step.EndStep.{EndStep}
+use Rattle.ca_server_circuit.specs.declared.step.EndStep.TheVariants as step
 use Rattle.ca_server_core.specs.Circuits.{SendsIn}
+use Rattle.ca_server_core.specs.Noting.{FinishesOne, ServesNext}
+use Rattle.ca_server_core.specs.Serving.{StepsIn}
 use Rattle.ca_server_circuit.specs.Pumping.{PumpsAt}
 
 -- updates leave the queues of the circuit of a handle
@@ -32,3 +37,32 @@ HandsOut old h bytes (Err _) new now = (now ≡ bytes) × (new ≡ old) × (outp
 -- `pump_into`: updates leave the queues of an open end as by `pump`, and then what waits on it is put after these bytes.
 abbrev pub PumpsOut : Server → Handle → (bytes : List ℕ) → Result (Unit {0}) AllocError → Server → (now : List ℕ) → Type 0
 PumpsOut old h bytes result new now = (updates : List Update) × (pumped : Server) × Pumps old h updates pumped × HandsOut pumped h bytes result new now
+
+-- ---- a step, and then that
+
+-- a step that handled a message, and left nothing to do
+abbrev pub rests : Option EndStep → Bool
+rests (Some (step.Handled effect.Quiet)) = true
+rests did = false
+
+-- A step of the circuit of a handle after which nothing is left to do: updates leave the queues, and what waits is put after these bytes.
+-- Else the step was done alone.
+abbrev pub StepsRests : Bool → (port : ℕ) → Table ServerCircuit → Handle → Store → (bytes : List ℕ) → Option EndStep → Result (Unit {0}) AllocError → Table ServerCircuit → Store → (now : List ℕ) → Type 0
+StepsRests true port t h s bytes did result after u now =
+    (mid : Table ServerCircuit) × (v : Store) × StepsIn port t h s did mid v × PumpsOutIn mid h v bytes result after u now
+StepsRests false port t h s bytes did result after u now = StepsIn port t h s did after u × (now ≡ bytes)
+
+abbrev pub StepsInto : (port : ℕ) → Table ServerCircuit → Handle → Store → (bytes : List ℕ) → Result (Option EndStep) AllocError → Table ServerCircuit → Store → (now : List ℕ) → Type 0
+StepsInto port t h s bytes (Ok did) after u now = (let done : Result (Unit {0}) AllocError = Ok tt in StepsRests (rests did) port t h s bytes did done after u now)
+StepsInto port t h s bytes (Err lack) after u now =
+    (let lacks : Result (Unit {0}) AllocError = Err lack in StepsRests true port t h s bytes (Some (step.Handled effect.Quiet)) lacks after u now)
+
+-- A message was handled, the put of the record to which it wrote was finished, and then updates and what waits left as by `pump_into`.
+abbrev pub ServesOut : Server → Handle → (bytes : List ℕ) → Result (Unit {0}) AllocError → Server → (now : List ℕ) → Type 0
+ServesOut old h bytes result new now = (mid : Server) × FinishesOne old h mid × PumpsOut mid h bytes result new now
+
+-- `serve_into`: what was done with the next message
+abbrev pub ServesInto : Server → Handle → (bytes : List ℕ) → Result Stepped AllocError → Server → (now : List ℕ) → Type 0
+ServesInto old h bytes (Ok Handled) new now = (let done : Result (Unit {0}) AllocError = Ok tt in ServesOut old h bytes done new now)
+ServesInto old h bytes (Ok did) new now = ServesNext old h did new × (now ≡ bytes)
+ServesInto old h bytes (Err lack) new now = (let lacks : Result (Unit {0}) AllocError = Err lack in ServesOut old h bytes lacks new now)

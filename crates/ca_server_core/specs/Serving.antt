@@ -1,5 +1,6 @@
 -- Working: what a step makes of the table of circuits, and how it is reported.
-use Rattle.std.specs.Prelude.{ℕ, ◌≡◌, ◌+◌, ◌⊎◌, Bool, true, [], Option, Some, None, if◌then◌else◌, min}
+use Rattle.std.specs.Prelude.{ℕ, ◌≡◌, ◌+◌, ◌⊎◌, Bool, true, [], Option, Some, None, Result, Ok, Err, if◌then◌else◌, min}
+use Rattle.std.specs.declared.alloc.AllocError.{AllocError}
 use Rattle.ca_arena.specs.declared.handle.Handle.{Handle}
 use Rattle.ca_ids.specs.Table.{Table, under, with_changed, with_freed}
 use Rattle.ca_records.specs.Store.{Store}
@@ -21,6 +22,11 @@ stepped Handled = steps.Handled
 stepped NeedBytes = steps.NeedBytes
 stepped OutputFull = steps.OutputFull
 stepped (Closed cause left) = steps.Closed (why_is cause) left
+
+-- the same, or that memory lacked
+abbrev pub stepped_in : Result Step AllocError → Result Stepped AllocError
+stepped_in (Ok did) = Ok (stepped did)
+stepped_in (Err lack) = Err lack
 
 -- how many writes were applied after a message that applied one, or not
 abbrev pub more_applied : (writes : Bool) → ℕ → ℕ

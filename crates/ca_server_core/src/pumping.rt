@@ -43,7 +43,7 @@ fn pump_on(circuits: &mut HeldTable<Circuit>, records: &mut ServedRecords, circu
 }
 
 /// Pumps the end of a circuit, and moves what waits on it to the end of these bytes.
-fn pump_into_on(
+pub(crate) fn pump_into_on(
     circuits: &mut HeldTable<Circuit>,
     records: &mut ServedRecords,
     circuit: Handle,
