@@ -41,9 +41,44 @@ pub fn spell_header(header: &Header, out: &mut Vec<u8>) -> Result<(), AllocError
     ensures capacity { vec_capacity out.old ≤ vec_capacity out.new }
 {
     if header.size < EXTENDED && header.count < EXTENDED {
-        return out.extend_from_slice(&short_form(header));
+        out.reserve(16)?;
+        put_short(header, out);
+        return Ok(());
     }
     out.extend_from_slice(&extended_form(header))
+}
+
+/// Puts the header of 16 bytes at the end, straight in its place.
+#[inline(always)]
+fn put_short(header: &Header, out: &mut Vec<u8>)
+    requires size { header.now.size < 65536 }
+    requires count { header.now.count < 65536 }
+    requires room { vec_len out.old + 16 ≤ vec_capacity out.old }
+    ensures items { out.new.items ≡ out.old.items ++ short_header header.now }
+    ensures capacity { vec_capacity out.new ≡ vec_capacity out.old }
+{
+    let command = header.command.to_be_bytes();
+    let size = (header.size as u16).to_be_bytes();
+    let data_type = header.data_type.to_be_bytes();
+    let count = (header.count as u16).to_be_bytes();
+    let p1 = header.p1.to_be_bytes();
+    let p2 = header.p2.to_be_bytes();
+    out.push_reserved(command[0]);
+    out.push_reserved(command[1]);
+    out.push_reserved(size[0]);
+    out.push_reserved(size[1]);
+    out.push_reserved(data_type[0]);
+    out.push_reserved(data_type[1]);
+    out.push_reserved(count[0]);
+    out.push_reserved(count[1]);
+    out.push_reserved(p1[0]);
+    out.push_reserved(p1[1]);
+    out.push_reserved(p1[2]);
+    out.push_reserved(p1[3]);
+    out.push_reserved(p2[0]);
+    out.push_reserved(p2[1]);
+    out.push_reserved(p2[2]);
+    out.push_reserved(p2[3]);
 }
 
 /// The header in 16 bytes, also at a size or count of 65,535, with which `spell_header` never writes it so.
