@@ -179,8 +179,6 @@ impl Circuit {
     }
 
     /// Updates leave the queues of its end until none may. The end has ended if there is no memory for the next.
-    // In line: mostly no queue is there, and after a message it is called at once.
-    #[inline(always)]
     pub fn pump(&mut self, circuit: Handle, records: &mut ServedRecords)
         requires { CircuitIsSound (records_of records.old) circuit self.old }
         ensures { PumpsAt circuit self.old records.old self.new records.new }
@@ -195,7 +193,6 @@ impl Circuit {
     }
 
     /// Moves what waits to be sent to the end of these bytes. Without memory for it all is as it was.
-    #[inline(always)]
     pub fn hand_over(&mut self, bytes: &mut Vec<u8>) -> Result<(), AllocError>
         ensures { HandsAt self.old bytes.old.items result self.new bytes.new.items }
     {

@@ -67,7 +67,6 @@ fn write_made<P: Payload>(
 }
 
 /// Puts zeros after n bytes of a payload, up to a multiple of 8.
-#[inline(always)]
 fn pad(size: usize, out: &mut Vec<u8>) -> Result<(), AllocError>
     ensures ok { OnOk result (out.new.items ≡ out.old.items ++ replicate ((8 - size % 8) % 8) 0) }
     ensures err { OnErr result (out.new.items ≡ out.old.items) }
