@@ -9,6 +9,10 @@ pub appended : {E : Type 0} (r : Result (Unit {0}) E) (was now xs ys : List ℕ)
 appended (Ok x) was now xs ys e same = e ∙ ap (λ (z : List ℕ). was ++ z) same
 appended (Err x) was now xs ys e same = tt
 
+-- one byte more
+pub pushed : (was xs mid now : List ℕ) (x : ℕ) → now ≡ mid ++ x ∷ [] → mid ≡ was ++ xs → now ≡ was ++ (xs ++ x ∷ [])
+pushed was xs mid now x e f = e ∙ ap (λ (z : List ℕ). z ++ x ∷ []) f ∙ append_assoc was xs (x ∷ [])
+
 -- a header and then a payload
 pub appended-both : {E : Type 0} (r : Result (Unit {0}) E) (was mid now payload : List ℕ) (h : Header) (m : Fields) → h ≡ header_of m → payload ≡ m.payload → mid ≡ was ++ header_spelling h → now ≡ cond (is_ok r) (mid ++ payload) mid → OnOk r (now ≡ was ++ spelling m)
 unfolding spelling
