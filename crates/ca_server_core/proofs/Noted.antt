@@ -254,16 +254,16 @@ noting-none y h steps.OutputFull new other made = made
 noting-none y h (steps.Closed w left) new other made = made
 
 pub not-handled : (did : Stepped) → was_handled did ≡ false → did ≡ steps.Handled → ⊥
-not-handled steps.Handled no is = both-bools true refl no
-not-handled steps.NeedBytes no is = cc
-not-handled steps.OutputFull no is = cc
-not-handled (steps.Closed w left) no is = cc
+not-handled steps.Handled f is = both-bools true refl f
+not-handled steps.NeedBytes f is = cc
+not-handled steps.OutputFull f is = cc
+not-handled (steps.Closed w left) f is = cc
 
 pub is-handled : (did : Stepped) → was_handled did ≡ true → did ≡ steps.Handled
-is-handled steps.Handled yes = refl
-is-handled steps.NeedBytes yes = absurd (both-bools false yes refl)
-is-handled steps.OutputFull yes = absurd (both-bools false yes refl)
-is-handled (steps.Closed w left) yes = absurd (both-bools false yes refl)
+is-handled steps.Handled t = refl
+is-handled steps.NeedBytes t = absurd (both-bools false t refl)
+is-handled steps.OutputFull t = absurd (both-bools false t refl)
+is-handled (steps.Closed w left) t = absurd (both-bools false t refl)
 
 -- ---- the put that it made busy
 

@@ -49,4 +49,4 @@ returns-in_default-clause-listed c =
 
 pub returns-clause-finishes : goal.returns-clause-finishes
 returns-clause-finishes c =
-    ended-at c.args.place c.args.applied.now c.more_applied-applied.result c.args.circuits.now c.reply_on.new.circuits c.follow.new.circuits c.args.records.now c.finish_at.new.self c.reply_on.new.records c.follow.new.records c.in-Some.finished c.effect_of-effect.result c.is_write.result c.in-Some.ensures c.reply_on.ensures c.effect_of-effect.ensures c.is_write.ensures c.more_applied-applied.ensures c.follow.ensures.follows
+    ended-at c.args.place c.args.applied.now c.more_applied.result c.args.circuits.now c.reply_on.new.circuits c.follow.new.circuits c.args.records.now c.finish_at.new.self c.reply_on.new.records c.follow.new.records c.in-Some.finished c.effect_of-effect.result c.is_write.result c.in-Some.ensures c.reply_on.ensures c.effect_of-effect.ensures c.is_write.ensures c.more_applied.ensures c.follow.ensures.follows

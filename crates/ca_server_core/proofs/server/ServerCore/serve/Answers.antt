@@ -81,7 +81,7 @@ invariant_of-self-then-not-is_handled c =
 
 pub invariant_of-self-in-Some-Handled : goal.invariant_of-self-in-Some-Handled
 invariant_of-self-in-Some-Handled c =
-    record { sound = c.finish_busy-self-inside.ensures.sound; covered = c.finish_busy-self-inside.ensures.covered; listed = c.finish_busy-self-inside.ensures.listed }
+    record { sound = c.finish_busy.ensures.sound; covered = c.finish_busy.ensures.covered; listed = c.finish_busy.ensures.listed }
 
 pub invariant_of-self-in-Some-Breaks : goal.invariant_of-self-in-Some-Breaks
 invariant_of-self-in-Some-Breaks c =
@@ -112,14 +112,14 @@ returns-then-not-is_handled c =
     noting-none c.args.self.now c.args.circuit (stepped c.settle-did.result) (server_of i.port f.records i.moment c.settle-did.new.circuits i.beacons c.more_applied-self-inside.result)
     (not-handled (stepped c.settle-did.result) (sym c.is_handled.ensures ∙ c.if-not-is_handled.true)) made
 
-pub returns-else-is_quiet : goal.returns-else-is_quiet
-returns-else-is_quiet c =
+pub returns-else-not-is_handled : goal.returns-else-not-is_handled
+returns-else-not-is_handled c =
     let i = c.self.inside in
     let did = rw c.in-Some-Handled.field-0-is at c.in-Some-Handled.ensures.steps in
     let f = c.follow.new in
     let long = c.in-Some-Handled.ensures.waited ∙ ap (λ (z : Server). length (output_of (under z.circuits c.args.circuit))) c.self.view_is in
     let made = made-followed c.args.self.now i.port i.moment i.applied c.more_applied-self-inside.result _ i.beacons i.records c.step_on.new.records f.records i.circuits c.step_on.new.circuits f.circuits c.settle-did.new.circuits c.args.circuit c.in-Some-Handled.effect c.is_write.result c.settle-did.result c.self.view_is c.is_write.ensures c.more_applied-self-inside.ensures long did c.follow.ensures.follows c.follow.ensures.sound c.settle-did.ensures in
-    let fin = c.finish_busy-self-inside in
+    let fin = c.finish_busy in
     viewed-served c.args.self.now i.port i.moment i.applied c.more_applied-self-inside.result fin.new.applied i.beacons i.records c.step_on.new.records f.records fin.new.records i.circuits c.step_on.new.circuits f.circuits c.settle-did.new.circuits fin.new.circuits c.args.circuit c.in-Some-Handled.effect (stepped c.settle-did.result) c.self.view_is did c.follow.ensures.follows made
     (is-handled (stepped c.settle-did.result) (sym c.is_handled.ensures ∙ c.if-not-is_handled.false)) fin.ensures.tries
 
