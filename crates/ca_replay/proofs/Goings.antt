@@ -8,7 +8,7 @@ use Rattle.ca_model.specs.Events.{Event}
 use Rattle.ca_model.specs.Runs.{Happens}
 use Rattle.ca_model.specs.World.{ServerSetting, Setting, World}
 use Rattle.ca_events.specs.Events.{event_of}
-use Rattle.ca_report.specs.Whole.{report_text}
+use Rattle.ca_world_script.specs.Whole.{report_text}
 use Rattle.ca_text.specs.declared.refusal.Refusal.{Refusal}
 use Rattle.ca_text.specs.declared.refusal.Refusal.TheVariants.{BadEvent}
 use Rattle.ca_world_data.specs.Does.{Does}

@@ -2,7 +2,7 @@
 use Rattle.std.specs.Prelude.{ℕ, ◌≡◌, ◌⊎◌, ◌++◌, List, [], ◌∷◌, Option, Some, None, length}
 use Rattle.std.specs.List.{FoldsTo, range_with_len}
 use Rattle.rand_core.specs.Stream.{Stream, next_u32}
-use Rattle.ca_drawing.specs.Drawn.{circuit_drawn, event_drawn, numbers, seeded}
+use Rattle.ca_world_script.specs.Drawn.{circuit_drawn, event_drawn, numbers, seeded}
 use Rattle.ca_model.specs.Events.{Event}
 use Rattle.ca_model.specs.Runs.{CanBe, Happens}
 use Rattle.ca_model.specs.World.{Setting, World, opening}

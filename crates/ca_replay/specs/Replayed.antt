@@ -3,7 +3,7 @@ use Rattle.std.specs.Prelude.{ℕ, ◌≡◌, List, Option, None, Some, length, 
 use Rattle.ca_events.specs.Events.{event_of}
 use Rattle.ca_model.specs.Events.{Event}
 use Rattle.ca_model.specs.World.{Setting, World}
-use Rattle.ca_report.specs.Whole.{report_text}
+use Rattle.ca_world_script.specs.Whole.{report_text}
 use Rattle.ca_text.specs.declared.refusal.Refusal.{Refusal}
 use Rattle.ca_world.specs.Running.{HasRun}
 use Rattle.ca_world_script.specs.Scripts.{IsNoScript, SaysScript}

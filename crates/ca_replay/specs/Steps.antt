@@ -1,6 +1,6 @@
 -- Working: how far a drawing is, by the parts of the program.
 use Rattle.std.specs.Prelude.{List, Option, map}
-use Rattle.ca_drawing.specs.Drawn.{numbers}
+use Rattle.ca_world_script.specs.Drawn.{numbers}
 use Rattle.ca_events.specs.Events.{event_of}
 use Rattle.ca_events.specs.declared.event.Event.{Event}
 use Rattle.ca_model.specs.World.{World}

@@ -1,14 +1,14 @@
 ghost use Rattle.std.specs.Prelude.{◌≡◌, IfErr, IfOk, map};
 ghost use Rattle.ca_text.specs.declared.refusal.Refusal.TheVariants.{OutOfMemory};
-ghost use Rattle.ca_drawing.specs.Drawn.{numbers};
+ghost use Rattle.ca_world_script.specs.Drawn.{numbers};
 ghost use Rattle.ca_events.specs.Events.{event_of};
 ghost use Rattle.ca_replay.specs.Drawing.{DrawsAlong, DrawsAt, DrawsSome, GoesAlong, Takes, draws};
 ghost use Rattle.ca_replay.specs.Steps.{along, drawn_so};
 
-use ca_drawing::{DRAWS, Drawing, circuit_drawn, event_drawn};
 use ca_events::Event;
 use ca_text::Refusal;
 use ca_world::{AfterEvent, Config, Way, World};
+use ca_world_script::{DRAWS, Drawing, circuit_drawn, event_drawn};
 use std::alloc::Global;
 
 // The events of a script with those that a seed draws, in a world of this setting. Refused as OutOfMemory.

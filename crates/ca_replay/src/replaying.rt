@@ -11,10 +11,9 @@ use crate::config::config_of;
 use crate::draw::draw;
 use crate::telling::Telling;
 use ca_events::Event;
-use ca_report::write_report;
 use ca_text::Refusal;
 use ca_world::{ClientSetting, Config, Progress, ServerSetting, run_telling};
-use ca_world_script::{Script, read_script};
+use ca_world_script::{Script, read_script, write_report};
 use std::alloc::Global;
 use std::io::Write;
 

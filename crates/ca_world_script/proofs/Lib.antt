@@ -7,3 +7,5 @@ pub mod LineKinds
 pub mod ClientRefusals
 pub mod EventRefusals
 pub mod Eaches
+mod Ranges
+pub mod Tellings

@@ -4,3 +4,7 @@ pub mod Types
 pub mod Events
 pub mod Scripts
 pub mod Index
+pub mod Drawn
+pub mod Logs
+pub mod Lives
+pub mod Whole

@@ -1,5 +1,5 @@
 use Rattle.std.proofs.Common.{map}
-use Rattle.ca_drawing.specs.Drawn.{numbers}
+use Rattle.ca_world_script.specs.Drawn.{numbers}
 use Rattle.ca_events.specs.Events.{event_of}
 use Rattle.ca_replay.proofs.Goings.{behind-one, ended-at, went-on}
 use Rattle.ca_replay.proofs.draw.go_along.Goals as goal

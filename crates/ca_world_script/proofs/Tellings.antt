@@ -6,7 +6,7 @@ use Rattle.ca_dbr.specs.declared.value.Outcome.{Outcome}
 use Rattle.ca_model.specs.History.{Intent}
 use Rattle.ca_model.specs.History as history
 use Rattle.ca_script.specs.Report.{counted}
-use Rattle.ca_report.specs.Logs.{noticed_text, status_text}
+use Rattle.ca_world_script.specs.Logs.{noticed_text, status_text}
 
 -- a plain write that was refused
 pub write-told : (intent : Intent) (channel n : ℕ) (o : Outcome) (a b t : List ℕ) → intent ≡ history.On channel (history.Request history.Write n) → a ≡ t ++ counted (codes " write_refused ") channel → b ≡ a ++ status_text o → b ≡ t ++ noticed_text intent o

@@ -1,8 +1,8 @@
 use Rattle.std.proofs.Common.{◌≡◌, rules}
 use Rattle.ca_model.specs.History as history
 use Rattle.ca_world_data.specs.Seen.{intent_of}
-use Rattle.ca_report.proofs.Tellings.{write-told}
-use Rattle.ca_report.proofs.logs.put_noticed.Goals as goal
+use Rattle.ca_world_script.proofs.Tellings.{write-told}
+use Rattle.ca_world_script.proofs.logs.put_noticed.Goals as goal
 
 pub returns-in_ok-put_status-in-Write-clause-ok : goal.returns-in_ok-put_status-in-Write-clause-ok
 returns-in_ok-put_status-in-Write-clause-ok c =

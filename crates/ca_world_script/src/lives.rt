@@ -1,6 +1,6 @@
 ghost use Rattle.std.specs.Prelude.{◌≡◌, ◌++◌, ◌==◌, if◌then◌else◌, [], ◌∷◌, IfOk, OnOk, map};
 ghost use Rattle.ca_events.specs.Events.{event_of};
-ghost use Rattle.ca_report.specs.Whole.{lives_of, restarted, restarts};
+ghost use Rattle.ca_world_script.specs.Whole.{lives_of, restarted, restarts};
 
 use ca_events::Event;
 use std::alloc::{AllocError, Global};

@@ -1,8 +1,8 @@
 use Rattle.std.proofs.Common.{ℕ, List, ◌++◌, ap, ◌∙◌}
-use Rattle.ca_report.specs.Lives.{logs_of}
-use Rattle.ca_report.specs.Whole.{client_text}
-use Rattle.ca_report.proofs.Ranges.{texts-more}
-use Rattle.ca_report.proofs.report.write_report.Goals as goal
+use Rattle.ca_world_script.specs.Lives.{logs_of}
+use Rattle.ca_world_script.specs.Whole.{client_text}
+use Rattle.ca_world_script.proofs.Ranges.{texts-more}
+use Rattle.ca_world_script.proofs.report.write_report.Goals as goal
 
 pub loop-client-preserved : goal.loop-client-preserved
 loop-client-preserved c =

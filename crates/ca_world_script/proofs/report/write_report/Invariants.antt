@@ -1,8 +1,8 @@
 use Rattle.std.proofs.Common.{◌≡◌}
 use Rattle.std.specs.List.{flat_map, range_with_len}
-use Rattle.ca_report.specs.Lives.{logs_of}
-use Rattle.ca_report.specs.Whole.{client_text}
-use Rattle.ca_report.proofs.report.write_report.Given as goal
+use Rattle.ca_world_script.specs.Lives.{logs_of}
+use Rattle.ca_world_script.specs.Whole.{client_text}
+use Rattle.ca_world_script.proofs.report.write_report.Given as goal
 
 abbrev pub invariant-loop-client : goal.invariant-loop-client
 invariant-loop-client l =

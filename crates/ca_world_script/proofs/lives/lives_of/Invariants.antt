@@ -1,6 +1,6 @@
 use Rattle.std.proofs.Common.{◌≡◌, ◌+◌, ◌++◌, drop}
-use Rattle.ca_report.specs.Whole.{begun, lives_of}
-use Rattle.ca_report.proofs.lives.lives_of.Given as goal
+use Rattle.ca_world_script.specs.Whole.{begun, lives_of}
+use Rattle.ca_world_script.proofs.lives.lives_of.Given as goal
 
 -- those of the restarts that are left make up the rest
 abbrev pub invariant-loop-place : goal.invariant-loop-place

@@ -1,8 +1,8 @@
 ghost use Rattle.std.specs.Prelude.{◌≡◌, ◌++◌, IfErr, OnOk, map};
 ghost use Rattle.ca_text.specs.declared.refusal.Refusal.TheVariants.{OutOfMemory};
 ghost use Rattle.ca_events.specs.Events.{event_of};
-ghost use Rattle.ca_report.specs.Lives.{logs_of};
-ghost use Rattle.ca_report.specs.Whole.{client_text, report_text};
+ghost use Rattle.ca_world_script.specs.Lives.{logs_of};
+ghost use Rattle.ca_world_script.specs.Whole.{client_text, report_text};
 
 use crate::lives::{lives_of, restarts};
 use crate::logs::write_lives;

@@ -4,7 +4,7 @@ use Rattle.std.specs.List.{flat_map, range_with_len}
 use Rattle.ca_model.specs.History.{Line}
 use Rattle.ca_model.specs.Events.{Event}
 use Rattle.ca_model.specs.Events as event
-use Rattle.ca_report.specs.Logs.{lives_text}
+use Rattle.ca_world_script.specs.Logs.{lives_text}
 use Rattle.ca_script.specs.Report.{end_text}
 
 -- the client that an event restarts, if it restarts one

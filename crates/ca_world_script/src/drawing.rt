@@ -1,6 +1,6 @@
 ghost use Rattle.std.specs.Prelude.{◌≡◌};
 ghost use Rattle.rand_core.specs.Stream.{next_u32};
-ghost use Rattle.ca_drawing.specs.Drawn.{numbers, seeded};
+ghost use Rattle.ca_world_script.specs.Drawn.{numbers, seeded};
 
 use rand_core::{Rng, SeedableRng};
 use rand_pcg::Pcg32;

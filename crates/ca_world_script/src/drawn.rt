@@ -1,6 +1,6 @@
 ghost use Rattle.std.specs.Prelude.{◌≡◌};
 ghost use Rattle.ca_events.specs.Events.{event_of};
-ghost use Rattle.ca_drawing.specs.Drawn.{bytes_drawn, circuit_drawn, event_drawn};
+ghost use Rattle.ca_world_script.specs.Drawn.{bytes_drawn, circuit_drawn, event_drawn};
 
 use ca_events::Event;
 
