@@ -1,16 +1,34 @@
-//! Rounds of calls, to be timed from outside: `ca_bench WHAT SIZE ROUNDS`. The size of a board or a
-//! queue under a lock is not used. Without words it shows boards.
+//! Both ends in one process, shown and timed. Without words it shows, and what came of it is `stdout`:
+//!
+//! - boards: a ticket from its arming to its end, a fill beside a give-up, and all cells at once with four callers in threads (`boards`);
+//! - what lies under a client's lock (`desk`);
+//! - a server whose device holds a put until a read on another circuit was answered (`holding`);
+//! - the lines `get`, `put` and `monitor`, what each says, and its status (`lines`);
+//! - a client whose callers are four threads (`callers`).
+//!
+//! With the words WHAT SIZE ROUNDS it makes rounds of calls to one part, to be timed from outside. The size of a board or a queue under a lock is not
+//! used. With the words PORT CALLERS READS WINDOW it prints the microseconds that so many reads of TEMP by each caller took, with so many outstanding at
+//! each, from when the channel was live (`timing`).
 #![tactic(auto)]
 
 mod arenas;
 mod board;
 mod boards;
+mod callers;
+mod client;
+mod desk;
+mod holding;
+mod lines;
 mod queues;
 mod racing;
 mod records;
 mod rounds;
+mod server;
 mod tickets;
+mod timing;
 
+use crate::client::{Task, use_client};
+use crate::timing::read_words;
 use ca_dbr::{Meta, Value, read_value, write_value};
 use ca_ids::IdTable;
 use ca_link::Link;
@@ -19,9 +37,12 @@ use ca_wire::{Ioid, Message, Sid, Wanted, put_request};
 use std::alloc::Global;
 use std::env;
 use std::io::Write;
+use std::net::{Net, TcpListener, TcpStream};
 use std::process::ExitCode;
+use std::rt::Files;
 use std::sync::Wait;
 use std::thread::Threads;
+use std::time::Clock;
 
 /// The number of the type DOUBLE.
 const DOUBLE: u16 = 6;
@@ -41,7 +62,7 @@ fn main(rt: HostRuntime) -> ExitCode {
         return ExitCode::FAILURE;
     };
     let mut out = rt.stdout();
-    match run(&rt, rt.alloc(), &words, &mut out) {
+    match run(rt, rt.alloc(), words.as_slice(), &mut out, &mut rt.stdout()) {
         Ok(()) => ExitCode::SUCCESS,
         Err(_) => ExitCode::FAILURE,
     }
@@ -54,22 +75,69 @@ fn words_of(rt: &HostRuntime) -> Result<Vec<String>, Refusal> {
     }
 }
 
-fn run<R: Threads + Wait + Sync, W: Write>(
-    rt: &R,
-    alloc: Global,
-    words: &[String],
-    out: &mut W,
-) -> Result<(), Refusal> {
+fn run<
+    R: Threads
+        + Wait
+        + Clock
+        + Net<Stream = TcpStream, Listener = TcpListener>
+        + Files
+        + Copy
+        + Drop
+        + Send
+        + Sync
+        + 'static,
+    W: Write,
+    E: Write,
+>(rt: R, alloc: Global, words: &[String], out: &mut W, err: &mut E) -> Result<(), Refusal> {
+    if words.is_empty() {
+        return show(rt, alloc, out, err);
+    }
+    if let Some(course) = read_words(words) {
+        return use_client(rt, alloc, course.port, Task::Read(course), out);
+    }
     let [what, size, rounds] = words else {
-        return if words.is_empty() {
-            boards::show_all(rt, alloc, out)
-        } else {
-            Err(Refusal::BadText)
-        };
+        return Err(Refusal::BadText);
     };
     match (size.as_str().parse::<u32>(), rounds.as_str().parse::<u32>()) {
-        (Ok(size), Ok(rounds)) => measured(rt, alloc, what.as_str(), size, rounds),
+        (Ok(size), Ok(rounds)) => measured(&rt, alloc, what.as_str(), size, rounds),
         _ => Err(Refusal::BadText),
+    }
+}
+
+fn show<
+    R: Threads
+        + Wait
+        + Clock
+        + Net<Stream = TcpStream, Listener = TcpListener>
+        + Files
+        + Copy
+        + Drop
+        + Send
+        + Sync
+        + 'static,
+    W: Write,
+    E: Write,
+>(rt: R, alloc: Global, out: &mut W, err: &mut E) -> Result<(), Refusal> {
+    boards::show_all(&rt, alloc, out)?;
+    desk::show(alloc, out)?;
+    holding::show(rt, alloc, out)?;
+    lines::show(rt, alloc, out, err)?;
+    callers::show(rt, alloc, out)
+}
+
+/// Tells a number.
+fn tell<W: Write>(out: &mut W, what: &str, number: u64) -> Result<(), Refusal> {
+    match writeln!(out, "{what}: {number}") {
+        Ok(()) => Ok(()),
+        Err(_) => Err(Refusal::Device),
+    }
+}
+
+/// Says a word.
+fn say<W: Write>(out: &mut W, what: &str, word: &str) -> Result<(), Refusal> {
+    match writeln!(out, "{what} {word}") {
+        Ok(()) => Ok(()),
+        Err(_) => Err(Refusal::Device),
     }
 }
 
