@@ -16,7 +16,7 @@ use std::alloc::Global;
 use std::marker::Brand;
 use std::net;
 use std::net::{Net, SocketAddr};
-use std::sync::ledger::{Blank, Ledger};
+use std::sync::ledger::{Blank, Ledger, Share};
 use std::sync::{Arc, Wait};
 use std::thread::{JoinHandle, Threads};
 use std::time::Clock;
@@ -59,7 +59,7 @@ pub fn serve<
     )
 }
 
-// The same, with the ledger of the circuits' shares. All threads are joined at the end.
+// The same, with the ledger of the circuits' shares.
 fn serve_as<
     L: Ledger + Send + Sync + 'static,
     D: Device + Send + Sync + 'static,
@@ -86,26 +86,38 @@ fn serve_as<
         alloc,
         Shared::new(alloc, state, accepting, answering, device),
     )?;
+    run_threads(rt, alloc, &shared, &mut door, desk, circuits, &mut all)?;
+    Ok(shared.locked.lock(&rt).state.audit(&mut all))
+}
+
+// Starts the helping threads, and accepts connections. All threads are joined at the end, when the server is to end.
+fn run_threads<
+    L: Ledger + Send + Sync + 'static,
+    D: Device + Send + Sync + 'static,
+    R: Threads + Wait + Clock + Net + Copy + Send + 'static,
+>(
+    rt: R,
+    alloc: Global,
+    shared: &Arc<Shared<L, D>>,
+    door: &mut Door,
+    desk: Desk,
+    circuits: Option<u64>,
+    all: &mut Share<L>,
+) -> Result<(), Refusal>
+    requires { all.old.parts ≡ 2 ^ 64 - 1 }
+    ensures { all.new.parts ≡ 2 ^ 64 - 1 }
+{
     let mut helpers = Vec::with_capacity(alloc, 4)?;
-    let helped = start_helpers(rt, &shared, desk, &mut helpers);
+    let helped = start_helpers(rt, shared, desk, &mut helpers);
     if helped.is_err() {
         shared.end(&rt);
     }
     let mut running = Vec::new(alloc);
-    accept_all(
-        rt,
-        alloc,
-        &shared,
-        &mut door,
-        circuits,
-        &mut running,
-        &mut all,
-    );
+    accept_all(rt, alloc, shared, door, circuits, &mut running, all);
     shared.end(&rt);
-    join_all(&rt, &mut running, &mut all);
+    join_all(&rt, &mut running, all);
     join_helpers(&rt, &mut helpers);
-    helped?;
-    Ok(shared.locked.lock(&rt).state.audit(&mut all))
+    helped
 }
 
 // The port of the listener. No call of either socket waits from here on.
