@@ -2,6 +2,8 @@
 //! reads it again.
 #![tactic(auto)]
 
+use ca_arena::Handle;
+use ca_client::Caller;
 use ca_client_context::{Context, Engine, Nobody, Setting, start};
 use ca_client_core::Address;
 use ca_dbr::{Outcome, Value};
@@ -172,17 +174,35 @@ fn talk<R: Wait + Clock, W: Write>(
     if !context.wait_live(rt, channel, TURNS) {
         return Err(Refusal::NotLive);
     }
-    let ticket = context.get(rt, channel, 5, 1)?;
-    say(out, "read", &context.wait(rt, &mut caller, ticket, TURNS))?;
+    read(rt, context, channel, &mut caller, out)?;
     let value = Value::Longs(vec![in alloc; 42]?);
-    let ticket = context.put_notify(rt, channel, value)?;
-    say(
-        out,
-        "written",
-        &context.wait(rt, &mut caller, ticket, TURNS),
-    )?;
+    write(rt, context, channel, value, &mut caller, out)?;
+    read(rt, context, channel, &mut caller, out)
+}
+
+/// Reads a channel, and prints what came.
+fn read<R: Wait, W: Write>(
+    rt: &R,
+    context: &Context<Nobody>,
+    channel: Handle,
+    caller: &mut Caller,
+    out: &mut W,
+) -> Result<(), Refusal> {
     let ticket = context.get(rt, channel, 5, 1)?;
-    say(out, "read", &context.wait(rt, &mut caller, ticket, TURNS))
+    say(out, "read", &context.wait(rt, caller, ticket, TURNS))
+}
+
+/// Writes a value, and prints what became of it.
+fn write<R: Wait, W: Write>(
+    rt: &R,
+    context: &Context<Nobody>,
+    channel: Handle,
+    value: Value,
+    caller: &mut Caller,
+    out: &mut W,
+) -> Result<(), Refusal> {
+    let ticket = context.put_notify(rt, channel, value)?;
+    say(out, "written", &context.wait(rt, caller, ticket, TURNS))
 }
 
 fn say<W: Write>(out: &mut W, what: &str, outcome: &Option<Outcome>) -> Result<(), Refusal> {

@@ -72,12 +72,23 @@ pub(crate) fn talk<R: Threads + Wait + Clock + Copy + Send + 'static, W: Write>(
     if !context.wait_live(&rt, wave, TURNS) {
         return Err(Refusal::NotLive);
     }
+    use_up(rt, alloc, context, wave, out)?;
+    one_more(&rt, context, wave, out)
+}
+
+/// All tickets are outstanding, one more is asked for, and the callers collect theirs.
+fn use_up<R: Threads + Wait + Clock + Copy + Send + 'static, W: Write>(
+    rt: R,
+    alloc: Global,
+    context: &Arc<Context<Nobody>>,
+    wave: Handle,
+    out: &mut W,
+) -> Result<(), Refusal> {
     let right = Arc::new(alloc, AtomicU64::new(0))?;
     let parts = all_parts(&rt, alloc, context, wave, &right)?;
     one_more(&rt, context, wave, out)?;
     collected(rt, alloc, parts)?;
-    tell(out, "collected", right.load(Ordering::SeqCst))?;
-    one_more(&rt, context, wave, out)
+    tell(out, "collected", right.load(Ordering::SeqCst))
 }
 
 /// What becomes of one request more.

@@ -10,8 +10,9 @@ use crate::desk::circuit::{live, memory, turn};
 use crate::desk::faults::{lost, lost_at};
 use crate::desk::requests::{Requests, accepted, answered, make_requests, refused_as};
 use crate::tell;
+use ca_arena::Handle;
 use ca_board::Ticket;
-use ca_client::{Caller, Desk};
+use ca_client::{Caller, Desk, Tape};
 use ca_client_core::Address;
 use ca_text::Refusal;
 use std::alloc::Global;
@@ -47,13 +48,25 @@ fn show_cells<W: Write>(
 ) -> Result<(), Refusal> {
     let mut tape = memory(alloc)?;
     let circuit = live(desk, &mut tape)?;
-    let done = answered(desk, caller, &requests.put, circuit, &mut tape)?;
-    say(out, "answered", done)?;
-    say(out, "refused as 10", refused_as(desk, &requests.stale, 10))?;
+    show_answered(desk, caller, requests, circuit, &mut tape, out)?;
     let tickets = all_cells(alloc, desk, requests, out)?;
     tape.calls_left = 0;
     turn(desk, circuit, &mut tape);
     say(out, "lost", lost(caller, &tickets))
+}
+
+/// More requests than there are cells, one after the other: those that the server answers, and those that the core refuses.
+fn show_answered<W: Write>(
+    desk: &mut Desk,
+    caller: &mut Caller,
+    requests: &Requests,
+    circuit: Handle,
+    tape: &mut Tape,
+    out: &mut W,
+) -> Result<(), Refusal> {
+    let done = answered(desk, caller, &requests.put, circuit, tape)?;
+    say(out, "answered", done)?;
+    say(out, "refused as 10", refused_as(desk, &requests.stale, 10))
 }
 
 /// As many requests as there are cells.

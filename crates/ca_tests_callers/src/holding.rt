@@ -123,13 +123,25 @@ fn talk<R: Net<Stream = TcpStream, Listener = TcpListener>, W: Write>(
 ) -> Result<(), Refusal> {
     let first = connected(rt, address)?;
     let second = connected(rt, address)?;
-    let sid = opened(&first)?;
-    put(&first, sid, 42)?;
+    put_beside(signs, &first, &second, out)
+}
+
+fn put_beside<W: Write>(
+    signs: &Signs,
+    first: &TcpStream,
+    second: &TcpStream,
+    out: &mut W,
+) -> Result<(), Refusal> {
+    let sid = opened(first)?;
+    put(first, sid, 42)?;
     say_yes(out, "the device has the put:", is_set(&signs.entered))?;
-    let read_beside = is_read(&second);
-    say_yes(out, "a read on another circuit is answered:", read_beside)?;
+    say_yes(
+        out,
+        "a read on another circuit is answered:",
+        is_read(second),
+    )?;
     signs.opened.store(1, Ordering::SeqCst);
-    end(&first, sid, out)
+    end(first, sid, out)
 }
 
 /// Whether a read on this circuit is answered.

@@ -61,21 +61,33 @@ fn took<R: Threads + Wait + Clock + Copy + Send + 'static>(
     if !context.wait_live(&rt, channel, TURNS) {
         return Err(Refusal::NotLive);
     }
-    let read = Arc::new(alloc, AtomicU64::new(0))?;
     let Ok(began) = Instant::now(&rt) else {
         return Err(Refusal::Device);
     };
+    read_by_all(rt, alloc, context, channel, course)?;
+    match began.elapsed(&rt) {
+        Ok(took) => Ok(took.as_micros()),
+        Err(_) => Err(Refusal::Device),
+    }
+}
+
+/// All callers read. Refused as Disconnected if one could not.
+fn read_by_all<R: Threads + Wait + Clock + Copy + Send + 'static>(
+    rt: R,
+    alloc: Global,
+    context: &Arc<Context<Nobody>>,
+    channel: Handle,
+    course: Course,
+) -> Result<(), Refusal> {
+    let read = Arc::new(alloc, AtomicU64::new(0))?;
     let threads = start_all(rt, alloc, context, channel, course, &read)?;
     for thread in threads {
         thread.join(&rt);
     }
-    let Ok(took) = began.elapsed(&rt) else {
-        return Err(Refusal::Device);
-    };
     if read.load(Ordering::SeqCst) != course.reads.saturating_mul(course.callers) {
         return Err(Refusal::Disconnected);
     }
-    Ok(took.as_micros())
+    Ok(())
 }
 
 fn start_all<R: Threads + Wait + Clock + Copy + Send + 'static>(
