@@ -24,8 +24,6 @@ pub(crate) struct Engine {
     core: ServerCore,
     circuit: Handle,
     waits: Vec<u8>,
-    // Room for the name of the record that a message makes busy.
-    name: Vec<u8>,
 }
 
 impl Model for Engine {
@@ -49,7 +47,6 @@ impl Engine {
             core,
             circuit,
             waits: Vec::new(alloc),
-            name: Vec::new(alloc),
         })
     }
 
@@ -93,7 +90,7 @@ impl Engine {
         ensures within { turns.new ≤ engine_turns }
         ensures calls { K.call_count sink.new + turns.old ≡ K.call_count sink.old + turns.new }
     {
-        match self.serve_next()? {
+        match self.serve_next() {
             Step::Handled => {
                 self.gather()?;
                 Ok(true)
@@ -112,12 +109,11 @@ impl Engine {
     }
 
     // Handles the next message, and finishes the record that it made busy.
-    fn serve_next(&mut self) -> Result<Step, AllocError>
-        ensures served { IfOk result (λ did.
-            ServesNext self.old.core self.old.circuit (stepped did) self.new.core) }
+    fn serve_next(&mut self) -> Step
+        ensures served { ServesNext self.old.core self.old.circuit (stepped result) self.new.core }
         ensures stays { self.new ≡ record self.old { core = self.new.core } }
     {
-        self.core.serve(self.circuit, &mut self.name)
+        self.core.serve(self.circuit)
     }
 
     // Pumps once, and moves what the circuit has to send to the end of the bytes that wait.

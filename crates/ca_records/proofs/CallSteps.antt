@@ -5,6 +5,7 @@ use Rattle.std.specs.declared.alloc.AllocError.{AllocError}
 use Rattle.ca_arena.specs.declared.handle.Handle.{Handle}
 use Rattle.ca_dbr.specs.declared.value.Meta.{Meta}
 use Rattle.ca_dbr.specs.Elements.{Elements, IsValue}
+use Rattle.ca_text.specs.declared.refusal.Refusal.{Refusal}
 use Rattle.ca_text.specs.declared.refusal.Refusal.TheVariants as refusal
 use Rattle.ca_text.specs.Place.{At}
 use Rattle.ca_text.proofs.Places.{At-one, some_is}
@@ -24,7 +25,7 @@ use Rattle.ca_records.specs.Rules.{Rule}
 use Rattle.ca_records.specs.Store.{Becomes, Finds, Store, present, records_of}
 use Rattle.ca_records.specs.Writes.{Begins, BeginsOn, Finishes, FinishesOn, Posts, Turns, Withdraws, is_of, next_put}
 use Rattle.ca_records.proofs.Presence.{waiting-gone}
-use Rattle.ca_records.proofs.Steps.{Change, change, seen, seen-full, store_of}
+use Rattle.ca_records.proofs.Steps.{Change, change, found-at, seen, seen-full, store_of}
 use Rattle.ca_records.proofs.Waiters.{true_or_false}
 
 -- the puts that wait for a record are among those that wait
@@ -65,6 +66,18 @@ finds-it : (slots : List Slot) (rules : List Rule) (stamp : Stamp) (name : List 
 finds-it slots rules stamp name place r found full =
     let same : found.r ≡ r = some_is found.r r (At-one (seen slots) place (Some found.r) (Some r) found.at (seen-full slots place r full)) in
     (ap (λ (q : Record). q.state.name) (sym same) ∙ found.named, found.found ∙ ap Some same)
+
+-- what is at a place is found there by its own name
+pub finds-own : (slots : List Slot) (free : Option ℕ) (f : List ℕ → Option ℕ) (waiting : ℕ) (rules : List Rule) (stamp : Stamp) (place : ℕ) (r : Record) → IsStored slots free f waiting → At slots place (Full r) → Finds (store_of slots rules stamp) r.state.name place
+finds-own slots free f waiting rules stamp place r stored full =
+    let at : At (seen slots) place (Some r) = seen-full slots place r full in
+    record { r = r; at = at; named = refl; found = found-at (seen slots) f place r stored.index at }
+
+-- what is at a place has one name
+pub finishes-named : (s u : Store) (name : List ℕ) (place : ℕ) (result : Result Finished Refusal) → Finds s name place → (other : List ℕ) × Finds s other place × Finishes s other result u → Finishes s name result u
+finishes-named s u name place result g (other, f, did) =
+    let same : f.r ≡ g.r = some_is f.r g.r (At-one s.slots place (Some f.r) (Some g.r) f.at g.at) in
+    subst (λ (n : List ℕ). Finishes s n result u) (sym f.named ∙ ap (λ (q : Record). q.state.name) same ∙ g.named) did
 
 pub turns : (slots : List Slot) (free : Option ℕ) (f : List ℕ → Option ℕ) (rules : List Rule) (stamp : Stamp) (name : List ℕ) (place : ℕ) (r next : Record) (more : ℕ) → Finds (store_of slots rules stamp) name place → At slots place (Full r) → Change slots free f rules stamp place r next more → Turns (store_of slots rules stamp) name place r next (store_of (slice_set slots place (Full next)) rules stamp)
 turns slots free f rules stamp name place r next more found full made =

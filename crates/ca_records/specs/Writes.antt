@@ -18,7 +18,7 @@ use Rattle.ca_records.specs.declared.puts.Put.{Put}
 use Rattle.ca_records.specs.declared.puts.Stamp.{Stamp}
 use Rattle.ca_records.specs.Puts.{Record, WaitingPut, finished, new_record, record_named, removed, with_value, with_waiting, withdrawn, without_puts, written_meta}
 use Rattle.ca_records.specs.Record.{RecordState}
-use Rattle.ca_records.specs.Store.{Becomes, Enters, HasAt, Store, records_of, with_place, with_slot}
+use Rattle.ca_records.specs.Store.{Becomes, Enters, Finds, HasAt, Store, records_of, with_place, with_slot}
 
 -- ---- writes: a put with notification, or a plain write, which has none
 
@@ -81,6 +81,11 @@ Finishes old name (Ok f) new =
 Finishes old name (Err refusal.UnknownRecord) new = (record_named (records_of old) name ≡ None) × (new ≡ old)
 Finishes old name (Err refusal.NotBusy) new = ((r : Record) × (record_named (records_of old) name ≡ Some r) × (r.busy ≡ None)) × (new ≡ old)
 Finishes old name (Err e) new = ⊥
+
+-- the same of the record at a place, by its name
+abbrev pub FinishesAt : Store → (place : ℕ) → Option Finished → Store → Type 0
+FinishesAt old place (Some f) new = (name : List ℕ) × Finds old name place × Finishes old name (Ok f) new
+FinishesAt old place None new = (name : List ℕ) × Finds old name place × Finishes old name (Err refusal.NotBusy) new
 
 -- ---- puts that are taken out
 

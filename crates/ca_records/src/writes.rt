@@ -1,7 +1,7 @@
 ghost use Rattle.std.specs.Prelude.{◌≡◌};
 ghost use Rattle.ca_dbr.specs.Elements.{elements};
 ghost use Rattle.ca_records.specs.Store.{IsThere, TakesAt};
-ghost use Rattle.ca_records.specs.Writes.{Begins, Finishes, Posts, Withdraws};
+ghost use Rattle.ca_records.specs.Writes.{Begins, Finishes, FinishesAt, Posts, Withdraws};
 
 use crate::puts::{Begun, Finished, Put, fewer_waiting, more_waiting};
 use crate::served_records::ServedRecords;
@@ -53,12 +53,23 @@ impl ServedRecords {
         let Some(place) = self.find_near(self.recent, name) else {
             return Err(Refusal::UnknownRecord);
         };
+        match self.finish_at(place) {
+            Some(finished) => Ok(finished),
+            None => Err(Refusal::NotBusy),
+        }
+    }
+
+    /// The same of the record at this place: none if it is not busy.
+    pub fn finish_at(&mut self, place: usize) -> Option<Finished>
+        requires { IsThere self.old place }
+        ensures { FinishesAt self.old place result self.new }
+    {
         let stamp = self.stamp;
         match self.slots[place].record_mut().finish(stamp) {
-            None => Err(Refusal::NotBusy),
+            None => None,
             Some((ended, applied)) => {
                 self.waiting -= fewer_waiting(&applied);
-                Ok(Finished {
+                Some(Finished {
                     place,
                     ended,
                     applied,

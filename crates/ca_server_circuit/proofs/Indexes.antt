@@ -1,16 +1,16 @@
 -- The channels of a circuit, and the set of CIDs that are in use.
-use Rattle.std.proofs.Common.{◌≡◌, ℕ, inl, inr, Bool, true, false, cond, nat_eq, Option, Some, is_some, slice_set, refl, sym, ap, ◌∙◌, subst, arith}
+use Rattle.std.proofs.Common.{◌≡◌, ℕ, inl, inr, Bool, true, false, cond, nat_eq, Option, Some, None, is_some, slice_set, refl, sym, ap, ◌∙◌, subst, arith}
 use Rattle.std.proofs.lemmas.Bool.{eq-eqb}
 use Rattle.std.proofs.lemmas.Bool.Decides.{eqb_tells}
 use Rattle.std.specs.HashSet.{HashSet, contains}
 use Rattle.std.specs.declared.hash.FoldHasher.{FoldHasher}
 use Rattle.std.specs.declared.hash.BuildHasherDefault.{BuildHasherDefault}
-use Rattle.std.specs.Prelude.{option_map}
+use Rattle.std.specs.Prelude.{IfSome, option_map}
 use Rattle.ca_arena.specs.Arena.{Place}
 use Rattle.ca_arena.specs.declared.handle.Handle.{Handle}
 use Rattle.ca_ids.specs.Table.{MayGive, Table, same_handle, under, with_changed, with_freed, with_held}
 use Rattle.ca_model.specs.Server.{OpenChannel}
-use Rattle.ca_server_circuit.specs.Cids.{IsIndexed, UsesCid}
+use Rattle.ca_server_circuit.specs.Cids.{IsInFront, IsIndexed, UsesCid, come, leave}
 use Rattle.ca_server_circuit.specs.Removing.{without_record}
 use Rattle.ca_server_circuit.proofs.Cleared.{is-same, same-is}
 use Rattle.ca_server_circuit.proofs.Tables.{changed-back, changed-few, changed-other, changed-own, freed-back, freed-few, freed-other, held-back, held-few, held-other, held-own, one-value}
@@ -133,3 +133,27 @@ indexed-retired t s h ch new i there is =
     ∙ ap (λ (c : OpenChannel). let p : Place OpenChannel = record { generation = h.generation; value = Some c } in slice_set t h.index p) (sym is)
     ∙ sym (ap (λ (o : Option OpenChannel). let p : Place OpenChannel = record { generation = h.generation; value = option_map (λ (x : OpenChannel). new) o } in cond (is_some o) (slice_set t h.index p) t) there))
     (indexed-retire t s h ch i there)
+
+-- ---- the channel in front
+
+-- a channel was opened
+pub front-come : (t : Table OpenChannel) (h : Handle) (ch : OpenChannel) (copy : Option OpenChannel) (front : Option (Handle × OpenChannel)) → IsInFront t front → MayGive t h → IfSome copy (λ c. c ≡ ch) → IsInFront (with_held h ch t) (come h copy front)
+front-come t h ch copy (Some e) i may is = held-other t e.0 h ch e.1 may i
+front-come t h ch None None i may is = tt
+front-come t h ch (Some c) None i may is = held-own t h ch may ∙ ap (λ (x : OpenChannel). Some x) (sym is)
+
+module _ (t new : Table OpenChannel) (h : Handle) (stays : (g : Handle) (c : OpenChannel) → under t g ≡ Some c → (g ≡ h → ⊥) → under new g ≡ Some c) where
+  -- the channel of this handle was closed or changed, and the others stay
+  front-leave : (front : Option (Handle × OpenChannel)) → IsInFront t front → IsInFront new (leave h front)
+  front-leave None i = tt
+  front-leave (Some e) i = by (same_handle e.0 h) refl
+    where
+      by : (b : Bool) → same_handle e.0 h ≡ b → IsInFront new (cond b None (Some e))
+      by true hit = tt
+      by false miss = stays e.0 e.1 i (λ x. not_both (same_handle e.0 h) (is-same e.0 h x) miss)
+
+pub front-close : (t : Table OpenChannel) (h : Handle) (front : Option (Handle × OpenChannel)) → IsInFront t front → IsInFront (with_freed h t) (leave h front)
+front-close t h front i = front-leave t (with_freed h t) h (λ g c at other. freed-other t g h c at other) front i
+
+pub front-change : (f : OpenChannel → OpenChannel) (t : Table OpenChannel) (h : Handle) (front : Option (Handle × OpenChannel)) → IsInFront t front → IsInFront (with_changed f h t) (leave h front)
+front-change f t h front i = front-leave t (with_changed f h t) h (λ g c at other. changed-other f t g h c at other) front i

@@ -1,4 +1,4 @@
-ghost use Rattle.std.specs.Prelude.{◌≡◌, ◌&&◌, IfOk, false, not, true};
+ghost use Rattle.std.specs.Prelude.{◌≡◌, ◌&&◌, IfOk, IfSome, false, not, true};
 ghost use Rattle.std.specs.Str.{bytes_eq};
 
 use crate::name::Name;
@@ -12,9 +12,9 @@ pub(crate) struct Channel {
     kept: Box<Kept>,
 }
 
-// What is kept of a channel.
+/// What is kept of a channel.
 #[derive(Debug, Drop)]
-struct Kept {
+pub(crate) struct Kept {
     cid: Cid,
     // Its record was removed.
     retired: bool,
@@ -41,6 +41,47 @@ impl Model for Channel {
 }
 
 impl Kept {
+    // Its id at the client.
+    pub(crate) fn cid(&self) -> Cid
+        ensures { result ≡ self.now.cid }
+    {
+        self.cid
+    }
+
+    // The name of its record.
+    pub(crate) fn name(&self) -> &[u8]
+        ensures { result.now ≡ self.now.name }
+    {
+        self.name.as_slice()
+    }
+
+    // Where its record was. It promises nothing.
+    pub(crate) fn place(&self) -> usize {
+        self.place
+    }
+
+    // Whether its record was removed.
+    pub(crate) fn is_retired(&self) -> bool
+        ensures { result ≡ self.now.retired }
+    {
+        self.retired
+    }
+
+    // The same once more, if its name takes no memory of its own.
+    fn copy(&self) -> Option<Kept>
+        ensures { IfSome result (λ c. c ≡ self.now) }
+    {
+        match self.name.copy() {
+            Some(name) => Some(Kept {
+                cid: self.cid,
+                retired: self.retired,
+                name,
+                place: self.place,
+            }),
+            None => None,
+        }
+    }
+
     fn retire(&mut self)
         ensures { self.new ≡ record self.old { retired = true } }
     {
@@ -71,30 +112,44 @@ impl Channel {
         }
     }
 
+    // What is kept of it.
+    pub(crate) fn kept(&self) -> &Kept
+        ensures { result.now ≡ self.now }
+    {
+        self.kept.as_ref()
+    }
+
+    // What is kept of it once more, if its name takes no memory of its own.
+    pub(crate) fn copy(&self) -> Option<Kept>
+        ensures { IfSome result (λ c. c ≡ self.now) }
+    {
+        self.kept().copy()
+    }
+
     // Its id at the client.
     pub(crate) fn cid(&self) -> Cid
         ensures { result ≡ self.now.cid }
     {
-        self.kept.as_ref().cid
+        self.kept().cid()
     }
 
     // The name of its record.
     pub(crate) fn name(&self) -> &[u8]
         ensures { result.now ≡ self.now.name }
     {
-        self.kept.as_ref().name.as_slice()
+        self.kept().name()
     }
 
     // Where its record was. It promises nothing.
     pub(crate) fn place(&self) -> usize {
-        self.kept.as_ref().place
+        self.kept().place()
     }
 
     // Whether its record was removed.
     pub(crate) fn is_retired(&self) -> bool
         ensures { result ≡ self.now.retired }
     {
-        self.kept.as_ref().retired
+        self.kept().is_retired()
     }
 
     // Whether it leads to the record of this name, which was not removed.

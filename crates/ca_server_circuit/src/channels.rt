@@ -2,11 +2,11 @@ ghost use Rattle.std.specs.Prelude.{◌≡◌, ◌<◌, ◌≤◌, ◌↔◌, le
 ghost use Rattle.ca_text.specs.Limits.{arena_slots};
 ghost use Rattle.ca_arena.specs.Arena.{place_at};
 ghost use Rattle.ca_ids.specs.Table.{MayGive, by_wire, held_at, is_full, under, with_changed, with_held};
-ghost use Rattle.ca_server_circuit.specs.Cids.{UsesCid};
+ghost use Rattle.ca_server_circuit.specs.Cids.{UsesCid, come, leave};
 ghost use Rattle.ca_server_circuit.specs.Clearing.{without_sid};
 ghost use Rattle.ca_server_circuit.specs.Removing.{without_record};
 
-use crate::channel::Channel;
+use crate::channel::{Channel, Kept};
 use ca_arena::Handle;
 use ca_ids::{HeldTable, WireId};
 use ca_wire::{Cid, Sid};
@@ -17,6 +17,8 @@ use std::marker::Model;
 /// The open channels of a circuit, by their SIDs, each of which is the wire id of its channel's handle.
 #[derive(Drop)]
 pub(crate) struct Channels {
+    // One of the channels once more, mostly the only one: with many circuits a message is handled in fewer cache lines so.
+    front: Option<(Handle, Kept)>,
     table: HeldTable<Channel>,
     // The CIDs in use.
     cids: HashSet<u32>,
@@ -28,11 +30,11 @@ impl Model for Channels {
 
     ghost Value = { Table OpenChannel };
 
-    ghost use Rattle.ca_server_circuit.specs.Cids.{IsIndexed};
+    ghost use Rattle.ca_server_circuit.specs.Cids.{IsInFront, IsIndexed};
 
     ghost view = { λ c. c.table };
 
-    ghost invariant = { λ c. IsIndexed c.table c.cids };
+    ghost invariant = { λ c. IsIndexed c.table c.cids × IsInFront c.table c.front };
 }
 
 impl Channels {
@@ -41,6 +43,7 @@ impl Channels {
         ensures { result ≡ [] }
     {
         Channels {
+            front: None,
             table: HeldTable::new(alloc),
             cids: HashSet::new(alloc),
         }
@@ -62,11 +65,28 @@ impl Channels {
     }
 
     // The channel of this SID.
-    pub(crate) fn by_sid(&self, sid: Sid) -> Option<(Handle, &Channel)>
+    #[inline(always)]
+    pub(crate) fn by_sid(&self, sid: Sid) -> Option<(Handle, &Kept)>
         ensures found { option_map (λ e. (e.0, e.1.now)) result ≡ by_wire self.now sid }
         ensures limit { length self.now ≤ arena_slots }
     {
-        self.table.by_wire(WireId::new(sid.number()))
+        if let Some((handle, kept)) = &self.front {
+            if WireId::of(*handle).number() == sid.number() {
+                return Some((*handle, kept));
+            }
+        }
+        self.in_table(sid)
+    }
+
+    // The channel of this SID, as the table has it.
+    #[inline(never)]
+    fn in_table(&self, sid: Sid) -> Option<(Handle, &Kept)>
+        ensures { option_map (λ e. (e.0, e.1.now)) result ≡ by_wire self.now sid }
+    {
+        match self.table.by_wire(WireId::new(sid.number())) {
+            Some((handle, channel)) => Some((handle, channel.kept())),
+            None => None,
+        }
     }
 
     // There are no more than SIDs have indices.
@@ -109,9 +129,13 @@ impl Channels {
         ensures err { OnErr result (self.new ≡ self.old) }
     {
         let cid = channel.cid().number();
+        let copy = channel.copy();
         self.cids.insert(cid)?;
         match self.table.open(channel) {
-            Ok(handle) => Ok(handle),
+            Ok(handle) => {
+                come(&mut self.front, handle, copy);
+                Ok(handle)
+            }
             Err(_) => {
                 self.cids.remove(&cid);
                 Err(AllocError)
@@ -128,6 +152,7 @@ impl Channels {
         };
         self.cids.remove(&channel.cid().number());
         let _ = self.table.free(handle);
+        leave(&mut self.front, handle);
     }
 
     // The record of the channel under this handle was removed. Its SID and its CID are in use still.
@@ -138,5 +163,31 @@ impl Channels {
             return;
         };
         found.retire();
+        leave(&mut self.front, channel);
+    }
+}
+
+// A new channel is in front if none is, unless its name takes memory of its own.
+fn come(front: &mut Option<(Handle, Kept)>, channel: Handle, copy: Option<Kept>)
+    ensures { front.new ≡ come channel copy front.old }
+{
+    if front.is_some() {
+        return;
+    }
+    match copy {
+        Some(kept) => *front = Some((channel, kept)),
+        None => {}
+    }
+}
+
+// The channel of this handle is not in front any more.
+fn leave(front: &mut Option<(Handle, Kept)>, channel: Handle)
+    ensures { front.new ≡ leave channel front.old }
+{
+    let Some((handle, _)) = &*front else {
+        return;
+    };
+    if *handle == channel {
+        *front = None;
     }
 }

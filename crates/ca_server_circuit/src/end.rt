@@ -17,11 +17,11 @@ pub(crate) struct End {
     pub(crate) alloc: Global,
     // What each step needs stands side by side: with many circuits it is in the fewest cache lines so.
     pub(crate) link: Link,
+    pub(crate) channels: Channels,
+    pub(crate) subscriptions: Subscriptions,
     // How the peer named itself.
     pub(crate) user: Vec<u8>,
     pub(crate) host: Vec<u8>,
-    pub(crate) subscriptions: Subscriptions,
-    pub(crate) channels: Channels,
     // Whether the peer sent a VERSION.
     pub(crate) greeted: bool,
     // Whether a channel was created, so that the names count for good.

@@ -62,6 +62,16 @@ impl Short {
         })
     }
 
+    // The same once more.
+    fn copy(&self) -> Short
+        ensures { result ≡ self.now }
+    {
+        Short {
+            bytes: self.bytes,
+            len: self.len,
+        }
+    }
+
     fn as_slice(&self) -> &[u8]
         ensures { result.now ≡ self.now }
     {
@@ -81,6 +91,18 @@ impl Name {
             None => Name {
                 kept: Kept::Long(name),
             },
+        }
+    }
+
+    // The same once more, if it takes no memory of its own.
+    pub(crate) fn copy(&self) -> Option<Name>
+        ensures { IfSome result (λ n. n ≡ self.now) }
+    {
+        match &self.kept {
+            Kept::Short(short) => Some(Name {
+                kept: Kept::Short(short.copy()),
+            }),
+            Kept::Long(_) => None,
         }
     }
 

@@ -1,17 +1,19 @@
 -- Which record a step made busy.
 use Rattle.std.proofs.Common.{◌≡◌, ℕ, ◌⊎◌, inl, inr, Bool, true, false, cond, List, [], map, Option, Some, None, Result, Ok, Err, refl, sym, ap, ◌∙◌, subst}
-use Rattle.std.specs.Prelude.{OnErr, is_some}
-use Rattle.std.specs.declared.alloc.AllocError.{AllocError}
+use Rattle.std.specs.Prelude.{is_some}
 use Rattle.std.specs.Str.{bytes_eq}
 use Rattle.std.proofs.lemmas.Slice.Eq.{bytes_eq-Decides}
 use Rattle.ca_arena.specs.declared.handle.Handle.{Handle}
 use Rattle.ca_beacon.specs.Clock.{Clock}
 use Rattle.ca_ids.specs.Table.{Table, same_handle, under, with_changed}
+use Rattle.ca_records.specs.declared.puts.Finished.{Finished}
 use Rattle.ca_records.specs.declared.puts.Put.{Put}
 use Rattle.ca_records.specs.declared.puts.Stamp.{Stamp}
 use Rattle.ca_records.specs.Puts.{Record, record_named, with_record, with_value, with_waiting, without_puts, withdrawn, written_meta}
 use Rattle.ca_records.specs.Record.{RecordState}
-use Rattle.ca_records.specs.Store.{HasAt, Store, records_of}
+use Rattle.ca_records.specs.Store.{Finds, HasAt, Store, records_of}
+use Rattle.ca_records.specs.Writes as writes
+use Rattle.ca_records.specs.Writes.{FinishesAt}
 use Rattle.ca_text.proofs.Places.{At-mapped, some_is}
 use Rattle.ca_wire.specs.Fields.{Fields}
 use Rattle.ca_model.specs.Due.{Action, Adds, Applies, Clears, Drops, Greets, Names, Nothing, Opens, Switches, Waits}
@@ -26,15 +28,17 @@ use Rattle.ca_server_circuit.specs.declared.step.Effect.{Effect}
 use Rattle.ca_server_circuit.specs.declared.step.Effect.TheVariants as effect
 use Rattle.ca_server_circuit.specs.declared.step.EndStep.TheVariants as step
 use Rattle.ca_server_circuit.specs.Ending.{EndsAt, KeepsPlaces}
-use Rattle.ca_server_circuit.specs.Handling.{Recorded, Tells}
+use Rattle.ca_server_circuit.specs.Handling.{Recorded, Tells, is_wrote}
 use Rattle.ca_server_circuit.specs.Serving.{CircuitSteps}
 use Rattle.ca_server_circuit.specs.Stepping.{after_first, why_is}
 use Rattle.ca_server_circuit.proofs.Tables.{changed-own, find-at, none-some}
 use Rattle.ca_server_core.specs.Ending.{EndsIn}
 use Rattle.ca_server_core.specs.Following.{Follows}
-use Rattle.ca_server_core.specs.Noting.{BusyBut, IsBusy, LeadsTo, Notes, NotesAt, StepsNoting, Unnoted}
-use Rattle.ca_server_core.specs.Serving.{IsReport, Reports, StepsIn, stepped}
+use Rattle.ca_server_core.specs.Noting.{BusyBut, EndsPutAt, IsBusy, LeadsTo, Notes, NotesAt, ServesNext, Tries, TriesAt, was_handled}
+use Rattle.ca_server_core.specs.Finishing.{RepliesIn, effect_after}
+use Rattle.ca_server_core.specs.Serving.{Closes, IsReport, Reports, StepsIn, more_applied, stepped}
 use Rattle.ca_server_core.specs.declared.stepping.Step.{Step}
+use Rattle.ca_server_core.proofs.Nexts.{viewed-finish}
 use Rattle.ca_server_core.proofs.Reached.{there-is}
 use Rattle.ca_server_core.proofs.Servers.{became, server_of, stayed}
 use Rattle.ca_server_core.proofs.Stepped.{Makes, not-some}
@@ -195,6 +199,11 @@ notes-after port s u x t after last h did noted (inl g) f n = by g.0 g.1 g.3
     }
     by (Ended w left) new d = not-some (step.Handled did) d.0
 
+-- a step, after which it is noted what its message made busy
+abbrev StepsNoting : Server → Handle → Stepped → Option (List ℕ) → Server → Type 0
+StepsNoting old h steps.Handled noted new = steps.Steps old h steps.Handled new × Notes old.records new.records noted
+StepsNoting old h did noted new = steps.Steps old h did new × Closes old h did new
+
 steps-noting : (y : Server) (h : Handle) (did : Stepped) (new : Server) (noted : Option (List ℕ)) → Makes y h did new → Notes y.records new.records noted → StepsNoting y h did noted new
 steps-noting y h steps.Handled new noted made n = (made.0, n)
 steps-noting y h steps.NeedBytes new noted made n = made
@@ -202,23 +211,11 @@ steps-noting y h steps.OutputFull new noted made n = made
 steps-noting y h (steps.Closed w left) new noted made n = made
 
 -- the same along the view of the fields
-pub viewed-noting : (y : Server) (port now n k : ℕ) (b : Clock) (s u x : Store) (t after last final : Circuits) (h : Handle) (did : Effect) (result : Stepped) (noted : Option (List ℕ)) → server_of port s now t b n ≡ y → StepsIn port t h s (Some (step.Handled did)) after u → Follows did h after u last x → NotesAt did x noted
+viewed-noting : (y : Server) (port now n k : ℕ) (b : Clock) (s u x : Store) (t after last final : Circuits) (h : Handle) (did : Effect) (result : Stepped) (noted : Option (List ℕ)) → server_of port s now t b n ≡ y → StepsIn port t h s (Some (step.Handled did)) after u → Follows did h after u last x → NotesAt did x noted
     → Makes y h result (server_of port x now final b k) → StepsNoting y h result noted (server_of port x now final b k)
 viewed-noting y port now n k b s u x t after last final h did result noted is g f at made =
     steps-noting y h result (server_of port x now final b k) noted made
     (subst (λ (z : Server). Notes z.records (records_of x) noted) is (notes-after port s u x t after last h did noted g f at))
-
--- the step was done, also if its put could not be noted
-pub viewed-unnoted : (y : Server) (port now n k : ℕ) (b : Clock) (s u x : Store) (t after last final : Circuits) (h : Handle) (did : Effect) (result : Stepped) (r : Result Step AllocError) → server_of port s now t b n ≡ y → StepsIn port t h s (Some (step.Handled did)) after u → Follows did h after u last x
-    → ((name : List ℕ) × NotesAt did x (Some name)) → Makes y h result (server_of port x now final b k) → OnErr r (Unnoted y h (server_of port x now final b k))
-viewed-unnoted y port now n k b s u x t after last final h did result (Ok z) is g f at made = tt
-viewed-unnoted y port now n k b s u x t after last final h did result (Err z) is g f at made = record {
-  did = result;
-  steps = made.0;
-  closes = made.1;
-  name = at.0;
-  notes = subst (λ (w : Server). Notes w.records (records_of x) (Some at.0)) is (notes-after port s u x t after last h did (Some at.0) g f at.1);
-}
 
 -- ---- steps that handled no message
 
@@ -250,19 +247,92 @@ none-closes port s u t after last h did (inl g) r handled = by g.0 g.1 g.2 g.3 g
         never-closed w left (sym (subst (λ (o : Option ServerCircuit). IsReport o (stepped did)) found r.0) ∙ handled)
 
 -- nothing is to be noted of them
-pub noting-none : (y : Server) (h : Handle) (did : Stepped) (new : Server) (noted : Option (List ℕ)) → (did ≡ steps.Handled → ⊥) → Makes y h did new → StepsNoting y h did noted new
-noting-none y h steps.Handled new noted other made = absurd (other refl)
-noting-none y h steps.NeedBytes new noted other made = made
-noting-none y h steps.OutputFull new noted other made = made
-noting-none y h (steps.Closed w left) new noted other made = made
+pub noting-none : (y : Server) (h : Handle) (did : Stepped) (new : Server) → (did ≡ steps.Handled → ⊥) → Makes y h did new → ServesNext y h did new
+noting-none y h steps.Handled new other made = absurd (other refl)
+noting-none y h steps.NeedBytes new other made = made
+noting-none y h steps.OutputFull new other made = made
+noting-none y h (steps.Closed w left) new other made = made
 
--- ---- before it is noted
+pub not-handled : (did : Stepped) → was_handled did ≡ false → did ≡ steps.Handled → ⊥
+not-handled steps.Handled f is = both-bools true refl f
+not-handled steps.NeedBytes f is = cc
+not-handled steps.OutputFull f is = cc
+not-handled (steps.Closed w left) f is = cc
 
--- the name of a record that is busy could not be held
-pub unheld : (did : Effect) (place : ℕ) (x : Store) (r : Record) (result : Result Bool AllocError) → did ≡ effect.Wrote place → HasAt x place r → record_named (records_of x) r.state.name ≡ Some r → is_some r.busy ≡ true → OnErr result ((name : List ℕ) × NotesAt did x (Some name))
-unheld did place x r (Ok b) is at found busy = tt
-unheld did place x r (Err e) is at found busy =
-    (r.state.name, subst (λ (d : Effect). NotesAt d x (Some r.state.name)) (sym is) (r, at, found, ap (λ (b : Bool). cond b (Some r.state.name) None) (sym busy)))
+pub is-handled : (did : Stepped) → was_handled did ≡ true → did ≡ steps.Handled
+is-handled steps.Handled t = refl
+is-handled steps.NeedBytes t = absurd (both-bools false t refl)
+is-handled steps.OutputFull t = absurd (both-bools false t refl)
+is-handled (steps.Closed w left) t = absurd (both-bools false t refl)
+
+-- ---- the put that it made busy
+
+finds-named : (s : Store) (name : List ℕ) (place : ℕ) (g : Finds s name place) → record_named (records_of s) g.r.state.name ≡ Some g.r
+finds-named s name place g = ap (λ (m : List ℕ). record_named (records_of s) m) g.named ∙ g.found
+
+-- the put of the record at a place ended
+pub ended-at : (place n k : ℕ) (t mid last : Circuits) (s left v x : Store) (f : Finished) (did : Effect) (q : Bool) → FinishesAt s place (Some f) left → RepliesIn t f.ended left mid v → did ≡ effect_after f → q ≡ is_wrote did → k ≡ more_applied q n → Follows did f.ended.circuit mid v last x → EndsPutAt place n t s k last x
+ended-at place n k t mid last s left v x f did q (name, g, fin) replies is wrote more follows =
+    let same : fin.0 ≡ g.r = some_is fin.0 g.r (sym fin.3.found ∙ g.found) in
+    let busy : is_some g.r.busy ≡ true = ap (λ (r : Record). is_some r.busy) (sym same) ∙ ap (λ (o : Option Put). is_some o) fin.1 in (
+      g.r,
+      g.at,
+      finds-named s name place g,
+      inl (
+        busy,
+        record {
+          f = f;
+          left = left;
+          finishes = subst (λ (m : List ℕ). writes.Finishes s m (Ok f) left) (sym g.named) fin;
+          mid = mid;
+          after = v;
+          replies = replies;
+          follows = subst (λ (d : Effect). Follows d f.ended.circuit mid v last x) is follows;
+          counts = more ∙ ap (λ (b : Bool). more_applied b n) (wrote ∙ ap is_wrote is);
+        },
+      ),
+    )
+
+-- or there was none
+pub stayed-at : (place n : ℕ) (t : Circuits) (s left : Store) → FinishesAt s place None left → EndsPutAt place n t s n t left
+stayed-at place n t s left (name, g, none) =
+    let r : Record = none.0.0 in
+    let same : r ≡ g.r = some_is r g.r (sym none.0.1 ∙ g.found) in
+    let free : is_some g.r.busy ≡ false = ap (λ (q : Record). is_some q.busy) (sym same) ∙ ap (λ (o : Option Put). is_some o) none.0.2 in
+    (g.r, g.at, finds-named s name place g, inr (free, (refl, refl, none.1)))
+
+-- what of it stays, if it is not busy
+pub free-at : (place n : ℕ) (t : Circuits) (s : Store) (r : Record) → HasAt s place r → record_named (records_of s) r.state.name ≡ Some r → is_some r.busy ≡ false → EndsPutAt place n t s n t s
+free-at place n t s r at found free = (r, at, found, inr (free, (refl, refl, refl)))
+
+same-server : (port now n k : ℕ) (b : Clock) (s x : Store) (t last : Circuits) → k ≡ n → last ≡ t → x ≡ s → server_of port x now last b k ≡ server_of port s now t b n
+same-server port now n k b s x t last a c e =
+    ap (λ (z : Store). server_of port z now last b k) e ∙ ap (λ (z : Circuits). server_of port s now z b k) c ∙ ap (λ (z : ℕ). server_of port s now t b z) a
+
+-- the record that it made busy is noted, and its put ended
+tried-at : (did : Effect) (port now : ℕ) (b : Clock) (n k : ℕ) (t last : Circuits) (s x : Store) → TriesAt did n t s k last x → (noted : Option (List ℕ)) × NotesAt did s noted × Tries (server_of port s now t b n) noted (server_of port x now last b k)
+tried-at effect.Quiet port now b n k t last s x is = (None, refl, same-server port now n k b s x t last is.0 is.1 is.2)
+tried-at (effect.Began place) port now b n k t last s x is = (None, refl, same-server port now n k b s x t last is.0 is.1 is.2)
+tried-at (effect.Wrote place) port now b n k t last s x (r, at, found, inl (busy, e)) =
+    let g = viewed-finish (server_of port s now t b n) port now n k b s e.left e.after x t e.mid last r.state.name e.f (effect_after e.f) (is_wrote (effect_after e.f)) refl refl refl e.counts e.finishes e.replies e.follows in
+    (Some r.state.name, (r, at, found, ap (λ (c : Bool). cond c (Some r.state.name) None) (sym busy)), (g.0, Ok tt, g.1))
+tried-at (effect.Wrote place) port now b n k t last s x (r, at, found, inr (free, is)) =
+    (None, (r, at, found, ap (λ (c : Bool). cond c (Some r.state.name) None) (sym free)), same-server port now n k b s x t last is.0 is.1 is.2)
+
+-- a message was handled that leaves nothing to do
+pub viewed-quiet : (y : Server) (port now n k : ℕ) (b : Clock) (s u : Store) (t after : Circuits) (h : Handle) → server_of port s now t b n ≡ y → StepsIn port t h s (Some (step.Handled effect.Quiet)) after u → Makes y h steps.Handled (server_of port u now after b k) → ServesNext y h steps.Handled (server_of port u now after b k)
+viewed-quiet y port now n k b s u t after h is g made =
+    let noting = viewed-noting y port now n k b s u u t after after after h effect.Quiet steps.Handled None is g (refl, refl) refl made in
+    record { put = None; stepped = server_of port u now after b k; steps = noting.0; notes = noting.1; tries = refl }
+
+-- a message was handled, and the put of the record to which it wrote ended
+pub viewed-served : (y : Server) (port now n k j : ℕ) (b : Clock) (s u x z : Store) (t after last mid final : Circuits) (h : Handle) (did : Effect) (result : Stepped) → server_of port s now t b n ≡ y → StepsIn port t h s (Some (step.Handled did)) after u → Follows did h after u last x → Makes y h result (server_of port x now mid b k)
+    → result ≡ steps.Handled → TriesAt did k mid x j final z → ServesNext y h result (server_of port z now final b j)
+viewed-served y port now n k j b s u x z t after last mid final h did result is g f made handled tries =
+    let it = tried-at did port now b k j mid final x z tries in
+    let noting = subst (λ (d : Stepped). StepsNoting y h d it.0 (server_of port x now mid b k)) handled (viewed-noting y port now n k b s u x t after last mid h did result it.0 is g f it.1 made) in
+    subst (λ (d : Stepped). ServesNext y h d (server_of port z now final b j)) (sym handled)
+    (record { put = it.0; stepped = server_of port x now mid b k; steps = noting.0; notes = noting.1; tries = it.2 })
 
 -- the record to which a message wrote is there after what followed
 pub leads-after : (did : Effect) (h : Handle) (t last : Circuits) (u x : Store) → Follows did h t u last x → LeadsTo did x

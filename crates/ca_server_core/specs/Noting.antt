@@ -1,24 +1,26 @@
 -- Vocabulary: `serve`, which is a step, and then the finish of the put by which its message made a record busy (section
 -- "CA_PROTO_WRITE_NOTIFY").
-use Rattle.std.specs.Prelude.{ℕ, ◌≡◌, ◌⊎◌, Bool, true, if◌then◌else◌, List, Option, None, Some, Result, is_some}
+use Rattle.std.specs.Prelude.{ℕ, ◌≡◌, ◌⊎◌, Bool, true, false, if◌then◌else◌, List, Option, None, Some, Result, Ok, is_some}
 use Rattle.ca_arena.specs.declared.handle.Handle.{Handle}
+use Rattle.ca_ids.specs.Table.{Table}
+use Rattle.ca_records.specs.declared.puts.Finished.{Finished}
 use Rattle.ca_records.specs.Puts.{Record, record_named}
 use Rattle.ca_records.specs.Store.{HasAt, IsThere, Store, records_of}
+use Rattle.ca_records.specs.Writes as writes
 use Rattle.ca_text.specs.declared.refusal.Refusal.{Refusal}
 use Rattle.ca_wire.specs.Fields.{Fields}
-use Rattle.ca_model.specs.Server.{Server}
+use Rattle.ca_model.specs.Server.{Server, ServerCircuit}
 use Rattle.ca_model.specs.ServerCalls.{Finishes}
 use Rattle.ca_model.specs.ServerSteps.{Handled, Stepped, Steps}
 use Rattle.ca_model.specs.Speech.{In}
 use Rattle.ca_server_circuit.specs.declared.step.Effect.{Effect}
 use Rattle.ca_server_circuit.specs.declared.step.Effect.TheVariants as effect
-use Rattle.ca_server_core.specs.Serving.{Closes}
+use Rattle.ca_server_circuit.specs.Handling.{is_wrote}
+use Rattle.ca_server_core.specs.Finishing.{RepliesIn, effect_after}
+use Rattle.ca_server_core.specs.Following.{Follows}
+use Rattle.ca_server_core.specs.Serving.{Closes, more_applied}
 
 -- ---- what is noted
-
--- the name that is noted, if one is
-abbrev pub noted_by : Bool → (name : List ℕ) → Option (List ℕ)
-noted_by is_noted name = if is_noted then Some name else None
 
 -- each record that is busy was busy before, or its name is noted
 abbrev pub BusyBut : (old new : List Record) → Option (List ℕ) → Type 0
@@ -46,20 +48,41 @@ NotesAt (effect.Wrote place) s noted =
     (r : Record) × HasAt s place r × (record_named (records_of s) r.state.name ≡ Some r) × (noted ≡ (if is_some r.busy then Some r.state.name else None))
 NotesAt did s noted = noted ≡ None
 
+-- ---- the put of the record to which a message wrote, in the table of circuits
+
+-- The busy put of the record of a name ended: its reply went out, and what that leaves to do followed. So many writes were applied before,
+-- and so many then.
+pub record EndsPut (name : List ℕ) (n : ℕ) (t : Table ServerCircuit) (s : Store) (k : ℕ) (last : Table ServerCircuit) (x : Store) : Type 0 where
+  pub f : Finished
+  pub left : Store
+  pub finishes : writes.Finishes s name (Ok f) left
+  pub mid : Table ServerCircuit
+  pub after : Store
+  pub replies : RepliesIn t f.ended left mid after
+  pub follows : Follows (effect_after f) f.ended.circuit mid after last x
+  pub counts : k ≡ more_applied (is_wrote (effect_after f)) n
+
+-- nothing changed
+abbrev pub StaysAll : (n : ℕ) (t : Table ServerCircuit) (s : Store) (k : ℕ) (last : Table ServerCircuit) (x : Store) → Type 0
+StaysAll n t s k last x = (k ≡ n) × (last ≡ t) × (x ≡ s)
+
+-- the busy put of the record at a place ended, or it is not busy
+abbrev pub EndsPutAt : (place n : ℕ) (t : Table ServerCircuit) (s : Store) (k : ℕ) (last : Table ServerCircuit) (x : Store) → Type 0
+EndsPutAt place n t s k last x =
+    (r : Record) × HasAt s place r × (record_named (records_of s) r.state.name ≡ Some r)
+    × (((is_some r.busy ≡ true) × EndsPut r.state.name n t s k last x) ⊎ ((is_some r.busy ≡ false) × StaysAll n t s k last x))
+
+-- the same of the record to which a message wrote
+abbrev pub TriesAt : Effect → (n : ℕ) (t : Table ServerCircuit) (s : Store) (k : ℕ) (last : Table ServerCircuit) (x : Store) → Type 0
+TriesAt (effect.Wrote place) n t s k last x = EndsPutAt place n t s k last x
+TriesAt did n t s k last x = StaysAll n t s k last x
+
 -- ---- a step
 
--- A step, after which it is noted what its message made busy.
-abbrev pub StepsNoting : Server → Handle → Stepped → Option (List ℕ) → Server → Type 0
-StepsNoting old h Handled noted new = Steps old h Handled new × Notes old.records new.records noted
-StepsNoting old h did noted new = Steps old h did new × Closes old h did new
-
--- A step was done, after which a record is busy that is not noted.
-pub record Unnoted (old : Server) (h : Handle) (new : Server) : Type 0 where
-  pub did : Stepped
-  pub steps : Steps old h did new
-  pub closes : Closes old h did new
-  pub name : List ℕ
-  pub notes : Notes old.records new.records (Some name)
+-- it handled a message
+abbrev pub was_handled : Stepped → Bool
+was_handled Handled = true
+was_handled did = false
 
 -- the busy put of the record of this name was finished, if there is one
 abbrev pub Tries : Server → Option (List ℕ) → Server → Type 0

@@ -40,7 +40,7 @@ impl ServerCore {
 }
 
 /// What the end of a busy put leaves to do: the next one, if it was applied, is to reach the subscriptions of its record.
-fn effect_of(finished: &Finished) -> Effect
+pub(crate) fn effect_of(finished: &Finished) -> Effect
     ensures { result ≡ effect_after finished.now }
 {
     match finished.applied {
@@ -50,7 +50,7 @@ fn effect_of(finished: &Finished) -> Effect
 }
 
 /// Sends the reply of a put that is finished, if its channel is open. If there is no memory for it, the end of its circuit has ended.
-fn reply_on(circuits: &mut HeldTable<Circuit>, records: &mut ServedRecords, put: Put)
+pub(crate) fn reply_on(circuits: &mut HeldTable<Circuit>, records: &mut ServedRecords, put: Put)
     requires { IsSound (records_of records.old) circuits.old }
     ensures { RepliesIn circuits.old put records.old circuits.new records.new }
 {

@@ -1,48 +1,26 @@
-ghost use Rattle.std.specs.Prelude.{ℕ, ◌≡◌, List, Some, IfOk, OnErr, OnOk};
-ghost use Rattle.ca_server_core.specs.Noting.{LeadsTo, NotesAt, ServesNext, StepsNoting, Tries, Unnoted, noted_by};
+ghost use Rattle.std.specs.Prelude.{◌≡◌};
+ghost use Rattle.ca_records.specs.Store.{IsThere, records_of};
+ghost use Rattle.ca_server_core.specs.Covering.{AreListed, Covers};
+ghost use Rattle.ca_server_core.specs.Noting.{EndsPutAt, LeadsTo, ServesNext, TriesAt, was_handled};
 ghost use Rattle.ca_server_core.specs.Serving.{stepped};
+ghost use Rattle.ca_server_core.specs.Sound.{IsSound};
 
+use crate::finishing::{effect_of, reply_on};
 use crate::following::follow;
 use crate::server::ServerCore;
 use crate::stepping::{Step, is_quiet, more_applied, report, settle, step_on};
 use ca_arena::Handle;
+use ca_ids::HeldTable;
 use ca_records::ServedRecords;
-use ca_server_circuit::{Effect, EndStep};
-use std::alloc::AllocError;
+use ca_server_circuit::{Circuit, Effect, EndStep};
+use ca_server_watchers::Watchers;
 
 impl ServerCore {
     /// Handles the next message of a circuit as `step` does, and then finishes the put by which it made a record busy, as `finish` does. A
-    /// record that was busy before is finished too if the message wrote to it. The room is for the name of the record.
-    ///
-    /// Refused without memory for that name, so only if a record is busy after the step: that was done then, and no put is finished.
-    pub fn serve(&mut self, circuit: Handle, room: &mut Vec<u8>) -> Result<Step, AllocError>
-        ensures ok { IfOk result (λ did. ServesNext self.old circuit (stepped did) self.new) }
-        ensures err { OnErr result (Unnoted self.old circuit self.new) }
+    /// record that was busy before is finished too if the message wrote to it. The record is found by its place.
+    pub fn serve(&mut self, circuit: Handle) -> Step
+        ensures { ServesNext self.old circuit (stepped result) self.new }
     {
-        let mut is_noted = false;
-        match self.step_noting(circuit, &mut is_noted, room)? {
-            Step::Handled => {
-                finish_noted(self, is_noted, room);
-                Ok(Step::Handled)
-            }
-            Step::NeedBytes => Ok(Step::NeedBytes),
-            Step::OutputFull => Ok(Step::OutputFull),
-            Step::Closed(cause, left) => Ok(Step::Closed(cause, left)),
-        }
-    }
-
-    // A step. It is noted whether the record to which its message wrote is busy now: then its name is in the room.
-    fn step_noting(
-        &mut self,
-        circuit: Handle,
-        is_noted: &mut bool,
-        room: &mut Vec<u8>,
-    ) -> Result<Step, AllocError>
-        ensures ok { IfOk result (λ did. StepsNoting self.old circuit (stepped did)
-            (noted_by is_noted.new room.new.items) self.new) }
-        ensures err { OnErr result (Unnoted self.old circuit self.new) }
-    {
-        *is_noted = false;
         let mut waited = 0;
         match step_on(
             self.port,
@@ -53,7 +31,7 @@ impl ServerCore {
         ) {
             Some(EndStep::Handled(effect)) => {
                 if is_quiet(effect) {
-                    return Ok(Step::Handled);
+                    return Step::Handled;
                 }
                 self.applied = more_applied(self.applied, effect.is_write());
                 follow(
@@ -64,55 +42,87 @@ impl ServerCore {
                     effect,
                 );
                 let did = settle(self.alloc, &mut self.circuits, circuit, waited);
-                *is_noted = note(&self.records, effect, room)?;
-                Ok(did)
+                if !is_handled(&did) {
+                    return did;
+                }
+                finish_busy(
+                    &mut self.applied,
+                    &mut self.circuits,
+                    &mut self.records,
+                    &mut self.watchers,
+                    effect,
+                );
+                did
             }
-            Some(EndStep::NeedBytes) => Ok(Step::NeedBytes),
-            Some(EndStep::OutputFull) => Ok(Step::OutputFull),
-            Some(EndStep::Breaks(_)) => Ok(report(self.alloc, &mut self.circuits, circuit)),
-            None => Ok(report(self.alloc, &mut self.circuits, circuit)),
+            Some(EndStep::NeedBytes) => Step::NeedBytes,
+            Some(EndStep::OutputFull) => Step::OutputFull,
+            Some(EndStep::Breaks(_)) => report(self.alloc, &mut self.circuits, circuit),
+            None => report(self.alloc, &mut self.circuits, circuit),
         }
     }
 }
 
-/// Whether the record to which a message wrote is busy. Then its name is in the room, if there is memory for it.
-fn note(records: &ServedRecords, effect: Effect, room: &mut Vec<u8>) -> Result<bool, AllocError>
-    requires { LeadsTo effect records.now }
-    ensures ok { IfOk result (λ is_noted. NotesAt effect records.now
-        (noted_by is_noted room.new.items)) }
-    ensures err { OnErr result ((name : List ℕ) × NotesAt effect records.now (Some name)) }
+/// Whether a step handled a message, after which the end of its circuit is open.
+fn is_handled(did: &Step) -> bool
+    ensures { result ≡ was_handled (stepped did.now) }
 {
-    match effect {
-        Effect::Wrote(place) => {
-            let found = records.at(place);
-            if !found.is_busy() {
-                return Ok(false);
-            }
-            hold(room, found.state().name())?;
-            Ok(true)
-        }
-        Effect::Quiet => Ok(false),
-        Effect::Began(_) => Ok(false),
+    match did {
+        Step::Handled => true,
+        _ => false,
     }
 }
 
-/// The room holds this name. Mostly it does from the put before.
-fn hold(room: &mut Vec<u8>, name: &[u8]) -> Result<(), AllocError>
-    ensures { OnOk result (room.new.items ≡ name.now) }
+/// Finishes the put of the record to which a message wrote, if it is busy.
+fn finish_busy(
+    applied: &mut u64,
+    circuits: &mut HeldTable<Circuit>,
+    records: &mut ServedRecords,
+    watchers: &mut Watchers,
+    effect: Effect,
+)
+    requires leads { LeadsTo effect records.old }
+    requires sound { IsSound (records_of records.old) circuits.old }
+    requires covered { Covers watchers.old circuits.old }
+    requires listed { AreListed (records_of records.old) watchers.old }
+    ensures tries { TriesAt effect applied.old circuits.old records.old applied.new circuits.new
+        records.new }
+    ensures sound { IsSound (records_of records.new) circuits.new }
+    ensures covered { Covers watchers.new circuits.new }
+    ensures listed { AreListed (records_of records.new) watchers.new }
 {
-    if room.as_slice() == name {
-        return Ok(());
+    let Effect::Wrote(place) = effect else {
+        return;
+    };
+    if !records.at(place).is_busy() {
+        return;
     }
-    room.clear();
-    room.extend_from_slice(name)?;
-    Ok(())
+    finish_here(applied, circuits, records, watchers, place);
 }
 
-/// Finishes the busy put of the record of this name, if it is noted.
-fn finish_noted(core: &mut ServerCore, is_noted: bool, name: &[u8])
-    ensures { Tries core.old (noted_by is_noted name.now) core.new }
+/// Finishes the busy put of the record at this place.
+#[inline(never)]
+fn finish_here(
+    applied: &mut u64,
+    circuits: &mut HeldTable<Circuit>,
+    records: &mut ServedRecords,
+    watchers: &mut Watchers,
+    place: usize,
+)
+    requires there { IsThere records.old place }
+    requires sound { IsSound (records_of records.old) circuits.old }
+    requires covered { Covers watchers.old circuits.old }
+    requires listed { AreListed (records_of records.old) watchers.old }
+    ensures finishes { EndsPutAt place applied.old circuits.old records.old applied.new circuits.new
+        records.new }
+    ensures sound { IsSound (records_of records.new) circuits.new }
+    ensures covered { Covers watchers.new circuits.new }
+    ensures listed { AreListed (records_of records.new) watchers.new }
 {
-    if is_noted {
-        let _ended = core.finish(name);
-    }
+    let Some(finished) = records.finish_at(place) else {
+        return;
+    };
+    reply_on(circuits, records, finished.ended);
+    let effect = effect_of(&finished);
+    *applied = more_applied(*applied, effect.is_write());
+    follow(circuits, records, watchers, finished.ended.circuit, effect);
 }

@@ -1,39 +1,15 @@
-use Rattle.std.proofs.Common.{◌≡◌, ◌+◌, ◌-◌, arith}
-use Rattle.ca_records.specs.Judging.{fewer_waiting}
-use Rattle.ca_records.proofs.CallSteps.{fewer-waiting, finish-refused, finish-step}
-use Rattle.ca_records.proofs.Steps.{looked}
+use Rattle.std.proofs.Common.{Err, Ok}
+use Rattle.ca_text.specs.declared.refusal.Refusal.TheVariants.{NotBusy}
+use Rattle.ca_records.proofs.CallSteps.{finishes-named}
 use Rattle.ca_records.proofs.served_records.ServedRecords.finish.Goals as goal
 
-pub overflow_sub-self : goal.overflow_sub-self
-overflow_sub-self c =
-    let slots = c.self.inside.slots.items in
-    let found = rw (← c.self.view_is) at c.in-Some.ensures in
-    let full = looked slots c.in-Some.place found.r c.index_mut.result.now c.record_mut.result.now found.at c.index_mut.ensures.value c.record_mut.ensures.value in
-    rw c.fewer_waiting.ensures (fewer-waiting slots c.self.inside.free _ c.self.inside.waiting c.in-Some.place c.self.inside.stamp c.record_mut.result.now c.in-Some-finish.ended c.in-Some-finish.applied c.finish.new.self c.self.invariant full c.in-Some-finish.ensures)
+pub finish_at-requires : goal.finish_at-requires
+finish_at-requires c = (c.in-Some.ensures.r, c.in-Some.ensures.at)
 
-pub invariant_of-self-in-Some-finish : goal.invariant_of-self-in-Some-finish
-invariant_of-self-in-Some-finish c =
-    let slots = c.self.inside.slots.items in
-    let found = rw (← c.self.view_is) at c.in-Some.ensures in
-    let full = looked slots c.in-Some.place found.r c.index_mut.result.now c.record_mut.result.now found.at c.index_mut.ensures.value c.record_mut.ensures.value in
-    let some = fewer-waiting slots c.self.inside.free _ c.self.inside.waiting c.in-Some.place c.self.inside.stamp c.record_mut.result.now c.in-Some-finish.ended c.in-Some-finish.applied c.finish.new.self c.self.invariant full c.in-Some-finish.ensures in
-    let less : (c.self.inside.waiting - c.fewer_waiting.result) + fewer_waiting c.in-Some-finish.applied ≡ c.self.inside.waiting = omega (arith, some, c.fewer_waiting.ensures) in
-    let made = finish-step slots c.self.inside.free _ c.self.inside.waiting _ c.self.inside.rules.items c.self.inside.stamp c.args.name.now c.in-Some.place c.record_mut.result.now c.finish.new.self c.in-Some-finish.ended c.in-Some-finish.applied c.self.invariant full found c.in-Some-finish.ensures less in
-    made.stored
+pub returns-in-Some-finish_at : goal.returns-in-Some-finish_at
+returns-in-Some-finish_at c =
+    finishes-named c.args.self.now c.finish_at.new.self c.args.name.now c.in-Some.place (Ok c.in-Some-finish_at.finished) c.in-Some.ensures c.in-Some-finish_at.ensures
 
 pub returns-in-None : goal.returns-in-None
 returns-in-None c =
-    let slots = c.self.inside.slots.items in
-    let found = rw (← c.self.view_is) at c.in-Some.ensures in
-    let full = looked slots c.in-Some.place found.r c.index_mut.result.now c.record_mut.result.now found.at c.index_mut.ensures.value c.record_mut.ensures.value in
-    rw (← c.self.view_is) (finish-refused slots c.self.inside.free _ c.self.inside.waiting c.self.inside.rules.items c.self.inside.stamp c.args.name.now c.in-Some.place c.record_mut.result.now c.finish.new.self c.self.invariant full found c.in-None.ensures)
-
-pub returns-in-Some-finish : goal.returns-in-Some-finish
-returns-in-Some-finish c =
-    let slots = c.self.inside.slots.items in
-    let found = rw (← c.self.view_is) at c.in-Some.ensures in
-    let full = looked slots c.in-Some.place found.r c.index_mut.result.now c.record_mut.result.now found.at c.index_mut.ensures.value c.record_mut.ensures.value in
-    let some = fewer-waiting slots c.self.inside.free _ c.self.inside.waiting c.in-Some.place c.self.inside.stamp c.record_mut.result.now c.in-Some-finish.ended c.in-Some-finish.applied c.finish.new.self c.self.invariant full c.in-Some-finish.ensures in
-    let less : (c.self.inside.waiting - c.fewer_waiting.result) + fewer_waiting c.in-Some-finish.applied ≡ c.self.inside.waiting = omega (arith, some, c.fewer_waiting.ensures) in
-    let made = finish-step slots c.self.inside.free _ c.self.inside.waiting _ c.self.inside.rules.items c.self.inside.stamp c.args.name.now c.in-Some.place c.record_mut.result.now c.finish.new.self c.in-Some-finish.ended c.in-Some-finish.applied c.self.invariant full found c.in-Some-finish.ensures less in
-    rw (← c.self.view_is) made.finishes
+    finishes-named c.args.self.now c.finish_at.new.self c.args.name.now c.in-Some.place (Err NotBusy) c.in-Some.ensures c.in-None.ensures

@@ -1,5 +1,5 @@
 use Rattle.std.proofs.Common.{ℕ, false, sym, ◌∙◌, subst}
-use Rattle.ca_server_circuit.proofs.Indexes.{Changes, indexed-close}
+use Rattle.ca_server_circuit.proofs.Indexes.{Changes, front-close, indexed-close}
 use Rattle.ca_server_circuit.proofs.Tables.{wire-under}
 use Rattle.ca_server_circuit.proofs.channels.Channels.close.Goals as goal
 
@@ -9,4 +9,5 @@ invariant_of-self c =
     let s = c.self.inside.cids in
     let there = wire-under t c.new.result (c.in-Some.handle, c.in-Some.channel.now) (sym c.in-Some.ensures) in
     let changes = subst (λ (n : ℕ). Changes s c.remove.new.self n false) (c.number-2.ensures ∙ c.cid.ensures) c.remove.ensures.updates.0 in
-    rw c.free.ensures.after (indexed-close t s c.remove.new.self c.in-Some.handle c.in-Some.channel.now c.self.invariant there.0 changes)
+    let front = front-close t c.in-Some.handle c.self.inside.front c.self.invariant.1 in
+    rw (c.free.ensures.after, c.leave.ensures) (indexed-close t s c.remove.new.self c.in-Some.handle c.in-Some.channel.now c.self.invariant.0 there.0 changes, front)

@@ -1,20 +1,18 @@
-use Rattle.std.proofs.Common.{◌∙◌, false, length, None, refl, ap}
+use Rattle.std.proofs.Common.{◌∙◌, false, length, refl, sym, ap}
 use Rattle.ca_ids.specs.Table.{under}
 use Rattle.ca_model.specs.Server.{Server}
 use Rattle.ca_model.specs.ServerSteps.{output_of}
-use Rattle.ca_model.specs.ServerSteps as steps
 use Rattle.ca_records.specs.Store.{records_of}
 use Rattle.ca_server_core.proofs.Covered.{covers-thinned}
 use Rattle.ca_server_core.proofs.Followed.{broke-thins, made-followed, none-thins, settled-sound, settled-thins, step-covers}
 use Rattle.ca_server_core.proofs.Listed.{listed-broke, listed-none, listed-step}
-use Rattle.ca_server_core.proofs.Noted.{broke-closes, leads-after, none-closes, noting-none, viewed-noting, viewed-unnoted}
+use Rattle.ca_server_core.proofs.Noted.{broke-closes, is-handled, leads-after, none-closes, not-handled, noting-none, viewed-quiet, viewed-served}
 use Rattle.ca_server_core.proofs.Servers.{server_of}
 use Rattle.ca_server_core.proofs.Stepped.{broke-sound, handled-settles, made-broke, made-none, none-sound, step-sound}
 use Rattle.ca_server_circuit.specs.declared.step.Effect.TheVariants.{Quiet}
-use Rattle.ca_server_core.specs.Noting.{noted_by}
 use Rattle.ca_server_core.specs.Serving.{stepped}
 use Rattle.ca_server_core.specs.declared.stepping.Step.TheVariants as own
-use Rattle.ca_server_core.proofs.server.ServerCore.step_noting.Goals as goal
+use Rattle.ca_server_core.proofs.server.ServerCore.serve.Goals as goal
 
 pub invariant_of-self : goal.invariant_of-self
 invariant_of-self c =
@@ -27,8 +25,8 @@ invariant_of-self c =
       listed = listed-step i.port i.records c.step_on.new.records i.circuits c.step_on.new.circuits c.args.circuit Quiet i.watchers did c.self.invariant.listed;
     }
 
-pub returns-then-is_quiet-clause-ok : goal.returns-then-is_quiet-clause-ok
-returns-then-is_quiet-clause-ok c =
+pub returns-then-is_quiet : goal.returns-then-is_quiet
+returns-then-is_quiet c =
     let i = c.self.inside in
     let u = c.step_on.new in
     let quiet = c.is_quiet.ensures c.if-is_quiet.true in
@@ -36,7 +34,7 @@ returns-then-is_quiet-clause-ok c =
     let long = c.in-Some-Handled.ensures.waited ∙ ap (λ (z : Server). length (output_of (under z.circuits c.args.circuit))) c.self.view_is in
     let sound = step-sound i.port i.records u.records i.circuits u.circuits c.args.circuit Quiet did c.self.invariant.sound in
     let settles = handled-settles i.port i.records u.records i.circuits u.circuits c.args.circuit Quiet _ did in
-    viewed-noting c.args.self.now i.port i.moment i.applied i.applied i.beacons i.records u.records u.records i.circuits u.circuits u.circuits u.circuits c.args.circuit Quiet steps.Handled None c.self.view_is did (refl, refl) refl
+    viewed-quiet c.args.self.now i.port i.moment i.applied i.applied i.beacons i.records u.records i.circuits u.circuits c.args.circuit c.self.view_is did
     (made-followed c.args.self.now i.port i.moment i.applied i.applied _ i.beacons i.records u.records u.records i.circuits u.circuits u.circuits u.circuits c.args.circuit Quiet false own.Handled c.self.view_is refl refl long did (refl, refl) sound settles)
 
 pub follow-requires-clause-sound : goal.follow-requires-clause-sound
@@ -57,36 +55,33 @@ follow-requires-clause-listed c =
     let did = rw c.in-Some-Handled.field-0-is at c.in-Some-Handled.ensures.steps in
     listed-step i.port i.records c.step_on.new.records i.circuits c.step_on.new.circuits c.args.circuit c.in-Some-Handled.effect i.watchers did c.self.invariant.listed
 
-pub note-requires : goal.note-requires
-note-requires c =
+-- what the step left, before the put of its record ended
+pub finish_busy-requires-clause-leads : goal.finish_busy-requires-clause-leads
+finish_busy-requires-clause-leads c =
     leads-after c.in-Some-Handled.effect c.args.circuit c.step_on.new.circuits c.follow.new.circuits c.step_on.new.records c.follow.new.records c.follow.ensures.follows
 
-pub invariant_of-self-in_err-is_noted-in-Some-Handled : goal.invariant_of-self-in_err-is_noted-in-Some-Handled
-invariant_of-self-in_err-is_noted-in-Some-Handled c =
+pub finish_busy-requires-clause-sound : goal.finish_busy-requires-clause-sound
+finish_busy-requires-clause-sound c =
+    let f = c.follow.new in
+    settled-sound (records_of f.records) f.circuits c.settle-did.new.circuits c.args.circuit _ c.settle-did.result c.settle-did.ensures c.follow.ensures.sound
+
+pub finish_busy-requires-clause-covered : goal.finish_busy-requires-clause-covered
+finish_busy-requires-clause-covered c =
+    let f = c.follow.new in
+    covers-thinned f.watchers f.circuits c.settle-did.new.circuits (settled-thins f.circuits c.settle-did.new.circuits c.args.circuit _ c.settle-did.result c.settle-did.ensures) c.follow.ensures.covered
+
+pub invariant_of-self-then-not-is_handled : goal.invariant_of-self-then-not-is_handled
+invariant_of-self-then-not-is_handled c =
     let f = c.follow.new in
     record {
       sound = settled-sound (records_of f.records) f.circuits c.settle-did.new.circuits c.args.circuit _ c.settle-did.result c.settle-did.ensures c.follow.ensures.sound;
       covered = covers-thinned f.watchers f.circuits c.settle-did.new.circuits (settled-thins f.circuits c.settle-did.new.circuits c.args.circuit _ c.settle-did.result c.settle-did.ensures) c.follow.ensures.covered;
       listed = c.follow.ensures.listed;
     }
-
-pub returns-in_err-is_noted-in-Some-Handled-clause-err : goal.returns-in_err-is_noted-in-Some-Handled-clause-err
-returns-in_err-is_noted-in-Some-Handled-clause-err c =
-    let i = c.self.inside in
-    let did = rw c.in-Some-Handled.field-0-is at c.in-Some-Handled.ensures.steps in
-    let f = c.follow.new in
-    let long = c.in-Some-Handled.ensures.waited ∙ ap (λ (z : Server). length (output_of (under z.circuits c.args.circuit))) c.self.view_is in
-    viewed-unnoted c.args.self.now i.port i.moment i.applied c.more_applied-self-inside.result i.beacons i.records c.step_on.new.records f.records i.circuits c.step_on.new.circuits f.circuits c.settle-did.new.circuits c.args.circuit c.in-Some-Handled.effect (stepped c.settle-did.result) c.from_residual.result c.self.view_is did c.follow.ensures.follows c.in_err-is_noted-in-Some-Handled.ensures.err
-    (made-followed c.args.self.now i.port i.moment i.applied c.more_applied-self-inside.result _ i.beacons i.records c.step_on.new.records f.records i.circuits c.step_on.new.circuits f.circuits c.settle-did.new.circuits c.args.circuit c.in-Some-Handled.effect c.is_write.result c.settle-did.result c.self.view_is c.is_write.ensures c.more_applied-self-inside.ensures long did c.follow.ensures.follows c.follow.ensures.sound c.settle-did.ensures)
 
 pub invariant_of-self-in-Some-Handled : goal.invariant_of-self-in-Some-Handled
 invariant_of-self-in-Some-Handled c =
-    let f = c.follow.new in
-    record {
-      sound = settled-sound (records_of f.records) f.circuits c.settle-did.new.circuits c.args.circuit _ c.settle-did.result c.settle-did.ensures c.follow.ensures.sound;
-      covered = covers-thinned f.watchers f.circuits c.settle-did.new.circuits (settled-thins f.circuits c.settle-did.new.circuits c.args.circuit _ c.settle-did.result c.settle-did.ensures) c.follow.ensures.covered;
-      listed = c.follow.ensures.listed;
-    }
+    record { sound = c.finish_busy.ensures.sound; covered = c.finish_busy.ensures.covered; listed = c.finish_busy.ensures.listed }
 
 pub invariant_of-self-in-Some-Breaks : goal.invariant_of-self-in-Some-Breaks
 invariant_of-self-in-Some-Breaks c =
@@ -107,26 +102,38 @@ invariant_of-self-in-None c =
       listed = listed-none i.port i.records c.step_on.new.records i.circuits c.step_on.new.circuits c.args.circuit i.watchers c.in-None.ensures.steps c.self.invariant.listed;
     }
 
-pub returns-in_ok-is_noted-in-Some-Handled-clause-ok : goal.returns-in_ok-is_noted-in-Some-Handled-clause-ok
-returns-in_ok-is_noted-in-Some-Handled-clause-ok c =
+pub returns-then-not-is_handled : goal.returns-then-not-is_handled
+returns-then-not-is_handled c =
     let i = c.self.inside in
     let did = rw c.in-Some-Handled.field-0-is at c.in-Some-Handled.ensures.steps in
     let f = c.follow.new in
     let long = c.in-Some-Handled.ensures.waited ∙ ap (λ (z : Server). length (output_of (under z.circuits c.args.circuit))) c.self.view_is in
-    viewed-noting c.args.self.now i.port i.moment i.applied c.more_applied-self-inside.result i.beacons i.records c.step_on.new.records f.records i.circuits c.step_on.new.circuits f.circuits c.settle-did.new.circuits c.args.circuit c.in-Some-Handled.effect (stepped c.settle-did.result) (noted_by c.in_ok-is_noted-in-Some-Handled.field-0 c.note.new.room.items) c.self.view_is did c.follow.ensures.follows c.in_ok-is_noted-in-Some-Handled.ensures.ok
-    (made-followed c.args.self.now i.port i.moment i.applied c.more_applied-self-inside.result _ i.beacons i.records c.step_on.new.records f.records i.circuits c.step_on.new.circuits f.circuits c.settle-did.new.circuits c.args.circuit c.in-Some-Handled.effect c.is_write.result c.settle-did.result c.self.view_is c.is_write.ensures c.more_applied-self-inside.ensures long did c.follow.ensures.follows c.follow.ensures.sound c.settle-did.ensures)
+    let made = made-followed c.args.self.now i.port i.moment i.applied c.more_applied-self-inside.result _ i.beacons i.records c.step_on.new.records f.records i.circuits c.step_on.new.circuits f.circuits c.settle-did.new.circuits c.args.circuit c.in-Some-Handled.effect c.is_write.result c.settle-did.result c.self.view_is c.is_write.ensures c.more_applied-self-inside.ensures long did c.follow.ensures.follows c.follow.ensures.sound c.settle-did.ensures in
+    noting-none c.args.self.now c.args.circuit (stepped c.settle-did.result) (server_of i.port f.records i.moment c.settle-did.new.circuits i.beacons c.more_applied-self-inside.result)
+    (not-handled (stepped c.settle-did.result) (sym c.is_handled.ensures ∙ c.if-not-is_handled.true)) made
 
-pub returns-in-Some-Breaks-clause-ok : goal.returns-in-Some-Breaks-clause-ok
-returns-in-Some-Breaks-clause-ok c =
+pub returns-else-not-is_handled : goal.returns-else-not-is_handled
+returns-else-not-is_handled c =
+    let i = c.self.inside in
+    let did = rw c.in-Some-Handled.field-0-is at c.in-Some-Handled.ensures.steps in
+    let f = c.follow.new in
+    let long = c.in-Some-Handled.ensures.waited ∙ ap (λ (z : Server). length (output_of (under z.circuits c.args.circuit))) c.self.view_is in
+    let made = made-followed c.args.self.now i.port i.moment i.applied c.more_applied-self-inside.result _ i.beacons i.records c.step_on.new.records f.records i.circuits c.step_on.new.circuits f.circuits c.settle-did.new.circuits c.args.circuit c.in-Some-Handled.effect c.is_write.result c.settle-did.result c.self.view_is c.is_write.ensures c.more_applied-self-inside.ensures long did c.follow.ensures.follows c.follow.ensures.sound c.settle-did.ensures in
+    let fin = c.finish_busy in
+    viewed-served c.args.self.now i.port i.moment i.applied c.more_applied-self-inside.result fin.new.applied i.beacons i.records c.step_on.new.records f.records fin.new.records i.circuits c.step_on.new.circuits f.circuits c.settle-did.new.circuits fin.new.circuits c.args.circuit c.in-Some-Handled.effect (stepped c.settle-did.result) c.self.view_is did c.follow.ensures.follows made
+    (is-handled (stepped c.settle-did.result) (sym c.is_handled.ensures ∙ c.if-not-is_handled.false)) fin.ensures.tries
+
+pub returns-in-Some-Breaks : goal.returns-in-Some-Breaks
+returns-in-Some-Breaks c =
     let i = c.self.inside in
     let did = rw c.in-Some-Breaks.field-0-is at c.in-Some-Breaks.ensures.steps in
-    noting-none c.args.self.now c.args.circuit (stepped c.report.result) (server_of i.port c.step_on.new.records i.moment c.report.new.circuits i.beacons i.applied) None
+    noting-none c.args.self.now c.args.circuit (stepped c.report.result) (server_of i.port c.step_on.new.records i.moment c.report.new.circuits i.beacons i.applied)
     (broke-closes i.port i.records c.step_on.new.records i.circuits c.step_on.new.circuits c.report.new.circuits c.args.circuit c.in-Some-Breaks.field-0-0 c.report.result did c.report.ensures)
     (made-broke c.args.self.now i.port i.moment i.applied i.beacons i.records c.step_on.new.records i.circuits c.step_on.new.circuits c.report.new.circuits c.args.circuit c.in-Some-Breaks.field-0-0 c.report.result c.self.view_is did c.report.ensures c.self.invariant.sound)
 
-pub returns-in-None-clause-ok : goal.returns-in-None-clause-ok
-returns-in-None-clause-ok c =
+pub returns-in-None : goal.returns-in-None
+returns-in-None c =
     let i = c.self.inside in
-    noting-none c.args.self.now c.args.circuit (stepped c.report-in-None.result) (server_of i.port c.step_on.new.records i.moment c.report-in-None.new.circuits i.beacons i.applied) None
+    noting-none c.args.self.now c.args.circuit (stepped c.report-in-None.result) (server_of i.port c.step_on.new.records i.moment c.report-in-None.new.circuits i.beacons i.applied)
     (none-closes i.port i.records c.step_on.new.records i.circuits c.step_on.new.circuits c.report-in-None.new.circuits c.args.circuit c.report-in-None.result c.in-None.ensures.steps c.report-in-None.ensures)
     (made-none c.args.self.now i.port i.moment i.applied i.beacons i.records c.step_on.new.records i.circuits c.step_on.new.circuits c.report-in-None.new.circuits c.args.circuit c.report-in-None.result c.self.view_is c.in-None.ensures.steps c.report-in-None.ensures c.self.invariant.sound)
