@@ -1,5 +1,5 @@
 -- Which record a step made busy.
-use Rattle.std.proofs.Common.{◌≡◌, ℕ, ◌⊎◌, inl, inr, Bool, true, false, cond, List, [], map, Option, Some, None, Result, Ok, Err, refl, sym, ap, ◌∙◌, subst}
+use Rattle.std.proofs.Common.{◌≡◌, ℕ, ◌⊎◌, inl, inr, Bool, true, false, cond, List, [], map, Option, Some, None, Ok, refl, sym, ap, ◌∙◌, subst}
 use Rattle.std.specs.Prelude.{is_some}
 use Rattle.std.specs.Str.{bytes_eq}
 use Rattle.std.proofs.lemmas.Slice.Eq.{bytes_eq-Decides}
@@ -36,7 +36,7 @@ use Rattle.ca_server_core.specs.Ending.{EndsIn}
 use Rattle.ca_server_core.specs.Following.{Follows}
 use Rattle.ca_server_core.specs.Noting.{BusyBut, EndsPutAt, IsBusy, LeadsTo, Notes, NotesAt, ServesNext, Tries, TriesAt, busy_name, was_handled, wrote_busy}
 use Rattle.ca_server_core.specs.Finishing.{RepliesIn, effect_after}
-use Rattle.ca_server_core.specs.Serving.{Closes, IsReport, Reports, StepsIn, more_applied, stepped}
+use Rattle.ca_server_core.specs.Serving.{IsReport, Reports, StepsIn, more_applied, stepped}
 use Rattle.ca_server_core.specs.declared.stepping.Step.{Step}
 use Rattle.ca_server_core.proofs.Followed.{HandledBy, MakesBy}
 use Rattle.ca_server_core.proofs.Nexts.{viewed-finish}
@@ -233,8 +233,8 @@ StepsNoting old h noted new =
 viewed-noting : (y : Server) (port now n k : ℕ) (b : Clock) (s u x : Store) (t after last final : Circuits) (h : Handle) (did : Effect) (noted : Option (List ℕ)) → server_of port s now t b n ≡ y → StepsIn port t h s (Some (step.Handled did)) after u → Follows did h after u last x → NotesAt did x noted
     → HandlesAny y h did u (server_of port x now final b k) → StepsNoting y h noted (server_of port x now final b k)
 viewed-noting y port now n k b s u x t after last final h did noted is g f at made = (
-    made (λ (a : Action). noted ≡ wrote_busy a (records_of x)) (own-noted did h u x after last noted f at),
-    subst (λ (z : Server). Notes z.records (records_of x) noted) is (notes-after port s u x t after last h did noted g f at),
+  made (λ (a : Action). noted ≡ wrote_busy a (records_of x)) (own-noted did h u x after last noted f at),
+  subst (λ (z : Server). Notes z.records (records_of x) noted) is (notes-after port s u x t after last h did noted g f at),
 )
 
 -- ---- steps that handled no message
