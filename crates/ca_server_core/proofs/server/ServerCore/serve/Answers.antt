@@ -4,7 +4,7 @@ use Rattle.ca_model.specs.Server.{Server}
 use Rattle.ca_model.specs.ServerSteps.{output_of}
 use Rattle.ca_records.specs.Store.{records_of}
 use Rattle.ca_server_core.proofs.Covered.{covers-thinned}
-use Rattle.ca_server_core.proofs.Followed.{broke-thins, made-followed, none-thins, settled-sound, settled-thins, step-covers}
+use Rattle.ca_server_core.proofs.Followed.{broke-thins, made-followed, made-followed-by, none-thins, settled-sound, settled-thins, step-covers}
 use Rattle.ca_server_core.proofs.Listed.{listed-broke, listed-none, listed-step}
 use Rattle.ca_server_core.proofs.Noted.{broke-closes, is-handled, leads-after, none-closes, not-handled, noting-none, viewed-quiet, viewed-served}
 use Rattle.ca_server_core.proofs.Servers.{server_of}
@@ -35,7 +35,7 @@ returns-then-is_quiet c =
     let sound = step-sound i.port i.records u.records i.circuits u.circuits c.args.circuit Quiet did c.self.invariant.sound in
     let settles = handled-settles i.port i.records u.records i.circuits u.circuits c.args.circuit Quiet _ did in
     viewed-quiet c.args.self.now i.port i.moment i.applied i.applied i.beacons i.records u.records i.circuits u.circuits c.args.circuit c.self.view_is did
-    (made-followed c.args.self.now i.port i.moment i.applied i.applied _ i.beacons i.records u.records u.records i.circuits u.circuits u.circuits u.circuits c.args.circuit Quiet false own.Handled c.self.view_is refl refl long did (refl, refl) sound settles)
+    (made-followed-by c.args.self.now i.port i.moment i.applied i.applied _ i.beacons i.records u.records u.records i.circuits u.circuits u.circuits u.circuits c.args.circuit Quiet false own.Handled c.self.view_is refl refl long did (refl, refl) sound settles)
 
 pub follow-requires-clause-sound : goal.follow-requires-clause-sound
 follow-requires-clause-sound c =
@@ -118,7 +118,7 @@ returns-else-not-is_handled c =
     let did = rw c.in-Some-Handled.field-0-is at c.in-Some-Handled.ensures.steps in
     let f = c.follow.new in
     let long = c.in-Some-Handled.ensures.waited ∙ ap (λ (z : Server). length (output_of (under z.circuits c.args.circuit))) c.self.view_is in
-    let made = made-followed c.args.self.now i.port i.moment i.applied c.more_applied-self-inside.result _ i.beacons i.records c.step_on.new.records f.records i.circuits c.step_on.new.circuits f.circuits c.settle-did.new.circuits c.args.circuit c.in-Some-Handled.effect c.is_write.result c.settle-did.result c.self.view_is c.is_write.ensures c.more_applied-self-inside.ensures long did c.follow.ensures.follows c.follow.ensures.sound c.settle-did.ensures in
+    let made = made-followed-by c.args.self.now i.port i.moment i.applied c.more_applied-self-inside.result _ i.beacons i.records c.step_on.new.records f.records i.circuits c.step_on.new.circuits f.circuits c.settle-did.new.circuits c.args.circuit c.in-Some-Handled.effect c.is_write.result c.settle-did.result c.self.view_is c.is_write.ensures c.more_applied-self-inside.ensures long did c.follow.ensures.follows c.follow.ensures.sound c.settle-did.ensures in
     let fin = c.finish_busy in
     viewed-served c.args.self.now i.port i.moment i.applied c.more_applied-self-inside.result fin.new.applied i.beacons i.records c.step_on.new.records f.records fin.new.records i.circuits c.step_on.new.circuits f.circuits c.settle-did.new.circuits fin.new.circuits c.args.circuit c.in-Some-Handled.effect (stepped c.settle-did.result) c.self.view_is did c.follow.ensures.follows made
     (is-handled (stepped c.settle-did.result) (sym c.is_handled.ensures ∙ c.if-not-is_handled.false)) fin.ensures.tries
