@@ -40,17 +40,18 @@ impl ServerCore {
                     circuit,
                     effect,
                 );
-                if !is_open(&self.circuits, circuit) {
-                    return over(self.alloc, &mut self.circuits, circuit, waited);
+                if is_open(&self.circuits, circuit) {
+                    finish_busy(
+                        &mut self.applied,
+                        &mut self.circuits,
+                        &mut self.records,
+                        &mut self.watchers,
+                        effect,
+                    );
+                    Step::Handled
+                } else {
+                    over(self.alloc, &mut self.circuits, circuit, waited)
                 }
-                finish_busy(
-                    &mut self.applied,
-                    &mut self.circuits,
-                    &mut self.records,
-                    &mut self.watchers,
-                    effect,
-                );
-                Step::Handled
             }
             Some(EndStep::NeedBytes) => Step::NeedBytes,
             Some(EndStep::OutputFull) => Step::OutputFull,
