@@ -74,7 +74,15 @@ ReadRefused number count bytes refusal.Short = (t : DataType) × (type_number t 
 ReadRefused number count bytes refusal.OutOfMemory = (t : DataType) × (type_number t ≡ number) × IsLong t count bytes × (count ≢ 0)
 ReadRefused number count bytes _ = ⊥
 
--- One element of the plain type of this number, at the front of these bytes, came in place of elements of that type; or all stays.
+-- These elements are one, of the plain type of this number and no text, and the bytes are enough for another.
+pub record CanReadOver (number : ℕ) (bytes : List ℕ) (old : Elements) : Type 0 where
+  pub typed : base_number (base_of old) ≡ number
+  pub no_text : base_of old ≢ base.String
+  pub one : count_of old ≡ 1
+  pub long : least_size (base_of old) 1 ≤ length bytes
+
+-- One element of the plain type of this number, at the front of these bytes, came in place of another of that type; or that cannot be, and
+-- all stays.
 abbrev pub ReadsOver : (number : ℕ) → List ℕ → (old : Elements) → Bool → (new : Elements) → Type 0
-ReadsOver number bytes old true new = (base_number (base_of old) ≡ number) × (least_size (base_of old) 1 ≤ length bytes) × ReadsElements (base_of old) 1 bytes new
-ReadsOver number bytes old false new = new ≡ old
+ReadsOver number bytes old true new = CanReadOver number bytes old × ReadsElements (base_of old) 1 bytes new
+ReadsOver number bytes old false new = (CanReadOver number bytes old → ⊥) × (new ≡ old)

@@ -114,9 +114,11 @@ impl Value {
 fn read_one_over<E: Element>(items: &mut Vec<E>, bytes: &[u8]) -> bool
     ensures again { result ≡ true → flat_map E.spelled items.new.items ≡ take E.SIZE bytes.now }
     ensures count { result ≡ true → length items.new.items ≡ 1 }
+    ensures one { result ≡ true → length items.old.items ≡ 1 }
     ensures fits { result ≡ true → All E.fits items.new.items }
     ensures enough { result ≡ true → E.SIZE ≤ length bytes.now }
     ensures same { result ≡ false → items.new ≡ items.old }
+    ensures unfit { result ≡ false → length items.old.items ≡ 1 → E.SIZE ≤ length bytes.now → ⊥ }
 {
     if items.len() != 1 || bytes.len() < E::SIZE {
         return false;

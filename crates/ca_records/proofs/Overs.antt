@@ -1,13 +1,14 @@
 -- One element that is read over the value of a record, at a place of the store.
-use Rattle.std.proofs.Common.{◌≡◌, ℕ, ◌+◌, ◌≤◌, ◌&&◌, Bool, true, false, not, List, [], ◌∷◌, length, is_some, if◌then◌else◌, nat_lt, Option, None, Ok, Result, slice_set, refl, sym, ap, ◌∙◌, subst, arith}
+use Rattle.std.proofs.Common.{◌≡◌, ℕ, ◌+◌, ◌≤◌, ◌&&◌, Bool, true, false, not, List, [], ◌∷◌, length, is_some, if◌then◌else◌, nat_lt, Option, None, Some, Ok, Result, slice_set, refl, sym, ap, ◌∙◌, subst, arith}
 use Rattle.ca_dbr.specs.declared.data_type.BaseType.{BaseType}
 use Rattle.ca_dbr.specs.declared.value.Meta.{Meta}
 use Rattle.ca_dbr.specs.Conversion.{converted}
 use Rattle.ca_dbr.specs.Elements.{Elements, strings, ints, floats, enums, chars, longs, doubles, base_of, count_of}
-use Rattle.ca_dbr.specs.Reading.{ReadsElements, least_size}
+use Rattle.ca_dbr.specs.Reading.{CanReadOver, ReadsElements, least_size}
 use Rattle.ca_dbr.specs.Types.{base_number}
 use Rattle.ca_text.specs.Limits.{waiting_puts}
 use Rattle.ca_text.specs.Place.{At}
+use Rattle.ca_text.proofs.Places.{At-one, some_is}
 use Rattle.ca_text.specs.declared.refusal.Refusal.{Refusal}
 use Rattle.ca_records.specs.declared.puts.Begun.TheVariants.{Applied}
 use Rattle.ca_records.specs.declared.puts.Put.{Put}
@@ -21,8 +22,8 @@ use Rattle.ca_records.specs.Over.{IsOne, TakesOver, WritesOver}
 use Rattle.ca_records.specs.Puts.{Record, WaitingPut, with_value, written_meta}
 use Rattle.ca_records.specs.Record.{RecordState}
 use Rattle.ca_records.specs.Rules.{Rule}
-use Rattle.ca_records.specs.Writes.{BeginsOn, WritesOne, must_wait, write_fault}
-use Rattle.ca_records.proofs.Steps.{Change, change, seen-full, store_of}
+use Rattle.ca_records.specs.Writes.{BeginsOn, CanWriteOne, WritesOne, must_wait, write_fault}
+use Rattle.ca_records.proofs.Steps.{Change, change, seen, seen-full, store_of}
 
 -- what waits fits a record of the same type and count
 still-fit : (s t : RecordState) → t.count ≡ s.count → base_of t.value ≡ base_of s.value → (ws : List WaitingPut) → AreFit s ws → AreFit t ws
@@ -40,7 +41,7 @@ still-fit s t count based (w ∷ ws) fit =
 pub kept-fit : (number : ℕ) (bytes : List ℕ) (meta : Meta) (old : RecordState) (result : Bool) (new : RecordState) (ws : List WaitingPut) → TakesOver number bytes meta old result new → AreFit old ws → AreFit new ws
 kept-fit number bytes meta old true new ws over fit =
     still-fit old new (ap (λ (s : RecordState). s.count) over.2) (ap (λ (s : RecordState). base_of s.value) over.2 ∙ over.1.reads.based) ws fit
-kept-fit number bytes meta old false new ws over fit = subst (λ (s : RecordState). AreFit s ws) (sym over) fit
+kept-fit number bytes meta old false new ws over fit = subst (λ (s : RecordState). AreFit s ws) (sym over.1) fit
 
 converted-own : (e : Elements) → converted e (base_of e) ≡ (let same : Result Elements Refusal = Ok e in same)
 converted-own (strings xs) = refl
@@ -63,6 +64,7 @@ one-applied s r put e next based free quick is =
 
 pub record OverStep (slots : List Slot) (free : Option ℕ) (f : List ℕ → Option ℕ) (waiting : ℕ) (rules : List Rule) (stamp : Stamp) (place : ℕ) (next : Record) (is_put : Bool) (number : ℕ) (bytes : List ℕ) (result : Bool) : Type 0 where
   pub stored : IsStored (slice_set slots place (Full next)) free f waiting
+  pub cannot : result ≡ false → CanWriteOne (store_of slots rules stamp) place is_put number bytes → ⊥
   pub written : result ≡ true → WritesOne (store_of slots rules stamp) place is_put number bytes (store_of (slice_set slots place (Full next)) rules stamp)
 
 pub over-step : (slots : List Slot) (free : Option ℕ) (f : List ℕ → Option ℕ) (waiting : ℕ) (rules : List Rule) (stamp : Stamp) (place : ℕ) (r next : Record) (is_put : Bool) (number : ℕ) (bytes : List ℕ) (result : Bool) → IsStored slots free f waiting → At slots place (Full r) → WritesOver stamp r is_put number bytes result next → OverStep slots free f waiting rules stamp place next is_put number bytes result
@@ -73,6 +75,7 @@ over-step slots free f waiting rules stamp place r next is_put number bytes true
     let made : Change slots free f rules stamp place r next waiting = change slots free f waiting waiting rules stamp place r next stored full (ap (λ (q : Record). q.state.name) over.4) (ap (λ (q : Record). waiting + length q.waiting) (sym over.4)) in
     record {
       stored = made.stored;
+      cannot = λ no. absurd (let same : true ≡ false = no in cc);
       written = λ yes. record {
         e = e;
         takes = (r, seen-full slots place r full, (let counted = one.reads.counted in omega (arith, counted)), (let counted = one.reads.counted in let some = one.some in omega (arith, counted, some)));
@@ -88,5 +91,11 @@ over-step slots free f waiting rules stamp place r next is_put number bytes true
       };
     }
 over-step slots free f waiting rules stamp place r next is_put number bytes false stored full over =
-    let made : Change slots free f rules stamp place r next waiting = change slots free f waiting waiting rules stamp place r next stored full (ap (λ (q : Record). q.state.name) over) (ap (λ (q : Record). waiting + length q.waiting) (sym over)) in
-    record { stored = made.stored; written = λ no. absurd (let same : false ≡ true = no in cc) }
+    let made : Change slots free f rules stamp place r next waiting = change slots free f waiting waiting rules stamp place r next stored full (ap (λ (q : Record). q.state.name) over.1) (ap (λ (q : Record). waiting + length q.waiting) (sym over.1)) in
+    record {
+      stored = made.stored;
+      cannot = λ no can.
+          let one : can.r ≡ r = some_is can.r r (At-one (seen slots) place (Some can.r) (Some r) can.at (seen-full slots place r full)) in
+          over.0 (subst (λ (q : Record). (is_put && is_some q.busy) ≡ false) one can.free) (subst (λ (q : Record). (is_put && q.state.slow) ≡ false) one can.quick) (subst (λ (q : Record). CanReadOver number bytes q.state.value) one can.over);
+      written = λ no. absurd (let same : false ≡ true = no in cc);
+    }

@@ -5,7 +5,7 @@ use Rattle.ca_arena.specs.declared.handle.Handle.{Handle}
 use Rattle.ca_dbr.specs.declared.value.Meta.{Meta}
 use Rattle.ca_dbr.specs.Conversion.{converted}
 use Rattle.ca_dbr.specs.Elements.{Elements, base_of}
-use Rattle.ca_dbr.specs.Reading.{ReadsElements, least_size}
+use Rattle.ca_dbr.specs.Reading.{CanReadOver, ReadsElements, least_size}
 use Rattle.ca_dbr.specs.Types.{base_number}
 use Rattle.ca_ids.specs.Table.{same_handle}
 use Rattle.ca_text.specs.Place.{At}
@@ -69,6 +69,14 @@ pub record WritesOne (old : Store) (place : ℕ) (is_put : Bool) (number : ℕ) 
   pub reads : ReadsElements (base_of e) 1 bytes e
   -- it is what any such write of this element begins as
   pub begins : (put : Option Put) → is_some put ≡ is_put → Begins old place put e (Ok (Applied false)) new
+
+-- One element can be written so: the record at the place has one of that type, and the put neither waits nor makes it busy.
+pub record CanWriteOne (s : Store) (place : ℕ) (is_put : Bool) (number : ℕ) (bytes : List ℕ) : Type 0 where
+  pub r : Record
+  pub at : HasAt s place r
+  pub free : (is_put && is_some r.busy) ≡ false
+  pub quick : (is_put && r.state.slow) ≡ false
+  pub over : CanReadOver number bytes r.state.value
 
 -- ---- the end of a busy put
 

@@ -1,7 +1,7 @@
 ghost use Rattle.std.specs.Prelude.{◌≡◌, false, true};
 ghost use Rattle.ca_dbr.specs.Elements.{elements};
 ghost use Rattle.ca_records.specs.Store.{IsThere, TakesAt};
-ghost use Rattle.ca_records.specs.Writes.{Begins, Finishes, FinishesAt, Posts, Withdraws, WritesOne};
+ghost use Rattle.ca_records.specs.Writes.{Begins, CanWriteOne, Finishes, FinishesAt, Posts, Withdraws, WritesOne};
 
 use crate::puts::{Begun, Finished, Put, fewer_waiting, more_waiting};
 use crate::served_records::ServedRecords;
@@ -46,6 +46,7 @@ impl ServedRecords {
         requires { IsThere self.old place }
         ensures written { result ≡ true
             → WritesOne self.old place is_put number bytes.now self.new }
+        ensures cannot { result ≡ false → CanWriteOne self.old place is_put number bytes.now → ⊥ }
         ensures stays { result ≡ false → self.new ≡ self.old }
     {
         let stamp = self.stamp;

@@ -17,3 +17,11 @@ returns-clause-written c =
     let full = looked slots c.args.place there.0 c.index_mut.result.now c.record_mut.result.now there.1 c.index_mut.ensures.value c.record_mut.ensures.value in
     let made = over-step slots c.self.inside.free _ c.self.inside.waiting c.self.inside.rules.items c.self.inside.stamp c.args.place c.record_mut.result.now c.write_one.new.self c.args.is_put c.args.number c.args.bytes.now c.write_one.result c.self.invariant full c.write_one.ensures in
     rw (← c.self.view_is) made.written
+
+pub returns-clause-cannot : goal.returns-clause-cannot
+returns-clause-cannot c =
+    let slots = c.self.inside.slots.items in
+    let there = rw (← c.self.view_is) at c.requires in
+    let full = looked slots c.args.place there.0 c.index_mut.result.now c.record_mut.result.now there.1 c.index_mut.ensures.value c.record_mut.ensures.value in
+    let made = over-step slots c.self.inside.free _ c.self.inside.waiting c.self.inside.rules.items c.self.inside.stamp c.args.place c.record_mut.result.now c.write_one.new.self c.args.is_put c.args.number c.args.bytes.now c.write_one.result c.self.invariant full c.write_one.ensures in
+    rw (← c.self.view_is) made.cannot
