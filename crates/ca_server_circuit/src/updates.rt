@@ -1,6 +1,6 @@
-ghost use Rattle.std.specs.Prelude.{◌≡◌, ◌≤◌, ◌==◌, IfOk, OnErr, OnOk, [], ◌∷◌, if◌then◌else◌, replicate, true};
+ghost use Rattle.std.specs.Prelude.{◌≡◌, ◌<◌, ◌≤◌, ◌==◌, IfOk, OnErr, OnOk, [], ◌∷◌, if◌then◌else◌, length, replicate, true};
 ghost use Rattle.std.specs.List.{list_any};
-ghost use Rattle.ca_text.specs.Limits.{element_limit, payload_limit};
+ghost use Rattle.ca_text.specs.Limits.{element_limit, output_limit, payload_limit};
 ghost use Rattle.ca_dbr.specs.Elements.{count_of};
 ghost use Rattle.ca_link.specs.Calls.{IsOpen};
 ghost use Rattle.ca_link.specs.Link.{with_sent};
@@ -73,7 +73,10 @@ impl End {
         requires { IsOpen self.old.link }
         ensures { PumpsOne self.old result self.new }
     {
-        if self.link.is_full() || self.subscriptions.is_idle() {
+        if self.link.is_full() {
+            return Ok(false);
+        }
+        if self.subscriptions.is_idle() {
             return Ok(false);
         }
         // Mostly one waits alone, and is shown where it is.

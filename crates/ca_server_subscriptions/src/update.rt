@@ -51,7 +51,12 @@ impl Update {
 
     // It is one of this value from now on, which it copies, into its own memory if that is of this type.
     #[inline(always)]
-    pub(crate) fn renew(&mut self, alloc: Global, value: &Value, meta: Meta) -> Result<(), AllocError>
+    pub(crate) fn renew(
+        &mut self,
+        alloc: Global,
+        value: &Value,
+        meta: Meta,
+    ) -> Result<(), AllocError>
         requires { count_of (elements value.now) ≤ element_limit }
         ensures { OnOk result (self.new ≡ record { value = elements value.now; meta = meta }) }
     {

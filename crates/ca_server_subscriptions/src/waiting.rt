@@ -65,7 +65,12 @@ impl Waiting {
         requires { HasNone self.old key }
         ensures { Begins self.old key update result self.new }
     {
-        spill(self.alloc, &mut self.queues, &mut self.held, &mut self.update);
+        spill(
+            self.alloc,
+            &mut self.queues,
+            &mut self.held,
+            &mut self.update,
+        );
         self.idle = false;
         self.queues.begin(key, update)
     }
@@ -85,7 +90,7 @@ impl Waiting {
             (queue_posted key (record { value = elements value.now; meta = meta.now })) self.old) }
         ensures err { OnErr result (self.new ≡ self.old) }
     {
-        if !self.is_idle() {
+        if !is_alone(self.idle, &self.held) {
             return self.post_behind(place, key, value, meta);
         }
         self.update.renew(self.alloc, value, *meta)?;
@@ -108,7 +113,12 @@ impl Waiting {
             (queue_posted key (record { value = elements value.now; meta = meta.now })) self.old) }
         ensures err { OnErr result (self.new ≡ self.old) }
     {
-        spill(self.alloc, &mut self.queues, &mut self.held, &mut self.update);
+        spill(
+            self.alloc,
+            &mut self.queues,
+            &mut self.held,
+            &mut self.update,
+        );
         self.idle = false;
         self.update.renew(self.alloc, value, *meta)?;
         let update = mem::replace(&mut self.update, Update::empty(self.alloc));
@@ -120,7 +130,7 @@ impl Waiting {
     pub(crate) fn is_idle(&self) -> bool
         ensures { result ≡ true → RestBefore self.now (length self.now) }
     {
-        self.idle && self.held.is_none()
+        is_alone(self.idle, &self.held)
     }
 
     // The update beside the queues, which is the next to be taken, with its subscription: none if others wait.
@@ -156,7 +166,12 @@ impl Waiting {
     pub(crate) fn take(&mut self) -> Option<(usize, SubKey, Update)>
         ensures { Takes self.old result self.new }
     {
-        spill(self.alloc, &mut self.queues, &mut self.held, &mut self.update);
+        spill(
+            self.alloc,
+            &mut self.queues,
+            &mut self.held,
+            &mut self.update,
+        );
         self.idle = false;
         let Some(taken) = self.queues.take() else {
             self.idle = self.events_on;
@@ -179,7 +194,12 @@ impl Waiting {
         requires { HasAt self.old place key }
         ensures { self.new ≡ without_each (same key) self.old }
     {
-        spill(self.alloc, &mut self.queues, &mut self.held, &mut self.update);
+        spill(
+            self.alloc,
+            &mut self.queues,
+            &mut self.held,
+            &mut self.update,
+        );
         self.idle = false;
         self.queues.cancel(place, key);
     }
@@ -188,11 +208,23 @@ impl Waiting {
     pub(crate) fn set_events(&mut self, on: bool)
         ensures { self.new ≡ map (switched on) self.old }
     {
-        spill(self.alloc, &mut self.queues, &mut self.held, &mut self.update);
+        spill(
+            self.alloc,
+            &mut self.queues,
+            &mut self.held,
+            &mut self.update,
+        );
         self.idle = false;
         self.events_on = on;
         self.queues.set_events(on);
     }
+}
+
+// Whether nothing waits, beside the queues or in them.
+fn is_alone(idle: bool, held: &Option<(usize, SubKey)>) -> bool
+    ensures { result ≡ true → (idle ≡ true) × (held.now ≡ None) }
+{
+    idle && held.is_none()
 }
 
 // Puts the update that waits beside the queues into its own, if there is one.
