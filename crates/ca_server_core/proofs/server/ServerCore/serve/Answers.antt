@@ -14,8 +14,8 @@ use Rattle.ca_server_core.specs.Serving.{stepped}
 use Rattle.ca_server_core.specs.declared.stepping.Step.TheVariants as own
 use Rattle.ca_server_core.proofs.server.ServerCore.serve.Goals as goal
 
-pub invariant_of-self : goal.invariant_of-self
-invariant_of-self c =
+pub invariant_of-self-then-is_quiet : goal.invariant_of-self-then-is_quiet
+invariant_of-self-then-is_quiet c =
     let i = c.self.inside in
     let quiet = c.is_quiet.ensures c.if-is_quiet.true in
     let did = rw quiet at (rw c.in-Some-Handled.field-0-is at c.in-Some-Handled.ensures.steps) in
@@ -59,8 +59,8 @@ pub finish_busy-requires-clause-leads : goal.finish_busy-requires-clause-leads
 finish_busy-requires-clause-leads c =
     leads-after c.in-Some-Handled.effect c.args.circuit c.step_on.new.circuits c.follow.new.circuits c.step_on.new.records c.follow.new.records c.follow.ensures.follows
 
-pub invariant_of-self-else-is_open : goal.invariant_of-self-else-is_open
-invariant_of-self-else-is_open c =
+pub invariant_of-self-then-not-is_open : goal.invariant_of-self-then-not-is_open
+invariant_of-self-then-not-is_open c =
     let f = c.follow.new in
     let settles = c.over.ensures.settles in
     record {
@@ -68,10 +68,6 @@ invariant_of-self-else-is_open c =
       covered = covers-thinned f.watchers f.circuits c.over.new.circuits (settled-thins f.circuits c.over.new.circuits c.args.circuit _ c.over.result settles) c.follow.ensures.covered;
       listed = c.follow.ensures.listed;
     }
-
-pub invariant_of-self-then-is_open : goal.invariant_of-self-then-is_open
-invariant_of-self-then-is_open c =
-    record { sound = c.finish_busy.ensures.sound; covered = c.finish_busy.ensures.covered; listed = c.finish_busy.ensures.listed }
 
 pub invariant_of-self-in-Some-Breaks : goal.invariant_of-self-in-Some-Breaks
 invariant_of-self-in-Some-Breaks c =
@@ -92,8 +88,8 @@ invariant_of-self-in-None c =
       listed = listed-none i.port i.records c.step_on.new.records i.circuits c.step_on.new.circuits c.args.circuit i.watchers c.in-None.ensures.steps c.self.invariant.listed;
     }
 
-pub returns-else-is_open : goal.returns-else-is_open
-returns-else-is_open c =
+pub returns-then-not-is_open : goal.returns-then-not-is_open
+returns-then-not-is_open c =
     let i = c.self.inside in
     let did = rw c.in-Some-Handled.field-0-is at c.in-Some-Handled.ensures.steps in
     let f = c.follow.new in
@@ -102,13 +98,13 @@ returns-else-is_open c =
     noting-none c.args.self.now c.args.circuit (stepped c.over.result) (server_of i.port f.records i.moment c.over.new.circuits i.beacons c.more_applied-self-inside.result)
     (not-handled (stepped c.over.result) c.over.ensures.closed) made
 
-pub returns-then-is_open : goal.returns-then-is_open
-returns-then-is_open c =
+pub returns : goal.returns
+returns c =
     let i = c.self.inside in
     let did = rw c.in-Some-Handled.field-0-is at c.in-Some-Handled.ensures.steps in
     let f = c.follow.new in
     let long = c.in-Some-Handled.ensures.waited ∙ ap (λ (z : Server). length (output_of (under z.circuits c.args.circuit))) c.self.view_is in
-    let settles = open-settles f.circuits c.args.circuit _ (sym c.is_open.ensures ∙ c.if-is_open.true) in
+    let settles = open-settles f.circuits c.args.circuit _ (sym c.is_open.ensures ∙ c.if-not-is_open.false) in
     let made = made-followed-by c.args.self.now i.port i.moment i.applied c.more_applied-self-inside.result _ i.beacons i.records c.step_on.new.records f.records i.circuits c.step_on.new.circuits f.circuits f.circuits c.args.circuit c.in-Some-Handled.effect c.is_write.result own.Handled c.self.view_is c.is_write.ensures c.more_applied-self-inside.ensures long did c.follow.ensures.follows c.follow.ensures.sound settles in
     let fin = c.finish_busy in
     viewed-served c.args.self.now i.port i.moment i.applied c.more_applied-self-inside.result fin.new.applied i.beacons i.records c.step_on.new.records f.records fin.new.records i.circuits c.step_on.new.circuits f.circuits f.circuits fin.new.circuits c.args.circuit c.in-Some-Handled.effect c.self.view_is did c.follow.ensures.follows made fin.ensures.tries
