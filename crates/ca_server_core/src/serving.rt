@@ -38,14 +38,14 @@ impl ServerCore {
             return Step::Handled;
         }
         self.applied = more_applied(self.applied, effect.is_write());
-        follow(
+        let may_have_ended = follow(
             &mut self.circuits,
             &mut self.records,
             &mut self.watchers,
             circuit,
             effect,
         );
-        if !is_open(&self.circuits, circuit) {
+        if may_have_ended && !is_open(&self.circuits, circuit) {
             return over(self.alloc, &mut self.circuits, circuit, waited);
         }
         finish_busy(
