@@ -1,3 +1,4 @@
+ghost use Rattle.std.specs.Prelude.{◌≡◌, false};
 ghost use Rattle.ca_records.specs.Store.{records_of};
 ghost use Rattle.ca_server_core.specs.Covering.{AreListed, Covers};
 ghost use Rattle.ca_server_core.specs.Following.{Begins, CoversAt, CoversFor, Follows};
@@ -15,7 +16,7 @@ use ca_server_watchers::Watchers;
 pub(crate) const WRITE_MASK: u16 = 3;
 
 /// What a message that was handled leaves to do: a write reaches all subscriptions on its record; and the circuit watches the record of a
-/// subscription that began. Without memory for that its end has ended.
+/// subscription that began. Without memory for that its end has ended. It says whether an end may have ended.
 #[inline(always)]
 pub(crate) fn follow(
     circuits: &mut HeldTable<Circuit>,
@@ -23,7 +24,7 @@ pub(crate) fn follow(
     watchers: &mut Watchers,
     circuit: Handle,
     effect: Effect,
-)
+) -> bool
     requires sound { IsSound (records_of records.old) circuits.old }
     requires covered { CoversFor effect circuit records.old watchers.old circuits.old }
     requires listed { AreListed (records_of records.old) watchers.old }
@@ -31,11 +32,15 @@ pub(crate) fn follow(
     ensures sound { IsSound (records_of records.new) circuits.new }
     ensures covered { Covers watchers.new circuits.new }
     ensures listed { AreListed (records_of records.new) watchers.new }
+    ensures none { result ≡ false → circuits.new ≡ circuits.old }
 {
     match effect {
-        Effect::Quiet => {}
+        Effect::Quiet => false,
         Effect::Wrote(place) => post_to_all(circuits, records, watchers, place, WRITE_MASK),
-        Effect::Began(place) => watch(circuits, records, watchers, circuit, place),
+        Effect::Began(place) => {
+            watch(circuits, records, watchers, circuit, place);
+            true
+        }
     }
 }
 

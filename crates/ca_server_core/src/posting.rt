@@ -1,4 +1,4 @@
-ghost use Rattle.std.specs.Prelude.{◌≡◌, Bool};
+ghost use Rattle.std.specs.Prelude.{◌≡◌, Bool, false};
 ghost use Rattle.ca_arena.specs.declared.handle.Handle.{Handle};
 ghost use Rattle.ca_dbr.specs.Elements.{elements};
 ghost use Rattle.ca_ids.specs.Table.{under};
@@ -42,7 +42,7 @@ impl ServerCore {
 
 /// The value of the record at this place reaches all subscriptions on it whose mask shares a bit with this one, on all circuits. An end
 /// without memory for an update has ended. The circuits in the record's list are visited, and no other. A list may have some that watch the
-/// record no more: these are taken out, and get nothing.
+/// record no more: these are taken out, and get nothing. It says whether there may be any.
 #[inline(always)]
 pub(crate) fn post_to_all(
     circuits: &mut HeldTable<Circuit>,
@@ -50,7 +50,7 @@ pub(crate) fn post_to_all(
     watchers: &mut Watchers,
     place: usize,
     mask: u16,
-)
+) -> bool
     requires there { IsThere records.old place }
     requires sound { IsSound (records_of records.old) circuits.old }
     requires covered { Covers watchers.old circuits.old }
@@ -59,12 +59,14 @@ pub(crate) fn post_to_all(
     ensures sound { IsSound (records_of records.new) circuits.new }
     ensures covered { Covers watchers.new circuits.new }
     ensures listed { AreListed (records_of records.new) watchers.new }
+    ensures none { result ≡ false → circuits.new ≡ circuits.old }
 {
     // Then a write pays for no more than this test.
     if watchers.is_empty() {
-        return;
+        return false;
     }
     post_to_watching(circuits, records, watchers, place, mask);
+    true
 }
 
 /// The same, by the record's list.

@@ -21,43 +21,41 @@ impl ServerCore {
         ensures { ServesNext self.old circuit (stepped result) self.new }
     {
         let mut waited = 0;
-        match step_on(
+        let effect = match step_on(
             self.port,
             &mut self.circuits,
             &mut self.records,
             circuit,
             &mut waited,
         ) {
-            Some(EndStep::Handled(effect)) => {
-                if is_quiet(effect) {
-                    return Step::Handled;
-                }
-                self.applied = more_applied(self.applied, effect.is_write());
-                follow(
-                    &mut self.circuits,
-                    &mut self.records,
-                    &mut self.watchers,
-                    circuit,
-                    effect,
-                );
-                if is_open(&self.circuits, circuit) {
-                    finish_busy(
-                        &mut self.applied,
-                        &mut self.circuits,
-                        &mut self.records,
-                        &mut self.watchers,
-                        effect,
-                    );
-                    Step::Handled
-                } else {
-                    over(self.alloc, &mut self.circuits, circuit, waited)
-                }
-            }
-            Some(EndStep::NeedBytes) => Step::NeedBytes,
-            Some(EndStep::OutputFull) => Step::OutputFull,
-            Some(EndStep::Breaks(_)) => report(self.alloc, &mut self.circuits, circuit),
-            None => report(self.alloc, &mut self.circuits, circuit),
+            Some(EndStep::Handled(effect)) => effect,
+            Some(EndStep::NeedBytes) => return Step::NeedBytes,
+            Some(EndStep::OutputFull) => return Step::OutputFull,
+            Some(EndStep::Breaks(_)) => return report(self.alloc, &mut self.circuits, circuit),
+            None => return report(self.alloc, &mut self.circuits, circuit),
+        };
+        if is_quiet(effect) {
+            return Step::Handled;
         }
+        self.applied = more_applied(self.applied, effect.is_write());
+        let may_have_ended = follow(
+            &mut self.circuits,
+            &mut self.records,
+            &mut self.watchers,
+            circuit,
+            effect,
+        );
+        if may_have_ended && !is_open(&self.circuits, circuit) {
+            return over(self.alloc, &mut self.circuits, circuit, waited);
+        }
+        finish_busy(
+            &mut self.applied,
+            &mut self.circuits,
+            &mut self.records,
+            &mut self.watchers,
+            effect,
+        );
+        Step::Handled
     }
 }
 

@@ -1,6 +1,6 @@
-use Rattle.std.proofs.Common.{◌∙◌, false, length, refl, sym, ap}
-use Rattle.ca_ids.specs.Table.{under}
-use Rattle.ca_model.specs.Server.{Server}
+use Rattle.std.proofs.Common.{◌∙◌, false, length, refl, sym, ap, subst}
+use Rattle.ca_ids.specs.Table.{Table, under}
+use Rattle.ca_model.specs.Server.{Server, ServerCircuit}
 use Rattle.ca_model.specs.ServerSteps.{output_of}
 use Rattle.ca_records.specs.Store.{records_of}
 use Rattle.ca_server_core.proofs.Covered.{covers-thinned}
@@ -10,12 +10,14 @@ use Rattle.ca_server_core.proofs.Noted.{broke-closes, leads-after, none-closes, 
 use Rattle.ca_server_core.proofs.Servers.{server_of}
 use Rattle.ca_server_core.proofs.Stepped.{broke-sound, handled-settles, made-broke, made-none, none-sound, step-sound}
 use Rattle.ca_server_circuit.specs.declared.step.Effect.TheVariants.{Quiet}
+use Rattle.ca_server_core.specs.Following.{Settles}
 use Rattle.ca_server_core.specs.Serving.{stepped}
 use Rattle.ca_server_core.specs.declared.stepping.Step.TheVariants as own
+use Rattle.ca_server_core.proofs.server.ServerCore.serve.Goals.{else-may_have_ended-via-then-may_have_ended+else-not-is_open, else-may_have_ended-via-else-may_have_ended}
 use Rattle.ca_server_core.proofs.server.ServerCore.serve.Goals as goal
 
-pub invariant_of-self : goal.invariant_of-self
-invariant_of-self c =
+pub invariant_of-self-then-is_quiet : goal.invariant_of-self-then-is_quiet
+invariant_of-self-then-is_quiet c =
     let i = c.self.inside in
     let quiet = c.is_quiet.ensures c.if-is_quiet.true in
     let did = rw quiet at (rw c.in-Some-Handled.field-0-is at c.in-Some-Handled.ensures.steps) in
@@ -37,41 +39,37 @@ returns-then-is_quiet c =
     viewed-quiet c.args.self.now i.port i.moment i.applied i.applied i.beacons i.records u.records i.circuits u.circuits c.args.circuit c.self.view_is did
     (made-followed-by c.args.self.now i.port i.moment i.applied i.applied _ i.beacons i.records u.records u.records i.circuits u.circuits u.circuits u.circuits c.args.circuit Quiet false own.Handled c.self.view_is refl refl long did (refl, refl) sound settles)
 
-pub follow-requires-clause-sound : goal.follow-requires-clause-sound
-follow-requires-clause-sound c =
+pub follow-may_have_ended-requires-clause-sound : goal.follow-may_have_ended-requires-clause-sound
+follow-may_have_ended-requires-clause-sound c =
     let i = c.self.inside in
     let did = rw c.in-Some-Handled.field-0-is at c.in-Some-Handled.ensures.steps in
     step-sound i.port i.records c.step_on.new.records i.circuits c.step_on.new.circuits c.args.circuit c.in-Some-Handled.effect did c.self.invariant.sound
 
-pub follow-requires-clause-covered : goal.follow-requires-clause-covered
-follow-requires-clause-covered c =
+pub follow-may_have_ended-requires-clause-covered : goal.follow-may_have_ended-requires-clause-covered
+follow-may_have_ended-requires-clause-covered c =
     let i = c.self.inside in
     let did = rw c.in-Some-Handled.field-0-is at c.in-Some-Handled.ensures.steps in
     step-covers i.port i.watchers i.records c.step_on.new.records i.circuits c.step_on.new.circuits c.args.circuit c.in-Some-Handled.effect did c.self.invariant.covered
 
-pub follow-requires-clause-listed : goal.follow-requires-clause-listed
-follow-requires-clause-listed c =
+pub follow-may_have_ended-requires-clause-listed : goal.follow-may_have_ended-requires-clause-listed
+follow-may_have_ended-requires-clause-listed c =
     let i = c.self.inside in
     let did = rw c.in-Some-Handled.field-0-is at c.in-Some-Handled.ensures.steps in
     listed-step i.port i.records c.step_on.new.records i.circuits c.step_on.new.circuits c.args.circuit c.in-Some-Handled.effect i.watchers did c.self.invariant.listed
 
 pub finish_busy-requires-clause-leads : goal.finish_busy-requires-clause-leads
 finish_busy-requires-clause-leads c =
-    leads-after c.in-Some-Handled.effect c.args.circuit c.step_on.new.circuits c.follow.new.circuits c.step_on.new.records c.follow.new.records c.follow.ensures.follows
+    leads-after c.in-Some-Handled.effect c.args.circuit c.step_on.new.circuits c.follow-may_have_ended.new.circuits c.step_on.new.records c.follow-may_have_ended.new.records c.follow-may_have_ended.ensures.follows
 
-pub invariant_of-self-else-is_open : goal.invariant_of-self-else-is_open
-invariant_of-self-else-is_open c =
-    let f = c.follow.new in
+pub invariant_of-self-then-not-is_open : goal.invariant_of-self-then-not-is_open
+invariant_of-self-then-not-is_open c =
+    let f = c.follow-may_have_ended.new in
     let settles = c.over.ensures.settles in
     record {
-      sound = settled-sound (records_of f.records) f.circuits c.over.new.circuits c.args.circuit _ c.over.result settles c.follow.ensures.sound;
-      covered = covers-thinned f.watchers f.circuits c.over.new.circuits (settled-thins f.circuits c.over.new.circuits c.args.circuit _ c.over.result settles) c.follow.ensures.covered;
-      listed = c.follow.ensures.listed;
+      sound = settled-sound (records_of f.records) f.circuits c.over.new.circuits c.args.circuit _ c.over.result settles c.follow-may_have_ended.ensures.sound;
+      covered = covers-thinned f.watchers f.circuits c.over.new.circuits (settled-thins f.circuits c.over.new.circuits c.args.circuit _ c.over.result settles) c.follow-may_have_ended.ensures.covered;
+      listed = c.follow-may_have_ended.ensures.listed;
     }
-
-pub invariant_of-self-then-is_open : goal.invariant_of-self-then-is_open
-invariant_of-self-then-is_open c =
-    record { sound = c.finish_busy.ensures.sound; covered = c.finish_busy.ensures.covered; listed = c.finish_busy.ensures.listed }
 
 pub invariant_of-self-in-Some-Breaks : goal.invariant_of-self-in-Some-Breaks
 invariant_of-self-in-Some-Breaks c =
@@ -92,26 +90,32 @@ invariant_of-self-in-None c =
       listed = listed-none i.port i.records c.step_on.new.records i.circuits c.step_on.new.circuits c.args.circuit i.watchers c.in-None.ensures.steps c.self.invariant.listed;
     }
 
-pub returns-else-is_open : goal.returns-else-is_open
-returns-else-is_open c =
+pub returns-then-not-is_open : goal.returns-then-not-is_open
+returns-then-not-is_open c =
     let i = c.self.inside in
     let did = rw c.in-Some-Handled.field-0-is at c.in-Some-Handled.ensures.steps in
-    let f = c.follow.new in
+    let f = c.follow-may_have_ended.new in
     let long = c.in-Some-Handled.ensures.waited ∙ ap (λ (z : Server). length (output_of (under z.circuits c.args.circuit))) c.self.view_is in
-    let made = made-followed c.args.self.now i.port i.moment i.applied c.more_applied-self-inside.result _ i.beacons i.records c.step_on.new.records f.records i.circuits c.step_on.new.circuits f.circuits c.over.new.circuits c.args.circuit c.in-Some-Handled.effect c.is_write.result c.over.result c.self.view_is c.is_write.ensures c.more_applied-self-inside.ensures long did c.follow.ensures.follows c.follow.ensures.sound c.over.ensures.settles in
+    let made = made-followed c.args.self.now i.port i.moment i.applied c.more_applied-self-inside.result _ i.beacons i.records c.step_on.new.records f.records i.circuits c.step_on.new.circuits f.circuits c.over.new.circuits c.args.circuit c.in-Some-Handled.effect c.is_write.result c.over.result c.self.view_is c.is_write.ensures c.more_applied-self-inside.ensures long did c.follow-may_have_ended.ensures.follows c.follow-may_have_ended.ensures.sound c.over.ensures.settles in
     noting-none c.args.self.now c.args.circuit (stepped c.over.result) (server_of i.port f.records i.moment c.over.new.circuits i.beacons c.more_applied-self-inside.result)
     (not-handled (stepped c.over.result) c.over.ensures.closed) made
 
-pub returns-then-is_open : goal.returns-then-is_open
-returns-then-is_open c =
+pub returns : goal.returns
+returns c =
     let i = c.self.inside in
     let did = rw c.in-Some-Handled.field-0-is at c.in-Some-Handled.ensures.steps in
-    let f = c.follow.new in
+    let f = c.follow-may_have_ended.new in
     let long = c.in-Some-Handled.ensures.waited ∙ ap (λ (z : Server). length (output_of (under z.circuits c.args.circuit))) c.self.view_is in
-    let settles = open-settles f.circuits c.args.circuit _ (sym c.is_open.ensures ∙ c.if-is_open.true) in
-    let made = made-followed-by c.args.self.now i.port i.moment i.applied c.more_applied-self-inside.result _ i.beacons i.records c.step_on.new.records f.records i.circuits c.step_on.new.circuits f.circuits f.circuits c.args.circuit c.in-Some-Handled.effect c.is_write.result own.Handled c.self.view_is c.is_write.ensures c.more_applied-self-inside.ensures long did c.follow.ensures.follows c.follow.ensures.sound settles in
+    let waited = c.step_on.new.waited in
+    let settles : Settles f.circuits c.args.circuit waited own.Handled f.circuits = elim c.else-may_have_ended.branch [
+      | else-may_have_ended-via-then-may_have_ended+else-not-is_open w ↦ open-settles f.circuits c.args.circuit waited (sym w.is_open.ensures ∙ w.if-not-is_open.false)
+      | else-may_have_ended-via-else-may_have_ended w ↦
+          subst (λ (z : Table ServerCircuit). Settles z c.args.circuit waited own.Handled z) (sym (c.follow-may_have_ended.ensures.none w.if-may_have_ended.false))
+          (handled-settles i.port i.records c.step_on.new.records i.circuits c.step_on.new.circuits c.args.circuit c.in-Some-Handled.effect waited did)
+    ] in
+    let made = made-followed-by c.args.self.now i.port i.moment i.applied c.more_applied-self-inside.result _ i.beacons i.records c.step_on.new.records f.records i.circuits c.step_on.new.circuits f.circuits f.circuits c.args.circuit c.in-Some-Handled.effect c.is_write.result own.Handled c.self.view_is c.is_write.ensures c.more_applied-self-inside.ensures long did c.follow-may_have_ended.ensures.follows c.follow-may_have_ended.ensures.sound settles in
     let fin = c.finish_busy in
-    viewed-served c.args.self.now i.port i.moment i.applied c.more_applied-self-inside.result fin.new.applied i.beacons i.records c.step_on.new.records f.records fin.new.records i.circuits c.step_on.new.circuits f.circuits f.circuits fin.new.circuits c.args.circuit c.in-Some-Handled.effect c.self.view_is did c.follow.ensures.follows made fin.ensures.tries
+    viewed-served c.args.self.now i.port i.moment i.applied c.more_applied-self-inside.result fin.new.applied i.beacons i.records c.step_on.new.records f.records fin.new.records i.circuits c.step_on.new.circuits f.circuits f.circuits fin.new.circuits c.args.circuit c.in-Some-Handled.effect c.self.view_is did c.follow-may_have_ended.ensures.follows made fin.ensures.tries
 
 pub returns-in-Some-Breaks : goal.returns-in-Some-Breaks
 returns-in-Some-Breaks c =
