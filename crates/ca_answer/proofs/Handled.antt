@@ -190,20 +190,3 @@ module _ (rules : List Rule) (states : List RecordState) (bytes : List ℕ) (h :
                   },
             )
       ]
-
-  -- ---- no message
-
-  -- an end that has ended handles nothing
-  pub over-reports : (y : Server) (text : List ℕ) (d : Stepped) (new : Server) → Over rules states bytes h y text → Steps y h d new → (left : List ℕ) × (d ≡ did.Closed why.OutOfMemory left)
-  over-reports y text d new o s = (let r = subst (λ (x : Option ServerCircuit). StepsAt y h x d new) o.ended s in (o.left, r.0))
-
-  pub served-rests : (y : Server) (text : List ℕ) (new : Server) (s : Served rules states bytes h y text) → Steps y h did.NeedBytes new → NoneBegins s.link.input.bytes × NotBad s.link.input.bytes × (new ≡ y)
-  served-rests y text new s step = (let r = steps-there y h (record s.e { link = s.link }) did.NeedBytes new (served-has y text s) step in (r.1, r.2, r.3))
-
-  -- so little waits that a message is handled
-  pub served-room : (y : Server) (text : List ℕ) (new : Server) → Served rules states bytes h y text → Steps y h did.OutputFull new → ⊥
-  served-room y text new s step =
-      let r = steps-there y h (record s.e { link = s.link }) did.OutputFull new (served-has y text s) step in
-      let none : length s.link.output ≡ 0 = ap (λ (l : List ℕ). length l) s.quiet in
-      let full = r.0 in
-      omega (arith, full, none)
