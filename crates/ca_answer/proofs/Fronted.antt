@@ -8,11 +8,10 @@ use Rattle.ca_arena.specs.declared.handle.Handle.{Handle}
 use Rattle.ca_ids.specs.Table.{Table, same_handle, under, with_changed, with_each, with_each_from}
 use Rattle.ca_link.specs.Link.{LinkState, with_handed, with_rest, with_sent}
 use Rattle.ca_records.specs.declared.puts.Put.{Put}
-use Rattle.ca_records.specs.Puts.{Record, WaitingPut, withdrawn}
+use Rattle.ca_records.specs.Puts.{WaitingPut, withdrawn}
 use Rattle.ca_text.specs.declared.refusal.Refusal.{Refusal}
 use Rattle.ca_text.specs.declared.refusal.Refusal.TheVariants as refusal
 use Rattle.ca_text.specs.Limits.{output_limit}
-use Rattle.ca_text.proofs.Places.{some_is}
 use Rattle.ca_wire.specs.Fields.{Fields}
 use Rattle.ca_wire.specs.Message.{spelled}
 use Rattle.ca_model.specs.Due.{Action, Applies}
@@ -20,7 +19,7 @@ use Rattle.ca_model.specs.Due as action
 use Rattle.ca_model.specs.Ends.{Why}
 use Rattle.ca_model.specs.Ends as why
 use Rattle.ca_model.specs.Server.{Ended, Open, OpenChannel, Server, ServerCircuit, ServerEnd, with_post}
-use Rattle.ca_model.specs.ServerCalls.{Finish, Finishes, IsAwaited, Replies, after_next, finish_reply, lacking, with_finish, with_message}
+use Rattle.ca_model.specs.ServerCalls.{Finish, Finishes, IsAwaited, Replies, after_next, finish_reply, lacking, with_finish}
 use Rattle.ca_model.specs.ServerSteps.{Acts, Handles, HasEnd, Leaves, MayEnd, Pumps, Reaches, Records, Rests, Sends, StepsAt, Update, after_post, counted, ended, is_concerned, output_of, reached, stored_now, with_end, write_mask}
 use Rattle.ca_model.specs.ServerSteps as did
 use Rattle.ca_model.specs.Speech.{Stored}
@@ -194,10 +193,10 @@ module _ (h : Handle) (b : List ℕ) where
     with_end h last before,
     record { due = handles.due; acted = acted; acts = acts a handles.acted handles.acts; recorded = before; records = recorded a r handles.records; leaves = refl },
     handles.leaves
-    ∙ ap (λ (l : LinkState). with_end h (record real { link = with_sent replies l }) r) (acts-link (fronting h b y) (with_front b e) a real handles.acts)
-    ∙ ap (λ (z : ServerEnd). with_end h z r) (sent-front replies acted)
-    ∙ ap (λ (t : Circuits). with_end h (with_front b last) (record r { circuits = t })) (records-circuits (fronting h b y) h (with_front b e) m a r handles.records)
-    ∙ sym (front-own before c last there),
+        ∙ ap (λ (l : LinkState). with_end h (record real { link = with_sent replies l }) r) (acts-link (fronting h b y) (with_front b e) a real handles.acts)
+        ∙ ap (λ (z : ServerEnd). with_end h z r) (sent-front replies acted)
+        ∙ ap (λ (t : Circuits). with_end h (with_front b last) (record r { circuits = t })) (records-circuits (fronting h b y) h (with_front b e) m a r handles.records)
+        ∙ sym (front-own before c last there),
   )
     where
       real : ServerEnd
@@ -331,9 +330,9 @@ module _ (h : Handle) (b : List ℕ) where
         with_end k after y,
         inl (e.0, e.1, said, refl),
         is
-        ∙ ap (λ (z : ServerEnd). with_end k (record z { link = with_sent ms z.link }) (fronting h b y)) e.2
-        ∙ ap (λ (z : ServerEnd). with_end k z (fronting h b y)) (sent-at k ms e.0)
-        ∙ sym (front-end y k (Open e.0) after e.1.0),
+            ∙ ap (λ (z : ServerEnd). with_end k (record z { link = with_sent ms z.link }) (fronting h b y)) e.2
+            ∙ ap (λ (z : ServerEnd). with_end k z (fronting h b y)) (sent-at k ms e.0)
+            ∙ sym (front-end y k (Open e.0) after e.1.0),
       )
   front-replies y p gone sent new (inr (none, said, is)) = (y, inr (unsaid none, said, refl), is)
     where

@@ -1,5 +1,5 @@
 -- A message is handled on a circuit that was served: it is answered by what waits then, or the circuit's end has ended out of memory.
-use Rattle.std.proofs.Common.{◌≡◌, ℕ, ◌⊎◌, inl, inr, true, false, List, [], ◌∷◌, ◌++◌, append_assoc, drop, length, Option, Some, None, refl, sym, ap, ◌∙◌, subst, arith}
+use Rattle.std.proofs.Common.{◌≡◌, ℕ, ◌⊎◌, inl, inr, true, false, List, [], ◌∷◌, ◌++◌, append_assoc, drop, length, Option, Some, None, refl, sym, ap, ◌∙◌, subst}
 use Rattle.std.proofs.lemmas.List.{append-nil}
 use Rattle.ca_arena.specs.declared.handle.Handle.{Handle}
 use Rattle.ca_ids.specs.Table.{Table, under, with_changed}
@@ -9,11 +9,10 @@ use Rattle.ca_records.specs.Record.{RecordState}
 use Rattle.ca_records.specs.Rules.{Rule}
 use Rattle.ca_wire.specs.Fields.{Fields}
 use Rattle.ca_wire.specs.Message.{Spells}
-use Rattle.ca_wire.specs.Stream.{Begins, NoneBegins, NotBad}
+use Rattle.ca_wire.specs.Stream.{Begins}
 use Rattle.ca_model.specs.Answer.{Answers, Serves, Writes}
 use Rattle.ca_model.specs.Due.{Action, Applies, KnownChannel}
 use Rattle.ca_model.specs.Due as action
-use Rattle.ca_model.specs.Ends as why
 use Rattle.ca_model.specs.Server.{Open, Server, ServerCircuit, ServerEnd}
 use Rattle.ca_model.specs.ServerSteps.{Handles, HasEnd, Records, Sends, Stepped, Steps, StepsAt, StepsOpen, knows, known_channel, output_of, with_end}
 use Rattle.ca_model.specs.ServerSteps as did

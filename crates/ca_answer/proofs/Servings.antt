@@ -11,9 +11,8 @@ use Rattle.ca_records.specs.Record.{RecordState}
 use Rattle.ca_records.specs.Rules.{Rule}
 use Rattle.ca_text.specs.declared.refusal.Refusal.{Refusal}
 use Rattle.ca_text.specs.declared.refusal.Refusal.TheVariants.{OutOfMemory, Misaligned, TooLarge, Device}
-use Rattle.ca_text.specs.Limits.{engine_turns, output_limit}
-use Rattle.ca_text.proofs.Places.{some_is}
-use Rattle.ca_wire.specs.Stream.{BadAt, NoneBegins, NotBad}
+use Rattle.ca_text.specs.Limits.{output_limit}
+use Rattle.ca_wire.specs.Stream.{BadAt}
 use Rattle.ca_model.specs.Answer.{Answered}
 use Rattle.ca_model.specs.Ends.{Why, why_of}
 use Rattle.ca_model.specs.Ends as why

@@ -167,12 +167,7 @@ impl Engine {
 
     // Hands what waited to the sink, of what an end has left. What it left after that belongs to a message that was not answered whole.
     #[inline(never)]
-    fn hand_left<K: Sink>(
-        &self,
-        left: &Pipe,
-        sink: &mut K,
-        turns: &mut u64,
-    ) -> Result<(), Refusal>
+    fn hand_left<K: Sink>(&self, left: &Pipe, sink: &mut K, turns: &mut u64) -> Result<(), Refusal>
         requires within { turns.old ≤ engine_turns }
         requires calls { K.call_count sink.old < 2 ^ 63 + turns.old }
         requires faults { K.fault_count sink.old < 2 ^ 63 }

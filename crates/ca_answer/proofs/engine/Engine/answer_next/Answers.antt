@@ -1,10 +1,10 @@
-use Rattle.std.proofs.Common.{Bool, List, ℕ, take, refl, sym, ap, subst, arith}
+use Rattle.std.proofs.Common.{Bool, ℕ, take, sym, ap, subst, arith}
 use Rattle.std.specs.Prelude.{Result, Err}
 use Rattle.ca_text.specs.declared.refusal.Refusal.{Refusal}
 use Rattle.ca_server_circuit.specs.Stepping.{why_is}
 use Rattle.ca_answer.specs.Engines.{EngineState}
 use Rattle.ca_answer.specs.Serving.{Comes, Goes, Hands}
-use Rattle.ca_answer.proofs.Servings.{closes-comes, comes-full, comes-handled, comes-left, comes-stopped, comes-unpumped, rests, same-error}
+use Rattle.ca_answer.proofs.Servings.{closes-comes, comes-handled, comes-left, comes-stopped, comes-unpumped, rests, same-error}
 use Rattle.ca_answer.proofs.Sizes.{stepped-size}
 use Rattle.ca_answer.proofs.engine.Engine.answer_next.Goals as goal
 

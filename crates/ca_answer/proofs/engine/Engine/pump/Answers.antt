@@ -1,4 +1,4 @@
-use Rattle.std.proofs.Common.{List, ℕ, refl, sym, subst, arith, ◌<◌, ◌≤◌}
+use Rattle.std.proofs.Common.{refl, subst, arith, ◌<◌, ◌≤◌}
 use Rattle.std.specs.Prelude.{Result, Ok}
 use Rattle.ca_text.specs.declared.refusal.Refusal.{Refusal}
 use Rattle.ca_text.specs.Limits.{output_limit}

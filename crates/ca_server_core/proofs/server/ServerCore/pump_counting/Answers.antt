@@ -16,8 +16,7 @@ invariant_of-self c =
 
 pub returns : goal.returns
 returns c =
-    let i = c.self.inside in
-    (
+    let i = c.self.inside in (
       pumps-at c.args.self.now i.port i.moment i.applied i.beacons i.records c.pump_counting_on.new.records i.circuits c.pump_counting_on.new.circuits c.args.circuit c.self.view_is c.pump_counting_on.ensures.pumps,
       c.pump_counting_on.ensures.counts,
     )
