@@ -25,6 +25,7 @@ use Rattle.ca_answer.specs.Answering.{BreaksOff, MeetsBad, ReadsAll, SourceFails
 use Rattle.ca_answer.specs.Engines.{EngineState, IsNew}
 use Rattle.ca_answer.specs.Serving.{AreFree, Drains, MetBad, Partly, Rested, Served, Serving}
 use Rattle.ca_answer.proofs.Ends.{changed-twice, one-end}
+use Rattle.ca_answer.proofs.Fronted.{front-nothing}
 use Rattle.ca_answer.proofs.Handled.{begins-behind, same-end, served-has}
 use Rattle.ca_answer.proofs.Servings.{concat-more, moves-more, past-written}
 
@@ -109,6 +110,7 @@ module _ {K : Type 0} (takes : K → List ℕ → K → Type 0) (rules : List Ru
       ap (λ (z : Server). with_end h after z) s.is ∙ ap (λ (t : Table ServerCircuit). record s.now { circuits = t }) (changed-twice s.now.circuits h (Open s.e) (Open e) (Open after) s.has) in
       record {
         text = r.text;
+        now = y;
         stands = inl (record {
           now = s.now;
           e = s.e;
@@ -128,9 +130,12 @@ module _ {K : Type 0} (takes : K → List ℕ → K → Type 0) (rules : List Ru
             answers = s.past.answers;
           };
         });
+        waits = [];
+        many = r.sent;
+        core = sym (front-nothing h y);
         writes = r.writes;
         wrote = r.wrote;
-        parts = ap (λ (w : List ℕ). concat r.writes ++ w) r.sent ∙ append-nil (concat r.writes) ∙ r.parts;
+        parts = append-nil (concat r.writes) ∙ r.parts;
       }
 
   -- nothing is refused but out of memory

@@ -66,7 +66,7 @@ not-open a same = cc
 -- ---- a message
 
 -- an action leaves the bytes of the end
-acts-link : (y : Server) (e : ServerEnd) (did : Action) (new : ServerEnd) → Acts y e did new → new.link ≡ e.link
+pub acts-link : (y : Server) (e : ServerEnd) (did : Action) (new : ServerEnd) → Acts y e did new → new.link ≡ e.link
 acts-link y e action.Greets new is = ap (λ (x : ServerEnd). x.link) is
 acts-link y e (action.Names p) new is = ap (λ (x : ServerEnd). x.link) is
 acts-link y e (action.Opens c) new is = ap (λ (x : ServerEnd). x.link) is.3

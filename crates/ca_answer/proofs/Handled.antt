@@ -1,5 +1,5 @@
 -- A message is handled on a circuit that was served: it is answered by what waits then, or the circuit's end has ended out of memory.
-use Rattle.std.proofs.Common.{◌≡◌, ℕ, ◌⊎◌, inl, inr, true, false, List, [], ◌∷◌, ◌++◌, append_assoc, drop, length, Option, Some, None, refl, sym, ap, ◌∙◌, subst, arith}
+use Rattle.std.proofs.Common.{◌≡◌, ℕ, ◌⊎◌, inl, inr, true, false, List, [], ◌∷◌, ◌++◌, append_assoc, drop, length, Option, Some, None, refl, sym, ap, ◌∙◌, subst}
 use Rattle.std.proofs.lemmas.List.{append-nil}
 use Rattle.ca_arena.specs.declared.handle.Handle.{Handle}
 use Rattle.ca_ids.specs.Table.{Table, under, with_changed}
@@ -9,11 +9,10 @@ use Rattle.ca_records.specs.Record.{RecordState}
 use Rattle.ca_records.specs.Rules.{Rule}
 use Rattle.ca_wire.specs.Fields.{Fields}
 use Rattle.ca_wire.specs.Message.{Spells}
-use Rattle.ca_wire.specs.Stream.{Begins, NoneBegins, NotBad}
+use Rattle.ca_wire.specs.Stream.{Begins}
 use Rattle.ca_model.specs.Answer.{Answers, Serves, Writes}
 use Rattle.ca_model.specs.Due.{Action, Applies, KnownChannel}
 use Rattle.ca_model.specs.Due as action
-use Rattle.ca_model.specs.Ends as why
 use Rattle.ca_model.specs.Server.{Open, Server, ServerCircuit, ServerEnd}
 use Rattle.ca_model.specs.ServerSteps.{Handles, HasEnd, Records, Sends, Stepped, Steps, StepsAt, StepsOpen, knows, known_channel, output_of, with_end}
 use Rattle.ca_model.specs.ServerSteps as did
@@ -190,20 +189,3 @@ module _ (rules : List Rule) (states : List RecordState) (bytes : List ℕ) (h :
                   },
             )
       ]
-
-  -- ---- no message
-
-  -- an end that has ended handles nothing
-  pub over-reports : (y : Server) (text : List ℕ) (d : Stepped) (new : Server) → Over rules states bytes h y text → Steps y h d new → (left : List ℕ) × (d ≡ did.Closed why.OutOfMemory left)
-  over-reports y text d new o s = (let r = subst (λ (x : Option ServerCircuit). StepsAt y h x d new) o.ended s in (o.left, r.0))
-
-  pub served-rests : (y : Server) (text : List ℕ) (new : Server) (s : Served rules states bytes h y text) → Steps y h did.NeedBytes new → NoneBegins s.link.input.bytes × NotBad s.link.input.bytes × (new ≡ y)
-  served-rests y text new s step = (let r = steps-there y h (record s.e { link = s.link }) did.NeedBytes new (served-has y text s) step in (r.1, r.2, r.3))
-
-  -- so little waits that a message is handled
-  pub served-room : (y : Server) (text : List ℕ) (new : Server) → Served rules states bytes h y text → Steps y h did.OutputFull new → ⊥
-  served-room y text new s step =
-      let r = steps-there y h (record s.e { link = s.link }) did.OutputFull new (served-has y text s) step in
-      let none : length s.link.output ≡ 0 = ap (λ (l : List ℕ). length l) s.quiet in
-      let full = r.0 in
-      omega (arith, full, none)

@@ -2,7 +2,7 @@ pub mod Doing
 pub mod Free
 pub mod Ends
 pub mod Handled
-pub mod Gathered
+pub mod Fronted
 pub mod Servings
 pub mod Sizes
 pub mod Answerings

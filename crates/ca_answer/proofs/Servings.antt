@@ -1,5 +1,5 @@
 -- What holds between two messages, message by message and write by write.
-use Rattle.std.proofs.Common.{◌≡◌, ℕ, ◌<◌, ◌⊎◌, inl, inr, true, false, List, [], ◌∷◌, ◌++◌, length, take, drop, Option, Some, refl, sym, ap, ◌∙◌, subst, arith, append_assoc}
+use Rattle.std.proofs.Common.{◌≡◌, ℕ, ◌+◌, ◌<◌, ◌≤◌, ◌⊎◌, inl, inr, true, false, List, [], ◌∷◌, ◌++◌, length, length-append, take, drop, max, Option, Some, refl, sym, ap, ◌∙◌, subst, arith, append_assoc}
 use Rattle.std.specs.Prelude.{Result, Ok, Err, IsErrAnd}
 use Rattle.std.specs.List.{concat}
 use Rattle.std.proofs.lemmas.List.{append-nil, take-append-drop}
@@ -11,20 +11,22 @@ use Rattle.ca_records.specs.Record.{RecordState}
 use Rattle.ca_records.specs.Rules.{Rule}
 use Rattle.ca_text.specs.declared.refusal.Refusal.{Refusal}
 use Rattle.ca_text.specs.declared.refusal.Refusal.TheVariants.{OutOfMemory, Misaligned, TooLarge, Device}
-use Rattle.ca_text.specs.Limits.{engine_turns}
+use Rattle.ca_text.specs.Limits.{output_limit}
 use Rattle.ca_wire.specs.Stream.{BadAt}
 use Rattle.ca_model.specs.Answer.{Answered}
 use Rattle.ca_model.specs.Ends.{Why, why_of}
 use Rattle.ca_model.specs.Ends as why
 use Rattle.ca_model.specs.Server.{Ended, Open, Server, ServerCircuit, ServerEnd}
-use Rattle.ca_model.specs.ServerSteps.{Accepts, Gives, HasEnd, Sends, Stepped, Steps, output_of, with_end}
+use Rattle.ca_model.specs.ServerSteps.{HasEnd, Pumps, Sends, Stepped, Steps, StepsAt, StepsOpen, Update, output_of, with_end}
 use Rattle.ca_model.specs.ServerSteps as did
+use Rattle.ca_server_core.specs.Noting.{HandlesAndFinishes}
 use Rattle.ca_answer.specs.Answering.{Written}
-use Rattle.ca_answer.specs.Engines.{EngineState, Gathers, HandlesOne, refusal_for, unread_size}
-use Rattle.ca_answer.specs.Serving.{BreaksAt, Comes, Drains, EndsBad, EndsRested, Flushes, Hands, MetBad, Over, Partly, Past, Rested, Served, Serving, ServesOn}
-use Rattle.ca_answer.proofs.Ends.{not-open, one-end}
-use Rattle.ca_answer.proofs.Handled.{Told, over-reports, served-handled, served-has, served-rests, served-room, steps-there}
-use Rattle.ca_text.proofs.Places.{some_is}
+use Rattle.ca_answer.specs.Engines.{EngineState, HandlesFirst, HandlesOne, HasSent, refusal_for, what_waits}
+use Rattle.ca_answer.specs.Fronting.{fronting, with_front}
+use Rattle.ca_answer.specs.Serving.{BreaksAt, Comes, Drains, EndsBad, EndsRested, Filled, Goes, Hands, LeadsOn, MakesRoom, MetBad, Over, Partly, Past, Pumped, Rested, Served, Serving, ServesOn, Stepping}
+use Rattle.ca_answer.proofs.Ends.{end-there}
+use Rattle.ca_answer.proofs.Fronted.{ended-front, front-leaving, front-more, front-nothing, front-one, front-out, front-pumps, front-sent, has-front, pumps-on, take-front}
+use Rattle.ca_answer.proofs.Handled.{served-handled, served-has}
 
 -- one more chunk was moved
 pub moves-more : {S : Type 0} (step : S → List ℕ → S → Type 0) (s t u : S) (chunks : List (List ℕ)) (chunk : List ℕ) → Moves step s chunks t → step t chunk u → Moves step s (chunks ++ chunk ∷ []) u
@@ -46,9 +48,30 @@ pub same-error : {A : Type 0} (r : Result A Refusal) (e : Refusal) → IsErrAnd 
 same-error (Ok x) e h = absurd h
 same-error (Err x) e h = ap (λ (y : Refusal). Err y) h
 
--- what waits on a circuit is nothing if its end is not open
-no-output : (o : Option ServerCircuit) (left : List ℕ) → o ≡ Some (Ended why.OutOfMemory left) → output_of o ≡ []
-no-output o left is = ap output_of is
+pumped-one : (old mid new : Server) (h : Handle) (us : List Update) → HandlesFirst old h mid → Pumps mid h us new → HandlesOne old h new
+pumped-one old mid new h us d p = record {
+  put = d.put;
+  stepped = d.stepped;
+  steps = d.steps;
+  notes = d.notes;
+  finished = mid;
+  tries = d.tries;
+  updates = us;
+  pumps = p;
+}
+
+-- an end that is open handles no other cause than its own
+never-handled : {w : Why} {left : List ℕ} → did.Handled ≡ did.Closed w left → ⊥
+never-handled e = cc
+
+never-rests : {w : Why} {left : List ℕ} → did.NeedBytes ≡ did.Closed w left → ⊥
+never-rests e = cc
+
+never-full : {w : Why} {left : List ℕ} → did.OutputFull ≡ did.Closed w left → ⊥
+never-full e = cc
+
+same-left : (v w : Why) (a b : List ℕ) → did.Closed v a ≡ did.Closed w b → (v ≡ w) × (a ≡ b)
+same-left v w a b e = (cc, cc)
 
 module _ {K : Type 0} (takes : K → List ℕ → K → Type 0) (faults : K → ℕ) (rules : List Rule) (states : List RecordState) where
   -- ---- what was answered
@@ -62,161 +85,265 @@ module _ {K : Type 0} (takes : K → List ℕ → K → Type 0) (faults : K → 
       record { ms = p.ms; begins = p.begins; text = text; answered = past-answered bytes h now text rest p; writes = writes; wrote = wrote; parts = parts }
 
   -- however the circuit stands, a beginning was written
-  pub partly-text : (k0 k : K) (bytes : List ℕ) (x : EngineState) (text waits : List ℕ) (writes : List (List ℕ)) → Served rules states bytes x.circuit x.core text ⊎ Over rules states bytes x.circuit x.core text → Moves takes k0 writes k → concat writes ++ waits ≡ text
+  pub partly-text : (k0 k : K) (bytes : List ℕ) (h : Handle) (now : Server) (text waits : List ℕ) (writes : List (List ℕ)) → Served rules states bytes h now text ⊎ Over rules states bytes h now text → Moves takes k0 writes k → concat writes ++ waits ≡ text
       → Partly takes rules states k0 bytes k
-  partly-text k0 k bytes x text waits writes (inl s) wrote parts =
-      record { rest = s.link.input.bytes; waits = waits; written = past-written k0 k bytes x.circuit s.now text s.link.input.bytes waits writes s.past wrote parts }
-  partly-text k0 k bytes x text waits writes (inr o) wrote parts =
-      record { rest = o.rest; waits = waits; written = past-written k0 k bytes x.circuit o.now text o.rest waits writes o.past wrote parts }
-
-  pub partly-here : (k0 k : K) (bytes : List ℕ) (x : EngineState) → Serving takes rules states k0 bytes k x → Partly takes rules states k0 bytes k
-  partly-here k0 k bytes x s = partly-text k0 k bytes x s.text x.waits s.writes s.stands s.wrote s.parts
+  partly-text k0 k bytes h now text waits writes (inl s) wrote parts =
+      record { rest = s.link.input.bytes; waits = waits; written = past-written k0 k bytes h s.now text s.link.input.bytes waits writes s.past wrote parts }
+  partly-text k0 k bytes h now text waits writes (inr o) wrote parts =
+      record { rest = o.rest; waits = waits; written = past-written k0 k bytes h o.now text o.rest waits writes o.past wrote parts }
 
   -- ---- writes
 
-  -- what waits is written
-  pub serving-write : (k0 k k' : K) (bytes : List ℕ) (x : EngineState) → takes k x.waits k' → Serving takes rules states k0 bytes k x → Serving takes rules states k0 bytes k' (record x { waits = [] })
-  serving-write k0 k k' bytes x took s =
-      record {
-        text = s.text;
-        stands = s.stands;
-        writes = s.writes ++ x.waits ∷ [];
-        wrote = moves-more takes k0 k k' s.writes x.waits s.wrote took;
-        parts = append-nil (concat (s.writes ++ x.waits ∷ [])) ∙ concat-more s.writes x.waits ∙ s.parts;
-      }
+  -- These bytes wait after all that was written of a text.
+  record Waits (k0 : K) (bytes : List ℕ) (k : K) (waits : List ℕ) : Type 0 where
+    pub h : Handle
+    pub now : Server
+    pub text : List ℕ
+    pub stands : Served rules states bytes h now text ⊎ Over rules states bytes h now text
+    pub writes : List (List ℕ)
+    pub wrote : Moves takes k0 writes k
+    pub parts : concat writes ++ waits ≡ text
 
-  pub serving-handed : (least : ℕ) (k k' : K) (x x' : EngineState) → Hands takes least k k' x x' → ServesOn takes rules states k x k' x'
-  serving-handed least k k' x x' (inl all) k0 bytes s = subst (λ (z : EngineState). Serving takes rules states k0 bytes k' z) (sym all.0) (serving-write k0 k k' bytes x all.1 s)
-  serving-handed least k k' x x' (inr few) k0 bytes s =
-      subst (λ (z : EngineState). Serving takes rules states k0 bytes k' z) (sym few.1) (subst (λ (l : K). Serving takes rules states k0 bytes l x) (sym few.2) s)
+  serving-waits : (k0 k : K) (bytes : List ℕ) (x : EngineState) (s : Serving takes rules states k0 bytes k x) → Waits k0 bytes k s.waits
+  serving-waits k0 k bytes x s = record { h = x.circuit; now = s.now; text = s.text; stands = s.stands; writes = s.writes; wrote = s.wrote; parts = s.parts }
+
+  filled-waits : (k0 k : K) (bytes : List ℕ) (x : EngineState) (s : Filled takes rules states k0 bytes k x) → Waits k0 bytes k s.waits
+  filled-waits k0 k bytes x s = record { h = x.circuit; now = s.old; text = s.text; stands = inl s.served; writes = s.writes; wrote = s.wrote; parts = s.parts }
+
+  partly-waits : (k0 k : K) (bytes waits : List ℕ) → Waits k0 bytes k waits → Partly takes rules states k0 bytes k
+  partly-waits k0 k bytes waits w = partly-text k0 k bytes w.h w.now w.text waits w.writes w.stands w.wrote w.parts
 
   -- only the first of what waits is written
-  pub partly-write : (k0 k k' : K) (bytes : List ℕ) (x : EngineState) (n : ℕ) → takes k (take n x.waits) k' → Serving takes rules states k0 bytes k x → Partly takes rules states k0 bytes k'
-  partly-write k0 k k' bytes x n took s =
-      partly-text k0 k' bytes x s.text (drop n x.waits) (s.writes ++ take n x.waits ∷ []) s.stands (moves-more takes k0 k k' s.writes (take n x.waits) s.wrote took)
+  partly-first : (k0 k k' : K) (bytes waits : List ℕ) (n : ℕ) → takes k (take n waits) k' → Waits k0 bytes k waits → Partly takes rules states k0 bytes k'
+  partly-first k0 k k' bytes waits n took w =
+      partly-text k0 k' bytes w.h w.now w.text (drop n waits) (w.writes ++ take n waits ∷ []) w.stands (moves-more takes k0 k k' w.writes (take n waits) w.wrote took)
       (
-      ap (λ (t : List ℕ). t ++ drop n x.waits) (concat-more s.writes (take n x.waits)) ∙ append_assoc (concat s.writes) (take n x.waits) (drop n x.waits)
-      ∙ ap (λ (t : List ℕ). concat s.writes ++ t) (take-append-drop n x.waits) ∙ s.parts
+      ap (λ (t : List ℕ). t ++ drop n waits) (concat-more w.writes (take n waits)) ∙ append_assoc (concat w.writes) (take n waits) (drop n waits)
+      ∙ ap (λ (t : List ℕ). concat w.writes ++ t) (take-append-drop n waits) ∙ w.parts
       )
 
-  -- a flush that failed
-  pub flush-failed : (least : ℕ) (k k' : K) (x x' : EngineState) (turns : ℕ) (r : Refusal) → Flushes takes faults least k k' x x' turns (Err r)
-      → (r ≡ Device) × ((faults k < faults k') ⊎ (turns ≡ engine_turns)) × BreaksAt takes rules states k x k'
-  flush-failed least k k' x x' turns Device (inl f) = (refl, inl f.0, λ k0 bytes s. partly-write k0 k k' bytes x f.1.0 f.1.1 s)
-  flush-failed least k k' x x' turns Device (inr f) = (refl, inr f.0, λ k0 bytes s. subst (λ (l : K). Partly takes rules states k0 bytes l) (sym f.1) (partly-here k0 k bytes x s))
-  flush-failed least k k' x x' turns _ f = absurd f
+  -- all of what waits is written
+  all-gone : (k0 k k' : K) (waits text : List ℕ) (writes : List (List ℕ)) → Moves takes k0 writes k → concat writes ++ waits ≡ text → Goes takes k waits k' → (w : List (List ℕ)) × Moves takes k0 w k' × (concat w ≡ text)
+  all-gone k0 k k' waits text writes wrote parts (inl took) = (writes ++ waits ∷ [], moves-more takes k0 k k' writes waits wrote took, concat-more writes waits ∙ parts)
+  all-gone k0 k k' waits text writes wrote parts (inr none) =
+      (writes, subst (λ (l : K). Moves takes k0 writes l) (sym none.1) wrote, sym (append-nil (concat writes)) ∙ ap (λ (t : List ℕ). concat writes ++ t) (sym none.0) ∙ parts)
 
-  -- after a flush of one byte or more all that was answered was written
-  pub all-written : (k0 k k' : K) (bytes : List ℕ) (x mid x' : EngineState) (s : Serving takes rules states k0 bytes k x) → mid.waits ≡ x.waits → Hands takes 1 k k' mid x'
-      → (writes : List (List ℕ)) × Moves takes k0 writes k' × (concat writes ≡ s.text)
-  all-written k0 k k' bytes x mid x' s same (inl all) =
-      (s.writes ++ x.waits ∷ [], moves-more takes k0 k k' s.writes x.waits s.wrote (subst (λ (w : List ℕ). takes k w k') same all.1), concat-more s.writes x.waits ∙ s.parts)
-  all-written k0 k k' bytes x mid x' s same (inr few) =
-      let none : x.waits ≡ [] = sym same ∙ empty mid.waits few.0 in
-      (s.writes, subst (λ (l : K). Moves takes k0 s.writes l) (sym few.2) s.wrote, sym (append-nil (concat s.writes)) ∙ ap (λ (t : List ℕ). concat s.writes ++ t) (sym none) ∙ s.parts)
-    where
-      empty : (xs : List ℕ) → length xs < 1 → xs ≡ []
-      empty [] h = refl
-      empty (x ∷ xs) h = absurd (omega (arith, h))
+  -- what waits is in front of what the circuit has
+  front-waits : (x : EngineState) (b : List ℕ) (y : Server) (e : ServerEnd) → x.core ≡ fronting x.circuit b y → x.waiting ≡ length b → HasEnd y x.circuit e → what_waits x ≡ b
+  front-waits x b y e core many has =
+      ap (λ (n : ℕ). take n (output_of (under x.core.circuits x.circuit))) many
+      ∙ ap (λ (z : Server). take (length b) (output_of (under z.circuits x.circuit))) core
+      ∙ ap (λ (o : Option ServerCircuit). take (length b) (output_of o)) (has-front x.circuit b y e has)
+      ∙ take-front b e.link.output
 
-  -- and nothing waits
-  pub flushed-all : (k k' : K) (x x' : EngineState) → Hands takes 1 k k' x x' → x' ≡ record x { waits = [] }
-  flushed-all k k' x x' (inl all) = all.0
-  flushed-all k k' x x' (inr few) = few.1 ∙ ap (λ (t : List ℕ). record x { waits = t }) (empty x.waits few.0)
-    where
-      empty : (xs : List ℕ) → length xs < 1 → xs ≡ []
-      empty [] h = refl
-      empty (x ∷ xs) h = absurd (omega (arith, h))
+  -- and is gone when it was handed over
+  waits-sent : (x x' : EngineState) (b : List ℕ) (y : Server) (e : ServerEnd) → x.core ≡ fronting x.circuit b y → x.waiting ≡ length b → HasEnd y x.circuit e → HasSent x x' → x' ≡ record { core = y; circuit = x.circuit; waiting = 0 }
+  waits-sent x x' b y e core many has sent =
+      let n : length (what_waits x) ≡ length b = ap (λ (l : List ℕ). length l) (front-waits x b y e core many has) in
+      let went : Sends (fronting x.circuit b y) x.circuit (length b) x'.core = subst (λ (z : Server). Sends z x.circuit (length b) x'.core) core (subst (λ (m : ℕ). Sends x.core x.circuit m x'.core) n sent.0) in
+      sent.1 ∙ ap (λ (z : Server). let r : EngineState = record { core = z; circuit = x.circuit; waiting = 0 } in r) (front-sent x.circuit b y e x'.core has went)
 
   -- ---- a message
 
-  -- an engine of this server
-  abbrev with_core : EngineState → Server → EngineState
-  with_core x y = record x { core = y }
+  -- the end of a circuit that is over, with what waits in front
+  over-there : (bytes : List ℕ) (x : EngineState) (now : Server) (text b : List ℕ) → x.core ≡ fronting x.circuit b now → (o : Over rules states bytes x.circuit now text) → under x.core.circuits x.circuit ≡ Some (Ended why.OutOfMemory (b ++ o.left))
+  over-there bytes x now text b core o = ap (λ (z : Server). under z.circuits x.circuit) core ∙ ended-front x.circuit b now o.left o.ended
 
-  -- a message was handled, and what waits of it was put after the bytes that wait
-  pub serves-gathered : (k : K) (x new : EngineState) (y : Server) → HandlesOne x.core x.circuit y → Gathers (with_core x y) new → ServesOn takes rules states k x k new
-  serves-gathered k x new y d g k0 bytes s = go s.stands
+  -- it handles nothing
+  over-reports : (bytes : List ℕ) (x : EngineState) (now : Server) (text b : List ℕ) (d : Stepped) (new : Server) → x.core ≡ fronting x.circuit b now → (o : Over rules states bytes x.circuit now text) → Steps x.core x.circuit d new
+      → d ≡ did.Closed why.OutOfMemory (b ++ o.left)
+  over-reports bytes x now text b d new core o step =
+      (let r = subst (λ (z : Option ServerCircuit). StepsAt x.core x.circuit z d new) (over-there bytes x now text b core o) step in r.0)
+
+  -- the end that is open takes a step
+  open-steps : (bytes : List ℕ) (x : EngineState) (now : Server) (text b : List ℕ) (d : Stepped) (new : Server) → x.core ≡ fronting x.circuit b now → (s : Served rules states bytes x.circuit now text) → Steps x.core x.circuit d new
+      → StepsOpen x.core x.circuit (with_front b (record s.e { link = s.link })) d new
+  open-steps bytes x now text b d new core s step =
+      let e : ServerEnd = record s.e { link = s.link } in
+      let there : HasEnd x.core x.circuit (with_front b e) = ap (λ (z : Server). under z.circuits x.circuit) core ∙ has-front x.circuit b now e (served-has rules states bytes x.circuit now text s) in
+      subst (λ (z : Option ServerCircuit). StepsAt x.core x.circuit z d new) there step
+
+  -- a message was handled, and its finish came
+  serving-stepped : (k0 k : K) (bytes : List ℕ) (x : EngineState) (y : Server) → Serving takes rules states k0 bytes k x → HandlesAndFinishes x.core x.circuit y → Stepping takes rules states k0 bytes k (record x { core = y })
+  serving-stepped k0 k bytes x y s d = go s.stands
     where
-      same : (P : Handle → Type 0) → P x.circuit → P new.circuit
-      same P p = subst P (sym g.1) p
+      go : Served rules states bytes x.circuit s.now s.text ⊎ Over rules states bytes x.circuit s.now s.text → Stepping takes rules states k0 bytes k (record x { core = y })
+      go (inl a) =
+          let one = front-one x.circuit s.waits s.now (record a.e { link = a.link }) y (served-has rules states bytes x.circuit s.now s.text a) (subst (λ (z : Server). HandlesAndFinishes z x.circuit y) s.core d) in
+          record { text = s.text; old = s.now; served = a; finished = one.0; one = one.1; waits = s.waits; many = s.many; core = one.2; writes = s.writes; wrote = s.wrote; parts = s.parts }
+      go (inr o) = absurd (never-handled (over-reports bytes x s.now s.text s.waits did.Handled d.stepped s.core o d.steps))
 
-      handed : (c : ServerEnd) → HasEnd y x.circuit c → new.core ≡ with_end x.circuit (record c { link = with_handed (length c.link.output) c.link }) y
-      handed c has = elim g.2 [
-        | inl a ↦
-            let one : a.0 ≡ c = one-end y x.circuit a.0 c a.1 has in
-            let n : length (output_of (under y.circuits x.circuit)) ≡ length c.link.output = ap (λ (o : Option ServerCircuit). length (output_of o)) has in
-            a.3 ∙ ap (λ (z : ServerEnd). with_end x.circuit (record z { link = with_handed (length (output_of (under y.circuits x.circuit))) z.link }) y) one
-            ∙ ap (λ (n : ℕ). with_end x.circuit (record c { link = with_handed n c.link }) y) n
-        | inr a ↦ absurd (a.0 c has)
+  -- its updates were pumped, and what waited before is in front
+  handled-serving : (k0 k : K) (bytes : List ℕ) (y : EngineState) (old now : Server) (text b : List ℕ) (writes : List (List ℕ)) → Served rules states bytes y.circuit old text → HandlesOne old y.circuit now → y.core ≡ fronting y.circuit b now
+      → y.waiting ≡ length b + length (output_of (under now.circuits y.circuit)) → Moves takes k0 writes k → concat writes ++ b ≡ text → Serving takes rules states k0 bytes k y
+  handled-serving k0 k bytes y old now text b writes served d core many wrote parts =
+      elim (served-handled rules states bytes y.circuit old text now served d) [
+        | inl t ↦
+            let o : List ℕ = t.0.link.output in
+            let last : Server = with_end y.circuit (record t.0 { link = with_handed (length t.0.link.output) t.0.link }) now in
+            let out : length (output_of (under now.circuits y.circuit)) ≡ length o = ap (λ (z : Option ServerCircuit). length (output_of z)) t.1 in
+            record {
+              text = text ++ o;
+              now = last;
+              stands = inl (t.2 last refl);
+              waits = b ++ o;
+              many = omega (arith, many, out, length-append b o);
+              core = core ∙ front-more y.circuit b now t.0 t.1;
+              writes = writes;
+              wrote = wrote;
+              parts = sym (append_assoc (concat writes) b o) ∙ ap (λ (w : List ℕ). w ++ o) parts;
+            }
+        | inr v ↦
+            let none : length (output_of (under now.circuits y.circuit)) ≡ 0 = ap (λ (z : Option ServerCircuit). length (output_of z)) v.ended in
+            record { text = text; now = now; stands = inr v; waits = b; many = omega (arith, many, none); core = core; writes = writes; wrote = wrote; parts = parts }
       ]
 
-      told : (text : List ℕ) → concat s.writes ++ x.waits ≡ text → Told rules states bytes x.circuit y text → Serving takes rules states k0 bytes k new
-      told text parts t =
-          let out : output_of (under y.circuits x.circuit) ≡ t.0.link.output = ap output_of t.1 in
-          let more : new.waits ≡ x.waits ++ t.0.link.output = g.0 ∙ ap (λ (o : List ℕ). x.waits ++ o) out in
-          record {
-            text = text ++ t.0.link.output;
-            stands = inl (same (λ (h : Handle). Served rules states bytes h new.core (text ++ t.0.link.output)) (t.2 new.core (handed t.0 t.1)));
-            writes = s.writes;
-            wrote = s.wrote;
-            parts = ap (λ (w : List ℕ). concat s.writes ++ w) more ∙ sym (append_assoc (concat s.writes) x.waits t.0.link.output) ∙ ap (λ (w : List ℕ). w ++ t.0.link.output) parts;
-          }
+  -- so little waits after the pump that it did not stop for that
+  pub stepping-pumped : (k0 k : K) (bytes : List ℕ) (x : EngineState) (us : List Update) (y : Server) (n m : ℕ) → Stepping takes rules states k0 bytes k x → Pumps x.core x.circuit us y → n ≡ length (output_of (under y.circuits x.circuit)) → n < output_limit → m ≡ max x.waiting n
+      → Serving takes rules states k0 bytes k (record x { core = y; waiting = m })
+  stepping-pumped k0 k bytes x us y n m s pumps counted few larger =
+      let h : Handle = x.circuit in
+      let p = front-pumps h s.waits s.finished us y (subst (λ (z : Server). Pumps z h us y) s.core pumps) (subst (λ (j : ℕ). j < output_limit) counted few) in
+      let now : Server = p.0 in
+      let there : n ≡ length (output_of (under (fronting h s.waits now).circuits h)) = counted ∙ ap (λ (z : Server). length (output_of (under z.circuits h))) p.2 in
+      let before : x.waiting ≡ length s.waits = s.many in
+      let all : m ≡ length s.waits + length (output_of (under now.circuits h)) = elim (front-out h s.waits now) [
+        | inl stays ↦
+            let k : n ≡ length (s.waits ++ output_of (under now.circuits h)) = there ∙ ap (λ (o : List ℕ). length o) stays in
+            omega (arith, larger, before, k, length-append s.waits (output_of (under now.circuits h)))
+        | inr gone ↦
+            let k : n ≡ 0 = there ∙ ap (λ (o : List ℕ). length o) gone.0 in
+            let j : length (output_of (under now.circuits h)) ≡ 0 = ap (λ (o : List ℕ). length o) gone.1 in
+            omega (arith, larger, before, k, j)
+      ] in
+      handled-serving k0 k bytes (record x { core = y; waiting = m }) s.old now s.text s.waits s.writes s.served (pumped-one s.old s.finished now h us s.one p.1) p.2 all s.wrote s.parts
 
-      over : (o : Over rules states bytes x.circuit y s.text) → Serving takes rules states k0 bytes k new
-      over o =
-          let out : output_of (under y.circuits x.circuit) ≡ [] = no-output (under y.circuits x.circuit) o.left o.ended in
-          let more : new.waits ≡ x.waits = g.0 ∙ ap (λ (w : List ℕ). x.waits ++ w) out ∙ append-nil x.waits in
-          let core : new.core ≡ y = elim g.2 [
-            | inl a ↦ absurd (not-open a.0 (some_is (Ended why.OutOfMemory o.left) (Open a.0) (sym o.ended ∙ a.1)))
-            | inr a ↦ a.2
-          ] in
-          let there : under new.core.circuits x.circuit ≡ Some (Ended why.OutOfMemory o.left) = ap (λ (z : Server). under z.circuits x.circuit) core ∙ o.ended in
-          record {
+  -- so much waits that it may have stopped for that
+  stepping-filled : (k0 k : K) (bytes : List ℕ) (x : EngineState) (us : List Update) (y : Server) (n : ℕ) → Stepping takes rules states k0 bytes k x → Pumps x.core x.circuit us y → n ≡ length (output_of (under y.circuits x.circuit)) → output_limit ≤ n
+      → Filled takes rules states k0 bytes k (record x { core = y })
+  stepping-filled k0 k bytes x us y n s pumps counted full =
+      let h : Handle = x.circuit in
+      let p = front-leaving h s.waits s.finished us y (subst (λ (z : Server). Pumps z h us y) s.core pumps) (subst (λ (j : ℕ). output_limit ≤ j) counted full) in
+      record {
+        text = s.text;
+        old = s.old;
+        served = s.served;
+        finished = s.finished;
+        one = s.one;
+        updates = us;
+        now = p.0;
+        leaving = p.1;
+        waits = s.waits;
+        many = s.many;
+        core = p.2;
+        writes = s.writes;
+        wrote = s.wrote;
+        parts = s.parts;
+      }
+
+  -- the circuit is open then
+  filled-has : (k0 k : K) (bytes : List ℕ) (x : EngineState) (f : Filled takes rules states k0 bytes k x) → HasEnd f.now x.circuit f.leaving.2.0
+  filled-has k0 k bytes x f =
+      ap (λ (z : Server). under z.circuits x.circuit) f.leaving.2.2 ∙ end-there f.finished x.circuit (Open f.leaving.0) f.leaving.2.0 f.leaving.1
+
+  -- what waited before the message was handed over
+  filled-sent : (k0 k k' : K) (bytes : List ℕ) (x x' : EngineState) → Filled takes rules states k0 bytes k x → Goes takes k (what_waits x) k' → HasSent x x' → (f : Filled takes rules states k0 bytes k' x') × (f.waits ≡ [])
+  filled-sent k0 k k' bytes x x' f goes sent =
+      let e : ServerEnd = f.leaving.2.0 in
+      let has = filled-has k0 k bytes x f in
+      let gone = all-gone k0 k k' f.waits f.text f.writes f.wrote f.parts (subst (λ (w : List ℕ). Goes takes k w k') (front-waits x f.waits f.now e f.core f.many has) goes) in
+      let y : EngineState = record { core = f.now; circuit = x.circuit; waiting = 0 } in
+      let g : Filled takes rules states k0 bytes k' y = record {
+        text = f.text;
+        old = f.old;
+        served = f.served;
+        finished = f.finished;
+        one = f.one;
+        updates = f.updates;
+        now = f.now;
+        leaving = f.leaving;
+        waits = [];
+        many = refl;
+        core = sym (front-nothing x.circuit f.now);
+        writes = gone.0;
+        wrote = gone.1;
+        parts = append-nil (concat gone.0) ∙ gone.2;
+      } in
+      subst (λ (z : EngineState). (f : Filled takes rules states k0 bytes k' z) × (f.waits ≡ [])) (sym (waits-sent x x' f.waits f.now e f.core f.many has sent)) (g, refl)
+
+  -- and the pump went on
+  filled-pumped : (k0 k : K) (bytes : List ℕ) (x : EngineState) (us : List Update) (y : Server) (n : ℕ) → (f : Filled takes rules states k0 bytes k x) → f.waits ≡ [] → Pumps x.core x.circuit us y → n ≡ length (output_of (under y.circuits x.circuit))
+      → Serving takes rules states k0 bytes k (record x { core = y; waiting = n })
+  filled-pumped k0 k bytes x us y n f none pumps counted =
+      let h : Handle = x.circuit in
+      let core : x.core ≡ f.now = f.core ∙ ap (λ (b : List ℕ). fronting h b f.now) none ∙ front-nothing h f.now in
+      let all = pumps-on f.finished h f.updates us f.now y f.leaving (subst (λ (z : Server). Pumps z h us y) core pumps) in
+      handled-serving k0 k bytes (record x { core = y; waiting = n }) f.old y f.text [] f.writes f.served (pumped-one f.old f.finished y h _ f.one all) (sym (front-nothing h y)) (omega (arith, counted)) f.wrote
+      (ap (λ (b : List ℕ). concat f.writes ++ b) (sym none) ∙ f.parts)
+
+  -- all that waits on an open circuit was handed over
+  served-sent : (k0 k k' : K) (bytes : List ℕ) (x x' : EngineState) (s : Serving takes rules states k0 bytes k x) → Served rules states bytes x.circuit s.now s.text → Goes takes k (what_waits x) k' → HasSent x x'
+      → (x' ≡ record { core = s.now; circuit = x.circuit; waiting = 0 }) × ((w : List (List ℕ)) × Moves takes k0 w k' × (concat w ≡ s.text))
+  served-sent k0 k k' bytes x x' s a goes sent =
+      let e : ServerEnd = record a.e { link = a.link } in
+      let has = served-has rules states bytes x.circuit s.now s.text a in (
+        waits-sent x x' s.waits s.now e s.core s.many has sent,
+        all-gone k0 k k' s.waits s.text s.writes s.wrote s.parts (subst (λ (w : List ℕ). Goes takes k w k') (front-waits x s.waits s.now e s.core s.many has) goes),
+      )
+
+  pub serving-sent : (k0 k k' : K) (bytes : List ℕ) (x x' : EngineState) → Serving takes rules states k0 bytes k x → output_limit ≤ length (output_of (under x.core.circuits x.circuit)) → Goes takes k (what_waits x) k' → HasSent x x' → Serving takes rules states k0 bytes k' x'
+  serving-sent k0 k k' bytes x x' s full goes sent = go s.stands
+    where
+      go : Served rules states bytes x.circuit s.now s.text ⊎ Over rules states bytes x.circuit s.now s.text → Serving takes rules states k0 bytes k' x'
+      go (inl a) =
+          let w = served-sent k0 k k' bytes x x' s a goes sent in
+          let y : EngineState = record { core = s.now; circuit = x.circuit; waiting = 0 } in
+          let served : Serving takes rules states k0 bytes k' y = record {
             text = s.text;
-            stands = inr (same (λ (h : Handle). Over rules states bytes h new.core s.text) (record { now = o.now; rest = o.rest; past = o.past; left = o.left; ended = there }));
-            writes = s.writes;
-            wrote = s.wrote;
-            parts = ap (λ (w : List ℕ). concat s.writes ++ w) more ∙ s.parts;
-          }
-
-      go : Served rules states bytes x.circuit x.core s.text ⊎ Over rules states bytes x.circuit x.core s.text → Serving takes rules states k0 bytes k new
-      go (inl a) = elim (served-handled rules states bytes x.circuit x.core s.text y a d) [ inl t ↦ told s.text s.parts t | inr o ↦ over o ]
-      go (inr o) = absurd (never (over-reports rules states bytes x.circuit x.core s.text did.Handled d.stepped o d.steps).1)
-        where
-          never : {left : List ℕ} → did.Handled ≡ did.Closed why.OutOfMemory left → ⊥
-          never e = cc
+            now = s.now;
+            stands = inl a;
+            waits = [];
+            many = refl;
+            core = sym (front-nothing x.circuit s.now);
+            writes = w.1.0;
+            wrote = w.1.1;
+            parts = append-nil (concat w.1.0) ∙ w.1.2;
+          } in
+          subst (λ (z : EngineState). Serving takes rules states k0 bytes k' z) (sym w.0) served
+      go (inr o) =
+          let none : length (output_of (under x.core.circuits x.circuit)) ≡ 0 = ap (λ (z : Option ServerCircuit). length (output_of z)) (over-there bytes x s.now s.text s.waits s.core o) in
+          absurd (omega (arith, none, full))
 
   -- ---- no message
 
-  never-handled : {left : List ℕ} {w : Why} → did.NeedBytes ≡ did.Closed w left → ⊥
-  never-handled e = cc
-
   -- no message is complete, and what waited was handed over
-  pub rests : (k k' : K) (x mid x' : EngineState) (y : Server) → Steps x.core x.circuit did.NeedBytes y → mid ≡ with_core x y → Hands takes 1 k k' mid x' → EndsRested takes rules states k x k' x'
-  rests k k' x mid x' y step is hands k0 bytes s = go s.stands refl
+  pub rests : (k k' : K) (x mid x' : EngineState) (y : Server) → Steps x.core x.circuit did.NeedBytes y → mid ≡ record x { core = y } → Goes takes k (what_waits mid) k' → HasSent mid x' → EndsRested takes rules states k x k' x'
+  rests k k' x mid x' y step is goes sent k0 bytes s = go s.stands
     where
-      go : (st : Served rules states bytes x.circuit x.core s.text ⊎ Over rules states bytes x.circuit x.core s.text) → s.stands ≡ st → Rested takes rules states k0 bytes k' x'
-      go (inl a) e =
-          let r = served-rests rules states bytes x.circuit x.core s.text y a step in
-          let same : mid ≡ x = is ∙ ap (with_core x) r.2 in
-          let w = all-written k0 k k' bytes x mid x' s (ap (λ (z : EngineState). z.waits) same) hands in
-          subst (λ (z : EngineState). Rested takes rules states k0 bytes k' z) (sym (flushed-all k k' mid x' hands ∙ ap (λ (z : EngineState). record z { waits = [] }) same))
-          (record { text = s.text; served = a; sent = refl; writes = w.0; wrote = w.1; parts = w.2; whole = r.0; good = r.1 })
-      go (inr o) e = absurd (never-handled (over-reports rules states bytes x.circuit x.core s.text did.NeedBytes y o step).1)
+      go : Served rules states bytes x.circuit s.now s.text ⊎ Over rules states bytes x.circuit s.now s.text → Rested takes rules states k0 bytes k' x'
+      go (inl a) =
+          let r = open-steps bytes x s.now s.text s.waits did.NeedBytes y s.core a step in
+          let same : mid ≡ x = is ∙ ap (λ (z : Server). record x { core = z }) r.3 in
+          let w = served-sent k0 k k' bytes x x' s a (subst (λ (z : EngineState). Goes takes k (what_waits z) k') same goes) (subst (λ (z : EngineState). HasSent z x') same sent) in
+          let y : EngineState = record { core = s.now; circuit = x.circuit; waiting = 0 } in
+          let rested : Rested takes rules states k0 bytes k' y = record { text = s.text; served = a; sent = refl; writes = w.1.0; wrote = w.1.1; parts = w.1.2; whole = r.1; good = r.2 } in
+          subst (λ (z : EngineState). Rested takes rules states k0 bytes k' z) (sym w.0) rested
+      go (inr o) = absurd (never-rests (over-reports bytes x s.now s.text s.waits did.NeedBytes y s.core o step))
 
   -- so little waits on the circuit that its next message is handled
-  pub no-room : (k0 k : K) (bytes : List ℕ) (x : EngineState) (y : Server) → Serving takes rules states k0 bytes k x → Steps x.core x.circuit did.OutputFull y → ⊥
-  no-room k0 k bytes x y s step = go s.stands
+  no-room : (k0 k : K) (bytes : List ℕ) (x : EngineState) (y : Server) → x.waiting < output_limit → Serving takes rules states k0 bytes k x → Steps x.core x.circuit did.OutputFull y → ⊥
+  no-room k0 k bytes x y few s step = go s.stands
     where
-      go : Served rules states bytes x.circuit x.core s.text ⊎ Over rules states bytes x.circuit x.core s.text → ⊥
-      go (inl a) = served-room rules states bytes x.circuit x.core s.text y a step
-      go (inr o) = (let e = (over-reports rules states bytes x.circuit x.core s.text did.OutputFull y o step).1 in cc)
+      go : Served rules states bytes x.circuit s.now s.text ⊎ Over rules states bytes x.circuit s.now s.text → ⊥
+      go (inl a) =
+          let r = open-steps bytes x s.now s.text s.waits did.OutputFull y s.core a step in
+          let full : output_limit ≤ length (s.waits ++ a.link.output) = r.0 in
+          let none : length a.link.output ≡ 0 = ap (λ (l : List ℕ). length l) a.quiet in
+          let many : x.waiting ≡ length s.waits = s.many in
+          omega (arith, full, none, many, few, length-append s.waits a.link.output)
+      go (inr o) = never-full (over-reports bytes x s.now s.text s.waits did.OutputFull y s.core o step)
 
   -- ---- the end of a circuit
-
-  same-why : (v w : Why) (a b : List ℕ) → did.Closed v a ≡ did.Closed w b → v ≡ w
-  same-why v w a b e = cc
 
   -- an end that was served closes for a bad header, or out of memory
   abbrev pub ClosesFor : List ℕ → Why → Type 0
@@ -242,23 +369,49 @@ module _ {K : Type 0} (takes : K → List ℕ → K → Type 0) (faults : K → 
       at-large : (r : Refusal) → r ≡ TooLarge → refusal_for (why_of r) ≡ r
       at-large r e = subst (λ (z : Refusal). refusal_for (why_of z) ≡ z) (sym e) refl
 
-  module _ (k k' : K) (x mid x' : EngineState) (y : Server) (left : List ℕ) (same : mid.waits ≡ x.waits) (hands : Hands takes 1 k k' mid x') where
+  -- what an end leaves that closes is what waited
+  closes-left : (y : Server) (h : Handle) (e : ServerEnd) (w : Why) (left : List ℕ) (new : Server) → did.StepsOpen y h e (did.Closed w left) new → left ≡ e.link.output
+  closes-left y h e why.OutOfMemory left new s = s.0
+  closes-left y h e why.Misaligned left new s = s.2
+  closes-left y h e why.TooLarge left new s = s.2
+  closes-left y h e why.Silence left new s = s.2
+  closes-left y h e why.Asked left new s = s.2
+  closes-left y h e why.Cut left new s = s.2
+
+  left-waits : (k0 k : K) (bytes : List ℕ) (x : EngineState) (y : Server) (w : Why) (left : List ℕ) → (s : Serving takes rules states k0 bytes k x) → Steps x.core x.circuit (did.Closed w left) y → take x.waiting left ≡ s.waits
+  left-waits k0 k bytes x y w left s step = ap (λ (n : ℕ). take n left) s.many ∙ go s.stands
+    where
+      first : (o : List ℕ) → left ≡ s.waits ++ o → take (length s.waits) left ≡ s.waits
+      first o is = ap (λ (l : List ℕ). take (length s.waits) l) is ∙ take-front s.waits o
+
+      go : Served rules states bytes x.circuit s.now s.text ⊎ Over rules states bytes x.circuit s.now s.text → take (length s.waits) left ≡ s.waits
+      go (inl a) =
+          let e : ServerEnd = with_front s.waits (record a.e { link = a.link }) in
+          first a.link.output (closes-left x.core x.circuit e w left y (open-steps bytes x s.now s.text s.waits (did.Closed w left) y s.core a step))
+      go (inr o) =
+          first o.left (same-left w why.OutOfMemory left (s.waits ++ o.left) (over-reports bytes x s.now s.text s.waits (did.Closed w left) y s.core o step)).1
+
+  module _ (k k' : K) (x x' : EngineState) (y : Server) (left : List ℕ) (goes : Goes takes k (take x.waiting left) k') where
+    left-gone : (k0 : K) (bytes : List ℕ) (w : Why) (s : Serving takes rules states k0 bytes k x) → Steps x.core x.circuit (did.Closed w left) y → (ws : List (List ℕ)) × Moves takes k0 ws k' × (concat ws ≡ s.text)
+    left-gone k0 bytes w s step =
+        all-gone k0 k k' s.waits s.text s.writes s.wrote s.parts (subst (λ (l : List ℕ). Goes takes k l k') (left-waits k0 k bytes x y w left s step) goes)
+
     -- out of memory, or for another cause that tells of nothing that came
-    closes-breaks : BreaksAt takes rules states k x k'
-    closes-breaks k0 bytes s =
-        let w = all-written k0 k k' bytes x mid x' s same hands in
-        partly-text k0 k' bytes x s.text [] w.0 s.stands w.1 (append-nil (concat w.0) ∙ w.2)
+    closes-breaks : (w : Why) → Steps x.core x.circuit (did.Closed w left) y → BreaksAt takes rules states k x k'
+    closes-breaks w step k0 bytes s =
+        let g = left-gone k0 bytes w s step in
+        partly-text k0 k' bytes x.circuit s.now s.text [] g.0 s.stands g.1 (append-nil (concat g.0) ∙ g.2)
 
     -- for a bad header
     closes-bad : (w : Why) (e : Refusal) → Steps x.core x.circuit (did.Closed w left) y → (w ≡ why.OutOfMemory → ⊥) → refusal_for w ≡ e → EndsBad takes rules states k x k' e
     closes-bad w e step other is k0 bytes s = go s.stands
       where
-        go : Served rules states bytes x.circuit x.core s.text ⊎ Over rules states bytes x.circuit x.core s.text → MetBad takes rules states k0 bytes k' e
+        go : Served rules states bytes x.circuit s.now s.text ⊎ Over rules states bytes x.circuit s.now s.text → MetBad takes rules states k0 bytes k' e
         go (inl a) =
-            elim (closes-open x.core x.circuit (record a.e { link = a.link }) w left y (steps-there x.core x.circuit (record a.e { link = a.link }) (did.Closed w left) y (served-has rules states bytes x.circuit x.core s.text a) step)) [
+            elim (closes-open x.core x.circuit (with_front s.waits (record a.e { link = a.link })) w left y (open-steps bytes x s.now s.text s.waits (did.Closed w left) y s.core a step)) [
               | inl out ↦ absurd (other out)
               | inr b ↦
-                  let written = all-written k0 k k' bytes x mid x' s same hands in
+                  let written = left-gone k0 bytes w s step in
                   let r : b.0 ≡ e = sym (bad-refusal a.link.input.bytes b.0 b.1) ∙ ap refusal_for (sym b.2) ∙ is in
                   record {
                     rest = a.link.input.bytes;
@@ -266,11 +419,10 @@ module _ {K : Type 0} (takes : K → List ℕ → K → Type 0) (faults : K → 
                     bad = subst (λ (z : Refusal). BadAt a.link.input.bytes z) r b.1;
                   }
             ]
-        go (inr o) =
-            (let z = over-reports rules states bytes x.circuit x.core s.text (did.Closed w left) y o step in absurd (other (same-why w why.OutOfMemory left z.0 z.1)))
+        go (inr o) = absurd (other (same-left w why.OutOfMemory left (s.waits ++ o.left) (over-reports bytes x s.now s.text s.waits (did.Closed w left) y s.core o step)).0)
 
     pub closes-comes : (w : Why) (turns : ℕ) → faults k' ≡ faults k → Steps x.core x.circuit (did.Closed w left) y → Comes takes faults rules states k k' x x' turns (Err (refusal_for w))
-    closes-comes why.OutOfMemory turns counted step = (counted, closes-breaks)
+    closes-comes why.OutOfMemory turns counted step = (counted, closes-breaks why.OutOfMemory step)
     closes-comes why.Misaligned turns counted step = (counted, closes-bad why.Misaligned Misaligned step (λ e. not-misaligned e) refl)
       where
         not-misaligned : why.Misaligned ≡ why.OutOfMemory → ⊥
@@ -279,21 +431,130 @@ module _ {K : Type 0} (takes : K → List ℕ → K → Type 0) (faults : K → 
       where
         not-large : why.TooLarge ≡ why.OutOfMemory → ⊥
         not-large e = cc
-    closes-comes why.Silence turns counted step = (counted, closes-breaks)
-    closes-comes why.Asked turns counted step = (counted, closes-breaks)
-    closes-comes why.Cut turns counted step = (counted, closes-breaks)
+    closes-comes why.Silence turns counted step = (counted, closes-breaks why.Silence step)
+    closes-comes why.Asked turns counted step = (counted, closes-breaks why.Asked step)
+    closes-comes why.Cut turns counted step = (counted, closes-breaks why.Cut step)
+
+  -- ---- what could not be handed over
+
+  -- What waits where this is so could not be handed over.
+  leads-stopped : (From : K → List ℕ → Type 0) (k k' : K) (x' : EngineState) (waits : List ℕ) (turns : ℕ) (r : Refusal) → Hands takes faults k waits k' turns (Err r) → ((k0 : K) (bytes : List ℕ) → From k0 bytes → Waits k0 bytes k waits)
+      → LeadsOn takes faults rules states From k k' x' turns (Err r)
+  leads-stopped From k k' x' waits turns Device (inl f) from = (inl f.0, λ k0 bytes s. partly-first k0 k k' bytes waits f.1.0 f.1.1 (from k0 bytes s))
+  leads-stopped From k k' x' waits turns Device (inr f) from =
+      (inr f.0, λ k0 bytes s. subst (λ (l : K). Partly takes rules states k0 bytes l) (sym f.1) (partly-waits k0 k bytes waits (from k0 bytes s)))
+  leads-stopped From k k' x' waits turns _ f from = absurd f
+
+  -- one that could not, after another
+  leads-after : (From Next : K → List ℕ → Type 0) (k mid k' : K) (x x' : EngineState) (turns : ℕ) (r : Refusal) → faults mid ≡ faults k → ((k0 : K) (bytes : List ℕ) → From k0 bytes → Next k0 bytes) → LeadsOn takes faults rules states Next mid k' x' turns (Err r)
+      → LeadsOn takes faults rules states From k k' x' turns (Err r)
+  leads-after From Next k mid k' x x' turns Device same next c =
+      (elim c.0 [ inl risen ↦ inl (subst (λ (n : ℕ). n < faults k') same risen) | inr used ↦ inr used ], λ k0 bytes s. c.1 k0 bytes (next k0 bytes s))
+  leads-after From Next k mid k' x x' turns _ same next c = absurd c
+
+  leads-comes : (From : K → List ℕ → Type 0) (k k' : K) (x x' : EngineState) (turns : ℕ) (r : Refusal) → ((k0 : K) (bytes : List ℕ) → Serving takes rules states k0 bytes k x → From k0 bytes) → LeadsOn takes faults rules states From k k' x' turns (Err r)
+      → Comes takes faults rules states k k' x x' turns (Err r)
+  leads-comes From k k' x x' turns Device from c = (c.0, λ k0 bytes s. c.1 k0 bytes (from k0 bytes s))
+  leads-comes From k k' x x' turns _ from c = absurd c
+
+  -- ---- by the engine's own calls
+
+  -- room was made after a pump that may have stopped
+  pub pumped-room : (k k' : K) (x mid x' : EngineState) (us : List Update) (n turns : ℕ) (r : Result (Unit {0}) Refusal) → mid ≡ record x { core = mid.core } → Pumps x.core x.circuit us mid.core → n ≡ length (output_of (under mid.core.circuits x.circuit)) → output_limit ≤ n
+      → MakesRoom takes faults rules states k k' mid x' turns r → Pumped takes faults rules states k k' x x' turns r
+  pumped-room k k' x mid x' us n turns r is pumps counted full makes = go r makes
+    where
+      from : (k0 : K) (bytes : List ℕ) → Stepping takes rules states k0 bytes k x → Filled takes rules states k0 bytes k mid
+      from k0 bytes s = subst (λ (z : EngineState). Filled takes rules states k0 bytes k z) (sym is) (stepping-filled k0 k bytes x us mid.core n s pumps counted full)
+
+      go : (r : Result (Unit {0}) Refusal) → MakesRoom takes faults rules states k k' mid x' turns r → Pumped takes faults rules states k k' x x' turns r
+      go (Ok u) m = (m.0, λ k0 bytes s. m.1 k0 bytes (from k0 bytes s))
+      go (Err e) m = leads-after (λ k0 bytes. Stepping takes rules states k0 bytes k x) (λ k0 bytes. Filled takes rules states k0 bytes k mid) k k k' x x' turns e refl from m
+
+  -- or none was needed
+  pub pumped-few : (k : K) (x : EngineState) (us : List Update) (y : Server) (n m turns : ℕ) → Pumps x.core x.circuit us y → n ≡ length (output_of (under y.circuits x.circuit)) → n < output_limit → m ≡ max x.waiting n
+      → (let done : Result (Unit {0}) Refusal = Ok tt in Pumped takes faults rules states k k x (record x { core = y; waiting = m }) turns done)
+  pumped-few k x us y n m turns pumps counted few larger = (refl, λ k0 bytes s. stepping-pumped k0 k bytes x us y n m s pumps counted few larger)
+
+  -- what waited before could not be handed over
+  pub room-stopped : (k k' : K) (x x' : EngineState) (turns : ℕ) (r : Refusal) → Hands takes faults k (what_waits x) k' turns (Err r) → MakesRoom takes faults rules states k k' x x' turns (Err r)
+  room-stopped k k' x x' turns r hands =
+      leads-stopped (λ k0 bytes. Filled takes rules states k0 bytes k x) k k' x' (what_waits x) turns r hands
+      (λ k0 bytes f. subst (λ (w : List ℕ). Waits k0 bytes k w) (sym (front-waits x f.waits f.now f.leaving.2.0 f.core f.many (filled-has k0 k bytes x f))) (filled-waits k0 k bytes x f))
+
+  -- it was, and the pump went on
+  room-pumped : (k k' : K) (x mid new : EngineState) (us : List Update) (n : ℕ) → Goes takes k (what_waits x) k' → HasSent x mid → Pumps mid.core mid.circuit us new.core → n ≡ length (output_of (under new.core.circuits mid.circuit)) → new ≡ record mid { core = new.core; waiting = n }
+      → (k0 : K) (bytes : List ℕ) → Filled takes rules states k0 bytes k x → Serving takes rules states k0 bytes k' new
+  room-pumped k k' x mid new us n goes sent pumps counted is k0 bytes f =
+      let g = filled-sent k0 k k' bytes x mid f goes sent in
+      subst (λ (z : EngineState). Serving takes rules states k0 bytes k' z) (sym is) (filled-pumped k0 k' bytes mid us new.core n g.0 g.1 pumps counted)
+
+  pub room-made : (k k' : K) (x mid new : EngineState) (us : List Update) (n turns : ℕ) → faults k' ≡ faults k → Goes takes k (what_waits x) k' → HasSent x mid → Pumps mid.core mid.circuit us new.core → n ≡ length (output_of (under new.core.circuits mid.circuit)) → new ≡ record mid { core = new.core; waiting = n }
+      → (let done : Result (Unit {0}) Refusal = Ok tt in MakesRoom takes faults rules states k k' x new turns done)
+  room-made k k' x mid new us n turns same goes sent pumps counted is = (same, room-pumped k k' x mid new us n goes sent pumps counted is)
+
+  -- the message's own answers and updates were handed over too
+  pub room-emptied : (k l k' : K) (x mid new x' : EngineState) (us : List Update) (n turns : ℕ) → faults l ≡ faults k → Goes takes k (what_waits x) l → HasSent x mid → Pumps mid.core mid.circuit us new.core → n ≡ length (output_of (under new.core.circuits mid.circuit)) → new ≡ record mid { core = new.core; waiting = n }
+      → output_limit ≤ n → faults k' ≡ faults l → Goes takes l (what_waits new) k' → HasSent new x'
+      → (let done : Result (Unit {0}) Refusal = Ok tt in MakesRoom takes faults rules states k k' x x' turns done)
+  room-emptied k l k' x mid new x' us n turns same goes sent pumps counted is full again goes' sent' =
+      (again ∙ same, λ k0 bytes f. serving-sent k0 l k' bytes new x' (room-pumped k l x mid new us n goes sent pumps counted is k0 bytes f) (room-full mid new n counted is full) goes' sent')
+    where
+      room-full : (mid new : EngineState) (n : ℕ) → n ≡ length (output_of (under new.core.circuits mid.circuit)) → new ≡ record mid { core = new.core; waiting = n } → output_limit ≤ n → output_limit ≤ length (output_of (under new.core.circuits new.circuit))
+      room-full mid new n counted is full =
+          subst (λ (h : Handle). output_limit ≤ length (output_of (under new.core.circuits h))) (sym (ap (λ (z : EngineState). z.circuit) is)) (subst (λ (j : ℕ). output_limit ≤ j) counted full)
+
+  -- or could not be
+  pub room-unfinished : (k l k' : K) (x mid new x' : EngineState) (us : List Update) (n turns : ℕ) (r : Refusal) → faults l ≡ faults k → Goes takes k (what_waits x) l → HasSent x mid → Pumps mid.core mid.circuit us new.core → n ≡ length (output_of (under new.core.circuits mid.circuit)) → new ≡ record mid { core = new.core; waiting = n }
+      → output_limit ≤ n → Hands takes faults l (what_waits new) k' turns (Err r) → MakesRoom takes faults rules states k k' x x' turns (Err r)
+  room-unfinished k l k' x mid new x' us n turns r same goes sent pumps counted is full hands =
+      leads-after (λ k0 bytes. Filled takes rules states k0 bytes k x) (λ k0 bytes. Serving takes rules states k0 bytes l new) k l k' new x' turns r same (room-pumped k l x mid new us n goes sent pumps counted is)
+      (leads-stopped (λ k0 bytes. Serving takes rules states k0 bytes l new) l k' x' (what_waits new) turns r hands (λ k0 bytes s. open-waits k0 bytes s s.stands))
+    where
+      open-waits : (k0 : K) (bytes : List ℕ) (s : Serving takes rules states k0 bytes l new) → Served rules states bytes new.circuit s.now s.text ⊎ Over rules states bytes new.circuit s.now s.text → Waits k0 bytes l (what_waits new)
+      open-waits k0 bytes s (inl a) =
+          subst (λ (w : List ℕ). Waits k0 bytes l w) (sym (front-waits new s.waits s.now (record a.e { link = a.link }) s.core s.many (served-has rules states bytes new.circuit s.now s.text a))) (serving-waits k0 l bytes new s)
+      open-waits k0 bytes s (inr o) =
+          let none : length (output_of (under new.core.circuits new.circuit)) ≡ 0 = ap (λ (z : Option ServerCircuit). length (output_of z)) (over-there bytes new s.now s.text s.waits s.core o) in
+          let there : length (output_of (under new.core.circuits new.circuit)) ≡ n = ap (λ (h : Handle). length (output_of (under new.core.circuits h))) (ap (λ (z : EngineState). z.circuit) is) ∙ sym counted in
+          absurd (omega (arith, none, there, full))
+
+  stepped-on : (k : K) (x mid : EngineState) → mid ≡ record x { core = mid.core } → HandlesAndFinishes x.core x.circuit mid.core → (k0 : K) (bytes : List ℕ) → Serving takes rules states k0 bytes k x → Stepping takes rules states k0 bytes k mid
+  stepped-on k x mid is d k0 bytes s = subst (λ (z : EngineState). Stepping takes rules states k0 bytes k z) (sym is) (serving-stepped k0 k bytes x mid.core s d)
+
+  -- a message was answered
+  pub comes-handled : (k k' : K) (x mid new : EngineState) (turns : ℕ) → mid ≡ record x { core = mid.core } → HandlesAndFinishes x.core x.circuit mid.core → (let done : Result (Unit {0}) Refusal = Ok tt in Pumped takes faults rules states k k' mid new turns done)
+      → Comes takes faults rules states k k' x new turns (Ok true)
+  comes-handled k k' x mid new turns is d p = (p.0, λ k0 bytes s. p.1 k0 bytes (stepped-on k x mid is d k0 bytes s))
+
+  -- its updates could not be pumped
+  pub comes-unpumped : (k k' : K) (x mid new : EngineState) (turns : ℕ) (r : Refusal) → mid ≡ record x { core = mid.core } → HandlesAndFinishes x.core x.circuit mid.core → Pumped takes faults rules states k k' mid new turns (Err r) → Comes takes faults rules states k k' x new turns (Err r)
+  comes-unpumped k k' x mid new turns r is d p = leads-comes (λ k0 bytes. Stepping takes rules states k0 bytes k mid) k k' x new turns r (stepped-on k x mid is d) p
+
+  -- what an end left could not be handed over
+  pub comes-left : (k k' : K) (x x' : EngineState) (y : Server) (w : Why) (left : List ℕ) (turns : ℕ) (r : Refusal) → Steps x.core x.circuit (did.Closed w left) y → Hands takes faults k (take x.waiting left) k' turns (Err r) → Comes takes faults rules states k k' x x' turns (Err r)
+  comes-left k k' x x' y w left turns r step hands =
+      leads-comes (λ k0 bytes. Serving takes rules states k0 bytes k x) k k' x x' turns r (λ k0 bytes s. s)
+      (leads-stopped (λ k0 bytes. Serving takes rules states k0 bytes k x) k k' x' (take x.waiting left) turns r hands (λ k0 bytes s. subst (λ (l : List ℕ). Waits k0 bytes k l) (sym (left-waits k0 k bytes x y w left s step)) (serving-waits k0 k bytes x s)))
+
+  -- what waited before input ran out could not be handed over
+  pub comes-stopped : (k k' : K) (x mid x' : EngineState) (y : Server) (turns : ℕ) (r : Refusal) → Steps x.core x.circuit did.NeedBytes y → mid ≡ record x { core = y } → Hands takes faults k (what_waits mid) k' turns (Err r) → Comes takes faults rules states k k' x x' turns (Err r)
+  comes-stopped k k' x mid x' y turns r step is hands =
+      leads-comes (λ k0 bytes. Serving takes rules states k0 bytes k x) k k' x x' turns r (λ k0 bytes s. s) (leads-stopped (λ k0 bytes. Serving takes rules states k0 bytes k x) k k' x' (what_waits mid) turns r hands (λ k0 bytes s. waits k0 bytes s s.stands))
+    where
+      waits : (k0 : K) (bytes : List ℕ) (s : Serving takes rules states k0 bytes k x) → Served rules states bytes x.circuit s.now s.text ⊎ Over rules states bytes x.circuit s.now s.text → Waits k0 bytes k (what_waits mid)
+      waits k0 bytes s (inl a) =
+          let r = open-steps bytes x s.now s.text s.waits did.NeedBytes y s.core a step in
+          let same : mid ≡ x = is ∙ ap (λ (z : Server). record x { core = z }) r.3 in
+          let whole : what_waits mid ≡ s.waits = ap what_waits same ∙ front-waits x s.waits s.now (record a.e { link = a.link }) s.core s.many (served-has rules states bytes x.circuit s.now s.text a) in
+          subst (λ (w : List ℕ). Waits k0 bytes k w) (sym whole) (serving-waits k0 k bytes x s)
+      waits k0 bytes s (inr o) = absurd (never-rests (over-reports bytes x s.now s.text s.waits did.NeedBytes y s.core o step))
+
+  -- so little waits on the circuit that this does not come
+  pub comes-full : (k : K) (x mid : EngineState) (turns : ℕ) → x.waiting < output_limit → Steps x.core x.circuit did.OutputFull mid.core → Comes takes faults rules states k k x mid turns (Ok false)
+  comes-full k x mid turns few step = (refl, λ k0 bytes s. absurd (no-room k0 k bytes x mid.core few s step))
 
   -- ---- all messages
-
-  -- what waited could not be handed over
-  pub comes-stopped : (least : ℕ) (k k' : K) (x mid x' : EngineState) (turns : ℕ) (r : Refusal) → mid.waits ≡ x.waits → Flushes takes faults least k k' mid x' turns (Err r) → Comes takes faults rules states k k' x x' turns (Err r)
-  comes-stopped least k k' x mid x' turns Device same (inl f) = (inl f.0, λ k0 bytes s. partly-write k0 k k' bytes x f.1.0 (subst (λ (w : List ℕ). takes k (take f.1.0 w) k') same f.1.1) s)
-  comes-stopped least k k' x mid x' turns Device same (inr f) = (inr f.0, λ k0 bytes s. subst (λ (l : K). Partly takes rules states k0 bytes l) (sym f.1) (partly-here k0 k bytes x s))
-  comes-stopped least k k' x mid x' turns _ same f = absurd f
-
-  -- no memory for the next message
-  pub comes-lacking : (k : K) (x x' : EngineState) (turns : ℕ) → Comes takes faults rules states k k x x' turns (Err OutOfMemory)
-  comes-lacking k x x' turns = (refl, λ k0 bytes s. partly-here k0 k bytes x s)
 
   -- no next message came
   pub drains-stopped : (k0 k k' : K) (x0 x x' : EngineState) (turns : ℕ) (r : Refusal) → ServesOn takes rules states k0 x0 k x → faults k ≡ faults k0 → Comes takes faults rules states k k' x x' turns (Err r) → Drains takes faults rules states k0 k' x0 x' turns (Err r)
@@ -303,23 +564,3 @@ module _ {K : Type 0} (takes : K → List ℕ → K → Type 0) (faults : K → 
   drains-stopped k0 k k' x0 x x' turns Device serves same c =
       (elim c.0 [ inl risen ↦ inl (subst (λ (n : ℕ). n < faults k') same risen) | inr used ↦ inr used ], λ start bytes s. c.1 start bytes (serves start bytes s))
   drains-stopped k0 k k' x0 x x' turns _ serves same c = absurd c
-
-  -- a flush between two messages failed
-  pub drains-unflushed : (least : ℕ) (k0 k k' : K) (x0 x x' : EngineState) (turns : ℕ) (r : Refusal) → ServesOn takes rules states k0 x0 k x → faults k ≡ faults k0 → Flushes takes faults least k k' x x' turns (Err r) → Drains takes faults rules states k0 k' x0 x' turns (Err r)
-  drains-unflushed least k0 k k' x0 x x' turns r serves same f =
-      drains-stopped k0 k k' x0 x x' turns r serves same (comes-stopped least k k' x x x' turns r refl f)
-
-  -- ---- by the engine's own calls
-
-  -- a message was answered
-  pub comes-handled : (k : K) (x mid new : EngineState) (turns : ℕ) → mid ≡ with_core x mid.core → HandlesOne x.core x.circuit mid.core → Gathers mid new → Comes takes faults rules states k k x new turns (Ok true)
-  comes-handled k x mid new turns is d g = (refl, serves-gathered k x new mid.core d (subst (λ (z : EngineState). Gathers z new) is g))
-
-  -- so little waits on the circuit that this does not come
-  pub comes-full : (k : K) (x mid : EngineState) (turns : ℕ) → Steps x.core x.circuit did.OutputFull mid.core → Comes takes faults rules states k k x mid turns (Ok false)
-  comes-full k x mid turns step = (refl, λ k0 bytes s. absurd (no-room k0 k bytes x mid.core s step))
-
-  -- a flush leaves what came
-  pub handed-size : (least : ℕ) (k k' : K) (x x' : EngineState) → Hands takes least k k' x x' → unread_size x' ≡ unread_size x
-  handed-size least k k' x x' (inl all) = ap unread_size all.0
-  handed-size least k k' x x' (inr few) = ap unread_size few.1

@@ -1,5 +1,5 @@
 -- Working: the state of an engine, and what its calls leave.
-use Rattle.std.specs.Prelude.{ℕ, ◌≡◌, ◌++◌, List, [], Option, Some, Ok, length}
+use Rattle.std.specs.Prelude.{ℕ, ◌≡◌, List, [], Option, Some, Ok, length, take}
 use Rattle.ca_arena.specs.declared.handle.Handle.{Handle}
 use Rattle.ca_ids.specs.Table.{under}
 use Rattle.ca_records.specs.Record.{RecordState}
@@ -13,17 +13,25 @@ use Rattle.ca_model.specs.Server.{Open, Server, ServerCircuit, new_server}
 use Rattle.ca_model.specs.ServerSteps.{Accepts, Handled, Pumps, Sends, Steps, Update, output_of}
 use Rattle.ca_server_core.specs.Noting.{Notes, Tries}
 
--- A server, its circuit, and the bytes that wait to be handed to the sink.
+-- A server, its circuit, and how many bytes wait there to be handed to the sink.
 pub record EngineState : Type 0 where
   pub core : Server
   pub circuit : Handle
-  pub waits : List ℕ
+  pub waiting : ℕ
 
 -- an engine of these rules and records on whose circuit no byte came
 abbrev pub IsNew : List Rule → List RecordState → EngineState → Type 0
-IsNew rules states x = Accepts (new_server server_port 0 rules states) (Ok x.circuit) x.core × (x.waits ≡ [])
+IsNew rules states x = Accepts (new_server server_port 0 rules states) (Ok x.circuit) x.core × (x.waiting ≡ 0)
 
--- A message was handled: the record that it made busy was finished, and updates were pumped.
+-- A message was handled, and the record that it made busy was finished.
+pub record HandlesFirst (old : Server) (h : Handle) (new : Server) : Type 0 where
+  pub put : Option (List ℕ)
+  pub stepped : Server
+  pub steps : Steps old h Handled stepped
+  pub notes : Notes old.records stepped.records put
+  pub tries : Tries stepped put new
+
+-- The same, and updates were pumped.
 pub record HandlesOne (old : Server) (h : Handle) (new : Server) : Type 0 where
   pub put : Option (List ℕ)
   pub stepped : Server
@@ -34,15 +42,13 @@ pub record HandlesOne (old : Server) (h : Handle) (new : Server) : Type 0 where
   pub updates : List Update
   pub pumps : Pumps finished h updates new
 
--- what waits to be sent on the circuit was put after the bytes that wait
-abbrev pub Gathers : EngineState → EngineState → Type 0
-Gathers x new =
-    (new.waits ≡ x.waits ++ output_of (under x.core.circuits x.circuit)) × (new.circuit ≡ x.circuit) × Sends x.core x.circuit (length (output_of (under x.core.circuits x.circuit))) new.core
+-- the bytes that wait to be handed to the sink
+abbrev pub what_waits : EngineState → List ℕ
+what_waits x = take x.waiting (output_of (under x.core.circuits x.circuit))
 
--- updates were pumped before that
-abbrev pub PumpsAndGathers : EngineState → EngineState → Type 0
-PumpsAndGathers x new =
-    (updates : List Update) × (pumped : Server) × Pumps x.core x.circuit updates pumped × Gathers (record x { core = pumped }) new
+-- they were handed over
+abbrev pub HasSent : EngineState → EngineState → Type 0
+HasSent x new = Sends x.core x.circuit (length (what_waits x)) new.core × (new ≡ record x { core = new.core; waiting = 0 })
 
 -- what came on a circuit and was not read: nothing if its end is not open
 abbrev pub unread : Option ServerCircuit → List ℕ

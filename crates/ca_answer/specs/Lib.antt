@@ -1,3 +1,4 @@
 pub mod Answering
 pub mod Engines
+pub mod Fronting
 pub mod Serving

@@ -1,6 +1,6 @@
 -- Working: what holds between two messages of a circuit.
 use Rattle.std.specs.Prelude.{ℕ, ◌≡◌, ◌<◌, ◌++◌, ◌⊎◌, Bool, true, false, List, [], None, Some, Result, Ok, Err, length, take}
-use Rattle.std.specs.List.{concat}
+use Rattle.std.specs.List.{FoldsTo, concat}
 use Rattle.ca_arena.specs.declared.handle.Handle.{Handle}
 use Rattle.ca_ids.specs.Table.{under}
 use Rattle.ca_link.specs.Link.{LinkState}
@@ -16,10 +16,11 @@ use Rattle.ca_wire.specs.Stream.{BadAt, Begins, NoneBegins, NotBad}
 use Rattle.ca_model.specs.Answer.{Answers}
 use Rattle.ca_model.specs.Ends as why
 use Rattle.ca_model.specs.Server.{Ended, Server, ServerEnd, new_server}
-use Rattle.ca_model.specs.ServerSteps.{Accepts, HasEnd, with_end}
+use Rattle.ca_model.specs.ServerSteps.{Accepts, HasEnd, Leaves, Update, with_end}
 use Rattle.ca_model.specs.Speech.{In}
 use Rattle.ca_answer.specs.Answering.{Written}
-use Rattle.ca_answer.specs.Engines.{EngineState}
+use Rattle.ca_answer.specs.Engines.{EngineState, HandlesFirst}
+use Rattle.ca_answer.specs.Fronting.{fronting}
 
 -- no record is busy, and no put waits
 abbrev pub AreFree : List Record → Type 0
@@ -53,24 +54,63 @@ pub record Over (rules : List Rule) (states : List RecordState) (bytes : List �
   pub left : List ℕ
   pub ended : under y.circuits h ≡ Some (Ended why.OutOfMemory left)
 
--- All that was answered was written, but for what waits.
+-- All that was answered was written, but for what waits on the circuit. The circuit stands as it would without that.
 pub record Serving {K : Type 0} (takes : K → List ℕ → K → Type 0) (rules : List Rule) (states : List RecordState) (k0 : K) (bytes : List ℕ) (k : K) (x : EngineState) : Type 0 where
   pub text : List ℕ
-  pub stands : Served rules states bytes x.circuit x.core text ⊎ Over rules states bytes x.circuit x.core text
+  pub now : Server
+  pub stands : Served rules states bytes x.circuit now text ⊎ Over rules states bytes x.circuit now text
+  pub waits : List ℕ
+  pub many : x.waiting ≡ length waits
+  pub core : x.core ≡ fronting x.circuit waits now
   pub writes : List (List ℕ)
   pub wrote : Moves takes k0 writes k
-  pub parts : concat writes ++ x.waits ≡ text
+  pub parts : concat writes ++ waits ≡ text
 
 -- The circuit is open, no whole message is left to be read, and all that was answered was written.
 pub record Rested {K : Type 0} (takes : K → List ℕ → K → Type 0) (rules : List Rule) (states : List RecordState) (k0 : K) (bytes : List ℕ) (k : K) (x : EngineState) : Type 0 where
   pub text : List ℕ
   pub served : Served rules states bytes x.circuit x.core text
-  pub sent : x.waits ≡ []
+  pub sent : x.waiting ≡ 0
   pub writes : List (List ℕ)
   pub wrote : Moves takes k0 writes k
   pub parts : concat writes ≡ text
   pub whole : NoneBegins served.link.input.bytes
   pub good : NotBad served.link.input.bytes
+
+-- A message was handled, and what its handling made busy was finished; its updates were not pumped yet.
+pub record Stepping {K : Type 0} (takes : K → List ℕ → K → Type 0) (rules : List Rule) (states : List RecordState) (k0 : K) (bytes : List ℕ) (k : K) (x : EngineState) : Type 0 where
+  pub text : List ℕ
+  pub old : Server
+  pub served : Served rules states bytes x.circuit old text
+  pub finished : Server
+  pub one : HandlesFirst old x.circuit finished
+  pub waits : List ℕ
+  pub many : x.waiting ≡ length waits
+  pub core : x.core ≡ fronting x.circuit waits finished
+  pub writes : List (List ℕ)
+  pub wrote : Moves takes k0 writes k
+  pub parts : concat writes ++ waits ≡ text
+
+-- updates left the queues of an open end, and more may leave
+abbrev pub Leaving : Server → Handle → List Update → Server → Type 0
+Leaving old h updates new = (e : ServerEnd) × HasEnd old h e × ((after : ServerEnd) × FoldsTo Leaves e updates after × (new ≡ with_end h after old))
+
+-- The same, and some updates were pumped.
+pub record Filled {K : Type 0} (takes : K → List ℕ → K → Type 0) (rules : List Rule) (states : List RecordState) (k0 : K) (bytes : List ℕ) (k : K) (x : EngineState) : Type 0 where
+  pub text : List ℕ
+  pub old : Server
+  pub served : Served rules states bytes x.circuit old text
+  pub finished : Server
+  pub one : HandlesFirst old x.circuit finished
+  pub updates : List Update
+  pub now : Server
+  pub leaving : Leaving finished x.circuit updates now
+  pub waits : List ℕ
+  pub many : x.waiting ≡ length waits
+  pub core : x.core ≡ fronting x.circuit waits now
+  pub writes : List (List ℕ)
+  pub wrote : Moves takes k0 writes k
+  pub parts : concat writes ++ waits ≡ text
 
 -- what was served is served on
 abbrev pub ServesOn : {K : Type 0} → (K → List ℕ → K → Type 0) → List Rule → List RecordState → K → EngineState → K → EngineState → Type 0
@@ -97,19 +137,33 @@ EndsBad {K} takes rules states k x k' e = (k0 : K) (bytes : List ℕ) → Servin
 abbrev pub EndsRested : {K : Type 0} → (K → List ℕ → K → Type 0) → List Rule → List RecordState → K → EngineState → K → EngineState → Type 0
 EndsRested {K} takes rules states k x k' x' = (k0 : K) (bytes : List ℕ) → Serving takes rules states k0 bytes k x → Rested takes rules states k0 bytes k' x'
 
--- What waited was handed to the sink in one call; or fewer bytes than the least wait, and none was made.
-abbrev pub Hands : {K : Type 0} → (K → List ℕ → K → Type 0) → ℕ → K → K → EngineState → EngineState → Type 0
-Hands takes least k k' x x' = ((x' ≡ record x { waits = [] }) × takes k x.waits k') ⊎ ((length x.waits < least) × (x' ≡ x) × (k' ≡ k))
+-- These bytes went to the sink in one call; or there are none, and none was made.
+abbrev pub Goes : {K : Type 0} → (K → List ℕ → K → Type 0) → K → List ℕ → K → Type 0
+Goes takes k bytes k' = takes k bytes k' ⊎ ((bytes ≡ []) × (k' ≡ k))
 
--- A flush: what waited was handed over; or the sink failed after some of it, or no call is left.
-abbrev pub Flushes : {K : Type 0} → (K → List ℕ → K → Type 0) → (K → ℕ) → ℕ → K → K → EngineState → EngineState → ℕ → Result (Unit {0}) Refusal → Type 0
-Flushes takes faults least k k' x x' turns (Ok _) = (faults k' ≡ faults k) × Hands takes least k k' x x'
-Flushes takes faults least k k' x x' turns (Err Device) = ((faults k < faults k') × ((n : ℕ) × takes k (take n x.waits) k')) ⊎ ((turns ≡ engine_turns) × (k' ≡ k))
-Flushes takes faults least k k' x x' turns (Err _) = ⊥
+-- These bytes were handed to the sink; or it failed after some of them, or no call is left.
+abbrev pub Hands : {K : Type 0} → (K → List ℕ → K → Type 0) → (K → ℕ) → K → List ℕ → K → ℕ → Result (Unit {0}) Refusal → Type 0
+Hands takes faults k bytes k' turns (Ok _) = (faults k' ≡ faults k) × Goes takes k bytes k'
+Hands takes faults k bytes k' turns (Err Device) = ((faults k < faults k') × ((n : ℕ) × takes k (take n bytes) k')) ⊎ ((turns ≡ engine_turns) × (k' ≡ k))
+Hands takes faults k bytes k' turns (Err _) = ⊥
 
--- The next message was asked for: it was answered, and nothing was handed over; or none is complete, the next is bad, or there is no memory.
+-- What was so (`From`) is served on, by its answer; or a beginning of it was written.
+abbrev pub LeadsOn : {K : Type 0} → (K → List ℕ → K → Type 0) → (K → ℕ) → List Rule → List RecordState → (K → List ℕ → Type 0) → K → K → EngineState → ℕ → Result (Unit {0}) Refusal → Type 0
+LeadsOn {K} takes faults rules states From k k' x' turns (Ok _) = (faults k' ≡ faults k) × ((k0 : K) (bytes : List ℕ) → From k0 bytes → Serving takes rules states k0 bytes k' x')
+LeadsOn {K} takes faults rules states From k k' x' turns (Err Device) = ((faults k < faults k') ⊎ (turns ≡ engine_turns)) × ((k0 : K) (bytes : List ℕ) → From k0 bytes → Partly takes rules states k0 bytes k')
+LeadsOn takes faults rules states From k k' x' turns (Err _) = ⊥
+
+-- The updates after a message were pumped.
+abbrev pub Pumped : {K : Type 0} → (K → List ℕ → K → Type 0) → (K → ℕ) → List Rule → List RecordState → K → K → EngineState → EngineState → ℕ → Result (Unit {0}) Refusal → Type 0
+Pumped takes faults rules states k k' x x' turns result = LeadsOn takes faults rules states (λ k0 bytes. Stepping takes rules states k0 bytes k x) k k' x' turns result
+
+-- What waited before the message was handed over, and its other updates were pumped.
+abbrev pub MakesRoom : {K : Type 0} → (K → List ℕ → K → Type 0) → (K → ℕ) → List Rule → List RecordState → K → K → EngineState → EngineState → ℕ → Result (Unit {0}) Refusal → Type 0
+MakesRoom takes faults rules states k k' x x' turns result = LeadsOn takes faults rules states (λ k0 bytes. Filled takes rules states k0 bytes k x) k k' x' turns result
+
+-- The next message was asked for: it was answered; or none is complete, the next is bad, or there is no memory.
 abbrev pub Comes : {K : Type 0} → (K → List ℕ → K → Type 0) → (K → ℕ) → List Rule → List RecordState → K → K → EngineState → EngineState → ℕ → Result Bool Refusal → Type 0
-Comes takes faults rules states k k' x x' turns (Ok true) = (k' ≡ k) × ServesOn takes rules states k x k' x'
+Comes takes faults rules states k k' x x' turns (Ok true) = (faults k' ≡ faults k) × ServesOn takes rules states k x k' x'
 Comes takes faults rules states k k' x x' turns (Ok false) = (faults k' ≡ faults k) × EndsRested takes rules states k x k' x'
 Comes takes faults rules states k k' x x' turns (Err Misaligned) = (faults k' ≡ faults k) × EndsBad takes rules states k x k' Misaligned
 Comes takes faults rules states k k' x x' turns (Err TooLarge) = (faults k' ≡ faults k) × EndsBad takes rules states k x k' TooLarge

@@ -1,29 +1,29 @@
-ghost use Rattle.std.specs.Prelude.{◌≡◌, ◌+◌, ◌<◌, ◌≤◌, ◌^◌, List, IfErr, IfOk, OnOk, true};
+ghost use Rattle.std.specs.Prelude.{◌≡◌, ◌+◌, ◌<◌, ◌≤◌, ◌^◌, List, IfErr, IfOk, OnOk, take, true};
 ghost use Rattle.ca_text.specs.declared.refusal.Refusal.TheVariants as refusal;
-ghost use Rattle.ca_text.specs.Limits.{engine_turns};
+ghost use Rattle.ca_text.specs.Limits.{engine_turns, output_limit};
 ghost use Rattle.ca_records.specs.Record.{RecordState};
 ghost use Rattle.ca_records.specs.Rules.{Rule};
 ghost use Rattle.ca_model.specs.ServerSteps.{Gives};
 ghost use Rattle.ca_server_core.specs.Noting.{ServesNext};
 ghost use Rattle.ca_server_core.specs.Serving.{stepped};
 ghost use Rattle.ca_server_circuit.specs.Stepping.{why_is};
-ghost use Rattle.ca_answer.specs.Engines.{IsNew, PumpsAndGathers, refusal_for, unread_size};
-ghost use Rattle.ca_answer.specs.Serving.{Comes, Drains, Flushes};
+ghost use Rattle.ca_answer.specs.Engines.{HasSent, IsNew, refusal_for, unread_size, what_waits};
+ghost use Rattle.ca_answer.specs.Serving.{Comes, Drains, Hands, MakesRoom, Pumped};
 
 use ca_arena::Handle;
 use ca_link::Sink;
 use ca_records::{Records, Rule};
 use ca_server_core::{Cause, ServerCore, Step};
 use ca_text::{ENGINE_TURNS, OUTPUT_LIMIT, Refusal, SERVER_PORT};
-use std::alloc::AllocError;
+use ca_wire::Pipe;
 use std::marker::Model;
 
-/// A server with one circuit, and the bytes that wait to be handed to the sink.
+/// A server with one circuit, and how many bytes wait on it to be handed to the sink: the answers to the messages that were handled.
 #[derive(Drop)]
 pub(crate) struct Engine {
     core: ServerCore,
     circuit: Handle,
-    waits: Vec<u8>,
+    waiting: usize,
 }
 
 impl Model for Engine {
@@ -31,7 +31,7 @@ impl Model for Engine {
 
     ghost Value = { EngineState };
 
-    ghost view = { λ x. record { core = x.core; circuit = x.circuit; waits = x.waits.items } };
+    ghost view = { λ x. record { core = x.core; circuit = x.circuit; waiting = x.waiting } };
 }
 
 impl Engine {
@@ -40,13 +40,12 @@ impl Engine {
         ensures ok { IfOk result (IsNew rules.items records.now) }
         ensures err { IfErr result (λ e. e ≡ refusal.OutOfMemory) }
     {
-        let alloc = *rules.allocator();
         let mut core = ServerCore::new(SERVER_PORT, 0, records, rules)?;
         let circuit = core.accept()?;
         Ok(Engine {
             core,
             circuit,
-            waits: Vec::new(alloc),
+            waiting: 0,
         })
     }
 
@@ -60,6 +59,7 @@ impl Engine {
 
     // Answers the messages that came, and hands the answers to the sink: as soon as many bytes wait, and before it ends.
     pub(crate) fn drain<K: Sink>(&mut self, sink: &mut K, turns: &mut u64) -> Result<(), Refusal>
+        requires few { self.old.waiting < output_limit }
         requires within { turns.old ≤ engine_turns }
         requires calls { K.call_count sink.old < 2 ^ 63 + turns.old }
         requires faults { K.fault_count sink.old < 2 ^ 63 }
@@ -70,20 +70,20 @@ impl Engine {
         ensures within { turns.new ≤ engine_turns }
         ensures calls { K.call_count sink.new + turns.old ≡ K.call_count sink.old + turns.new }
     {
-        while self.answer_next(sink, turns)? {
-            self.flush(sink, turns, OUTPUT_LIMIT)?;
-        }
+        while self.answer_next(sink, turns)? {}
         Ok(())
     }
 
     // Answers the next message, if there is one. Else all that waits was handed to the sink first.
     fn answer_next<K: Sink>(&mut self, sink: &mut K, turns: &mut u64) -> Result<bool, Refusal>
+        requires few { self.old.waiting < output_limit }
         requires within { turns.old ≤ engine_turns }
         requires calls { K.call_count sink.old < 2 ^ 63 + turns.old }
         requires faults { K.fault_count sink.old < 2 ^ 63 }
         ensures comes { (rules : List Rule) (states : List RecordState)
             → Comes K.takes K.fault_count rules states sink.old sink.new self.old self.new turns.new
             result }
+        ensures few { OnOk result (self.new.waiting < output_limit) }
         ensures smaller { IfOk result (λ more.
             more ≡ true → unread_size self.new < unread_size self.old) }
         ensures rises { turns.old ≤ turns.new }
@@ -92,18 +92,18 @@ impl Engine {
     {
         match self.serve_next() {
             Step::Handled => {
-                self.gather()?;
+                self.pump(sink, turns)?;
                 Ok(true)
             }
-            Step::Closed(cause, _) => {
-                self.flush(sink, turns, 1)?;
+            Step::Closed(cause, left) => {
+                self.hand_left(&left, sink, turns)?;
                 Err(refusal_of(cause))
             }
             Step::NeedBytes => {
-                self.flush(sink, turns, 1)?;
+                self.flush(sink, turns)?;
                 Ok(false)
             }
-            // This does not come: what waited on the circuit was moved away.
+            // This does not come: fewer bytes wait.
             Step::OutputFull => Ok(false),
         }
     }
@@ -116,35 +116,117 @@ impl Engine {
         self.core.serve(self.circuit)
     }
 
-    // Pumps once, and moves what the circuit has to send to the end of the bytes that wait.
-    fn gather(&mut self) -> Result<(), AllocError>
-        ensures ok { OnOk result (PumpsAndGathers self.old self.new) }
-    {
-        self.core.pump_into(self.circuit, &mut self.waits)
-    }
-
-    // Hands what waits to the sink in one call, or makes none where fewer bytes wait than the least.
-    fn flush<K: Sink>(&mut self, sink: &mut K, turns: &mut u64, least: usize) -> Result<(), Refusal>
+    // Pumps once after a message, as if nothing had waited before it. Then so little waits that the next message is handled.
+    fn pump<K: Sink>(&mut self, sink: &mut K, turns: &mut u64) -> Result<(), Refusal>
+        requires few { self.old.waiting < output_limit }
         requires within { turns.old ≤ engine_turns }
         requires calls { K.call_count sink.old < 2 ^ 63 + turns.old }
         requires faults { K.fault_count sink.old < 2 ^ 63 }
-        ensures flushes { Flushes K.takes K.fault_count least sink.old sink.new self.old self.new
+        ensures pumped { (rules : List Rule) (states : List RecordState)
+            → Pumped K.takes K.fault_count rules states sink.old sink.new self.old self.new turns.new
+            result }
+        ensures few { OnOk result (self.new.waiting < output_limit) }
+        ensures fewer { OnOk result (unread_size self.new ≤ unread_size self.old) }
+        ensures rises { turns.old ≤ turns.new }
+        ensures within { turns.new ≤ engine_turns }
+        ensures calls { K.call_count sink.new + turns.old ≡ K.call_count sink.old + turns.new }
+    {
+        let waiting = self.core.pump_counting(self.circuit);
+        if waiting >= OUTPUT_LIMIT {
+            return self.make_room(sink, turns);
+        }
+        // Fewer bytes than before wait where the end has ended, without memory for an update. Then it left them.
+        self.waiting = self.waiting.max(waiting);
+        Ok(())
+    }
+
+    // So much waits that a pump had to stop. Hands over what waited before the message, and pumps on.
+    #[inline(never)]
+    fn make_room<K: Sink>(&mut self, sink: &mut K, turns: &mut u64) -> Result<(), Refusal>
+        requires within { turns.old ≤ engine_turns }
+        requires calls { K.call_count sink.old < 2 ^ 63 + turns.old }
+        requires faults { K.fault_count sink.old < 2 ^ 63 }
+        ensures makes { (rules : List Rule) (states : List RecordState)
+            → MakesRoom K.takes K.fault_count rules states sink.old sink.new self.old self.new
+            turns.new result }
+        ensures few { OnOk result (self.new.waiting < output_limit) }
+        ensures fewer { OnOk result (unread_size self.new ≤ unread_size self.old) }
+        ensures rises { turns.old ≤ turns.new }
+        ensures within { turns.new ≤ engine_turns }
+        ensures calls { K.call_count sink.new + turns.old ≡ K.call_count sink.old + turns.new }
+    {
+        self.flush(sink, turns)?;
+        self.core.pump(self.circuit);
+        self.waiting = self.core.out_bytes(self.circuit).len();
+        if self.waiting < OUTPUT_LIMIT {
+            return Ok(());
+        }
+        self.flush(sink, turns)?;
+        Ok(())
+    }
+
+    // Hands what waited to the sink, of what an end has left. What it left after that belongs to a message that was not answered whole.
+    #[inline(never)]
+    fn hand_left<K: Sink>(&self, left: &Pipe, sink: &mut K, turns: &mut u64) -> Result<(), Refusal>
+        requires within { turns.old ≤ engine_turns }
+        requires calls { K.call_count sink.old < 2 ^ 63 + turns.old }
+        requires faults { K.fault_count sink.old < 2 ^ 63 }
+        ensures hands { Hands K.takes K.fault_count sink.old (take self.now.waiting left.now) sink.new
             turns.new result }
         ensures rises { turns.old ≤ turns.new }
         ensures within { turns.new ≤ engine_turns }
         ensures calls { K.call_count sink.new + turns.old ≡ K.call_count sink.old + turns.new }
     {
-        if self.waits.len() < least {
-            return Ok(());
-        }
-        if *turns == ENGINE_TURNS {
-            return Err(Refusal::Device);
-        }
-        *turns += 1;
-        sink.write(&self.waits)?;
-        self.waits.clear();
+        hand(sink, turns, first(left.bytes(), self.waiting))
+    }
+
+    // Hands what waits to the sink, in one call; makes none where nothing waits.
+    fn flush<K: Sink>(&mut self, sink: &mut K, turns: &mut u64) -> Result<(), Refusal>
+        requires within { turns.old ≤ engine_turns }
+        requires calls { K.call_count sink.old < 2 ^ 63 + turns.old }
+        requires faults { K.fault_count sink.old < 2 ^ 63 }
+        ensures hands { Hands K.takes K.fault_count sink.old (what_waits self.old) sink.new
+            turns.new result }
+        ensures sent { OnOk result (HasSent self.old self.new) }
+        ensures rises { turns.old ≤ turns.new }
+        ensures within { turns.new ≤ engine_turns }
+        ensures calls { K.call_count sink.new + turns.old ≡ K.call_count sink.old + turns.new }
+    {
+        let bytes = first(self.core.out_bytes(self.circuit), self.waiting);
+        let n = bytes.len();
+        hand(sink, turns, bytes)?;
+        self.core.sent(self.circuit, n);
+        self.waiting = 0;
         Ok(())
     }
+}
+
+// The first n of these bytes: all of them, if they are fewer.
+fn first(bytes: &[u8], n: usize) -> &[u8]
+    ensures { result.now ≡ take n bytes.now }
+{
+    if n < bytes.len() { &bytes[..n] } else { bytes }
+}
+
+// Hands bytes to the sink in one call, or makes none where there are none.
+fn hand<K: Sink>(sink: &mut K, turns: &mut u64, bytes: &[u8]) -> Result<(), Refusal>
+    requires within { turns.old ≤ engine_turns }
+    requires calls { K.call_count sink.old < 2 ^ 63 + turns.old }
+    requires faults { K.fault_count sink.old < 2 ^ 63 }
+    ensures hands { Hands K.takes K.fault_count sink.old bytes.now sink.new turns.new result }
+    ensures rises { turns.old ≤ turns.new }
+    ensures within { turns.new ≤ engine_turns }
+    ensures calls { K.call_count sink.new + turns.old ≡ K.call_count sink.old + turns.new }
+{
+    if bytes.is_empty() {
+        return Ok(());
+    }
+    if *turns == ENGINE_TURNS {
+        return Err(Refusal::Device);
+    }
+    *turns += 1;
+    sink.write(bytes)?;
+    Ok(())
 }
 
 // The refusal for which the end of a circuit ended.

@@ -9,6 +9,7 @@ pub mod Covering
 pub mod Reaching
 pub mod Following
 pub mod Pumping
+pub mod Counting
 pub mod Removing
 pub mod NextPut
 pub mod Noting

@@ -7,6 +7,7 @@
 
 mod adding;
 mod beacons;
+mod counting;
 mod cutting;
 mod datagrams;
 mod finishing;

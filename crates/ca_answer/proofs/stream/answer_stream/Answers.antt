@@ -113,3 +113,9 @@ returns-clause-answers g c =
     let spent = c.loop-turns-test.false in
     let calls = inv.calls in
     inr (inr (omega (arith, within, spent, calls), breaks-rested g.S.Source.gives g.K.Sink.takes g.S.Source.call_count g.K.Sink.call_count g.S.Source.fault_count g.K.Sink.fault_count c.args.rules.items c.args.records.now c.args.source.now c.loop-turns.source c.args.sink.now c.loop-turns.sink inv.chunks.0 c.loop-turns.engine inv.chunks.1 inv.chunks.2))
+
+pub drain-requires-clause-few : goal.drain-requires-clause-few
+drain-requires-clause-few g c =
+    let none = c.loop-turns.invariant.chunks.2.sent in
+    let same = ap (λ (x : EngineState). x.waiting) c.in_ok-give.ensures.stays in
+    omega (arith, none, same)
