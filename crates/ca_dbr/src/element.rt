@@ -1,6 +1,6 @@
-ghost use Rattle.std.specs.Prelude.{[], ◌∷◌, ◌≡◌, ℕ, ◌≤◌, ◌<◌, ◌^◌, ◌+◌, ◌*◌, ◌++◌, List, length, take, All, IfOk, OnErr, ◌≢◌, FitsSigned, vec_len, vec_capacity};
+ghost use Rattle.std.specs.Prelude.{[], ◌∷◌, ◌≡◌, ℕ, ◌≤◌, ◌<◌, ◌^◌, ◌+◌, ◌-◌, ◌*◌, ◌++◌, List, length, replicate, take, All, IfOk, OnErr, ◌≢◌, FitsSigned, vec_len, vec_capacity};
 ghost use Rattle.std.specs.List.{flat_map};
-ghost use Rattle.std.specs.Int.{w16, w32};
+ghost use Rattle.std.specs.Int.{to_be_bytes, w16, w32, w64};
 ghost use Rattle.ca_dbr.specs.Elements.{string_bytes, byte_1, bytes_2, bytes_4, bytes_8, signed_bytes_2, signed_bytes_4};
 
 use std::alloc::{AllocError, Global};
@@ -227,6 +227,59 @@ impl Element for u64 {
         u64::from_be_bytes([
             bytes[0], bytes[1], bytes[2], bytes[3], bytes[4], bytes[5], bytes[6], bytes[7],
         ])
+    }
+}
+
+/// An element of at most 8 bytes.
+pub(crate) trait Small: Element {
+    /// Its bytes and zeros after them as one number, the first byte the highest.
+    fn word(self) -> u64
+        ensures { Self.spelled self ++ replicate (8 - Self.SIZE) 0 ≡ to_be_bytes w64 result };
+}
+
+impl Small for i16 {
+    #[tactic(auto, unfolding(crate::specs::Elements::signed_bytes_2))]
+    fn word(self) -> u64 {
+        let bytes = self.to_be_bytes();
+        u64::from_be_bytes([bytes[0], bytes[1], 0, 0, 0, 0, 0, 0])
+    }
+}
+
+impl Small for u32 {
+    #[tactic(auto, unfolding(crate::specs::Elements::bytes_4))]
+    fn word(self) -> u64 {
+        let bytes = self.to_be_bytes();
+        u64::from_be_bytes([bytes[0], bytes[1], bytes[2], bytes[3], 0, 0, 0, 0])
+    }
+}
+
+impl Small for u16 {
+    #[tactic(auto, unfolding(crate::specs::Elements::bytes_2))]
+    fn word(self) -> u64 {
+        let bytes = self.to_be_bytes();
+        u64::from_be_bytes([bytes[0], bytes[1], 0, 0, 0, 0, 0, 0])
+    }
+}
+
+impl Small for u8 {
+    #[tactic(auto, unfolding(crate::specs::Elements::byte_1))]
+    fn word(self) -> u64 {
+        u64::from_be_bytes([self, 0, 0, 0, 0, 0, 0, 0])
+    }
+}
+
+impl Small for i32 {
+    #[tactic(auto, unfolding(crate::specs::Elements::signed_bytes_4))]
+    fn word(self) -> u64 {
+        let bytes = self.to_be_bytes();
+        u64::from_be_bytes([bytes[0], bytes[1], bytes[2], bytes[3], 0, 0, 0, 0])
+    }
+}
+
+impl Small for u64 {
+    #[tactic(auto, unfolding(crate::specs::Elements::bytes_8))]
+    fn word(self) -> u64 {
+        self
     }
 }
 

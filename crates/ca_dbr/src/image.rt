@@ -62,6 +62,9 @@ pub(crate) fn put_zeros(count: usize, out: &mut Vec<u8>)
     ensures len { vec_len out.new ≡ vec_len out.old + count }
     ensures capacity { vec_capacity out.old ≤ vec_capacity out.new }
 {
+    if count == 0 {
+        return;
+    }
     let len = out.len() + count;
     match out.resize(len, 0) {
         Ok(()) => {}

@@ -1,5 +1,5 @@
 -- No text begins with two messages.
-use Rattle.std.proofs.Common.{◌≡◌, ℕ, ◌+◌, ◌≤◌, List, ◌++◌, length, take, drop, refl, sym, ap, ◌∙◌, append_assoc, arith}
+use Rattle.std.proofs.Common.{◌≡◌, ℕ, ◌+◌, ◌≤◌, List, [], ◌∷◌, ◌++◌, length, take, drop, refl, sym, ap, ◌∙◌, append_assoc, append-nil, arith}
 use Rattle.std.proofs.lemmas.List.{take-append-drop, length-append}
 use Rattle.ca_text.specs.declared.refusal.Refusal.{Refusal}
 use Rattle.ca_wire.specs.declared.header.Header.{Header}
@@ -70,6 +70,17 @@ spelling-short m = omega (arith, length-spelling m, header_spelling-short (heade
 
 pub spelling-long : (m : Fields) → 16 + length m.payload ≤ length (spelling m)
 spelling-long m = omega (arith, length-spelling m, header_spelling-long (header_of m))
+
+nothing : (xs : List ℕ) → length xs ≡ 0 → xs ≡ []
+nothing [] e = refl
+nothing (x ∷ xs) e = absurd (omega arith)
+
+-- a message with no payload is its header
+pub spelling-bare : (m : Fields) (h : Header) → h ≡ header_of m → h.size ≡ 0 → header_spelling h ≡ spelling m
+unfolding spelling
+spelling-bare m h same none =
+    let empty : m.payload ≡ [] = nothing m.payload (sym (ap (λ (g : Header). g.size) same) ∙ none) in
+    ap header_spelling same ∙ sym (append-nil (header_spelling (header_of m))) ∙ ap (λ (t : List ℕ). header_spelling (header_of m) ++ t) (sym empty)
 
 -- what begins with a message has a whole one at its front
 pub one-again : (m : Fields) (a rest : List ℕ) (one : One) → Spells a m → IsOne (a ++ rest) one → (head : Head) × (one ≡ Whole head) × (head.header ≡ header_of m)

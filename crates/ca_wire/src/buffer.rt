@@ -2,7 +2,9 @@ ghost use Rattle.std.specs.Prelude.{ℕ, List, ◌≡◌, ◌≢◌, ◌≤◌, 
 ghost use Rattle.ca_text.specs.Limits.{payload_limit};
 ghost use Rattle.ca_wire.specs.Made.{PutsMade};
 ghost use Rattle.ca_wire.specs.Message.{spelling};
+ghost use Rattle.ca_wire.specs.Messages.{alone};
 
+use crate::alone::{Alone, spell_alone};
 use crate::made::{Payload, spell_made};
 use crate::message::{Message, spell};
 use ca_text::Refusal;
@@ -66,6 +68,7 @@ impl Buffer {
     }
 
     /// Puts the one spelling of the message after the others. A refusal changes nothing.
+    #[inline(always)]
     pub fn put(&mut self, message: &Message) -> Result<(), AllocError>
         ensures ok { OnOk result (self.new ≡ self.old ++ spelling message.now) }
         ensures err { OnErr result (self.new ≡ self.old) }
@@ -88,6 +91,16 @@ impl Buffer {
     {
         self.let_go();
         spell_made(head, size, payload, &mut self.bytes)
+    }
+
+    /// Puts the one spelling of this after the others. A refusal changes nothing.
+    #[inline(always)]
+    pub fn put_alone(&mut self, said: Alone) -> Result<(), AllocError>
+        ensures ok { OnOk result (self.new ≡ self.old ++ spelling (alone said)) }
+        ensures err { OnErr result (self.new ≡ self.old) }
+    {
+        self.let_go();
+        spell_alone(said, &mut self.bytes)
     }
 
     /// Only the first n bytes stay.
@@ -130,14 +143,27 @@ impl Buffer {
 
     /// Lets go of the memory of bytes that went, once they are at least half of all: each byte is moved at most once
     /// for a byte that went.
+    #[inline(always)]
     fn let_go(&mut self)
         ensures { self.new ≡ self.old }
     {
         let rest = self.bytes.len() - self.start;
-        if rest <= self.start {
-            self.bytes.copy_within(self.start.., 0);
-            self.bytes.truncate(rest);
+        if rest == 0 {
+            self.bytes.clear();
             self.start = 0;
+        } else if rest <= self.start {
+            self.move_front();
         }
+    }
+
+    /// The bytes move to the front of the memory.
+    #[inline(never)]
+    fn move_front(&mut self)
+        ensures { self.new ≡ self.old }
+    {
+        let rest = self.bytes.len() - self.start;
+        self.bytes.copy_within(self.start.., 0);
+        self.bytes.truncate(rest);
+        self.start = 0;
     }
 }

@@ -253,7 +253,24 @@ impl Message {
 }
 
 /// Writes the one spelling of the message at the end. It grows the buffer once, by just what it writes, before it writes.
+#[inline(always)]
 pub fn spell(message: &Message, out: &mut Vec<u8>) -> Result<(), AllocError>
+    ensures ok { OnOk result (out.new.items ≡ out.old.items ++ spelling message.now) }
+    ensures err { OnErr result (out.new.items ≡ out.old.items) }
+    ensures room { OnErr result (vec_capacity out.old
+        < vec_len out.old + length (spelling message.now)) }
+    ensures capacity { vec_capacity out.old ≤ vec_capacity out.new }
+{
+    let header = message.header();
+    if header.size == 0 {
+        return spell_header(&header, out);
+    }
+    spell_all(message, out)
+}
+
+/// The same for a message with a payload too.
+#[inline(never)]
+fn spell_all(message: &Message, out: &mut Vec<u8>) -> Result<(), AllocError>
     ensures ok { OnOk result (out.new.items ≡ out.old.items ++ spelling message.now) }
     ensures err { OnErr result (out.new.items ≡ out.old.items) }
     ensures room { OnErr result (vec_capacity out.old
