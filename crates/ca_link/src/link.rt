@@ -1,13 +1,14 @@
-ghost use Rattle.std.specs.Prelude.{ℕ, List, ◌≡◌, ◌≤◌, IfOk, length, nat_le, take};
+ghost use Rattle.std.specs.Prelude.{ℕ, List, ◌≡◌, ◌≤◌, [], IfOk, MatchOption, Ok, Some, length, nat_le, take};
 ghost use Rattle.ca_text.specs.Limits.{output_limit, payload_limit};
 ghost use Rattle.ca_link.specs.Calls.{Gives, Nexts, Queues, QueuesMade, QueuesOwn};
+ghost use Rattle.ca_wire.specs.Messages.{on_channel};
 ghost use Rattle.ca_link.specs.Link.{kept, mark_of, new_link, noted, restored, with_handed};
 
 use crate::keep::Keep;
 use crate::mark::Mark;
 use crate::spares::Spares;
-use ca_text::{CLOSE_SILENCE, ECHO_SILENCE, OUTPUT_LIMIT, Refusal};
-use ca_wire::{Deframer, Message, Payload, Pipe};
+use ca_text::{CLOSE_SILENCE, Command, ECHO_SILENCE, OUTPUT_LIMIT, Refusal};
+use ca_wire::{Deframer, Message, Payload, Pipe, Wanted};
 use std::alloc::Global;
 use std::marker::Model;
 
@@ -89,6 +90,16 @@ impl Link {
         ensures { Nexts self.old result self.new }
     {
         self.input.next_message()
+    }
+
+    /// Takes the first message as `next_message` does, if it is complete, of this command, and its header, in 16 bytes, is all of it. Such a
+    /// message needs no memory. None leaves all as it was.
+    #[inline(always)]
+    pub fn next_bare(&mut self, command: Command) -> Option<Wanted>
+        ensures { MatchOption result (self.new ≡ self.old)
+            (λ wanted. Nexts self.old (Ok (Some (on_channel command wanted []))) self.new) }
+    {
+        self.input.next_bare(command)
     }
 
     /// A message that was handled gives its memory to the next one.
