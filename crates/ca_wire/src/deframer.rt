@@ -1,6 +1,5 @@
-ghost use Rattle.std.specs.Prelude.{◌≡◌, ◌≢◌, [], false, IfOk, MatchOption, Ok, OnErr, Some};
-ghost use Rattle.ca_wire.specs.Messages.{on_channel};
-ghost use Rattle.ca_wire.specs.Reading.{Gives, Nexts};
+ghost use Rattle.std.specs.Prelude.{◌≡◌, ◌≢◌, [], false, IfOk, OnErr};
+ghost use Rattle.ca_wire.specs.Reading.{Gives, Nexts, NextsBare};
 
 use crate::buffer::Buffer;
 use crate::message::Message;
@@ -110,8 +109,7 @@ impl Deframer {
     /// message needs no memory. None leaves all as it was.
     #[inline(always)]
     pub fn next_bare(&mut self, command: Command) -> Option<Wanted>
-        ensures { MatchOption result (self.new ≡ self.old)
-            (λ wanted. Nexts self.old (Ok (Some (on_channel command wanted []))) self.new) }
+        ensures { NextsBare command self.old result self.new }
     {
         if self.closed {
             return None;

@@ -1,6 +1,6 @@
-ghost use Rattle.std.specs.Prelude.{◌≡◌, ◌+◌, ◌≤◌, ◌++◌, length, IfSome, MatchOption};
+ghost use Rattle.std.specs.Prelude.{◌≡◌, ◌+◌, ◌≤◌, ◌++◌, length, MatchOption};
 ghost use Rattle.ca_wire.specs.Header.{number16, number32};
-ghost use Rattle.ca_wire.specs.Reading.{BeginsBare, BeginsHeader, IsOne, NoHeader};
+ghost use Rattle.ca_wire.specs.Reading.{BeginsBare, BeginsHeader, IsOne, NoBare, NoHeader};
 
 use crate::header::Header;
 use crate::ids::{Ioid, Sid};
@@ -91,7 +91,7 @@ pub(crate) fn head_at(bytes: &[u8]) -> Option<Head>
 /// What the message at the front names, if it is of this command and its header, in 16 bytes, is all of it.
 #[inline(always)]
 pub(crate) fn bare_at(bytes: &[u8], command: Command) -> Option<Wanted>
-    ensures { IfSome result (λ wanted. BeginsBare bytes.now command wanted) }
+    ensures { MatchOption result (NoBare bytes.now command) (BeginsBare bytes.now command) }
 {
     if bytes.len() < 16 {
         return None;
