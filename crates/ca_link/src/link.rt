@@ -1,7 +1,6 @@
-ghost use Rattle.std.specs.Prelude.{ℕ, List, ◌≡◌, ◌≤◌, [], IfOk, MatchOption, Ok, Some, length, nat_le, take};
+ghost use Rattle.std.specs.Prelude.{ℕ, List, ◌≡◌, ◌≤◌, IfOk, length, nat_le, take};
 ghost use Rattle.ca_text.specs.Limits.{output_limit, payload_limit};
-ghost use Rattle.ca_link.specs.Calls.{Gives, Nexts, Queues, QueuesMade, QueuesOwn};
-ghost use Rattle.ca_wire.specs.Messages.{on_channel};
+ghost use Rattle.ca_link.specs.Calls.{Gives, Nexts, NextsBare, Queues, QueuesMade, QueuesOwn};
 ghost use Rattle.ca_link.specs.Link.{kept, mark_of, new_link, noted, restored, with_handed};
 
 use crate::keep::Keep;
@@ -96,8 +95,7 @@ impl Link {
     /// message needs no memory. None leaves all as it was.
     #[inline(always)]
     pub fn next_bare(&mut self, command: Command) -> Option<Wanted>
-        ensures { MatchOption result (self.new ≡ self.old)
-            (λ wanted. Nexts self.old (Ok (Some (on_channel command wanted []))) self.new) }
+        ensures { NextsBare command self.old result self.new }
     {
         self.input.next_bare(command)
     }

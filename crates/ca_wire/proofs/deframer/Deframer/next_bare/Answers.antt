@@ -1,5 +1,4 @@
-use Rattle.std.proofs.Common.{◌≡◌, List, ℕ, [], refl, sym, ap, ◌∙◌, subst, drop, arith}
-use Rattle.ca_wire.specs.Messages.{on_channel}
+use Rattle.std.proofs.Common.{◌≡◌, List, ℕ, sym, ap, ◌∙◌, subst, drop}
 use Rattle.ca_wire.specs.Reading.{BeginsBare}
 use Rattle.ca_wire.specs.Stream.{Held}
 use Rattle.ca_wire.proofs.Taking.{takes-bare}
