@@ -1,6 +1,6 @@
-ghost use Rattle.std.specs.Prelude.{IfSome};
+ghost use Rattle.std.specs.Prelude.{IfSome, [], ◌∷◌};
 ghost use Rattle.ca_dbr.specs.Alone.{IsAlone};
-ghost use Rattle.ca_dbr.specs.Elements.{elements};
+ghost use Rattle.ca_dbr.specs.Elements.{elements, longs};
 
 use crate::data_type::BaseType;
 use crate::value::Value;
@@ -15,12 +15,13 @@ impl Value {
     pub fn alone(&self, number: u16) -> Option<u64>
         ensures { IfSome result (λ n. IsAlone (elements self.now) number n) }
     {
+        self.know();
         match self {
             Value::Longs(items) => {
                 if number != BaseType::Long.number() || items.len() != 1 {
                     return None;
                 }
-                Some(u64::from(items[0] as u32) * FOUR_BYTES)
+                Some(long_alone(items[0]))
             }
             Value::Doubles(items) => {
                 if number != BaseType::Double.number() || items.len() != 1 {
@@ -31,4 +32,12 @@ impl Value {
             _ => None,
         }
     }
+}
+
+/// The four bytes of a LONG, and four zeros.
+#[inline(always)]
+fn long_alone(element: i32) -> u64
+    ensures { IsAlone (longs (element ∷ [])) 5 result }
+{
+    u64::from(element.cast_unsigned()) * FOUR_BYTES
 }

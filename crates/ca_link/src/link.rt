@@ -1,13 +1,14 @@
 ghost use Rattle.std.specs.Prelude.{ℕ, List, ◌≡◌, ◌≤◌, IfOk, length, nat_le, take};
 ghost use Rattle.ca_text.specs.Limits.{output_limit, payload_limit};
 ghost use Rattle.ca_link.specs.Calls.{Gives, Nexts, NextsBare, Queues, QueuesMade, QueuesOwn};
+ghost use Rattle.ca_wire.specs.Messages.{alone};
 ghost use Rattle.ca_link.specs.Link.{kept, mark_of, new_link, noted, restored, with_handed};
 
 use crate::keep::Keep;
 use crate::mark::Mark;
 use crate::spares::Spares;
 use ca_text::{CLOSE_SILENCE, Command, ECHO_SILENCE, OUTPUT_LIMIT, Refusal};
-use ca_wire::{Deframer, Message, Payload, Pipe, Wanted};
+use ca_wire::{Alone, Deframer, Message, Payload, Pipe, Wanted};
 use std::alloc::Global;
 use std::marker::Model;
 
@@ -143,6 +144,20 @@ impl Link {
             return Err(Refusal::CircuitClosed);
         }
         self.output.put(message)?;
+        Ok(())
+    }
+
+    /// Puts a message of one element after what waits, however much that is.
+    ///
+    /// Refused as CircuitClosed, then as OutOfMemory.
+    #[inline(always)]
+    pub fn queue_alone(&mut self, said: Alone) -> Result<(), Refusal>
+        ensures { QueuesOwn (alone said) self.old result self.new }
+    {
+        if self.input.is_closed() {
+            return Err(Refusal::CircuitClosed);
+        }
+        self.output.put_alone(said)?;
         Ok(())
     }
 

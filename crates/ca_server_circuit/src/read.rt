@@ -16,8 +16,8 @@ use crate::shown::Shown;
 use ca_dbr::image_size;
 use ca_link::Link;
 use ca_records::{Record, ServedRecords};
-use ca_text::{PAYLOAD_LIMIT, Refusal, Status};
-use ca_wire::{Wanted, read_status, value_head};
+use ca_text::{Command, PAYLOAD_LIMIT, Refusal, Status};
+use ca_wire::{Alone, Wanted, read_status, value_head};
 use std::alloc::{AllocError, Global};
 
 /// What a read asks for: how many elements, and the bytes of their image.
@@ -70,6 +70,9 @@ fn answer(
         × (link.new ≡ with_sent (reply ∷ []) link.old)) }
     ensures err { OnErr result (link.new ≡ link.old) }
 {
+    if let Some(payload) = alone(of, rights, wanted) {
+        return send_alone(link, wanted, payload);
+    }
     match measure(of, rights, wanted) {
         Err(status) => {
             send(link, &read_status(alloc, wanted, status))?;
@@ -79,6 +82,33 @@ fn answer(
             show(alloc, link, of, asked, wanted)?;
             Ok(())
         }
+    }
+}
+
+/// What shows the record to this read in eight bytes, if it has one element, of the type that is asked for.
+#[inline(always)]
+fn alone(of: &Record, rights: u32, wanted: Wanted) -> Option<u64>
+{
+    if rights % 2 != 1 || wanted.count > 1 {
+        return None;
+    }
+    of.value().alone(wanted.data_type)
+}
+
+/// Answers a read by one element.
+#[inline(always)]
+fn send_alone(link: &mut Link, wanted: Wanted, payload: u64) -> Result<(), AllocError>
+    requires { IsOpen link.old }
+{
+    let said = Alone {
+        command: Command::ReadNotify,
+        data_type: wanted.data_type,
+        id: wanted.id,
+        payload,
+    };
+    match link.queue_alone(said) {
+        Ok(()) => Ok(()),
+        Err(_) => Err(AllocError),
     }
 }
 
@@ -158,3 +188,4 @@ pub(crate) fn status_of(refusal: Refusal) -> Option<Status>
         _ => Some(Status::GETFAIL),
     }
 }
+// LEAD: read /work/quick/LEAD.md

@@ -2,6 +2,7 @@
 //! stream of messages that comes in any pieces.
 #![tactic(auto)]
 
+mod alone;
 mod buffer;
 mod deframer;
 mod header;
@@ -14,6 +15,7 @@ mod reading;
 mod replies;
 mod requests;
 
+pub use alone::Alone;
 pub use buffer::Buffer;
 pub use deframer::Deframer;
 pub use header::{Header, short_form, spell_header};
