@@ -1,5 +1,8 @@
 ghost use Rattle.std.specs.Prelude.{◌≡◌, ◌+◌, ◌≤◌, ◌++◌, OnErr, OnOk, vec_capacity, vec_len};
 ghost use Rattle.std.specs.Int.{to_be_bytes, w64};
+ghost use Rattle.ca_text.specs.Command.{command_number};
+ghost use Rattle.ca_text.specs.Status.{normal};
+ghost use Rattle.ca_wire.specs.Header.{number16, number32};
 ghost use Rattle.ca_wire.specs.Message.{spelling};
 ghost use Rattle.ca_wire.specs.Messages.{alone};
 
@@ -36,13 +39,19 @@ pub(crate) fn spell_alone(said: Alone, out: &mut Vec<u8>) -> Result<(), AllocErr
 
 /// Command, size, type and count.
 #[inline(always)]
-fn first_half(command: Command, data_type: u16) -> u64 {
-    u64::from(command.number()) * 0x1_0000_0000_0000 + 0x8_0000_0001 + u64::from(data_type) * 0x1_0000
+fn first_half(command: Command, data_type: u16) -> u64
+    ensures { to_be_bytes w64 result
+        ≡ number16 (command_number command) ++ (number16 8 ++ (number16 data_type ++ number16 1)) }
+{
+    let (command, data_type) = (u64::from(command.number()), u64::from(data_type));
+    command * 0x1_0000_0000_0000 + 0x8_0000_0001 + data_type * 0x1_0000
 }
 
 /// Status and id.
 #[inline(always)]
-fn second_half(id: Ioid) -> u64 {
+fn second_half(id: Ioid) -> u64
+    ensures { to_be_bytes w64 result ≡ number32 normal ++ number32 id }
+{
     u64::from(Status::NORMAL.number) * 0x1_0000_0000 + u64::from(id.number())
 }
 

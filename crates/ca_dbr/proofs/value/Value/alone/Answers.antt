@@ -1,4 +1,4 @@
-use Rattle.std.proofs.Common.{◌*◌, ℕ, sym, ap, ◌∙◌, arith}
+use Rattle.std.proofs.Common.{ap, ◌∙◌, arith}
 use Rattle.ca_dbr.specs.declared.value.Value.{Value}
 use Rattle.ca_dbr.specs.Elements.{elements}
 use Rattle.ca_dbr.proofs.OneElement.{is-double, is-long}
