@@ -70,7 +70,7 @@ impl End {
         know_bytes(self.link.in_bytes());
         // A read is what comes most often, and needs no memory for a payload.
         if let Some(wanted) = self.link.next_bare(Command::ReadNotify) {
-            return match self.read(records, wanted) {
+            return match self.read(records, &wanted) {
                 Ok(()) => EndStep::Handled(Effect::Quiet),
                 Err(_) => EndStep::Breaks(Cause::OutOfMemory),
             };
