@@ -5,7 +5,7 @@ ghost use Rattle.ca_link.specs.Link.{with_sent};
 ghost use Rattle.ca_records.specs.Record.{IsRecord};
 ghost use Rattle.ca_records.specs.Store.{records_of};
 ghost use Rattle.ca_wire.specs.Fields.{Fields};
-ghost use Rattle.ca_wire.specs.Messages.{alone, read_request};
+ghost use Rattle.ca_wire.specs.Messages.{alone, read_request, status_reply};
 ghost use Rattle.ca_model.specs.Faults.{read_count};
 ghost use Rattle.ca_server_circuit.specs.Handling.{AreServed, Reads, Replies, known};
 ghost use Rattle.ca_server_circuit.specs.Showing.{AnswersRead, IsInOrder, IsWanted, ShowsRead, answer_alone, status_for};
@@ -43,8 +43,7 @@ impl End {
     {
         match self.seek(records, wanted.sid) {
             Sought::Stray(_) => {
-                let reply = read_status(self.alloc, wanted, Status::BADCHID);
-                send(&mut self.link, &reply)?;
+                send_status(self.alloc, &mut self.link, wanted, Status::BADCHID)?;
                 Ok(())
             }
             Sought::Served(seat) => {
@@ -115,6 +114,23 @@ fn send_alone(link: &mut Link, wanted: &Wanted, payload: u64) -> Result<(), Allo
         Ok(()) => Ok(()),
         Err(_) => Err(AllocError),
     }
+}
+
+/// Answers a read by a status.
+#[inline(never)]
+fn send_status(
+    alloc: Global,
+    link: &mut Link,
+    wanted: &Wanted,
+    status: Status,
+) -> Result<(), AllocError>
+    requires { IsOpen link.old }
+    ensures ok { OnOk result (link.new
+        ≡ with_sent (status_reply (read_request wanted.now) status.number ∷ []) link.old) }
+    ensures err { OnErr result (link.new ≡ link.old) }
+{
+    let reply = read_status(alloc, wanted, status);
+    send(link, &reply)
 }
 
 /// What a read asks for, or the status that refuses it. The elements are not looked at.
