@@ -1,3 +1,4 @@
+pub mod OneElement
 pub mod Faults
 pub mod Gathering
 pub mod Images

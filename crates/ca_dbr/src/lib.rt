@@ -2,6 +2,7 @@
 //! conversions between them.
 #![tactic(auto)]
 
+mod alone;
 mod conversion;
 mod data_type;
 mod element;

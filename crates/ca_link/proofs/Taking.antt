@@ -1,11 +1,14 @@
 -- What a link's reader answers, as an answer of the link.
-use Rattle.std.proofs.Common.{◌≡◌, Bool, Option, Some, None, Result, Ok, Err, sym, ap, ◌∙◌, subst}
+use Rattle.std.proofs.Common.{◌≡◌, Bool, [], Option, Some, None, Result, Ok, Err, sym, ap, ◌∙◌, subst}
 use Rattle.ca_text.specs.declared.refusal.Refusal.{Refusal}
 use Rattle.ca_text.specs.declared.refusal.Refusal.TheVariants as refusal
+use Rattle.ca_text.specs.declared.command.Command.{Command}
+use Rattle.ca_wire.specs.declared.requests.Wanted.{Wanted}
 use Rattle.ca_wire.specs.Fields.{Fields}
+use Rattle.ca_wire.specs.Messages.{on_channel}
 use Rattle.ca_wire.specs.Reading as wire
 use Rattle.ca_wire.specs.Stream.{Held}
-use Rattle.ca_link.specs.Calls.{Nexts}
+use Rattle.ca_link.specs.Calls.{Nexts, NextsBare}
 use Rattle.ca_link.specs.Link.{LinkState}
 
 -- the link with this in its reader
@@ -29,3 +32,8 @@ nexts-link old (Err _) input is = absurd is
 -- the same of a link by its fields
 pub nexts-of : (old new : LinkState) (r : Result (Option Fields) Refusal) (input : Held) → wire.Nexts old.input r input → with_input old input ≡ new → Nexts old r new
 nexts-of old new r input is e = subst (λ (l : LinkState). Nexts old r l) e (nexts-link old r input is)
+
+-- a message without payload
+pub bare-link : (c : Command) (old new : LinkState) (o : Option Wanted) (input : Held) → wire.NextsBare c old.input o input → with_input old input ≡ new → NextsBare c old o new
+bare-link c old new (Some w) input is e = nexts-of old new (Ok (Some (on_channel c w []))) input is e
+bare-link c old new None input is e = (is.0, sym e ∙ ap (with_input old) is.1)

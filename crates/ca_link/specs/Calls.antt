@@ -4,7 +4,11 @@ use Rattle.std.specs.Prelude.{ℕ, ◌≡◌, ◌≢◌, ◌<◌, ◌≤◌, ◌
 use Rattle.ca_text.specs.Limits.{output_limit}
 use Rattle.ca_text.specs.declared.refusal.Refusal.{Refusal}
 use Rattle.ca_text.specs.declared.refusal.Refusal.TheVariants as refusal
+use Rattle.ca_text.specs.declared.command.Command.{Command}
+use Rattle.ca_wire.specs.declared.requests.Wanted.{Wanted}
 use Rattle.ca_wire.specs.Fields.{Fields}
+use Rattle.ca_wire.specs.Messages.{on_channel}
+use Rattle.ca_wire.specs.Reading.{NoBare}
 use Rattle.ca_wire.specs.Made.{with_payload}
 use Rattle.ca_wire.specs.Stream.{BadAt, NoneBegins, NotBad}
 use Rattle.ca_link.specs.Link.{LinkState, TakesFirst, with_given, with_rest, with_sent}
@@ -41,6 +45,11 @@ Nexts old (Err refusal.Misaligned) new = IsOpen old × BadAt old.input.bytes ref
 Nexts old (Err refusal.TooLarge) new = IsOpen old × BadAt old.input.bytes refusal.TooLarge × (new ≡ closed_off old)
 Nexts old (Err refusal.OutOfMemory) new = IsOpen old × TakesMemory old × (new ≡ old)
 Nexts old (Err _) new = ⊥
+
+-- `next_bare`: the same, if the first message is of this command, in 16 bytes without payload.
+abbrev pub NextsBare : Command → LinkState → Option Wanted → LinkState → Type 0
+NextsBare c old (Some w) new = Nexts old (Ok (Some (on_channel c w []))) new
+NextsBare c old None new = (IsOpen old → NoBare old.input.bytes c) × (new ≡ old)
 
 -- `queue`: a message of a caller waits after the others, unless as many bytes wait as may. It takes memory.
 abbrev pub Queues : Fields → LinkState → Result (Unit {0}) Refusal → LinkState → Type 0

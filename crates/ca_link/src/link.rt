@@ -1,13 +1,14 @@
 ghost use Rattle.std.specs.Prelude.{ℕ, List, ◌≡◌, ◌≤◌, IfOk, length, nat_le, take};
 ghost use Rattle.ca_text.specs.Limits.{output_limit, payload_limit};
-ghost use Rattle.ca_link.specs.Calls.{Gives, Nexts, Queues, QueuesMade, QueuesOwn};
+ghost use Rattle.ca_link.specs.Calls.{Gives, Nexts, NextsBare, Queues, QueuesMade, QueuesOwn};
+ghost use Rattle.ca_wire.specs.Messages.{alone};
 ghost use Rattle.ca_link.specs.Link.{kept, mark_of, new_link, noted, restored, with_handed};
 
 use crate::keep::Keep;
 use crate::mark::Mark;
 use crate::spares::Spares;
-use ca_text::{CLOSE_SILENCE, ECHO_SILENCE, OUTPUT_LIMIT, Refusal};
-use ca_wire::{Deframer, Message, Payload, Pipe};
+use ca_text::{CLOSE_SILENCE, Command, ECHO_SILENCE, OUTPUT_LIMIT, Refusal};
+use ca_wire::{Alone, Deframer, Message, Payload, Pipe, Wanted};
 use std::alloc::Global;
 use std::marker::Model;
 
@@ -91,6 +92,15 @@ impl Link {
         self.input.next_message()
     }
 
+    /// Takes the first message as `next_message` does, if it is complete, of this command, and its header, in 16 bytes, is all of it. Such a
+    /// message needs no memory. None leaves all as it was.
+    #[inline(always)]
+    pub fn next_bare(&mut self, command: Command) -> Option<Wanted>
+        ensures { NextsBare command self.old result self.new }
+    {
+        self.input.next_bare(command)
+    }
+
     /// A message that was handled gives its memory to the next one.
     pub fn recycle(&mut self, message: Message)
         ensures { self.new ≡ self.old }
@@ -134,6 +144,20 @@ impl Link {
             return Err(Refusal::CircuitClosed);
         }
         self.output.put(message)?;
+        Ok(())
+    }
+
+    /// Puts a message of one element after what waits, however much that is.
+    ///
+    /// Refused as CircuitClosed, then as OutOfMemory.
+    #[inline(always)]
+    pub fn queue_alone(&mut self, said: Alone) -> Result<(), Refusal>
+        ensures { QueuesOwn (alone said) self.old result self.new }
+    {
+        if self.input.is_closed() {
+            return Err(Refusal::CircuitClosed);
+        }
+        self.output.put_alone(said)?;
         Ok(())
     }
 

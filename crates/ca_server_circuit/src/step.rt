@@ -11,7 +11,7 @@ use crate::cause::Cause;
 use crate::end::End;
 use ca_arena::Handle;
 use ca_records::ServedRecords;
-use ca_text::Refusal;
+use ca_text::{Command, Refusal};
 use ca_wire::Message;
 use std::alloc::AllocError;
 
@@ -68,6 +68,13 @@ impl End {
             return EndStep::OutputFull;
         }
         know_bytes(self.link.in_bytes());
+        // A read is what comes most often, and needs no memory for a payload.
+        if let Some(wanted) = self.link.next_bare(Command::ReadNotify) {
+            return match self.read(records, wanted) {
+                Ok(()) => EndStep::Handled(Effect::Quiet),
+                Err(_) => EndStep::Breaks(Cause::OutOfMemory),
+            };
+        }
         match self.link.next_message() {
             Ok(None) => EndStep::NeedBytes,
             Ok(Some(message)) => match self.take(port, circuit, records, message) {

@@ -1,15 +1,20 @@
 -- What the bytes at the front say.
-use Rattle.std.proofs.Common.{◌≡◌, ℕ, ◌+◌, ◌%◌, ◌<◌, ◌≤◌, List, ◌++◌, length, take, drop, sym, ap, ◌∙◌, inl, inr, append_assoc, arith}
+use Rattle.std.proofs.Common.{◌≡◌, ℕ, ◌^◌, [], ◌+◌, ◌%◌, ◌<◌, ◌≤◌, List, ◌++◌, length, take, drop, sym, ap, ◌∙◌, inl, inr, append_assoc, arith}
 use Rattle.std.proofs.lemmas.List.{take_at, take-append-drop, length-append, length-take}
+use Rattle.ca_text.specs.Command.{command_number}
+use Rattle.ca_text.specs.declared.command.Command.{Command}
 use Rattle.ca_text.specs.Limits.{payload_limit}
 use Rattle.ca_text.specs.declared.refusal.Refusal.{Refusal}
 use Rattle.ca_wire.specs.declared.header.Header.{Header}
 use Rattle.ca_wire.specs.declared.reading.Head.{Head}
 use Rattle.ca_wire.specs.Header.{number16, number32, short_header, extended_header, HeaderFits}
+use Rattle.ca_wire.specs.declared.requests.Wanted.{Wanted}
 use Rattle.ca_wire.specs.Message.{header_of}
+use Rattle.ca_wire.specs.Messages.{on_channel}
 use Rattle.ca_wire.specs.Stream.{NoneBegins, Faults, BadAt, NotBad}
-use Rattle.ca_wire.specs.Reading.{NoHeader, BeginsHeader}
+use Rattle.ca_wire.specs.Reading.{NoHeader, BeginsBare, BeginsHeader}
 use Rattle.ca_wire.proofs.Headers.{Narrow, narrowed, narrow-short, short-behind, extended-behind, length-short, length-extended, short-front, header-front, header-long}
+use Rattle.ca_wire.proofs.Numbers.{number16-front}
 
 -- six numbers in a row
 pub six-numbers : (h : Header) (bytes a b c d e f : List ℕ) → bytes ≡ number16 h.command ++ a → a ≡ number16 h.size ++ b → b ≡ number16 h.data_type ++ c → c ≡ number16 h.count ++ d → d ≡ number32 h.p1 ++ e → e ≡ number32 h.p2 ++ f
@@ -88,3 +93,26 @@ not-whole bytes head begins aligned within few = (
       let size : head.header.size ≡ b.header.size = ap (λ (h : Header). h.size) r.0 in
       faultless b.header e (rw (← size) aligned) (rw (← size) within) b.faults,
 )
+
+-- ---- a message without payload, in 16 bytes
+
+bare-front : (bytes : List ℕ) (c : Command) (w : Wanted) → BeginsBare bytes c w → bytes ≡ short_header (header_of (on_channel c w [])) ++ drop 16 bytes
+bare-front bytes c w begins =
+    elim begins.header.form [
+      | inl p ↦ sym (take-append-drop 16 bytes) ∙ ap (λ (t : List ℕ). t ++ drop 16 bytes) p.are
+      | inr p ↦ absurd (omega (arith, ap length p.are, length-extended p.count16 (header_of (on_channel c w [])), length-take 16 bytes))
+    ]
+
+bare-behind : (bytes : List ℕ) (c : Command) (w : Wanted) (n : ℕ) (rest : List ℕ) → BeginsBare bytes c w → n < 2 ^ 16 → bytes ≡ number16 n ++ rest
+    → (n ≡ command_number c) × ((back : List ℕ) × (rest ≡ number16 0 ++ back))
+bare-behind bytes c w n rest begins small e =
+    let r = number16-front n (command_number c) rest _ small begins.header.fits.command (sym e ∙ bare-front bytes c w begins ∙ short-behind (header_of (on_channel c w [])) (drop 16 bytes)) in
+    (r.0, (_, r.1))
+
+pub bare-command : (bytes : List ℕ) (c : Command) (w : Wanted) (n : ℕ) (rest : List ℕ) → BeginsBare bytes c w → n < 2 ^ 16 → bytes ≡ number16 n ++ rest → n ≡ command_number c
+bare-command bytes c w n rest begins small e = (bare-behind bytes c w n rest begins small e).0
+
+pub bare-size : (bytes : List ℕ) (c : Command) (w : Wanted) (n k : ℕ) (rest back : List ℕ) → BeginsBare bytes c w → n < 2 ^ 16 → k < 2 ^ 16 → bytes ≡ number16 n ++ rest → rest ≡ number16 k ++ back → k ≡ 0
+bare-size bytes c w n k rest back begins small few e f =
+    let r = (bare-behind bytes c w n rest begins small e).1 in
+    (number16-front k 0 back r.0 few (omega arith) (sym f ∙ r.1)).0

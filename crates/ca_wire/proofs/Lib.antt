@@ -8,3 +8,4 @@ pub mod Appends
 pub mod Taking
 pub mod Backs
 pub mod Making
+pub mod Words

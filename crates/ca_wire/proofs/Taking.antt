@@ -1,7 +1,8 @@
 -- A message taken from the front of what a reader holds.
-use Rattle.std.proofs.Common.{◌≡◌, ◌≢◌, ℕ, ◌+◌, ◌-◌, List, [], ◌++◌, length, take, drop, false, Result, Ok, Err, Option, sym, ap, ◌∙◌, subst, arith}
+use Rattle.std.proofs.Common.{◌≡◌, ◌≢◌, ℕ, ◌+◌, ◌-◌, List, [], ◌++◌, length, take, drop, false, refl, Result, Ok, Err, Option, sym, ap, ◌∙◌, subst, arith}
 use Rattle.std.specs.Result.{IsErrAnd}
 use Rattle.std.proofs.lemmas.List.{take-append-drop, take-take, drop-take, length-take-le, length-drop}
+use Rattle.ca_text.specs.declared.command.Command.{Command}
 use Rattle.ca_text.specs.declared.refusal.Refusal.{Refusal}
 use Rattle.ca_text.specs.declared.refusal.Refusal.TheVariants.{OutOfMemory}
 use Rattle.ca_wire.specs.declared.header.Header.{Header}
@@ -10,7 +11,9 @@ use Rattle.ca_wire.specs.Header.{HeaderSpells}
 use Rattle.ca_wire.specs.Fields.{Fields}
 use Rattle.ca_wire.specs.Message.{header_of, Spells}
 use Rattle.ca_wire.specs.Stream.{Held}
-use Rattle.ca_wire.specs.Reading.{IsWhole, Takes, HasPayload, Nexts}
+use Rattle.ca_wire.specs.Messages.{on_channel}
+use Rattle.ca_wire.specs.declared.requests.Wanted.{Wanted}
+use Rattle.ca_wire.specs.Reading.{BeginsBare, IsWhole, Takes, HasPayload, Nexts}
 
 -- the bytes after a header that stands there
 pub held-part : (lent held : List ℕ) (start size : ℕ) → lent ≡ held → take (start + size - start) (drop start lent) ≡ take size (drop start held)
@@ -42,6 +45,13 @@ takes-whole old new head m was stays whole same payload rest =
       bytes = sym (take-append-drop (head.start + head.header.size) old.bytes) ∙ ap (λ (t : List ℕ). take (head.start + head.header.size) old.bytes ++ t) (sym rest);
       stays = stays;
     }
+
+-- a message without payload, in 16 bytes
+pub takes-bare : (old new : Held) (c : Command) (w : Wanted) → old.closed ≡ false → new.closed ≡ false → BeginsBare old.bytes c w → new.bytes ≡ drop 16 old.bytes → Takes old (on_channel c w []) new
+takes-bare old new c w was stays begins rest =
+    let head : Head = record { header = header_of (on_channel c w []); start = 16 } in
+    let whole : IsWhole old.bytes head = record { header = begins.header; room = begins.room; aligned = refl; within = omega arith } in
+    takes-whole old new head (on_channel c w []) was stays whole refl refl rest
 
 pub whole-payload : (bytes : List ℕ) (head : Head) → IsWhole bytes head → take head.header.size (drop head.start bytes) ≢ [] → HasPayload bytes
 whole-payload bytes head whole some =

@@ -1,5 +1,6 @@
 -- Vocabulary: the messages by name (section "CA Protocol Messages"). Fields that a message does not name are 0.
 use Rattle.std.specs.Prelude.{ℕ, ◌^◌, ◌-◌, ◌*◌, ◌+◌, ◌==◌, List, [], ◌∷◌, ◌++◌, replicate, slice_index_or}
+use Rattle.std.specs.Int.{to_be_bytes, w64}
 use Rattle.std.specs.List.{before_first}
 use Rattle.ca_text.specs.Command.{command_number}
 use Rattle.ca_text.specs.declared.command.Command.{Command}
@@ -12,6 +13,7 @@ use Rattle.ca_wire.specs.Message.{header_of}
 -- What a request on a channel names: the SID, the IOID or subscription id, and the type and count that are wanted (Wanted). The ids of a
 -- channel (ChannelIds). What a search found (Found), a channel as it was created (Created), and what an answer or an update is about
 -- (Answered).
+use Rattle.ca_wire.specs.declared.alone.Alone.{Alone}
 use Rattle.ca_wire.specs.declared.requests.Wanted.{Wanted}
 use Rattle.ca_wire.specs.declared.requests.ChannelIds.{ChannelIds}
 use Rattle.ca_wire.specs.declared.replies.Found.{Found}
@@ -120,6 +122,10 @@ status_reply m status = record m { p1 = status; payload = [] }
 -- The confirmation of a cancel: an EVENT_ADD without payload, with the type, count and ids of the request ("CA_PROTO_EVENT_CANCEL")
 abbrev pub cancel_reply : Fields → Fields
 cancel_reply m = record m { command = command_number command.EventAdd; payload = [] }
+
+-- an answer or an update with one element, whose payload is eight bytes
+abbrev pub alone : Alone → Fields
+alone a = record { command = command_number a.command; data_type = a.data_type; count = 1; p1 = normal; p2 = a.id; payload = to_be_bytes w64 a.payload }
 
 -- what is in place of a CID if the SID is unknown ("CA_PROTO_ERROR")
 abbrev pub no_cid : ℕ

@@ -9,7 +9,10 @@ use Rattle.ca_wire.specs.declared.reading.One.{One}
 use Rattle.ca_wire.specs.declared.reading.One.TheVariants as one
 use Rattle.ca_wire.specs.Header.{HeaderSpells}
 use Rattle.ca_wire.specs.Fields.{Fields}
-use Rattle.ca_wire.specs.Message.{Spells}
+use Rattle.ca_wire.specs.Message.{Spells, header_of}
+use Rattle.ca_wire.specs.Messages.{on_channel}
+use Rattle.ca_wire.specs.declared.requests.Wanted.{Wanted}
+use Rattle.ca_text.specs.declared.command.Command.{Command}
 use Rattle.ca_wire.specs.Stream.{Held, NoneBegins, BadAt, NotBad}
 
 -- no whole header begins these bytes
@@ -20,6 +23,14 @@ NoHeader bytes = (h : Header) (front back : List ℕ) → HeaderSpells front h �
 pub record BeginsHeader (bytes : List ℕ) (head : Head) : Type 0 where
   pub header : HeaderSpells (take head.start bytes) head.header
   pub room : head.start ≤ length bytes
+
+-- A message of this command, which names this and has no payload, begins these bytes, in 16 of them.
+abbrev pub BeginsBare : List ℕ → Command → Wanted → Type 0
+BeginsBare bytes c w = BeginsHeader bytes (record { header = header_of (on_channel c w []); start = 16 })
+
+-- No message of this command without payload begins these bytes, in 16 of them.
+abbrev pub NoBare : List ℕ → Command → Type 0
+NoBare bytes c = (w : Wanted) → BeginsBare bytes c w → ⊥
 
 -- A whole message begins these bytes: its header in the first `start` bytes, then `size` bytes of payload.
 pub record IsWhole (bytes : List ℕ) (head : Head) : Type 0 where
@@ -72,3 +83,8 @@ Nexts old (Err Misaligned) new = Closes old Misaligned new
 Nexts old (Err TooLarge) new = Closes old TooLarge new
 Nexts old (Err OutOfMemory) new = (old.closed ≡ false) × HasPayload old.bytes × (new ≡ old)
 Nexts old (Err _) new = ⊥
+
+-- From old, the next message was asked for, if it is of this command, in 16 bytes without payload; with this answer, and left new.
+abbrev pub NextsBare : Command → Held → Option Wanted → Held → Type 0
+NextsBare c old (Some w) new = Nexts old (Ok (Some (on_channel c w []))) new
+NextsBare c old None new = (old.closed ≡ false → NoBare old.bytes c) × (new ≡ old)

@@ -2,7 +2,9 @@ ghost use Rattle.std.specs.Prelude.{ℕ, List, ◌≡◌, ◌≢◌, ◌≤◌, 
 ghost use Rattle.ca_text.specs.Limits.{payload_limit};
 ghost use Rattle.ca_wire.specs.Made.{PutsMade};
 ghost use Rattle.ca_wire.specs.Message.{spelling};
+ghost use Rattle.ca_wire.specs.Messages.{alone};
 
+use crate::alone::{Alone, spell_alone};
 use crate::made::{Payload, spell_made};
 use crate::message::{Message, spell};
 use ca_text::Refusal;
@@ -88,6 +90,16 @@ impl Buffer {
     {
         self.let_go();
         spell_made(head, size, payload, &mut self.bytes)
+    }
+
+    /// Puts the one spelling of this after the others. A refusal changes nothing.
+    #[inline(always)]
+    pub fn put_alone(&mut self, said: Alone) -> Result<(), AllocError>
+        ensures ok { OnOk result (self.new ≡ self.old ++ spelling (alone said)) }
+        ensures err { OnErr result (self.new ≡ self.old) }
+    {
+        self.let_go();
+        spell_alone(said, &mut self.bytes)
     }
 
     /// Only the first n bytes stay.

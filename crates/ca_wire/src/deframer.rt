@@ -1,10 +1,11 @@
 ghost use Rattle.std.specs.Prelude.{◌≡◌, ◌≢◌, [], false, IfOk, OnErr};
-ghost use Rattle.ca_wire.specs.Reading.{Gives, Nexts};
+ghost use Rattle.ca_wire.specs.Reading.{Gives, Nexts, NextsBare};
 
 use crate::buffer::Buffer;
 use crate::message::Message;
-use crate::reading::{One, read_one};
-use ca_text::Refusal;
+use crate::reading::{One, bare_at, read_one};
+use crate::requests::Wanted;
+use ca_text::{Command, Refusal};
 use std::alloc::{AllocError, Global};
 use std::marker::Model;
 use std::mem;
@@ -101,6 +102,24 @@ impl Deframer {
                 self.closed = true;
                 Err(refusal)
             }
+        }
+    }
+
+    /// Takes the message at the front as `next_message` does, if it is of this command and its header, in 16 bytes, is all of it. Such a
+    /// message needs no memory. None leaves all as it was.
+    #[inline(always)]
+    pub fn next_bare(&mut self, command: Command) -> Option<Wanted>
+        ensures { NextsBare command self.old result self.new }
+    {
+        if self.closed {
+            return None;
+        }
+        match bare_at(self.buffer.bytes(), command) {
+            Some(wanted) => {
+                self.buffer.drop_front(16);
+                Some(wanted)
+            }
+            None => None,
         }
     }
 

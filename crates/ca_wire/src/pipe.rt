@@ -2,7 +2,9 @@ ghost use Rattle.std.specs.Prelude.{ℕ, List, ◌≡◌, ◌≤◌, ◌++◌, [
 ghost use Rattle.ca_text.specs.Limits.{payload_limit};
 ghost use Rattle.ca_wire.specs.Made.{PutsMade};
 ghost use Rattle.ca_wire.specs.Message.{spelling};
+ghost use Rattle.ca_wire.specs.Messages.{alone};
 
+use crate::alone::Alone;
 use crate::buffer::Buffer;
 use crate::made::Payload;
 use crate::message::Message;
@@ -72,6 +74,15 @@ impl Pipe {
         ensures { PutsMade head.now (P.made payload.now) self.old result self.new }
     {
         self.buffer.put_made(head, size, payload)
+    }
+
+    /// Puts the one spelling of this after what waits. A refusal changes nothing.
+    #[inline(always)]
+    pub fn put_alone(&mut self, said: Alone) -> Result<(), AllocError>
+        ensures ok { OnOk result (self.new ≡ self.old ++ spelling (alone said)) }
+        ensures err { OnErr result (self.new ≡ self.old) }
+    {
+        self.buffer.put_alone(said)
     }
 
     /// Only the first n of the bytes still wait.

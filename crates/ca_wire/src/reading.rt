@@ -1,9 +1,11 @@
 ghost use Rattle.std.specs.Prelude.{◌≡◌, ◌+◌, ◌≤◌, ◌++◌, length, MatchOption};
 ghost use Rattle.ca_wire.specs.Header.{number16, number32};
-ghost use Rattle.ca_wire.specs.Reading.{BeginsHeader, IsOne, NoHeader};
+ghost use Rattle.ca_wire.specs.Reading.{BeginsBare, BeginsHeader, IsOne, NoBare, NoHeader};
 
 use crate::header::Header;
-use ca_text::{PAYLOAD_LIMIT, Refusal};
+use crate::ids::{Ioid, Sid};
+use crate::requests::Wanted;
+use ca_text::{Command, PAYLOAD_LIMIT, Refusal};
 
 /// The header of a whole message, and where its payload starts.
 #[derive(Clone, Copy, Debug, PartialEq, Eq)]
@@ -84,6 +86,34 @@ pub(crate) fn head_at(bytes: &[u8]) -> Option<Head>
         p2,
     };
     Some(Head { header, start: 24 })
+}
+
+/// What the message at the front names, if it is of this command and its header, in 16 bytes, is all of it.
+#[inline(always)]
+pub(crate) fn bare_at(bytes: &[u8], command: Command) -> Option<Wanted>
+    ensures { MatchOption result (NoBare bytes.now command) (BeginsBare bytes.now command) }
+{
+    if bytes.len() < 16 {
+        return None;
+    }
+    let (number, rest) = number16_at(bytes);
+    if number != command.number() {
+        return None;
+    }
+    let (size, rest) = number16_at(rest);
+    if size != 0 {
+        return None;
+    }
+    let (data_type, rest) = number16_at(rest);
+    let (count16, rest) = number16_at(rest);
+    let (sid, rest) = number32_at(rest);
+    let (id, _rest) = number32_at(rest);
+    Some(Wanted {
+        sid: Sid::new(sid),
+        id: Ioid::new(id),
+        data_type,
+        count: u32::from(count16),
+    })
 }
 
 /// The two-byte number at the front, and what stands after it.

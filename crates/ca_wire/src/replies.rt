@@ -4,14 +4,14 @@ ghost use Rattle.std.specs.Prelude.{◌≡◌, ◌≢◌, ◌%◌, ◌≤◌, �
 ghost use Rattle.ca_text.specs.Limits.{minor_version, payload_limit};
 ghost use Rattle.ca_wire.specs.Header.{header_spelling, number16};
 ghost use Rattle.ca_wire.specs.Message.{header_of};
-ghost use Rattle.ca_wire.specs.Messages.{answer_in, cancel_reply, cleared_reply, created_in, created_reply, disconnect, error_reply, failed_reply, found_in, no_cid, not_found_reply, rights_reply, search_reply, status_reply, update, value_reply, version_reply};
+ghost use Rattle.ca_wire.specs.Messages.{answer_in, cancel_reply, cleared_reply, created_in, created_reply, disconnect, error_reply, failed_reply, found_in, no_cid, not_found_reply, read_request, rights_reply, search_reply, status_reply, update, value_reply, version_reply};
 ghost use Rattle.ca_wire.specs.Reading.{BeginsHeader, NoHeader};
 
 use crate::header::{Header, spell_header};
 use crate::ids::{Cid, Ioid, Sid};
 use crate::message::Message;
 use crate::reading::{Head, head_at};
-use crate::requests::{ChannelIds, clear_request};
+use crate::requests::{ChannelIds, Wanted, clear_request};
 use ca_text::{Command, MINOR_VERSION, Status};
 use std::alloc::{AllocError, Global};
 
@@ -130,14 +130,28 @@ pub fn value_reply(request: &Message, count: u32, image: Vec<u8>) -> Result<Mess
     Message::with_padding(command, data_type, count, normal, request.p2(), image)
 }
 
-/// READ_NOTIFY, answered, with no image, which is to be made in its place.
-pub fn value_head(alloc: Global, request: &Message, count: u32) -> Message
-    ensures { result ≡ value_reply request.now count [] }
+/// READ_NOTIFY of this, answered, with no image, which is to be made in its place.
+pub fn value_head(alloc: Global, wanted: Wanted, count: u32) -> Message
+    ensures { result ≡ value_reply (read_request wanted) count [] }
 {
-    let (command, data_type) = (request.command(), request.data_type());
-    let normal = Status::NORMAL.number;
-    let payload = Vec::new(alloc);
-    Message::of_fields(command, data_type, count, normal, request.p2(), payload)
+    let (normal, id) = (Status::NORMAL.number, wanted.id.number());
+    Message::with_no_payload(
+        alloc,
+        Command::ReadNotify,
+        wanted.data_type,
+        count,
+        normal,
+        id,
+    )
+}
+
+/// READ_NOTIFY of this, answered by a status alone.
+pub fn read_status(alloc: Global, wanted: Wanted, status: Status) -> Message
+    ensures { result ≡ status_reply (read_request wanted) status.number }
+{
+    let (data_type, count) = (wanted.data_type, wanted.count);
+    let (status, id) = (status.number, wanted.id.number());
+    Message::with_no_payload(alloc, Command::ReadNotify, data_type, count, status, id)
 }
 
 /// READ_NOTIFY or WRITE_NOTIFY, answered by a status alone.
