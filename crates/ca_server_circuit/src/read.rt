@@ -188,4 +188,3 @@ pub(crate) fn status_of(refusal: Refusal) -> Option<Status>
         _ => Some(Status::GETFAIL),
     }
 }
-// LEAD: read /work/quick/LEAD.md

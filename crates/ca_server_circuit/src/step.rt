@@ -75,6 +75,9 @@ impl End {
                 Err(_) => EndStep::Breaks(Cause::OutOfMemory),
             };
         }
+        if let Some(step) = self.step_short(records) {
+            return step;
+        }
         match self.link.next_message() {
             Ok(None) => EndStep::NeedBytes,
             Ok(Some(message)) => match self.take(port, circuit, records, message) {

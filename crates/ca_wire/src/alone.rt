@@ -73,4 +73,3 @@ fn put_eight(number: u64, out: &mut Vec<u8>)
     out.push_reserved(bytes[6]);
     out.push_reserved(bytes[7]);
 }
-// LEAD: read /work/quick/LEAD.md
