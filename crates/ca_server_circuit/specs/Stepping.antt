@@ -68,6 +68,6 @@ abbrev pub after_short : ServerEnd → ServerEnd
 after_short e = record e { link = with_rest (drop 24 e.link.input.bytes) e.link }
 
 -- What is due by this relation was done for the first message, which is of this command, names this, and is 24 bytes.
-abbrev pub DoesShort : (Knows → Fields → List Fields → Action → Type 0) → Command → Wanted → Store → ServerEnd → Effect → Store → ServerEnd → Type 0
-DoesShort D c w s e did t new =
-    (port : ℕ) (h : Handle) → Does (D (known port s (after_short e)) (short_in e.link.input.bytes c w)) s h (after_short e) (short_in e.link.input.bytes c w) did t new
+abbrev pub DoesShort : (Knows → Fields → List Fields → Action → Type 0) → Command → Wanted → Handle → Store → ServerEnd → Effect → Store → ServerEnd → Type 0
+DoesShort D c w h s e did t new =
+    (port : ℕ) → Does (D (known port s (after_short e)) (short_in e.link.input.bytes c w)) s h (after_short e) (short_in e.link.input.bytes c w) did t new

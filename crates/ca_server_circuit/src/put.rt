@@ -1,4 +1,4 @@
-ghost use Rattle.std.specs.Prelude.{◌≡◌, IfOk, OnErr, Option, false, is_some, true};
+ghost use Rattle.std.specs.Prelude.{◌≡◌, IfOk, OnErr, Option, Some, false, is_some, true};
 ghost use Rattle.ca_dbr.specs.Reading.{least_size};
 ghost use Rattle.ca_records.specs.declared.puts.Begun.TheVariants.{Applied};
 ghost use Rattle.ca_records.specs.declared.puts.Put.{Put};
@@ -43,6 +43,28 @@ pub(crate) fn write_one(
         return false;
     }
     records.write_one(place, is_put, wanted.data_type, payload)
+}
+
+/// The same of a put that makes its record busy.
+#[inline(always)]
+pub(crate) fn put_one(
+    records: &mut ServedRecords,
+    place: usize,
+    rights: u32,
+    put: Put,
+    wanted: Wanted,
+    payload: &[u8],
+) -> bool
+    requires { IsThere records.old place }
+    ensures put { result ≡ true → (c : Command)
+        → WritesTo records.old place rights (Some put) (on_channel c wanted payload.now)
+        (Applied true) records.new }
+    ensures stays { result ≡ false → records.new ≡ records.old }
+{
+    if wanted.count != 1 || rights / 2 % 2 != 1 {
+        return false;
+    }
+    records.put_one(place, put, wanted.data_type, payload)
 }
 
 /// Begins the write of this message to the record at this place under these rights: a put with notification, or a plain write,

@@ -1,36 +1,41 @@
 //! Writes of one element, which are handled where they came: no message is made of them, and they take no memory.
 ghost use Rattle.std.specs.Prelude.{ℕ, ◌≡◌, ◌<◌, IfOk, MatchOption, OnErr, length};
-ghost use Rattle.ca_arena.specs.declared.handle.Handle.{Handle};
 ghost use Rattle.ca_dbr.specs.Octets.{AreBytes};
 ghost use Rattle.ca_text.specs.declared.command.Command.TheVariants as command;
 ghost use Rattle.ca_text.specs.Limits.{output_limit};
 ghost use Rattle.ca_link.specs.Calls.{HasShort, IsOpen};
 ghost use Rattle.ca_records.specs.Store.{records_of};
 ghost use Rattle.ca_server_circuit.specs.declared.step.Effect.TheVariants.{Wrote};
+ghost use Rattle.ca_arena.specs.declared.handle.Handle.{Handle};
 ghost use Rattle.ca_server_circuit.specs.Handling.{AreServed, Puts, Writes};
 ghost use Rattle.ca_server_circuit.specs.Stepping.{DoesShort, EndSteps};
 
 use crate::cause::Cause;
 use crate::end::{End, send};
-use crate::put::write_one;
+use crate::put::{put_one, write_one};
 use crate::seek::Sought;
 use crate::step::{Effect, EndStep};
-use ca_records::ServedRecords;
+use ca_arena::Handle;
+use ca_records::{Put, ServedRecords};
 use ca_text::{Command, Status};
 use ca_wire::{Wanted, put_status};
 use std::alloc::AllocError;
 
 impl End {
     /// Handles the first message, if it is a WRITE or a WRITE_NOTIFY of one element of at most eight bytes, in the type of its record, that is
-    /// applied at once and leaves no put busy: as most are. None if it is another; then nothing changes.
+    /// applied at once: as most are. None if it is another; then nothing changes.
     #[inline(always)]
-    pub(crate) fn step_short(&mut self, records: &mut ServedRecords) -> Option<EndStep>
+    pub(crate) fn step_short(
+        &mut self,
+        circuit: Handle,
+        records: &mut ServedRecords,
+    ) -> Option<EndStep>
         requires room { length self.old.link.output < output_limit }
         requires bytes { AreBytes self.old.link.input.bytes }
         requires served { AreServed (records_of records.old) self.old.channels }
         ensures { MatchOption result ((self.new ≡ self.old) × (records.new ≡ records.old))
-            (λ step. (port : ℕ) (h : Handle)
-            → EndSteps port h self.old records.old step self.new records.new) }
+            (λ step. (port : ℕ)
+            → EndSteps port circuit self.old records.old step self.new records.new) }
     {
         if let Some(wanted) = self.link.first_short(Command::Write) {
             return match self.write_short(records, wanted) {
@@ -39,7 +44,7 @@ impl End {
             };
         }
         if let Some(wanted) = self.link.first_short(Command::WriteNotify) {
-            return match self.put_short(records, wanted) {
+            return match self.put_short(circuit, records, wanted) {
                 Ok(Some(place)) => Some(EndStep::Handled(Effect::Wrote(place))),
                 Ok(None) => None,
                 Err(_) => Some(EndStep::Breaks(Cause::OutOfMemory)),
@@ -54,8 +59,8 @@ impl End {
         requires served { AreServed (records_of records.old) self.old.channels }
         requires short { HasShort command.Write self.old.link wanted }
         ensures { MatchOption result ((self.new ≡ self.old) × (records.new ≡ records.old))
-            (λ place. DoesShort Writes command.Write wanted records.old self.old (Wrote place)
-            records.new self.new) }
+            (λ place. (h : Handle) → DoesShort Writes command.Write wanted h records.old self.old
+            (Wrote place) records.new self.new) }
     {
         let Sought::Served(seat) = self.seek(records, wanted.sid) else {
             return None;
@@ -70,11 +75,12 @@ impl End {
         Some(seat.place)
     }
 
-    /// WRITE_NOTIFY, if it is such a one. Says where it was applied. Its reply goes first, so that none is applied for whose reply there is no
-    /// memory; it is taken back if the put is another.
+    /// WRITE_NOTIFY, if it is such a one. Says where it was applied. On a slow record its reply comes as it is finished. On a quick one it goes
+    /// first, so that none is applied for whose reply there is no memory; it is taken back if the put is another.
     #[inline(never)]
     fn put_short(
         &mut self,
+        circuit: Handle,
         records: &mut ServedRecords,
         wanted: Wanted,
     ) -> Result<Option<usize>, AllocError>
@@ -82,18 +88,30 @@ impl End {
         requires short { HasShort command.WriteNotify self.old.link wanted }
         ensures ok { IfOk result (λ applied.
             MatchOption applied ((self.new ≡ self.old) × (records.new ≡ records.old))
-            (λ place. DoesShort Puts command.WriteNotify wanted records.old self.old (Wrote place)
-            records.new self.new)) }
+            (λ place. DoesShort Puts command.WriteNotify wanted circuit records.old self.old
+            (Wrote place) records.new self.new)) }
         ensures err { OnErr result ((self.new ≡ self.old) × (records.new ≡ records.old)) }
     {
         let Sought::Served(seat) = self.seek(records, wanted.sid) else {
             return Ok(None);
         };
         let state = records.at(seat.place).state();
-        if state.is_slow() || wanted.count != 1 {
-            return Ok(None);
-        }
         let rights = records.rights(&self.user, &self.host, state.name());
+        if state.is_slow() {
+            let put = Put {
+                circuit,
+                channel: seat.channel,
+                data_type: wanted.data_type,
+                count: wanted.count,
+                ioid: wanted.id.number(),
+            };
+            let payload = &self.link.in_bytes()[16..24];
+            if !put_one(records, seat.place, rights, put, wanted, payload) {
+                return Ok(None);
+            }
+            self.link.drop_short();
+            return Ok(Some(seat.place));
+        }
         let waited = self.link.out_bytes().len();
         let reply = put_status(self.alloc, wanted, Status::NORMAL);
         send(&mut self.link, &reply)?;

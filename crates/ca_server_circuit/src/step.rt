@@ -75,7 +75,7 @@ impl End {
                 Err(_) => EndStep::Breaks(Cause::OutOfMemory),
             };
         }
-        if let Some(step) = self.step_short(records) {
+        if let Some(step) = self.step_short(circuit, records) {
             return step;
         }
         match self.link.next_message() {
