@@ -6,10 +6,10 @@ use Rattle.ca_arena.specs.declared.handle.Handle.{Handle}
 use Rattle.ca_model.specs.Server.{Server}
 use Rattle.ca_model.specs.ServerSteps.{Pumps, Update}
 use Rattle.ca_server_core.specs.Pumping.{PumpsOut}
-use Rattle.ca_server_core.specs.Noting.{FinishesOne}
+use Rattle.ca_server_core.specs.Noting.{HandlesAndFinishes}
 use Rattle.ca_answer.specs.Engines.{EngineState, Gathers, HandlesOne, PumpsAndGathers}
 
-pumped-one : (old mid new : Server) (h : Handle) (us : List Update) → FinishesOne old h mid → Pumps mid h us new → HandlesOne old h new
+pumped-one : (old mid new : Server) (h : Handle) (us : List Update) → HandlesAndFinishes old h mid → Pumps mid h us new → HandlesOne old h new
 pumped-one old mid new h us d p = record {
   put = d.put;
   stepped = d.stepped;
@@ -22,7 +22,7 @@ pumped-one old mid new h us d p = record {
 }
 
 -- the message by itself, and what was moved after it
-pub handled-gathered : (x mid new : EngineState) → mid ≡ record x { core = mid.core } → FinishesOne x.core x.circuit mid.core → PumpsAndGathers mid new
+pub handled-gathered : (x mid new : EngineState) → mid ≡ record x { core = mid.core } → HandlesAndFinishes x.core x.circuit mid.core → PumpsAndGathers mid new
     → (pumped : Server) × HandlesOne x.core x.circuit pumped × Gathers (record x { core = pumped }) new
 handled-gathered x mid new is d g =
     let p : PumpsAndGathers (record x { core = mid.core }) new = subst (λ (z : EngineState). PumpsAndGathers z new) is g in

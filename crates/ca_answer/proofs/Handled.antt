@@ -2,13 +2,11 @@
 use Rattle.std.proofs.Common.{◌≡◌, ℕ, ◌⊎◌, inl, inr, true, false, List, [], ◌∷◌, ◌++◌, append_assoc, drop, length, Option, Some, None, refl, sym, ap, ◌∙◌, subst, arith}
 use Rattle.std.proofs.lemmas.List.{append-nil}
 use Rattle.ca_arena.specs.declared.handle.Handle.{Handle}
-use Rattle.ca_ids.specs.Table.{Table, held, under, with_changed}
-use Rattle.ca_ids.specs.Wire.{wire_of}
-use Rattle.ca_link.specs.Link.{LinkState, TakesFirst, with_handed, with_rest, with_sent}
+use Rattle.ca_ids.specs.Table.{Table, under, with_changed}
+use Rattle.ca_link.specs.Link.{with_handed, with_rest, with_sent}
 use Rattle.ca_records.specs.Puts.{Record}
 use Rattle.ca_records.specs.Record.{RecordState}
 use Rattle.ca_records.specs.Rules.{Rule}
-use Rattle.ca_text.proofs.Places.{At-mapped}
 use Rattle.ca_wire.specs.Fields.{Fields}
 use Rattle.ca_wire.specs.Message.{Spells}
 use Rattle.ca_wire.specs.Stream.{Begins, NoneBegins, NotBad}
@@ -16,15 +14,14 @@ use Rattle.ca_model.specs.Answer.{Answers, Serves, Writes}
 use Rattle.ca_model.specs.Due.{Action, Applies, KnownChannel}
 use Rattle.ca_model.specs.Due as action
 use Rattle.ca_model.specs.Ends as why
-use Rattle.ca_model.specs.Server.{Open, OpenChannel, Server, ServerCircuit, ServerEnd}
+use Rattle.ca_model.specs.Server.{Open, Server, ServerCircuit, ServerEnd}
 use Rattle.ca_model.specs.ServerSteps.{Handles, HasEnd, Records, Sends, Stepped, Steps, StepsAt, StepsOpen, knows, known_channel, output_of, with_end}
 use Rattle.ca_model.specs.ServerSteps as did
-use Rattle.ca_model.specs.Speech.{In}
 use Rattle.ca_server_core.proofs.Moves.{changed-nothing}
 use Rattle.ca_answer.specs.Engines.{HandlesOne}
 use Rattle.ca_answer.specs.Serving.{AreFree, Over, Served}
 use Rattle.ca_answer.proofs.Doing.{Busies, due-busies}
-use Rattle.ca_answer.proofs.Ends.{changed-twice, end-there, handles-has, one-end, pumped-stays, reaches-has, records-circuits, tried-stays}
+use Rattle.ca_answer.proofs.Ends.{changed-twice, end-there, handles-has, pumped-stays, reaches-has, records-circuits, tried-stays}
 use Rattle.ca_answer.proofs.Free.{AreFreeBut, busied, noted-free, pumped-free, reached-free, recorded-free, tried-free}
 
 -- ---- bytes and answers in a row

@@ -17,7 +17,7 @@ use Rattle.ca_server_watchers.specs.Watching.{IsAmong, Watched, watching}
 use Rattle.ca_model.specs.Due.{Action, Adds, Applies, Clears, Drops, Greets, Names, Nothing, Opens, Switches, Waits}
 use Rattle.ca_model.specs.Ends as why
 use Rattle.ca_model.specs.Server.{Ended, Open, Server, ServerCircuit, ServerEnd, Subscription, key_of, with_post}
-use Rattle.ca_model.specs.ServerSteps.{Acts, MayEnd, NeedsMemory, Next, Reaches, Stepped, Steps, after_post, closed, is_write, output_of, reached, stored_now, write_mask}
+use Rattle.ca_model.specs.ServerSteps.{Acts, MayEnd, NeedsMemory, Next, Reaches, Stepped, Steps, StepsAt, after_post, closed, is_write, output_of, reached, stored_now, write_mask}
 use Rattle.ca_model.specs.ServerSteps as steps
 use Rattle.ca_model.specs.Speech.{In, Stored}
 use Rattle.ca_server_circuit.specs.declared.cause.Cause.{Cause}
@@ -33,7 +33,8 @@ use Rattle.ca_server_circuit.specs.Circuits.{is_open}
 use Rattle.ca_server_circuit.specs.Handling.{Does, Recorded, Tells, is_wrote}
 use Rattle.ca_server_core.specs.Reaching.{ReachesAll}
 use Rattle.ca_server_circuit.specs.Serving.{CircuitSteps}
-use Rattle.ca_server_core.specs.Serving.{LacksItself, Reports, StepsIn, more_applied, stepped}
+use Rattle.ca_server_core.specs.Noting.{action_at, action_of}
+use Rattle.ca_server_core.specs.Serving.{Closes, ClosesAt, LacksItself, Reports, StepsIn, more_applied, stepped}
 use Rattle.ca_server_core.specs.Sound.{IsSound}
 use Rattle.ca_server_circuit.specs.Stepping.{EndSteps, after_first, why_is}
 use Rattle.ca_server_core.proofs.Closing.{none-waits, not-ended, sound-freed}
@@ -178,7 +179,26 @@ handled-output y s u h was e new m did D same out d =
     let sent : new.link.output ≡ was.link.output ++ spelled d.replies = ap (λ (x : ServerEnd). x.link.output) d.leaves ∙ ap (λ (l : LinkState). l.output ++ spelled d.replies) kept ∙ ap (λ (o : List ℕ). o ++ spelled d.replies) out in
     ap (λ (o : List ℕ). take (length was.link.output) o) sent ∙ first-left was.link d.replies
 
-module _ (port now n : ℕ) (b : Clock) (s u : Store) (t : Circuits) (h : Handle) (e new : ServerEnd) (did : Effect) (there : under t h ≡ Some (Open e)) (d : EndSteps port h e s (step.Handled did) new u) where
+-- a step that handled a message whose action is one of these, and when it closes the end
+abbrev pub HandledBy : (P : Action → Type 0) → Server → Handle → Server → Type 0
+HandledBy P old h new = (d : Steps old h steps.Handled new) × P (action_of old h new d) × Closes old h steps.Handled new
+
+-- any step, and that of it
+abbrev pub MakesBy : (P : Action → Type 0) → Server → Handle → Stepped → Server → Type 0
+MakesBy P old h steps.Handled new = HandledBy P old h new
+MakesBy P old h did new = Steps old h did new × Closes old h did new
+
+made-by : (P : Action → Type 0) (y : Server) (h : Handle) (did : Stepped) (new : Server) → MakesBy P y h did new → Makes y h did new
+made-by P y h steps.Handled new made = (made.0, made.2)
+made-by P y h steps.NeedBytes new made = made
+made-by P y h steps.OutputFull new made = made
+made-by P y h (steps.Closed w left) new made = made
+
+step-by : (P : Action → Type 0) (y : Server) (h : Handle) (e : ServerEnd) (new : Server) → under y.circuits h ≡ Some (Open e) → (d : StepsAt y h (Some (Open e)) steps.Handled new) → P d.0.action → HandledBy P y h new
+step-by P y h e new there d p =
+    subst (λ (o : Option ServerCircuit). (z : StepsAt y h o steps.Handled new) × P (action_at y h new o z) × ClosesAt y h o steps.Handled new) (sym there) (d, p, tt)
+
+module _ (port now n : ℕ) (b : Clock) (s u : Store) (t : Circuits) (h : Handle) (e new : ServerEnd) (did : Effect) (there : under t h ≡ Some (Open e)) (d : EndSteps port h e s (step.Handled did) new u) (P : Action → Type 0) (holds : P d.1.action) where
   abbrev y : Server
   y = server_of port s now t b n
 
@@ -202,22 +222,22 @@ module _ (port now n : ℕ) (b : Clock) (s u : Store) (t : Circuits) (h : Handle
 
   -- it stays open, and nothing else follows or all of it did
   stays-open : (x : Store) (last : Circuits) (result : Step) (final : Circuits) (z : ServerEnd) (gone : Handle → Bool) → gone h ≡ false → under last h ≡ Some (Open z) → Settles last h (length e.link.output) result final → Reaches the-next.0.action gone the-next.0.after (server_of port x now last b k)
-      → Makes y h (stepped result) (server_of port x now final b k)
+      → MakesBy P y h (stepped result) (server_of port x now final b k)
   stays-open x last result final z gone stays at settled reach =
       let answer : stepped result ≡ steps.Handled = subst (λ (o : Option ServerCircuit). IsSettled o (length e.link.output) result) at settled.0 in
       let same : final ≡ last = settled.1 ∙ ap (λ (o : Option ServerCircuit). cond (is_open o) last (with_freed h last)) at in
-      subst (λ (r : Stepped). Makes y h r (server_of port x now final b k)) (sym answer)
-      (subst (λ (c : Circuits). Makes y h steps.Handled (server_of port x now c b k)) (sym same)
-      (step-at port now n b y h (Open e) steps.Handled (server_of port x now last b k) there (the-next.0, gone, stays, reach) tt))
+      subst (λ (r : Stepped). MakesBy P y h r (server_of port x now final b k)) (sym answer)
+      (subst (λ (c : Circuits). MakesBy P y h steps.Handled (server_of port x now c b k)) (sym same)
+      (step-by P y h e (server_of port x now last b k) there (the-next.0, gone, stays, reach) (subst P (sym the-next.2) holds)))
 
   -- it has ended out of memory for what follows
   ended-after : (x : Store) (last : Circuits) (result : Step) (final : Circuits) (left : List ℕ) → under last h ≡ Some (Ended why.OutOfMemory left) → take (length e.link.output) left ≡ e.link.output → Settles last h (length e.link.output) result final → LacksItself y h e (server_of port x now (with_freed h last) b k)
-      → Makes y h (stepped result) (server_of port x now final b k)
+      → MakesBy P y h (stepped result) (server_of port x now final b k)
   ended-after x last result final left at first settled lacks =
       let answer : stepped result ≡ steps.Closed why.OutOfMemory (take (length e.link.output) left) = subst (λ (o : Option ServerCircuit). IsSettled o (length e.link.output) result) at settled.0 in
       let same : final ≡ with_freed h last = settled.1 ∙ ap (λ (o : Option ServerCircuit). cond (is_open o) last (with_freed h last)) at in
-      subst (λ (r : Stepped). Makes y h r (server_of port x now final b k)) (sym (answer ∙ ap (λ (l : List ℕ). steps.Closed why.OutOfMemory l) first))
-      (subst (λ (c : Circuits). Makes y h (steps.Closed why.OutOfMemory e.link.output) (server_of port x now c b k)) (sym same)
+      subst (λ (r : Stepped). MakesBy P y h r (server_of port x now final b k)) (sym (answer ∙ ap (λ (l : List ℕ). steps.Closed why.OutOfMemory l) first))
+      (subst (λ (c : Circuits). MakesBy P y h (steps.Closed why.OutOfMemory e.link.output) (server_of port x now c b k)) (sym same)
       (step-at port now n b y h (Open e) (steps.Closed why.OutOfMemory e.link.output) (server_of port x now (with_freed h last) b k) there (refl, lacks.lacks) lacks))
 
   left-is : take (length e.link.output) new.link.output ≡ e.link.output
@@ -225,7 +245,7 @@ module _ (port now n : ℕ) (b : Clock) (s u : Store) (t : Circuits) (h : Handle
 
   -- a message with nothing to follow
   rests : (x : Store) (last : Circuits) (result : Step) (final : Circuits) → did ≡ effect.Quiet → ((z : Server) → Reaches the-next.0.action (λ (g : Handle). false) z z) → Follows did h mid_table u last x → Settles last h (length e.link.output) result final
-      → Makes y h (stepped result) (server_of port x now final b k)
+      → MakesBy P y h (stepped result) (server_of port x now final b k)
   rests x last result final quiet reach f settled =
       let same = subst (λ (q : Effect). Follows q h mid_table u last x) quiet f in
       let whole : server_of port x now last b k ≡ the-next.0.after = ap (λ (z : Store). server_of port z now last b k) same.1 ∙ ap (λ (z : Circuits). server_of port u now z b k) same.0 ∙ sym the-next.1 in
@@ -234,7 +254,7 @@ module _ (port now n : ℕ) (b : Clock) (s u : Store) (t : Circuits) (h : Handle
 
   -- a write
   writes : (x : Store) (last : Circuits) (result : Step) (final : Circuits) (name : List ℕ) (value : Elements) (busies : Bool) → the-next.0.action ≡ Applies name value busies → Tells (Applies name value busies) did u → Follows did h mid_table u last x → IsSound (records_of x) last → Settles last h (length e.link.output) result final
-      → Makes y h (stepped result) (server_of port x now final b k)
+      → MakesBy P y h (stepped result) (server_of port x now final b k)
   writes x last result final name value busies is told f sound settled =
       let from = subst (λ (q : Effect). Follows q h mid_table u last x) told.2 f in
       let r = from.0 in
@@ -249,7 +269,7 @@ module _ (port now n : ℕ) (b : Clock) (s u : Store) (t : Circuits) (h : Handle
       by-gone x last result final name value busies is from.2.0 all sound settled (from.2.0 h) refl
     where
       by-gone : (x : Store) (last : Circuits) (result : Step) (final : Circuits) (name : List ℕ) (value : Elements) (busies : Bool) → the-next.0.action ≡ Applies name value busies → (gone : Handle → Bool) → ReachesAll name write_mask (stored_now mid value) gone mid_table u last x → IsSound (records_of x) last → Settles last h (length e.link.output) result final
-          → (q : Bool) → gone h ≡ q → Makes y h (stepped result) (server_of port x now final b k)
+          → (q : Bool) → gone h ≡ q → MakesBy P y h (stepped result) (server_of port x now final b k)
       by-gone x last result final name value busies is gone all sound settled q out =
           let v : Stored = stored_now mid value in
           let posted : server_of port x now last b k ≡ after_post name write_mask v gone mid = same-parts port now b x.rules u.rules (records_of x) _ x.stamp u.stamp last _ k k all.rules all.records all.stamp all.circuits refl in
@@ -259,7 +279,7 @@ module _ (port now n : ℕ) (b : Clock) (s u : Store) (t : Circuits) (h : Handle
           let at : under last h ≡ Some (reached name write_mask v gone h (Open new)) = ap (λ (z : Circuits). under z h) all.circuits ∙ under-each (reached name write_mask v gone) mid_table h (Open new) here in
           on q out v at reach
         where
-          on : (q : Bool) → gone h ≡ q → (v : Stored) → under last h ≡ Some (reached name write_mask v gone h (Open new)) → Reaches the-next.0.action gone the-next.0.after (server_of port x now last b k) → Makes y h (stepped result) (server_of port x now final b k)
+          on : (q : Bool) → gone h ≡ q → (v : Stored) → under last h ≡ Some (reached name write_mask v gone h (Open new)) → Reaches the-next.0.action gone the-next.0.after (server_of port x now last b k) → MakesBy P y h (stepped result) (server_of port x now final b k)
           on false out v at reach =
               stays-open x last result final (with_post name write_mask v new) gone out (at ∙ ap (λ (z : Bool). Some (cond z (Ended why.OutOfMemory new.link.output) (Open (with_post name write_mask v new)))) out) settled reach
           on true out v at reach =
@@ -279,13 +299,13 @@ module _ (port now n : ℕ) (b : Clock) (s u : Store) (t : Circuits) (h : Handle
 
   -- a subscription that began
   begins : (x : Store) (last : Circuits) (result : Step) (final : Circuits) (q : Subscription) → the-next.0.action ≡ Adds q → d.1.action ≡ Adds q → Tells (Adds q) did u → Follows did h mid_table u last x → Settles last h (length e.link.output) result final
-      → Makes y h (stepped result) (server_of port x now final b k)
+      → MakesBy P y h (stepped result) (server_of port x now final b k)
   begins x last result final q is its told f settled = by (subst (λ (z : Effect). Follows z h mid_table u last x) told.2 f)
     where
       count-is : k ≡ n
       count-is = ap (λ (z : Effect). more_applied (is_wrote z) n) told.2
 
-      by : ((last ≡ mid_table) × (x ≡ u)) ⊎ EndsIn mid_table h u why.OutOfMemory last x → Makes y h (stepped result) (server_of port x now final b k)
+      by : ((last ≡ mid_table) × (x ≡ u)) ⊎ EndsIn mid_table h u why.OutOfMemory last x → MakesBy P y h (stepped result) (server_of port x now final b k)
       by (inl same) =
           let whole : server_of port x now last b k ≡ the-next.0.after = ap (λ (z : Store). server_of port z now last b k) same.1 ∙ ap (λ (z : Circuits). server_of port u now z b k) same.0 ∙ sym the-next.1 in
           stays-open x last result final new (λ (g : Handle). false) refl (ap (λ (z : Circuits). under z h) same.0 ∙ here) settled
@@ -299,7 +319,7 @@ module _ (port now n : ℕ) (b : Clock) (s u : Store) (t : Circuits) (h : Handle
           rs-same : records_of u ≡ records_of s
           rs-same = subst (λ (a : Action). Recorded (records_of s) s.stamp h (after_first d.0) d.0.m a (records_of u)) its d.1.records
 
-          on : (c ended : ServerCircuit) → Open new ≡ c → EndsAt h c u why.OutOfMemory ended x → last ≡ with_changed (λ (z : ServerCircuit). ended) h mid_table → Makes y h (stepped result) (server_of port x now final b k)
+          on : (c ended : ServerCircuit) → Open new ≡ c → EndsAt h c u why.OutOfMemory ended x → last ≡ with_changed (λ (z : ServerCircuit). ended) h mid_table → MakesBy P y h (stepped result) (server_of port x now final b k)
           on (Ended v l) ended same did_end changed = absurd (not-ended new v l same)
           on (Open z) ended same did_end changed =
               let own : z ≡ new = sym (open-is new z same) in
@@ -319,10 +339,10 @@ module _ (port now n : ℕ) (b : Clock) (s u : Store) (t : Circuits) (h : Handle
                 itself = λ g wrote. none-wrote g wrote;
               })
 
-  pub handled-all : (x : Store) (last : Circuits) (result : Step) (final : Circuits) → Follows did h mid_table u last x → IsSound (records_of x) last → Settles last h (length e.link.output) result final → Makes y h (stepped result) (server_of port x now final b k)
+  pub handled-all : (x : Store) (last : Circuits) (result : Step) (final : Circuits) → Follows did h mid_table u last x → IsSound (records_of x) last → Settles last h (length e.link.output) result final → MakesBy P y h (stepped result) (server_of port x now final b k)
   handled-all x last result final f sound settled = by (kind-of d.1.action did u d.1.tells)
     where
-      by : Kind d.1.action did u → Makes y h (stepped result) (server_of port x now final b k)
+      by : Kind d.1.action did u → MakesBy P y h (stepped result) (server_of port x now final b k)
       by (Rests quiet reach none) =
           rests x last result final quiet (λ z. subst (λ (a : Action). Reaches a (λ (g : Handle). false) z z) (sym the-next.2) (reach z)) f settled
       by (Writes name value busies is told) = writes x last result final name value busies (the-next.2 ∙ is) told f sound settled
@@ -330,26 +350,32 @@ module _ (port now n : ℕ) (b : Clock) (s u : Store) (t : Circuits) (h : Handle
 
 -- ---- the same along the view of the fields
 
-pub made-followed : (y : Server) (port now n k waited : ℕ) (b : Clock) (s u x : Store) (t after last final : Circuits) (h : Handle) (did : Effect) (q : Bool) (result : Step) → server_of port s now t b n ≡ y → q ≡ is_wrote did → k ≡ more_applied q n → waited ≡ length (output_of (under y.circuits h))
-    → StepsIn port t h s (Some (step.Handled did)) after u → Follows did h after u last x → IsSound (records_of x) last → Settles last h waited result final → Makes y h (stepped result) (server_of port x now final b k)
-made-followed y port now n k waited b s u x t after last final h did q result is wrote more long steps_in f sound settled =
-    subst (λ (z : Server). Makes z h (stepped result) (server_of port x now final b k)) is
-    (subst (λ (m : ℕ). Makes (server_of port s now t b n) h (stepped result) (server_of port x now final b m)) (sym (more ∙ ap (λ (z : Bool). more_applied z n) wrote))
+pub made-followed-by : (y : Server) (port now n k waited : ℕ) (b : Clock) (s u x : Store) (t after last final : Circuits) (h : Handle) (did : Effect) (q : Bool) (result : Step) → server_of port s now t b n ≡ y → q ≡ is_wrote did → k ≡ more_applied q n → waited ≡ length (output_of (under y.circuits h))
+    → StepsIn port t h s (Some (step.Handled did)) after u → Follows did h after u last x → IsSound (records_of x) last → Settles last h waited result final → (P : Action → Type 0) → ((a : Action) → Tells a did u → P a) → MakesBy P y h (stepped result) (server_of port x now final b k)
+made-followed-by y port now n k waited b s u x t after last final h did q result is wrote more long steps_in f sound settled P holds =
+    subst (λ (z : Server). MakesBy P z h (stepped result) (server_of port x now final b k)) is
+    (subst (λ (m : ℕ). MakesBy P (server_of port s now t b n) h (stepped result) (server_of port x now final b m)) (sym (more ∙ ap (λ (z : Bool). more_applied z n) wrote))
     (go steps_in))
   where
     long_is : waited ≡ length (output_of (under t h))
     long_is = long ∙ ap (λ (z : Server). length (output_of (under z.circuits h))) (sym is)
 
-    go : StepsIn port t h s (Some (step.Handled did)) after u → Makes (server_of port s now t b n) h (stepped result) (server_of port x now final b (more_applied (is_wrote did) n))
+    go : StepsIn port t h s (Some (step.Handled did)) after u → MakesBy P (server_of port s now t b n) h (stepped result) (server_of port x now final b (more_applied (is_wrote did) n))
     go (inr none) = not-some (step.Handled did) none.1
     go (inl g) = by g.0 g.1 g.2 g.3 g.4
       where
-        by : (c new : ServerCircuit) → under t h ≡ Some c → CircuitSteps port h c s (Some (step.Handled did)) new u → after ≡ with_changed (λ (z : ServerCircuit). new) h t → Makes (server_of port s now t b n) h (stepped result) (server_of port x now final b (more_applied (is_wrote did) n))
+        by : (c new : ServerCircuit) → under t h ≡ Some c → CircuitSteps port h c s (Some (step.Handled did)) new u → after ≡ with_changed (λ (z : ServerCircuit). new) h t → MakesBy P (server_of port s now t b n) h (stepped result) (server_of port x now final b (more_applied (is_wrote did) n))
         by (Open e) new there d changed =
             let at = became t after h new (Open d.0) changed d.4 in
             let output : waited ≡ length e.link.output = long_is ∙ ap (λ (o : Option ServerCircuit). length (output_of o)) there in
-            handled-all port now n b s u t h e d.0 did there d.1 x last result final (subst (λ (z : Circuits). Follows did h z u last x) at f) sound (subst (λ (m : ℕ). Settles last h m result final) output settled)
+            handled-all port now n b s u t h e d.0 did there d.1 P (holds d.1.1.action d.1.1.tells) x last result final (subst (λ (z : Circuits). Follows did h z u last x) at f) sound (subst (λ (m : ℕ). Settles last h m result final) output settled)
         by (Ended v left) new there d changed = not-some (step.Handled did) d.0
+
+pub made-followed : (y : Server) (port now n k waited : ℕ) (b : Clock) (s u x : Store) (t after last final : Circuits) (h : Handle) (did : Effect) (q : Bool) (result : Step) → server_of port s now t b n ≡ y → q ≡ is_wrote did → k ≡ more_applied q n → waited ≡ length (output_of (under y.circuits h))
+    → StepsIn port t h s (Some (step.Handled did)) after u → Follows did h after u last x → IsSound (records_of x) last → Settles last h waited result final → Makes y h (stepped result) (server_of port x now final b k)
+made-followed y port now n k waited b s u x t after last final h did q result is wrote more long steps_in f sound settled =
+    made-by (λ (a : Action). Unit {0}) y h (stepped result) (server_of port x now final b k)
+    (made-followed-by y port now n k waited b s u x t after last final h did q result is wrote more long steps_in f sound settled (λ (a : Action). Unit {0}) (λ a told. tt))
 
 -- ---- what holds then
 

@@ -9,14 +9,13 @@ use Rattle.ca_beacon.specs.Clock.{Clock}
 use Rattle.ca_ids.specs.Table.{Table, under, with_changed}
 use Rattle.ca_link.specs.Link.{with_handed}
 use Rattle.ca_records.specs.Store.{Store, records_of}
-use Rattle.ca_model.specs.Server.{Ended, Open, Server, ServerCircuit, ServerEnd}
+use Rattle.ca_model.specs.Server.{Ended, Open, Server, ServerCircuit}
 use Rattle.ca_model.specs.ServerSteps.{output_of}
 use Rattle.ca_server_circuit.specs.Handing.{HandsAt}
 use Rattle.ca_server_circuit.specs.Pumping.{PumpsAt}
 use Rattle.ca_server_circuit.proofs.Tables.{changed-own}
-use Rattle.ca_server_core.specs.Circuits.{SendsIn}
 use Rattle.ca_server_core.specs.Covering.{Covers}
-use Rattle.ca_server_core.specs.Pumping.{HandsIn, HandsOut, PumpsIn, PumpsOut, PumpsOutIn}
+use Rattle.ca_server_core.specs.Pumping.{HandsIn, HandsOut, PumpsOut, PumpsOutIn}
 use Rattle.ca_server_core.specs.Sound.{IsSound}
 use Rattle.ca_server_watchers.specs.Watching.{Watched}
 use Rattle.ca_server_core.proofs.Covered.{covers-thinned}

@@ -1,11 +1,11 @@
 -- Which record a step made busy.
-use Rattle.std.proofs.Common.{◌≡◌, ℕ, ◌⊎◌, inl, inr, Bool, true, false, cond, List, [], map, Option, Some, None, Result, Ok, Err, refl, sym, ap, ◌∙◌, subst}
+use Rattle.std.proofs.Common.{◌≡◌, ℕ, ◌⊎◌, inl, inr, Bool, true, false, cond, List, [], map, Option, Some, None, Ok, refl, sym, ap, ◌∙◌, subst}
 use Rattle.std.specs.Prelude.{is_some}
 use Rattle.std.specs.Str.{bytes_eq}
 use Rattle.std.proofs.lemmas.Slice.Eq.{bytes_eq-Decides}
 use Rattle.ca_arena.specs.declared.handle.Handle.{Handle}
 use Rattle.ca_beacon.specs.Clock.{Clock}
-use Rattle.ca_ids.specs.Table.{Table, same_handle, under, with_changed}
+use Rattle.ca_ids.specs.Table.{Table, same_handle, under, with_changed, with_freed}
 use Rattle.ca_records.specs.declared.puts.Finished.{Finished}
 use Rattle.ca_records.specs.declared.puts.Put.{Put}
 use Rattle.ca_records.specs.declared.puts.Stamp.{Stamp}
@@ -27,17 +27,20 @@ use Rattle.ca_server_circuit.specs.declared.cause.Cause.{Cause}
 use Rattle.ca_server_circuit.specs.declared.step.Effect.{Effect}
 use Rattle.ca_server_circuit.specs.declared.step.Effect.TheVariants as effect
 use Rattle.ca_server_circuit.specs.declared.step.EndStep.TheVariants as step
+use Rattle.ca_server_circuit.specs.Circuits.{is_open}
 use Rattle.ca_server_circuit.specs.Ending.{EndsAt, KeepsPlaces}
 use Rattle.ca_server_circuit.specs.Handling.{Recorded, Tells, is_wrote}
 use Rattle.ca_server_circuit.specs.Serving.{CircuitSteps}
 use Rattle.ca_server_circuit.specs.Stepping.{after_first, why_is}
 use Rattle.ca_server_circuit.proofs.Tables.{changed-own, find-at, none-some}
 use Rattle.ca_server_core.specs.Ending.{EndsIn}
-use Rattle.ca_server_core.specs.Following.{Follows}
-use Rattle.ca_server_core.specs.Noting.{BusyBut, EndsPutAt, IsBusy, LeadsTo, Notes, NotesAt, ServesNext, Tries, TriesAt, was_handled}
+use Rattle.ca_server_core.specs.Following.{Follows, IsSettled, Settles}
+use Rattle.ca_server_core.specs.Noting.{BusyBut, EndsPutAt, IsBusy, LeadsTo, Notes, NotesAt, ServesNext, Tries, TriesAt, busy_name, was_handled, wrote_busy}
 use Rattle.ca_server_core.specs.Finishing.{RepliesIn, effect_after}
-use Rattle.ca_server_core.specs.Serving.{Closes, IsReport, Reports, StepsIn, more_applied, stepped}
+use Rattle.ca_server_core.specs.Serving.{IsReport, Reports, StepsIn, more_applied, stepped}
 use Rattle.ca_server_core.specs.declared.stepping.Step.{Step}
+use Rattle.ca_server_core.specs.declared.stepping.Step.TheVariants as own
+use Rattle.ca_server_core.proofs.Followed.{HandledBy}
 use Rattle.ca_server_core.proofs.Nexts.{viewed-finish}
 use Rattle.ca_server_core.proofs.Reached.{there-is}
 use Rattle.ca_server_core.proofs.Servers.{became, server_of, stayed}
@@ -199,23 +202,42 @@ notes-after port s u x t after last h did noted (inl g) f n = by g.0 g.1 g.3
     }
     by (Ended w left) new d = not-some (step.Handled did) d.0
 
--- a step, after which it is noted what its message made busy
-abbrev StepsNoting : Server → Handle → Stepped → Option (List ℕ) → Server → Type 0
-StepsNoting old h steps.Handled noted new = steps.Steps old h steps.Handled new × Notes old.records new.records noted
-StepsNoting old h did noted new = steps.Steps old h did new × Closes old h did new
+-- what is noted is the record to which the message wrote, if that is busy
+own-noted : (did : Effect) (h : Handle) (u x : Store) (t last : Circuits) (noted : Option (List ℕ)) → Follows did h t u last x → NotesAt did x noted → (a : Action) → Tells a did u → noted ≡ wrote_busy a (records_of x)
+own-noted did h u x t last noted f n (Applies name value busies) told =
+    let from = subst (λ (d : Effect). Follows d h t u last x) told.2 f in
+    let at = subst (λ (d : Effect). NotesAt d x noted) told.2 n in
+    let kept = from.2.1.places told.0 told.1 told.3 in
+    let same : kept.0 ≡ at.0 = there-is x told.0 kept.0 at.0 kept.1 at.1 in
+    let named : at.0.state.name ≡ name = ap (λ (z : Record). z.state.name) (sym same) ∙ ap (λ (z : RecordState). z.name) kept.2 ∙ told.4 in
+    let found : record_named (records_of x) name ≡ Some at.0 = ap (λ (m : List ℕ). record_named (records_of x) m) (sym named) ∙ at.2 in
+    at.3 ∙ ap (λ (o : Option Record). busy_name o) (sym found)
+own-noted did h u x t last noted f n (Adds s) told = subst (λ (d : Effect). NotesAt d x noted) told.2 n
+own-noted did h u x t last noted f n (Waits name value) told = subst (λ (d : Effect). NotesAt d x noted) told n
+own-noted did h u x t last noted f n (Clears sid) told = subst (λ (d : Effect). NotesAt d x noted) told n
+own-noted did h u x t last noted f n Nothing told = subst (λ (d : Effect). NotesAt d x noted) told n
+own-noted did h u x t last noted f n Greets told = subst (λ (d : Effect). NotesAt d x noted) told n
+own-noted did h u x t last noted f n (Names p) told = subst (λ (d : Effect). NotesAt d x noted) told n
+own-noted did h u x t last noted f n (Opens c) told = subst (λ (d : Effect). NotesAt d x noted) told n
+own-noted did h u x t last noted f n (Drops k) told = subst (λ (d : Effect). NotesAt d x noted) told n
+own-noted did h u x t last noted f n (Switches on) told = subst (λ (d : Effect). NotesAt d x noted) told n
 
-steps-noting : (y : Server) (h : Handle) (did : Stepped) (new : Server) (noted : Option (List ℕ)) → Makes y h did new → Notes y.records new.records noted → StepsNoting y h did noted new
-steps-noting y h steps.Handled new noted made n = (made.0, n)
-steps-noting y h steps.NeedBytes new noted made n = made
-steps-noting y h steps.OutputFull new noted made n = made
-steps-noting y h (steps.Closed w left) new noted made n = made
+-- a step that handled a message, for whatever holds of its action
+abbrev pub HandlesAny : Server → Handle → Effect → Store → Server → Type 1
+HandlesAny y h did u new = (P : Action → Type 0) → ((a : Action) → Tells a did u → P a) → HandledBy P y h new
+
+-- a step, after which it is noted what its message made busy
+abbrev StepsNoting : Server → Handle → Option (List ℕ) → Server → Type 0
+StepsNoting old h noted new =
+    HandledBy (λ (a : Action). noted ≡ wrote_busy a new.records) old h new × Notes old.records new.records noted
 
 -- the same along the view of the fields
-viewed-noting : (y : Server) (port now n k : ℕ) (b : Clock) (s u x : Store) (t after last final : Circuits) (h : Handle) (did : Effect) (result : Stepped) (noted : Option (List ℕ)) → server_of port s now t b n ≡ y → StepsIn port t h s (Some (step.Handled did)) after u → Follows did h after u last x → NotesAt did x noted
-    → Makes y h result (server_of port x now final b k) → StepsNoting y h result noted (server_of port x now final b k)
-viewed-noting y port now n k b s u x t after last final h did result noted is g f at made =
-    steps-noting y h result (server_of port x now final b k) noted made
-    (subst (λ (z : Server). Notes z.records (records_of x) noted) is (notes-after port s u x t after last h did noted g f at))
+viewed-noting : (y : Server) (port now n k : ℕ) (b : Clock) (s u x : Store) (t after last final : Circuits) (h : Handle) (did : Effect) (noted : Option (List ℕ)) → server_of port s now t b n ≡ y → StepsIn port t h s (Some (step.Handled did)) after u → Follows did h after u last x → NotesAt did x noted
+    → HandlesAny y h did u (server_of port x now final b k) → StepsNoting y h noted (server_of port x now final b k)
+viewed-noting y port now n k b s u x t after last final h did noted is g f at made = (
+  made (λ (a : Action). noted ≡ wrote_busy a (records_of x)) (own-noted did h u x after last noted f at),
+  subst (λ (z : Server). Notes z.records (records_of x) noted) is (notes-after port s u x t after last h did noted g f at),
+)
 
 -- ---- steps that handled no message
 
@@ -259,11 +281,20 @@ not-handled steps.NeedBytes f is = cc
 not-handled steps.OutputFull f is = cc
 not-handled (steps.Closed w left) f is = cc
 
-pub is-handled : (did : Stepped) → was_handled did ≡ true → did ≡ steps.Handled
-is-handled steps.Handled t = refl
-is-handled steps.NeedBytes t = absurd (both-bools false t refl)
-is-handled steps.OutputFull t = absurd (both-bools false t refl)
-is-handled (steps.Closed w left) t = absurd (both-bools false t refl)
+-- the end of a circuit that is over was closed
+pub over-closed : (o : Option ServerCircuit) (did : Stepped) → is_open o ≡ false → IsReport o did → was_handled did ≡ false
+over-closed None did shut is = ap (λ (d : Stepped). was_handled d) is
+over-closed (Some (Ended w left)) did shut is = ap (λ (d : Stepped). was_handled d) is
+over-closed (Some (Open e)) did shut is = absurd (both-bools true refl shut)
+
+-- an open one stays as it is
+pub open-settles : (t : Circuits) (h : Handle) (waited : ℕ) → is_open (under t h) ≡ true → Settles t h waited own.Handled t
+open-settles t h waited opened = (by (under t h) opened, sym (ap (λ (b : Bool). cond b t (with_freed h t)) opened))
+  where
+    by : (o : Option ServerCircuit) → is_open o ≡ true → IsSettled o waited own.Handled
+    by (Some (Open e)) is = refl
+    by (Some (Ended w left)) is = absurd (both-bools false is refl)
+    by None is = absurd (both-bools false is refl)
 
 -- ---- the put that it made busy
 
@@ -319,20 +350,29 @@ tried-at (effect.Wrote place) port now b n k t last s x (r, at, found, inl (busy
 tried-at (effect.Wrote place) port now b n k t last s x (r, at, found, inr (free, is)) =
     (None, (r, at, found, ap (λ (c : Bool). cond c (Some r.state.name) None) (sym free)), same-server port now n k b s x t last is.0 is.1 is.2)
 
+-- the put of the record to which a message wrote ended
+served : (y : Server) (h : Handle) (noted : Option (List ℕ)) (mid new : Server) → StepsNoting y h noted mid → Tries mid noted new → ServesNext y h steps.Handled new
+served y h noted mid new did tries = record {
+  put = noted;
+  stepped = mid;
+  steps = did.0.0;
+  own = did.0.1;
+  notes = did.1;
+  tries = tries;
+}
+
 -- a message was handled that leaves nothing to do
-pub viewed-quiet : (y : Server) (port now n k : ℕ) (b : Clock) (s u : Store) (t after : Circuits) (h : Handle) → server_of port s now t b n ≡ y → StepsIn port t h s (Some (step.Handled effect.Quiet)) after u → Makes y h steps.Handled (server_of port u now after b k) → ServesNext y h steps.Handled (server_of port u now after b k)
+pub viewed-quiet : (y : Server) (port now n k : ℕ) (b : Clock) (s u : Store) (t after : Circuits) (h : Handle) → server_of port s now t b n ≡ y → StepsIn port t h s (Some (step.Handled effect.Quiet)) after u → HandlesAny y h effect.Quiet u (server_of port u now after b k) → ServesNext y h steps.Handled (server_of port u now after b k)
 viewed-quiet y port now n k b s u t after h is g made =
-    let noting = viewed-noting y port now n k b s u u t after after after h effect.Quiet steps.Handled None is g (refl, refl) refl made in
-    record { put = None; stepped = server_of port u now after b k; steps = noting.0; notes = noting.1; tries = refl }
+    served y h None (server_of port u now after b k) (server_of port u now after b k)
+    (viewed-noting y port now n k b s u u t after after after h effect.Quiet None is g (refl, refl) refl made) refl
 
 -- a message was handled, and the put of the record to which it wrote ended
-pub viewed-served : (y : Server) (port now n k j : ℕ) (b : Clock) (s u x z : Store) (t after last mid final : Circuits) (h : Handle) (did : Effect) (result : Stepped) → server_of port s now t b n ≡ y → StepsIn port t h s (Some (step.Handled did)) after u → Follows did h after u last x → Makes y h result (server_of port x now mid b k)
-    → result ≡ steps.Handled → TriesAt did k mid x j final z → ServesNext y h result (server_of port z now final b j)
-viewed-served y port now n k j b s u x z t after last mid final h did result is g f made handled tries =
+pub viewed-served : (y : Server) (port now n k j : ℕ) (b : Clock) (s u x z : Store) (t after last mid final : Circuits) (h : Handle) (did : Effect) → server_of port s now t b n ≡ y → StepsIn port t h s (Some (step.Handled did)) after u → Follows did h after u last x
+    → HandlesAny y h did u (server_of port x now mid b k) → TriesAt did k mid x j final z → ServesNext y h steps.Handled (server_of port z now final b j)
+viewed-served y port now n k j b s u x z t after last mid final h did is g f made tries =
     let it = tried-at did port now b k j mid final x z tries in
-    let noting = subst (λ (d : Stepped). StepsNoting y h d it.0 (server_of port x now mid b k)) handled (viewed-noting y port now n k b s u x t after last mid h did result it.0 is g f it.1 made) in
-    subst (λ (d : Stepped). ServesNext y h d (server_of port z now final b j)) (sym handled)
-    (record { put = it.0; stepped = server_of port x now mid b k; steps = noting.0; notes = noting.1; tries = it.2 })
+    served y h it.0 (server_of port x now mid b k) (server_of port z now final b j) (viewed-noting y port now n k b s u x t after last mid h did it.0 is g f it.1 made) it.2
 
 -- the record to which a message wrote is there after what followed
 pub leads-after : (did : Effect) (h : Handle) (t last : Circuits) (u x : Store) → Follows did h t u last x → LeadsTo did x

@@ -2,16 +2,17 @@
 -- "CA_PROTO_WRITE_NOTIFY").
 use Rattle.std.specs.Prelude.{ℕ, ◌≡◌, ◌⊎◌, Bool, true, false, if◌then◌else◌, List, Option, None, Some, Result, Ok, is_some}
 use Rattle.ca_arena.specs.declared.handle.Handle.{Handle}
-use Rattle.ca_ids.specs.Table.{Table}
+use Rattle.ca_ids.specs.Table.{Table, under}
 use Rattle.ca_records.specs.declared.puts.Finished.{Finished}
 use Rattle.ca_records.specs.Puts.{Record, record_named}
 use Rattle.ca_records.specs.Store.{HasAt, IsThere, Store, records_of}
 use Rattle.ca_records.specs.Writes as writes
 use Rattle.ca_text.specs.declared.refusal.Refusal.{Refusal}
 use Rattle.ca_wire.specs.Fields.{Fields}
-use Rattle.ca_model.specs.Server.{Server, ServerCircuit}
+use Rattle.ca_model.specs.Due.{Action, Applies, Nothing}
+use Rattle.ca_model.specs.Server.{Open, Server, ServerCircuit}
 use Rattle.ca_model.specs.ServerCalls.{Finishes}
-use Rattle.ca_model.specs.ServerSteps.{Handled, Stepped, Steps}
+use Rattle.ca_model.specs.ServerSteps.{Handled, Stepped, Steps, StepsAt}
 use Rattle.ca_model.specs.Speech.{In}
 use Rattle.ca_server_circuit.specs.declared.step.Effect.{Effect}
 use Rattle.ca_server_circuit.specs.declared.step.Effect.TheVariants as effect
@@ -42,10 +43,20 @@ abbrev pub LeadsTo : Effect → Store → Type 0
 LeadsTo (effect.Wrote place) s = IsThere s place
 LeadsTo did s = Unit {0}
 
+-- the name of a record that is busy
+abbrev pub busy_name : Option Record → Option (List ℕ)
+busy_name (Some r) = if is_some r.busy then Some r.state.name else None
+busy_name None = None
+
+-- the same of the record to which an action writes at once
+abbrev pub wrote_busy : Action → List Record → Option (List ℕ)
+wrote_busy (Applies name value busies) records = busy_name (record_named records name)
+wrote_busy action records = None
+
 -- the record to which a message wrote is noted if it is busy
 abbrev pub NotesAt : Effect → Store → Option (List ℕ) → Type 0
 NotesAt (effect.Wrote place) s noted =
-    (r : Record) × HasAt s place r × (record_named (records_of s) r.state.name ≡ Some r) × (noted ≡ (if is_some r.busy then Some r.state.name else None))
+    (r : Record) × HasAt s place r × (record_named (records_of s) r.state.name ≡ Some r) × (noted ≡ busy_name (Some r))
 NotesAt did s noted = noted ≡ None
 
 -- ---- the put of the record to which a message wrote, in the table of circuits
@@ -79,6 +90,15 @@ TriesAt did n t s k last x = StaysAll n t s k last x
 
 -- ---- a step
 
+-- what the message did that a step handled, by what is under the handle
+abbrev pub action_at : (old : Server) (h : Handle) (new : Server) (c : Option ServerCircuit) → StepsAt old h c Handled new → Action
+action_at old h new (Some (Open e)) d = d.0.action
+action_at old h new c d = Nothing
+
+-- the same under its own
+abbrev pub action_of : (old : Server) (h : Handle) (new : Server) → Steps old h Handled new → Action
+action_of old h new d = action_at old h new (under old.circuits h) d
+
 -- it handled a message
 abbrev pub was_handled : Stepped → Bool
 was_handled Handled = true
@@ -89,15 +109,16 @@ abbrev pub Tries : Server → Option (List ℕ) → Server → Type 0
 Tries y None new = new ≡ y
 Tries y (Some name) new = (sent : List (Handle × Fields)) × (r : Result (Unit {0}) Refusal) × Finishes y name sent r new
 
--- A message was handled, and the put of the record that it made busy was finished.
-pub record FinishesOne (old : Server) (h : Handle) (new : Server) : Type 0 where
+-- A message was handled. The put of the record to which it wrote at once was finished, if that was busy then, and no other.
+pub record HandlesAndFinishes (old : Server) (h : Handle) (new : Server) : Type 0 where
   pub put : Option (List ℕ)
   pub stepped : Server
   pub steps : Steps old h Handled stepped
+  pub own : put ≡ wrote_busy (action_of old h stepped steps) stepped.records
   pub notes : Notes old.records stepped.records put
   pub tries : Tries stepped put new
 
 -- `serve`: what was done with the next message
 abbrev pub ServesNext : Server → Handle → Stepped → Server → Type 0
-ServesNext old h Handled new = FinishesOne old h new
+ServesNext old h Handled new = HandlesAndFinishes old h new
 ServesNext old h did new = Steps old h did new × Closes old h did new

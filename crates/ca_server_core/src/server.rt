@@ -16,9 +16,6 @@ use ca_text::Refusal;
 use std::alloc::{AllocError, Global};
 use std::marker::Model;
 
-// So many circuits keep the memory of their bytes each for itself: of more, what a message needs is not in the nearest caches any more.
-const FEW: usize = 64;
-
 /// A server: its records, and its ends of circuits. It does no input and no output: bytes that came are given to it, and
 /// those that wait to be sent are asked of it.
 #[derive(Drop)]
@@ -29,7 +26,7 @@ pub struct ServerCore {
     // The moment that was given last.
     pub(crate) moment: u64,
     pub(crate) circuits: HeldTable<Circuit>,
-    // Memory for the bytes of a circuit: where there are many, one that has none to read and none to send keeps none.
+    // Memory for the bytes of a circuit: one that has none to read and none to send keeps none.
     pub(crate) spares: Spares,
     // The circuits with subscriptions on each record.
     pub(crate) watchers: Watchers,
@@ -182,11 +179,10 @@ fn give_on(
     requires { AreLive circuits.old }
     ensures { GivesIn circuits.old circuit now bytes.now result circuits.new }
 {
-    let are_many = circuits.places() > FEW;
     let Some(found) = circuits.by_handle_mut(circuit) else {
         return Err(Refusal::CircuitClosed);
     };
-    lend(found, spares, are_many);
+    found.borrow_from(spares);
     found.give(now, bytes)
 }
 
@@ -195,28 +191,9 @@ fn sent_on(circuits: &mut HeldTable<Circuit>, spares: &mut Spares, circuit: Hand
     requires { n ≤ length (output_of (under circuits.old circuit)) }
     ensures { SendsIn circuits.old circuit n circuits.new }
 {
-    let are_many = circuits.places() > FEW;
     let Some(found) = circuits.by_handle_mut(circuit) else {
         return;
     };
     found.sent(n);
-    take_back(found, spares, are_many);
-}
-
-// Lends a circuit memory for its bytes, if there are many.
-fn lend(circuit: &mut Circuit, spares: &mut Spares, are_many: bool)
-    ensures { circuit.new ≡ circuit.old }
-{
-    if are_many {
-        circuit.borrow_from(spares);
-    }
-}
-
-// Takes the memory of its bytes back from a circuit that needs none, if there are many.
-fn take_back(circuit: &mut Circuit, spares: &mut Spares, are_many: bool)
-    ensures { circuit.new ≡ circuit.old }
-{
-    if are_many {
-        circuit.give_back(spares);
-    }
+    found.give_back(spares);
 }

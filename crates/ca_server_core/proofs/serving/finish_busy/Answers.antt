@@ -1,6 +1,6 @@
 use Rattle.std.proofs.Common.{sym, subst, ◌∙◌}
 use Rattle.ca_server_circuit.specs.declared.step.Effect.{Effect}
-use Rattle.ca_server_core.specs.Noting.{LeadsTo, TriesAt}
+use Rattle.ca_server_core.specs.Noting.{TriesAt}
 use Rattle.ca_server_core.proofs.Noted.{free-at}
 use Rattle.ca_server_core.proofs.serving.finish_busy.Goals as goal
 

@@ -17,7 +17,7 @@ use Rattle.ca_answer.proofs.engine.Engine.answer_next.Goals as goal
 pub returns-in_err-gather-in-Handled-clause-comes : goal.returns-in_err-gather-in-Handled-clause-comes
 returns-in_err-gather-in-Handled-clause-comes g c = λ rules states.
     subst (λ (r : Result Bool Refusal). Comes g.K.Sink.takes g.K.Sink.fault_count rules states c.args.sink.now c.args.sink.now c.args.self.now c.gather.new.self c.args.turns.now r)
-    (sym (same-error c.from_residual-in_err-gather-in-Handled.result OutOfMemory c.from_residual-in_err-gather-in-Handled.ensures.1))
+    (sym (same-error c.from_residual.result OutOfMemory c.from_residual.ensures.1))
     (comes-lacking g.K.Sink.takes g.K.Sink.fault_count rules states c.args.sink.now c.args.self.now c.gather.new.self c.args.turns.now)
 
 pub returns-in_err-flush-in-Closed-clause-comes : goal.returns-in_err-flush-in-Closed-clause-comes
@@ -37,7 +37,7 @@ returns-clause-comes g c = λ rules states.
     let x = c.args.self.now in
     let mid = c.serve_next.new.self in
     let stays = c.serve_next.ensures.stays in
-    elim c.match-branch-2.branch [
+    elim c.match-serve_next.branch [
       | in-Handled+in_ok-gather-in-Handled w ↦
           let d = subst (λ (s : Step). ServesNext x.core x.circuit (stepped s) mid.core) w.in-Handled.is c.serve_next.ensures.served in
           let a = handled-gathered x mid w.gather.new.self stays d w.in_ok-gather-in-Handled.ensures.ok in
@@ -62,7 +62,7 @@ pub returns-clause-smaller : goal.returns-clause-smaller
 returns-clause-smaller g c =
     let x = c.args.self.now in
     let mid = c.serve_next.new.self in
-    elim c.match-branch-2.branch [
+    elim c.match-serve_next.branch [
       | in-Handled+in_ok-gather-in-Handled w ↦
           let d = subst (λ (s : Step). ServesNext x.core x.circuit (stepped s) mid.core) w.in-Handled.is c.serve_next.ensures.served in
           let a = handled-gathered x mid w.gather.new.self c.serve_next.ensures.stays d w.in_ok-gather-in-Handled.ensures.ok in

@@ -1,4 +1,4 @@
-use Rattle.std.proofs.Common.{List, ℕ, ap, subst}
+use Rattle.std.proofs.Common.{subst}
 use Rattle.std.specs.Prelude.{OnOk}
 use Rattle.ca_answer.specs.Engines.{EngineState, PumpsAndGathers}
 use Rattle.ca_answer.proofs.Gathered.{gathers-pumped}
