@@ -61,7 +61,7 @@ pub(crate) fn put_one(
         (Applied true) records.new }
     ensures stays { result ≡ false → records.new ≡ records.old }
 {
-    if wanted.count != 1 || rights / 2 % 2 != 1 {
+    if rights / 2 % 2 != 1 || wanted.count != 1 {
         return false;
     }
     records.put_one(place, put, wanted.data_type, payload)

@@ -1,14 +1,14 @@
-ghost use Rattle.std.specs.Prelude.{ℕ, ◌≡◌, IfOk, MatchOption, OnErr, OnOk, [], ◌∷◌};
+ghost use Rattle.std.specs.Prelude.{ℕ, ◌≡◌, IfOk, IfSome, MatchOption, OnErr, OnOk, [], ◌∷◌};
 ghost use Rattle.ca_text.specs.declared.refusal.Refusal.TheVariants.{OutOfMemory};
 ghost use Rattle.ca_link.specs.Calls.{IsOpen};
 ghost use Rattle.ca_link.specs.Link.{with_sent};
 ghost use Rattle.ca_records.specs.Record.{IsRecord};
 ghost use Rattle.ca_records.specs.Store.{records_of};
 ghost use Rattle.ca_wire.specs.Fields.{Fields};
-ghost use Rattle.ca_wire.specs.Messages.{read_request};
+ghost use Rattle.ca_wire.specs.Messages.{alone, read_request};
 ghost use Rattle.ca_model.specs.Faults.{read_count};
 ghost use Rattle.ca_server_circuit.specs.Handling.{AreServed, Reads, Replies, known};
-ghost use Rattle.ca_server_circuit.specs.Showing.{AnswersRead, IsInOrder, IsWanted, ShowsRead, status_for};
+ghost use Rattle.ca_server_circuit.specs.Showing.{AnswersRead, IsInOrder, IsWanted, ShowsRead, answer_alone, status_for};
 
 use crate::end::{End, send};
 use crate::seek::Sought;
@@ -17,7 +17,7 @@ use ca_dbr::image_size;
 use ca_link::Link;
 use ca_records::{Record, ServedRecords};
 use ca_text::{Command, PAYLOAD_LIMIT, Refusal, Status};
-use ca_wire::{Alone, Wanted, read_status, value_head};
+use ca_wire::{Alone, Wanted, read_head, read_status};
 use std::alloc::{AllocError, Global};
 
 /// What a read asks for: how many elements, and the bytes of their image.
@@ -32,12 +32,12 @@ impl End {
     pub(crate) fn read(
         &mut self,
         records: &ServedRecords,
-        wanted: Wanted,
+        wanted: &Wanted,
     ) -> Result<(), AllocError>
         requires open { IsOpen self.old.link }
         requires served { AreServed (records_of records.now) self.old.channels }
         ensures ok { OnOk result ((port : ℕ)
-            → Replies (Reads (known port records.now self.old) (read_request wanted)) self.old self.new) }
+            → Replies (Reads (known port records.now self.old) (read_request wanted.now)) self.old self.new) }
         ensures output { OnErr result (self.new.link.output ≡ self.old.link.output) }
         ensures channels { OnErr result (self.new.channels ≡ self.old.channels) }
     {
@@ -63,14 +63,14 @@ fn answer(
     link: &mut Link,
     of: &Record,
     rights: u32,
-    wanted: Wanted,
+    wanted: &Wanted,
 ) -> Result<(), AllocError>
     requires { IsOpen link.old }
-    ensures ok { OnOk result ((reply : Fields) × AnswersRead of.now rights (read_request wanted) reply
+    ensures ok { OnOk result ((reply : Fields) × AnswersRead of.now rights (read_request wanted.now) reply
         × (link.new ≡ with_sent (reply ∷ []) link.old)) }
     ensures err { OnErr result (link.new ≡ link.old) }
 {
-    if let Some(payload) = alone(of, rights, wanted) {
+    if let Some(payload) = shown_alone(of, rights, wanted) {
         return send_alone(link, wanted, payload);
     }
     match measure(of, rights, wanted) {
@@ -87,7 +87,9 @@ fn answer(
 
 /// What shows the record to this read in eight bytes, if it has one element, of the type that is asked for.
 #[inline(always)]
-fn alone(of: &Record, rights: u32, wanted: Wanted) -> Option<u64>
+fn shown_alone(of: &Record, rights: u32, wanted: &Wanted) -> Option<u64>
+    ensures { IfSome result (λ n.
+        AnswersRead of.now rights (read_request wanted.now) (alone (answer_alone wanted.now n))) }
 {
     if rights % 2 != 1 || wanted.count > 1 {
         return None;
@@ -97,8 +99,11 @@ fn alone(of: &Record, rights: u32, wanted: Wanted) -> Option<u64>
 
 /// Answers a read by one element.
 #[inline(always)]
-fn send_alone(link: &mut Link, wanted: Wanted, payload: u64) -> Result<(), AllocError>
+fn send_alone(link: &mut Link, wanted: &Wanted, payload: u64) -> Result<(), AllocError>
     requires { IsOpen link.old }
+    ensures ok { OnOk result (link.new
+        ≡ with_sent (alone (answer_alone wanted.now payload) ∷ []) link.old) }
+    ensures err { OnErr result (link.new ≡ link.old) }
 {
     let said = Alone {
         command: Command::ReadNotify,
@@ -113,11 +118,12 @@ fn send_alone(link: &mut Link, wanted: Wanted, payload: u64) -> Result<(), Alloc
 }
 
 /// What a read asks for, or the status that refuses it. The elements are not looked at.
-fn measure(of: &Record, rights: u32, wanted: Wanted) -> Result<Asked, Status>
-    ensures { IsWanted of.now rights (read_request wanted) result }
+fn measure(of: &Record, rights: u32, wanted: &Wanted) -> Result<Asked, Status>
+    ensures { IsWanted of.now rights (read_request wanted.now) result }
 {
     let count = count_of(of, wanted);
-    let Ok(size) = image_size(wanted.data_type, count) else {
+    let data_type = wanted.data_type;
+    let Ok(size) = image_size(data_type, count) else {
         return Err(Status::BADTYPE);
     };
     if rights % 2 != 1 {
@@ -133,8 +139,8 @@ fn measure(of: &Record, rights: u32, wanted: Wanted) -> Result<Asked, Status>
 }
 
 /// How many elements a read asks for: 0 means the present count.
-fn count_of(of: &Record, wanted: Wanted) -> u32
-    ensures count { result ≡ read_count of.now (read_request wanted) }
+fn count_of(of: &Record, wanted: &Wanted) -> u32
+    ensures count { result ≡ read_count of.now (read_request wanted.now) }
     ensures state { IsRecord of.now }
 {
     let present = of.value().count() as u32;
@@ -148,11 +154,11 @@ fn show(
     link: &mut Link,
     of: &Record,
     asked: Asked,
-    wanted: Wanted,
+    wanted: &Wanted,
 ) -> Result<(), AllocError>
     requires open { IsOpen link.old }
-    requires order { IsInOrder of.now (read_request wanted) asked }
-    ensures ok { OnOk result ((reply : Fields) × ShowsRead of.now (read_request wanted) reply
+    requires order { IsInOrder of.now (read_request wanted.now) asked }
+    ensures ok { OnOk result ((reply : Fields) × ShowsRead of.now (read_request wanted.now) reply
         × (link.new ≡ with_sent (reply ∷ []) link.old)) }
     ensures err { OnErr result (link.new ≡ link.old) }
 {
@@ -164,7 +170,7 @@ fn show(
         value,
         meta: of.meta(),
     };
-    let head = value_head(alloc, wanted, asked.count);
+    let head = read_head(alloc, wanted, asked.count);
     match link.queue_made(&head, asked.size, &image) {
         Ok(()) => Ok(()),
         Err(refusal) => match status_of(refusal) {

@@ -5,11 +5,13 @@ ghost use Rattle.ca_text.specs.declared.command.Command.TheVariants as command;
 ghost use Rattle.ca_text.specs.Limits.{output_limit};
 ghost use Rattle.ca_link.specs.Calls.{HasShort, IsOpen};
 ghost use Rattle.ca_records.specs.Store.{records_of};
+ghost use Rattle.ca_server_circuit.specs.Clearing.{ArePuts};
 ghost use Rattle.ca_server_circuit.specs.declared.step.Effect.TheVariants.{Wrote};
 ghost use Rattle.ca_arena.specs.declared.handle.Handle.{Handle};
 ghost use Rattle.ca_server_circuit.specs.Handling.{AreServed, Puts, Writes};
 ghost use Rattle.ca_server_circuit.specs.Stepping.{DoesShort, EndSteps};
 
+use crate::bytes::know_bytes;
 use crate::cause::Cause;
 use crate::end::{End, send};
 use crate::put::{put_one, write_one};
@@ -22,14 +24,31 @@ use ca_wire::{Wanted, put_status};
 use std::alloc::AllocError;
 
 impl End {
+    /// Handles the next message of this circuit: mostly a write of one element.
+    #[inline(always)]
+    pub(crate) fn step_by_write(
+        &mut self,
+        port: u16,
+        circuit: Handle,
+        records: &mut ServedRecords,
+    ) -> EndStep
+        requires open { IsOpen self.old.link }
+        requires room { length self.old.link.output < output_limit }
+        requires served { AreServed (records_of records.old) self.old.channels }
+        requires puts { ArePuts circuit (records_of records.old) self.old.channels }
+        ensures { EndSteps port circuit self.old records.old result self.new records.new }
+    {
+        know_bytes(self.link.in_bytes());
+        match self.step_short(circuit, records) {
+            Some(step) => step,
+            None => self.step_by_message(port, circuit, records),
+        }
+    }
+
     /// Handles the first message, if it is a WRITE or a WRITE_NOTIFY of one element of at most eight bytes, in the type of its record, that is
     /// applied at once: as most are. None if it is another; then nothing changes.
     #[inline(always)]
-    pub(crate) fn step_short(
-        &mut self,
-        circuit: Handle,
-        records: &mut ServedRecords,
-    ) -> Option<EndStep>
+    fn step_short(&mut self, circuit: Handle, records: &mut ServedRecords) -> Option<EndStep>
         requires room { length self.old.link.output < output_limit }
         requires bytes { AreBytes self.old.link.input.bytes }
         requires served { AreServed (records_of records.old) self.old.channels }

@@ -131,9 +131,19 @@ pub fn value_reply(request: &Message, count: u32, image: Vec<u8>) -> Result<Mess
     Message::with_padding(command, data_type, count, normal, request.p2(), image)
 }
 
+/// READ_NOTIFY, answered, with no image, which is to be made in its place.
+pub fn value_head(alloc: Global, request: &Message, count: u32) -> Message
+    ensures { result ≡ value_reply request.now count [] }
+{
+    let (command, data_type) = (request.command(), request.data_type());
+    let normal = Status::NORMAL.number;
+    let payload = Vec::new(alloc);
+    Message::of_fields(command, data_type, count, normal, request.p2(), payload)
+}
+
 /// READ_NOTIFY of this, answered, with no image, which is to be made in its place.
-pub fn value_head(alloc: Global, wanted: Wanted, count: u32) -> Message
-    ensures { result ≡ value_reply (read_request wanted) count [] }
+pub fn read_head(alloc: Global, wanted: &Wanted, count: u32) -> Message
+    ensures { result ≡ value_reply (read_request wanted.now) count [] }
 {
     let (normal, id) = (Status::NORMAL.number, wanted.id.number());
     Message::with_no_payload(
@@ -147,8 +157,8 @@ pub fn value_head(alloc: Global, wanted: Wanted, count: u32) -> Message
 }
 
 /// READ_NOTIFY of this, answered by a status alone.
-pub fn read_status(alloc: Global, wanted: Wanted, status: Status) -> Message
-    ensures { result ≡ status_reply (read_request wanted) status.number }
+pub fn read_status(alloc: Global, wanted: &Wanted, status: Status) -> Message
+    ensures { result ≡ status_reply (read_request wanted.now) status.number }
 {
     let (data_type, count) = (wanted.data_type, wanted.count);
     let (status, id) = (status.number, wanted.id.number());
