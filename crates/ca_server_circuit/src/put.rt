@@ -7,6 +7,7 @@ ghost use Rattle.ca_text.specs.declared.command.Command.{Command};
 ghost use Rattle.ca_wire.specs.Messages.{on_channel};
 ghost use Rattle.ca_server_circuit.specs.Putting.{IsGiven, WritesTo};
 
+use ca_arena::Handle;
 use ca_dbr::{BaseType, Value, read_value_into};
 use ca_records::{Begun, Put, Record, ServedRecords};
 use ca_text::{Refusal, Status};
@@ -30,12 +31,12 @@ pub(crate) fn write_one(
     place: usize,
     rights: u32,
     is_put: bool,
-    wanted: Wanted,
+    wanted: &Wanted,
     payload: &[u8],
 ) -> bool
     requires { IsThere records.old place }
     ensures written { result ≡ true → (c : Command) (put : Option Put) → is_some put ≡ is_put
-        → WritesTo records.old place rights put (on_channel c wanted payload.now)
+        → WritesTo records.old place rights put (on_channel c wanted.now payload.now)
         (Applied false) records.new }
     ensures stays { result ≡ false → records.new ≡ records.old }
 {
@@ -52,12 +53,12 @@ pub(crate) fn put_one(
     place: usize,
     rights: u32,
     put: Put,
-    wanted: Wanted,
+    wanted: &Wanted,
     payload: &[u8],
 ) -> bool
     requires { IsThere records.old place }
     ensures put { result ≡ true → (c : Command)
-        → WritesTo records.old place rights (Some put) (on_channel c wanted payload.now)
+        → WritesTo records.old place rights (Some put) (on_channel c wanted.now payload.now)
         (Applied true) records.new }
     ensures stays { result ≡ false → records.new ≡ records.old }
 {
@@ -65,6 +66,26 @@ pub(crate) fn put_one(
         return false;
     }
     records.put_one(place, put, wanted.data_type, payload)
+}
+
+/// The put with notification on this channel that names this.
+#[inline(always)]
+pub(crate) fn put_from(circuit: Handle, channel: Handle, wanted: &Wanted) -> Put
+    ensures { result ≡ record {
+      circuit = circuit;
+      channel = channel;
+      data_type = wanted.now.data_type;
+      count = wanted.now.count;
+      ioid = wanted.now.id;
+    } }
+{
+    Put {
+        circuit,
+        channel,
+        data_type: wanted.data_type,
+        count: wanted.count,
+        ioid: wanted.id.number(),
+    }
 }
 
 /// Begins the write of this message to the record at this place under these rights: a put with notification, or a plain write,

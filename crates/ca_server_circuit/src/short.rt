@@ -14,11 +14,11 @@ ghost use Rattle.ca_server_circuit.specs.Stepping.{DoesShort, EndSteps};
 use crate::bytes::know_bytes;
 use crate::cause::Cause;
 use crate::end::{End, send};
-use crate::put::{put_one, write_one};
+use crate::put::{put_from, put_one, write_one};
 use crate::seek::Sought;
 use crate::step::{Effect, EndStep};
 use ca_arena::Handle;
-use ca_records::{Put, ServedRecords};
+use ca_records::ServedRecords;
 use ca_text::{Command, Status};
 use ca_wire::{Wanted, put_status};
 use std::alloc::AllocError;
@@ -57,13 +57,13 @@ impl End {
             → EndSteps port circuit self.old records.old step self.new records.new) }
     {
         if let Some(wanted) = self.link.first_short(Command::Write) {
-            return match self.write_short(records, wanted) {
+            return match self.write_short(records, &wanted) {
                 Some(place) => Some(EndStep::Handled(Effect::Wrote(place))),
                 None => None,
             };
         }
         if let Some(wanted) = self.link.first_short(Command::WriteNotify) {
-            return match self.put_short(circuit, records, wanted) {
+            return match self.put_short(circuit, records, &wanted) {
                 Ok(Some(place)) => Some(EndStep::Handled(Effect::Wrote(place))),
                 Ok(None) => None,
                 Err(_) => Some(EndStep::Breaks(Cause::OutOfMemory)),
@@ -74,11 +74,11 @@ impl End {
 
     /// WRITE, if it is such a one. Says where it was applied.
     #[inline(never)]
-    fn write_short(&mut self, records: &mut ServedRecords, wanted: Wanted) -> Option<usize>
+    fn write_short(&mut self, records: &mut ServedRecords, wanted: &Wanted) -> Option<usize>
         requires served { AreServed (records_of records.old) self.old.channels }
-        requires short { HasShort command.Write self.old.link wanted }
+        requires short { HasShort command.Write self.old.link wanted.now }
         ensures { MatchOption result ((self.new ≡ self.old) × (records.new ≡ records.old))
-            (λ place. (h : Handle) → DoesShort Writes command.Write wanted h records.old self.old
+            (λ place. (h : Handle) → DoesShort Writes command.Write wanted.now h records.old self.old
             (Wrote place) records.new self.new) }
     {
         let Sought::Served(seat) = self.seek(records, wanted.sid) else {
@@ -101,13 +101,13 @@ impl End {
         &mut self,
         circuit: Handle,
         records: &mut ServedRecords,
-        wanted: Wanted,
+        wanted: &Wanted,
     ) -> Result<Option<usize>, AllocError>
         requires served { AreServed (records_of records.old) self.old.channels }
-        requires short { HasShort command.WriteNotify self.old.link wanted }
+        requires short { HasShort command.WriteNotify self.old.link wanted.now }
         ensures ok { IfOk result (λ applied.
             MatchOption applied ((self.new ≡ self.old) × (records.new ≡ records.old))
-            (λ place. DoesShort Puts command.WriteNotify wanted circuit records.old self.old
+            (λ place. DoesShort Puts command.WriteNotify wanted.now circuit records.old self.old
             (Wrote place) records.new self.new)) }
         ensures err { OnErr result ((self.new ≡ self.old) × (records.new ≡ records.old)) }
     {
@@ -115,24 +115,12 @@ impl End {
             return Ok(None);
         };
         let state = records.at(seat.place).state();
-        let rights = records.rights(&self.user, &self.host, state.name());
         if state.is_slow() {
-            let put = Put {
-                circuit,
-                channel: seat.channel,
-                data_type: wanted.data_type,
-                count: wanted.count,
-                ioid: wanted.id.number(),
-            };
-            let payload = &self.link.in_bytes()[16..24];
-            if !put_one(records, seat.place, rights, put, wanted, payload) {
-                return Ok(None);
-            }
-            self.link.drop_short();
-            return Ok(Some(seat.place));
+            return Ok(self.put_slow(circuit, records, wanted));
         }
+        let rights = records.rights(&self.user, &self.host, state.name());
         let waited = self.link.out_bytes().len();
-        let reply = put_status(self.alloc, wanted, Status::NORMAL);
+        let reply = put_status(self.alloc, *wanted, Status::NORMAL);
         send(&mut self.link, &reply)?;
         let payload = &self.link.in_bytes()[16..24];
         if !write_one(records, seat.place, rights, true, wanted, payload) {
@@ -141,5 +129,36 @@ impl End {
         }
         self.link.drop_short();
         Ok(Some(seat.place))
+    }
+
+    /// The same on a slow record, whose put stays busy: its reply comes as it is finished.
+    #[inline(never)]
+    fn put_slow(
+        &mut self,
+        circuit: Handle,
+        records: &mut ServedRecords,
+        wanted: &Wanted,
+    ) -> Option<usize>
+        requires served { AreServed (records_of records.old) self.old.channels }
+        requires short { HasShort command.WriteNotify self.old.link wanted.now }
+        ensures { MatchOption result ((self.new ≡ self.old) × (records.new ≡ records.old))
+            (λ place. DoesShort Puts command.WriteNotify wanted.now circuit records.old self.old
+            (Wrote place) records.new self.new) }
+    {
+        let Sought::Served(seat) = self.seek(records, wanted.sid) else {
+            return None;
+        };
+        let state = records.at(seat.place).state();
+        if !state.is_slow() {
+            return None;
+        }
+        let rights = records.rights(&self.user, &self.host, state.name());
+        let put = put_from(circuit, seat.channel, wanted);
+        let payload = &self.link.in_bytes()[16..24];
+        if !put_one(records, seat.place, rights, put, wanted, payload) {
+            return None;
+        }
+        self.link.drop_short();
+        Some(seat.place)
     }
 }
