@@ -210,4 +210,3 @@ pub(crate) fn status_of(refusal: Refusal) -> Option<Status>
         _ => Some(Status::GETFAIL),
     }
 }
-// LEAD: read /work/quick/LEAD.md

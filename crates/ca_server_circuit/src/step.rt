@@ -75,13 +75,13 @@ impl End {
                 Ok(()) => EndStep::Handled(Effect::Quiet),
                 Err(_) => EndStep::Breaks(Cause::OutOfMemory),
             },
-            None => self.step_by_message(port, circuit, records),
+            None => self.step_by_write(port, circuit, records),
         }
     }
 
     /// Handles the next message of this circuit, whatever it is.
     #[inline(always)]
-    fn step_by_message(
+    pub(crate) fn step_by_message(
         &mut self,
         port: u16,
         circuit: Handle,

@@ -23,27 +23,27 @@ pub read-requires-clause-served : goal.read-requires-clause-served
 read-requires-clause-served c =
     subst (λ (t : Table OpenChannel). AreServed (records_of c.args.records.now) t) (sym (ap (λ (x : ServerEnd). x.channels) c.self.view_is)) c.requires.served
 
-pub step_by_message-requires-clause-open : goal.step_by_message-requires-clause-open
-step_by_message-requires-clause-open c =
+pub step_by_write-requires-clause-open : goal.step_by_write-requires-clause-open
+step_by_write-requires-clause-open c =
     subst (λ (x : ServerEnd). IsOpen x.link) (sym (same-link _ c.args.self.now c.next_bare.new.self c.self.view_is c.in-None.ensures.1)) c.requires.open
 
-pub step_by_message-requires-clause-room : goal.step_by_message-requires-clause-room
-step_by_message-requires-clause-room c =
+pub step_by_write-requires-clause-room : goal.step_by_write-requires-clause-room
+step_by_write-requires-clause-room c =
     let room = leb-false output_limit (length c.self.inside.link.output) (sym c.if-is_full.ensures) in
     subst (λ (l : LinkState). length l.output < output_limit) (sym c.in-None.ensures.1) room
 
-pub step_by_message-requires-clause-served : goal.step_by_message-requires-clause-served
-step_by_message-requires-clause-served c =
+pub step_by_write-requires-clause-served : goal.step_by_write-requires-clause-served
+step_by_write-requires-clause-served c =
     subst (λ (t : Table OpenChannel). AreServed (records_of c.args.records.now) t) (sym (ap (λ (x : ServerEnd). x.channels) c.self.view_is)) c.requires.served
 
-pub step_by_message-requires-clause-puts : goal.step_by_message-requires-clause-puts
-step_by_message-requires-clause-puts c =
+pub step_by_write-requires-clause-puts : goal.step_by_write-requires-clause-puts
+step_by_write-requires-clause-puts c =
     subst (λ (t : Table OpenChannel). ArePuts c.args.circuit (records_of c.args.records.now) t) (sym (ap (λ (x : ServerEnd). x.channels) c.self.view_is)) c.requires.puts
 
 pub returns-in-None : goal.returns-in-None
 returns-in-None c =
-    subst (λ (x : ServerEnd). EndSteps c.args.port c.args.circuit x c.args.records.now c.step_by_message.result c.step_by_message.new.self c.step_by_message.new.records)
-    (same-link _ c.args.self.now c.next_bare.new.self c.self.view_is c.in-None.ensures.1) c.step_by_message.ensures
+    subst (λ (x : ServerEnd). EndSteps c.args.port c.args.circuit x c.args.records.now c.step_by_write.result c.step_by_write.new.self c.step_by_write.new.records)
+    (same-link _ c.args.self.now c.next_bare.new.self c.self.view_is c.in-None.ensures.1) c.step_by_write.ensures
 
 pub returns-in-Ok : goal.returns-in-Ok
 returns-in-Ok c =
