@@ -1,9 +1,12 @@
 -- Working: updates leave the queues of an end.
-use Rattle.std.specs.Prelude.{◌≡◌, ◌⊎◌, Bool, true, false, List, Ok, Err, Result}
+use Rattle.std.specs.Prelude.{ℕ, ◌≡◌, ◌⊎◌, Bool, true, false, List, Ok, Err, Result}
 use Rattle.std.specs.List.{FoldsTo}
 use Rattle.std.specs.declared.alloc.AllocError.{AllocError}
 use Rattle.ca_arena.specs.declared.handle.Handle.{Handle}
 use Rattle.ca_records.specs.Store.{Store}
+use Rattle.ca_text.specs.declared.command.Command.TheVariants as command
+use Rattle.ca_wire.specs.declared.alone.Alone.{Alone}
+use Rattle.ca_wire.specs.declared.requests.Wanted.{Wanted}
 use Rattle.ca_model.specs.Ends as why
 use Rattle.ca_model.specs.Server.{ServerCircuit, ServerEnd}
 use Rattle.ca_model.specs.Server as server
@@ -33,3 +36,7 @@ PumpsAt h (server.Open e) s new t =
     × ((Rests after × (new ≡ server.Open after) × HasRoom (events_of after) × (t ≡ s))
     ⊎ ((Rests after → ⊥) × (new ≡ server.Ended why.OutOfMemory after.link.output) × WithdrawsAll h s t))
 PumpsAt h (server.Ended w left) s new t = (new ≡ server.Ended w left) × (t ≡ s)
+
+-- the update that shows one element to whoever asked so, by these eight bytes
+abbrev pub update_alone : Wanted → ℕ → Alone
+update_alone w n = record { command = command.EventAdd; data_type = w.data_type; id = w.id; payload = n }

@@ -1,14 +1,14 @@
-ghost use Rattle.std.specs.Prelude.{◌≡◌, ◌<◌, ◌≤◌, ◌==◌, IfOk, OnErr, OnOk, [], ◌∷◌, if◌then◌else◌, length, replicate, true};
+ghost use Rattle.std.specs.Prelude.{◌≡◌, ◌<◌, ◌≤◌, ◌==◌, IfOk, IfSome, OnErr, OnOk, [], ◌∷◌, if◌then◌else◌, length, replicate, true};
 ghost use Rattle.std.specs.List.{list_any};
 ghost use Rattle.ca_text.specs.Limits.{element_limit, output_limit, payload_limit};
 ghost use Rattle.ca_dbr.specs.Elements.{count_of};
 ghost use Rattle.ca_link.specs.Calls.{IsOpen};
 ghost use Rattle.ca_link.specs.Link.{with_sent};
 ghost use Rattle.ca_wire.specs.Fields.{Fields};
-ghost use Rattle.ca_wire.specs.Messages.{update};
+ghost use Rattle.ca_wire.specs.Messages.{alone, update};
 ghost use Rattle.ca_model.specs.Server.{concerns, with_post};
 ghost use Rattle.ca_model.specs.Updates.{ShowsTo};
-ghost use Rattle.ca_server_circuit.specs.Pumping.{PumpsEnd, PumpsOne};
+ghost use Rattle.ca_server_circuit.specs.Pumping.{PumpsEnd, PumpsOne, update_alone};
 ghost use Rattle.ca_server_subscriptions.specs.Subscribed.{IsAskable, is_on};
 
 use crate::end::{End, send};
@@ -18,8 +18,8 @@ use ca_dbr::image_size;
 use ca_link::Link;
 use ca_records::Record;
 use ca_server_subscriptions::Update;
-use ca_text::Status;
-use ca_wire::{Answered, Ioid, Wanted, update, update_head};
+use ca_text::{Command, Status};
+use ca_wire::{Alone, Answered, Ioid, Wanted, update, update_head};
 use std::alloc::{AllocError, Global};
 
 impl End {
@@ -83,7 +83,7 @@ impl End {
         let Some((wanted, update)) = self.subscriptions.first() else {
             return self.pump_queued();
         };
-        show(self.alloc, &mut self.link, wanted, update)?;
+        show(self.alloc, &mut self.link, &wanted, update)?;
         self.subscriptions.drop_first();
         Ok(true)
     }
@@ -98,15 +98,67 @@ impl End {
         let Some((wanted, update)) = self.subscriptions.take() else {
             return Ok(false);
         };
-        show(self.alloc, &mut self.link, wanted, &update)?;
+        show(self.alloc, &mut self.link, &wanted, &update)?;
         self.subscriptions.recycle(update);
         Ok(true)
     }
 }
 
-/// Shows an update to whoever asked so, with an image that is made in its place: GETFAIL and zero bytes if its elements have no place in that type.
+/// Shows an update to whoever asked so: GETFAIL and zero bytes if its elements have no place in that type.
 #[inline(always)]
-fn show(alloc: Global, link: &mut Link, wanted: Wanted, shown: &Update) -> Result<(), AllocError>
+fn show(alloc: Global, link: &mut Link, wanted: &Wanted, shown: &Update) -> Result<(), AllocError>
+    requires open { IsOpen link.old }
+    requires askable { IsAskable wanted.now }
+    ensures ok { OnOk result ((m : Fields) × ShowsTo wanted.now shown.now m
+        × (link.new ≡ with_sent (m ∷ []) link.old)) }
+    ensures some { OnErr result ((m : Fields) × ShowsTo wanted.now shown.now m) }
+    ensures err { OnErr result (link.new ≡ link.old) }
+{
+    match shown_alone(wanted, shown) {
+        Some(payload) => send_alone(link, wanted, payload),
+        None => show_image(alloc, link, *wanted, shown),
+    }
+}
+
+/// The eight bytes that show an update to whoever asked so, if it has one element, of the type that is asked for.
+#[inline(always)]
+fn shown_alone(wanted: &Wanted, shown: &Update) -> Option<u64>
+    ensures { IfSome result (λ n. ShowsTo wanted.now shown.now (alone (update_alone wanted.now n))) }
+{
+    if wanted.count > 1 {
+        return None;
+    }
+    shown.value().alone(wanted.data_type)
+}
+
+/// Puts an update of one element after what waits on an open link. Without memory the link is as it was.
+#[inline(always)]
+fn send_alone(link: &mut Link, wanted: &Wanted, payload: u64) -> Result<(), AllocError>
+    requires { IsOpen link.old }
+    ensures ok { OnOk result (link.new
+        ≡ with_sent (alone (update_alone wanted.now payload) ∷ []) link.old) }
+    ensures err { OnErr result (link.new ≡ link.old) }
+{
+    let said = Alone {
+        command: Command::EventAdd,
+        data_type: wanted.data_type,
+        id: wanted.id,
+        payload,
+    };
+    match link.queue_alone(said) {
+        Ok(()) => Ok(()),
+        Err(_) => Err(AllocError),
+    }
+}
+
+/// The same with an image that is made in its place.
+#[inline(never)]
+fn show_image(
+    alloc: Global,
+    link: &mut Link,
+    wanted: Wanted,
+    shown: &Update,
+) -> Result<(), AllocError>
     requires open { IsOpen link.old }
     requires askable { IsAskable wanted }
     ensures ok { OnOk result ((m : Fields) × ShowsTo wanted shown.now m

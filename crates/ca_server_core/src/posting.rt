@@ -101,6 +101,7 @@ fn post_to_watching(
 }
 
 /// The same for the circuit at this place of the list of those that watch the record.
+#[inline(never)]
 fn post_to_one(
     circuits: &mut HeldTable<Circuit>,
     records: &mut ServedRecords,
@@ -121,6 +122,7 @@ fn post_to_one(
 }
 
 /// The same for this circuit, which is at this place of the list. It is taken out if it watches the record no more.
+#[inline(always)]
 fn post_to_this(
     circuits: &mut HeldTable<Circuit>,
     records: &mut ServedRecords,
@@ -142,6 +144,7 @@ fn post_to_this(
 }
 
 /// The same for this circuit. It says whether it has a subscription on the record.
+#[inline(always)]
 fn post_on(
     circuits: &mut HeldTable<Circuit>,
     records: &mut ServedRecords,

@@ -115,6 +115,7 @@ fn replace(alloc: Global, room: &mut Value, value: &Value) -> Result<(), AllocEr
 }
 
 // These items in place of those that were there. Without memory there are none.
+#[inline(always)]
 fn renew<T: Copy + Drop>(items: &mut Vec<T>, from: &[T]) -> Result<(), AllocError>
     ensures ok { OnOk result (items.new.items ≡ from.now) }
     ensures err { OnErr result (items.new.items ≡ []) }
@@ -124,6 +125,15 @@ fn renew<T: Copy + Drop>(items: &mut Vec<T>, from: &[T]) -> Result<(), AllocErro
         items[0] = from[0];
         return Ok(());
     }
+    renew_all(items, from)
+}
+
+// The same however many there are.
+#[inline(never)]
+fn renew_all<T: Copy + Drop>(items: &mut Vec<T>, from: &[T]) -> Result<(), AllocError>
+    ensures ok { OnOk result (items.new.items ≡ from.now) }
+    ensures err { OnErr result (items.new.items ≡ []) }
+{
     items.clear();
     items.extend_from_slice(from)
 }
