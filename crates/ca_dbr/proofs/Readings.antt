@@ -1,16 +1,16 @@
 -- What is read, and that nothing else is.
-use Rattle.std.proofs.Common.{◌≡◌, ℕ, zero, suc, subst, All, ◌+◌, ◌-◌, ◌*◌, ◌<◌, ◌≤◌, min, Bool, true, false, cond, eqb, List, [], ◌∷◌, ◌++◌, length, take, drop, replicate, refl, sym, ap, ◌∙◌, ⊎_elim, arith}
+use Rattle.std.proofs.Common.{◌≡◌, ◌≢◌, ℕ, zero, suc, subst, All, ◌+◌, ◌-◌, ◌*◌, ◌<◌, ◌≤◌, min, Bool, true, false, cond, eqb, List, [], ◌∷◌, ◌++◌, length, take, drop, replicate, refl, sym, ap, ◌∙◌, ⊎_elim, arith}
 use Rattle.std.proofs.lemmas.Bool.{cases_lt, ne_eqb}
 use Rattle.std.proofs.lemmas.List.{length-append, length-replicate, length-drop, length-take-le, take-append-drop, append-nil, take_all, take-append-le, drop-drop, drop-replicate, drop_all}
 use Rattle.ca_dbr.specs.declared.data_type.BaseType.{BaseType}
 use Rattle.ca_dbr.specs.declared.data_type.BaseType.TheVariants as base
 use Rattle.ca_dbr.specs.declared.data_type.DataType.{DataType}
 use Rattle.ca_dbr.specs.declared.value.Meta.{Meta}
-use Rattle.ca_dbr.specs.Types.{element_size, meta_size, padding_size}
+use Rattle.ca_dbr.specs.Types.{base_number, element_size, meta_size, padding_size}
 use Rattle.std.specs.List.{flat_map}
 use Rattle.ca_dbr.specs.Elements.{Elements, strings, string_bytes, base_of, count_of, bytes_of, IsValue}
 use Rattle.ca_dbr.specs.Image.{meta_bytes}
-use Rattle.ca_dbr.specs.Reading.{carried, IsMeta, filled, ReadsElements, Reads, least_size, IsLong}
+use Rattle.ca_dbr.specs.Reading.{carried, IsMeta, filled, ReadsElements, ReadsOver, Reads, least_size, IsLong}
 use Rattle.ca_dbr.proofs.Images.{length-bytes_of, length-meta_bytes}
 
 -- the front of a text, with zero bytes after it
@@ -102,3 +102,10 @@ elements_long b count bytes e r =
 pub reads_long : (t : DataType) (count : ℕ) (bytes : List ℕ) (e : Elements) (m : Meta) → Reads t count bytes e m → IsLong t count bytes
 reads_long t count bytes e m r =
     omega (arith, ap length r.parts, length-append (meta_bytes t.form m) (r.padding ++ r.body), length-append r.padding r.body, length-meta_bytes t.form m, r.padded, elements_long t.base count r.body e r.elements)
+
+-- one element came in place of others of its type, or none did
+pub reads_over : (old e : Elements) (number n : ℕ) (bytes : List ℕ) (result : Bool) → base_of e ≡ base_of old → base_of old ≢ base.String → base_number (base_of old) ≡ number → least_size (base_of e) 1 ≡ n → filled (base_of e) 1 bytes ≡ bytes → (result ≡ true → bytes_of e ≡ take n bytes) → (result ≡ true → count_of e ≡ 1) → (result ≡ true → count_of old ≡ 1) → (result ≡ true → IsValue e) → (result ≡ true → n ≤ length bytes) → (result ≡ false → e ≡ old) → (result ≡ false → count_of old ≡ 1 → n ≤ length bytes → ⊥) → ReadsOver number bytes old result e
+reads_over old e number n bytes true same no_text numbered size whole front counted one valued long stays unfit =
+    (record { typed = numbered; no_text = no_text; one = one refl; long = (let most : n ≤ length bytes = long refl in rw (← same) (omega (arith, size, most))) }, subst (λ (b : BaseType). ReadsElements b 1 bytes e) same (reads_front e bytes 1 n whole (front refl) (counted refl) (valued refl)))
+reads_over old e number n bytes false same no_text numbered size whole front counted one valued long stays unfit =
+    (λ can. let most : least_size (base_of e) 1 ≤ length bytes = rw same can.long in unfit refl can.one (omega (arith, size, most)), stays refl)

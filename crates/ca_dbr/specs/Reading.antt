@@ -1,5 +1,5 @@
 -- Reading an image: the lenient converse of writing one.
-use Rattle.std.specs.Prelude.{ℕ, ◌≡◌, ◌≢◌, ◌<◌, ◌≤◌, ◌+◌, ◌-◌, ◌*◌, ◌^◌, ◌++◌, List, length, replicate, ◌==◌, if◌then◌else◌}
+use Rattle.std.specs.Prelude.{ℕ, ◌≡◌, ◌≢◌, ◌<◌, ◌≤◌, ◌+◌, ◌-◌, ◌*◌, ◌^◌, ◌++◌, Bool, true, false, List, length, replicate, ◌==◌, if◌then◌else◌}
 use Rattle.ca_text.specs.declared.refusal.Refusal.{Refusal}
 use Rattle.ca_text.specs.declared.refusal.Refusal.TheVariants as refusal
 use Rattle.ca_dbr.specs.declared.data_type.BaseType.{BaseType}
@@ -8,7 +8,7 @@ use Rattle.ca_dbr.specs.declared.data_type.Form.{Form}
 use Rattle.ca_dbr.specs.declared.data_type.Form.TheVariants as form
 use Rattle.ca_dbr.specs.declared.data_type.DataType.{DataType}
 use Rattle.ca_dbr.specs.declared.value.Meta.{Meta}
-use Rattle.ca_dbr.specs.Types.{type_number, meta_size, padding_size}
+use Rattle.ca_dbr.specs.Types.{base_number, type_number, meta_size, padding_size}
 use Rattle.ca_dbr.specs.Elements.{Elements, base_of, count_of, bytes_of, IsValue}
 use Rattle.ca_dbr.specs.Image.{meta_bytes}
 
@@ -73,3 +73,16 @@ ReadRefused number count bytes refusal.BadType = 20 < number
 ReadRefused number count bytes refusal.Short = (t : DataType) × (type_number t ≡ number) × (IsLong t count bytes → ⊥) × ((e : Elements) (m : Meta) → Reads t count bytes e m → ⊥)
 ReadRefused number count bytes refusal.OutOfMemory = (t : DataType) × (type_number t ≡ number) × IsLong t count bytes × (count ≢ 0)
 ReadRefused number count bytes _ = ⊥
+
+-- These elements are one, of the plain type of this number and no text, and the bytes are enough for another.
+pub record CanReadOver (number : ℕ) (bytes : List ℕ) (old : Elements) : Type 0 where
+  pub typed : base_number (base_of old) ≡ number
+  pub no_text : base_of old ≢ base.String
+  pub one : count_of old ≡ 1
+  pub long : least_size (base_of old) 1 ≤ length bytes
+
+-- One element of the plain type of this number, at the front of these bytes, came in place of another of that type; or that cannot be, and
+-- all stays.
+abbrev pub ReadsOver : (number : ℕ) → List ℕ → (old : Elements) → Bool → (new : Elements) → Type 0
+ReadsOver number bytes old true new = CanReadOver number bytes old × ReadsElements (base_of old) 1 bytes new
+ReadsOver number bytes old false new = (CanReadOver number bytes old → ⊥) × (new ≡ old)

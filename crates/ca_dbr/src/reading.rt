@@ -1,9 +1,10 @@
-ghost use Rattle.std.specs.Prelude.{◌≡◌, ◌≤◌, ◌<◌, ◌+◌, ◌-◌, ◌*◌, ◌++◌, length, take, drop, replicate, IfOk, IfErr, OnErr, ◌≢◌};
+ghost use Rattle.std.specs.Prelude.{◌≡◌, ◌≤◌, ◌<◌, ◌+◌, ◌-◌, ◌*◌, ◌++◌, All, false, length, take, drop, replicate, true, IfOk, IfErr, OnErr, ◌≢◌};
+ghost use Rattle.std.specs.List.{flat_map};
 ghost use Rattle.ca_dbr.specs.declared.data_type.DataType.{DataType};
 ghost use Rattle.ca_dbr.specs.Types.{type_number, meta_size};
 ghost use Rattle.ca_dbr.specs.Elements.{elements};
 ghost use Rattle.ca_dbr.specs.Image.{meta_bytes};
-ghost use Rattle.ca_dbr.specs.Reading.{carried, IsMeta, ReadsElements, Reads, ReadRefused, least_size};
+ghost use Rattle.ca_dbr.specs.Reading.{carried, IsMeta, ReadsElements, ReadsOver, Reads, ReadRefused, least_size};
 
 use crate::data_type::{BaseType, DataType, Form};
 use crate::element::{Element, read_all};
@@ -84,6 +85,46 @@ fn read_elements(
         BaseType::Long => Ok(Value::Longs(read_all(longs_in(alloc, room), count, bytes)?)),
         BaseType::Double => Ok(Value::Doubles(read_all(doubles_in(alloc, room), count, bytes)?)),
     }
+}
+
+impl Value {
+    /// Reads one element of the plain type of this number over the one that is there: it takes no memory, and nothing is moved. False, and nothing
+    /// changes, if it is of another type than this value, if the bytes are too few, if there are several elements, and for texts.
+    #[inline(always)]
+    pub fn read_over(&mut self, number: u16, bytes: &[u8]) -> bool
+        ensures { ReadsOver number bytes.now (elements self.old) result (elements self.new) }
+    {
+        if self.base_type().number() != number {
+            return false;
+        }
+        match self {
+            Value::Strings(_) => false,
+            Value::Ints(items) => read_one_over(items, bytes),
+            Value::Floats(items) => read_one_over(items, bytes),
+            Value::Enums(items) => read_one_over(items, bytes),
+            Value::Chars(items) => read_one_over(items, bytes),
+            Value::Longs(items) => read_one_over(items, bytes),
+            Value::Doubles(items) => read_one_over(items, bytes),
+        }
+    }
+}
+
+/// Reads an element over the one that is there. False, and nothing changes, if there is not just one, or the bytes are too few.
+#[inline(always)]
+fn read_one_over<E: Element>(items: &mut Vec<E>, bytes: &[u8]) -> bool
+    ensures again { result ≡ true → flat_map E.spelled items.new.items ≡ take E.SIZE bytes.now }
+    ensures count { result ≡ true → length items.new.items ≡ 1 }
+    ensures one { result ≡ true → length items.old.items ≡ 1 }
+    ensures fits { result ≡ true → All E.fits items.new.items }
+    ensures enough { result ≡ true → E.SIZE ≤ length bytes.now }
+    ensures same { result ≡ false → items.new ≡ items.old }
+    ensures unfit { result ≡ false → length items.old.items ≡ 1 → E.SIZE ≤ length bytes.now → ⊥ }
+{
+    if items.len() != 1 || bytes.len() < E::SIZE {
+        return false;
+    }
+    items[0] = E::read(&bytes[..E::SIZE]);
+    true
 }
 
 /// Reads the image of n elements. Refused as BadType if the type does not exist, as Short if the bytes are

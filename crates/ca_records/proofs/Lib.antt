@@ -6,6 +6,7 @@ mod Faulted
 mod Hashed
 mod Indexes
 mod Openings
+mod Overs
 mod Presence
 mod Steps
 mod Waiters

@@ -6,6 +6,7 @@ pub mod Index
 pub mod Judging
 pub mod Layout
 pub mod Lending
+pub mod Over
 pub mod Puts
 pub mod Record
 pub mod Records

@@ -1,10 +1,12 @@
 -- Vocabulary: the calls on the records of a server, by answer (sections "CA_PROTO_WRITE", "CA_PROTO_WRITE_NOTIFY" and "Process Variables").
-use Rattle.std.specs.Prelude.{ℕ, ◌≡◌, ◌≢◌, ◌⊎◌, ◌++◌, ◌&&◌, [], ◌∷◌, Bool, true, false, List, Option, Some, None, Result, Ok, Err, is_some, length, option_map, slice_get}
+use Rattle.std.specs.Prelude.{ℕ, ◌≡◌, ◌≢◌, ◌≤◌, ◌⊎◌, ◌++◌, ◌&&◌, [], ◌∷◌, Bool, true, false, List, Option, Some, None, Result, Ok, Err, is_some, length, option_map, slice_get}
 use Rattle.std.specs.declared.alloc.AllocError.{AllocError}
 use Rattle.ca_arena.specs.declared.handle.Handle.{Handle}
 use Rattle.ca_dbr.specs.declared.value.Meta.{Meta}
 use Rattle.ca_dbr.specs.Conversion.{converted}
 use Rattle.ca_dbr.specs.Elements.{Elements, base_of}
+use Rattle.ca_dbr.specs.Reading.{CanReadOver, ReadsElements, least_size}
+use Rattle.ca_dbr.specs.Types.{base_number}
 use Rattle.ca_ids.specs.Table.{same_handle}
 use Rattle.ca_text.specs.Place.{At}
 use Rattle.ca_text.specs.declared.refusal.Refusal.{Refusal}
@@ -18,7 +20,7 @@ use Rattle.ca_records.specs.declared.puts.Put.{Put}
 use Rattle.ca_records.specs.declared.puts.Stamp.{Stamp}
 use Rattle.ca_records.specs.Puts.{Record, WaitingPut, finished, new_record, record_named, removed, with_value, with_waiting, withdrawn, without_puts, written_meta}
 use Rattle.ca_records.specs.Record.{RecordState}
-use Rattle.ca_records.specs.Store.{Becomes, Enters, Finds, HasAt, Store, records_of, with_place, with_slot}
+use Rattle.ca_records.specs.Store.{Becomes, Enters, Finds, HasAt, Store, TakesAt, records_of, with_place, with_slot}
 
 -- ---- writes: a put with notification, or a plain write, which has none
 
@@ -57,6 +59,24 @@ pub record Begins (old : Store) (place : ℕ) (put : Option Put) (e : Elements) 
   pub next : Record
   pub begins : BeginsOn old.stamp r put e result next
   pub becomes : Becomes old place r next new
+
+-- A write of one element of the plain type of this number, as these bytes have it, was applied at a place: a put with notification, or none.
+pub record WritesOne (old : Store) (place : ℕ) (is_put : Bool) (number : ℕ) (bytes : List ℕ) (new : Store) : Type 0 where
+  pub e : Elements
+  pub takes : TakesAt old place e
+  pub typed : base_number (base_of e) ≡ number
+  pub long : least_size (base_of e) 1 ≤ length bytes
+  pub reads : ReadsElements (base_of e) 1 bytes e
+  -- it is what any such write of this element begins as
+  pub begins : (put : Option Put) → is_some put ≡ is_put → Begins old place put e (Ok (Applied false)) new
+
+-- One element can be written so: the record at the place has one of that type, and the put neither waits nor makes it busy.
+pub record CanWriteOne (s : Store) (place : ℕ) (is_put : Bool) (number : ℕ) (bytes : List ℕ) : Type 0 where
+  pub r : Record
+  pub at : HasAt s place r
+  pub free : (is_put && is_some r.busy) ≡ false
+  pub quick : (is_put && r.state.slow) ≡ false
+  pub over : CanReadOver number bytes r.state.value
 
 -- ---- the end of a busy put
 

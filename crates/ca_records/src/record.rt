@@ -4,6 +4,7 @@ ghost use Rattle.ca_text.specs.Name.{IsName};
 ghost use Rattle.ca_text.specs.declared.refusal.Refusal.TheVariants.{BadCount, NameLength};
 ghost use Rattle.ca_dbr.specs.Elements.{elements};
 ghost use Rattle.ca_records.specs.Layout.{MayHave, MayNotHave};
+ghost use Rattle.ca_records.specs.Over.{TakesOver};
 ghost use Rattle.ca_records.specs.Record.{HoldsValue, IsRecord, IsUnfit};
 
 use ca_dbr::{Meta, Value};
@@ -90,6 +91,18 @@ impl Record {
         Value::know(&value);
         self.meta = meta;
         mem::replace(&mut self.value, value)
+    }
+
+    // Reads one element of its type over its value, and sets what goes with it. False, and nothing changes, if the value does not take it.
+    #[inline(always)]
+    pub(crate) fn read_over(&mut self, number: u16, bytes: &[u8], meta: Meta) -> bool
+        ensures { TakesOver number bytes.now meta self.old result self.new }
+    {
+        if !self.value.read_over(number, bytes) {
+            return false;
+        }
+        self.meta = meta;
+        true
     }
 
     // Whether it may have this value by a post: of its type, with one element to the greatest count.

@@ -5,6 +5,7 @@ ghost use Rattle.ca_records.specs.Puts.{new_record, with_value, with_waiting, wi
 ghost use Rattle.ca_records.specs.Layout.{IsFit, waiting_put};
 ghost use Rattle.ca_records.specs.Writes.{BeginsOn, FinishesOn, Takes, is_of, must_wait};
 ghost use Rattle.ca_records.specs.Judging.{more_waiting};
+ghost use Rattle.ca_records.specs.Over.{WritesOver};
 ghost use Rattle.ca_records.specs.declared.puts.Begun.TheVariants.{Waiting};
 
 use crate::judged::{Judged, judge};
@@ -113,6 +114,24 @@ impl ServedRecord {
                 self.take(put, value, stamp, is_countable)
             }
         }
+    }
+
+    // Writes one element of the record's type, as these bytes have it, over its value: a plain write, or a put that neither waits nor makes the
+    // record busy. False, and nothing changes, if it is another; that is for `begin`.
+    #[inline(always)]
+    pub(crate) fn write_one(
+        &mut self,
+        is_put: bool,
+        number: u16,
+        bytes: &[u8],
+        stamp: Stamp,
+    ) -> bool
+        ensures { WritesOver stamp self.old is_put number bytes.now result self.new }
+    {
+        if is_put && (self.busy.is_some() || self.record.is_slow()) {
+            return false;
+        }
+        self.record.read_over(number, bytes, stamp.meta())
     }
 
     // Whether this write is one that is to wait, while as many wait as may.

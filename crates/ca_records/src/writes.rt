@@ -1,7 +1,7 @@
-ghost use Rattle.std.specs.Prelude.{◌≡◌};
+ghost use Rattle.std.specs.Prelude.{◌≡◌, false, true};
 ghost use Rattle.ca_dbr.specs.Elements.{elements};
 ghost use Rattle.ca_records.specs.Store.{IsThere, TakesAt};
-ghost use Rattle.ca_records.specs.Writes.{Begins, Finishes, FinishesAt, Posts, Withdraws};
+ghost use Rattle.ca_records.specs.Writes.{Begins, CanWriteOne, Finishes, FinishesAt, Posts, Withdraws, WritesOne};
 
 use crate::puts::{Begun, Finished, Put, fewer_waiting, more_waiting};
 use crate::served_records::ServedRecords;
@@ -34,6 +34,25 @@ impl ServedRecords {
         self.waiting += more_waiting(&begun);
         self.recent = place;
         begun
+    }
+
+    /// Writes one element, of the plain type of this number, as these bytes have it, over the value of the record at this place, if that
+    /// has one element of that type. It is applied at once, and takes no memory.
+    ///
+    /// False, and nothing changes, if the value is another, or is one of texts, if the bytes are too few, and if this is a put with notification that is to wait or makes
+    /// the record busy: that is for `begin_write`.
+    #[inline(always)]
+    pub fn write_one(&mut self, place: usize, is_put: bool, number: u16, bytes: &[u8]) -> bool
+        requires { IsThere self.old place }
+        ensures written { result ≡ true
+            → WritesOne self.old place is_put number bytes.now self.new }
+        ensures cannot { result ≡ false → CanWriteOne self.old place is_put number bytes.now → ⊥ }
+        ensures stays { result ≡ false → self.new ≡ self.old }
+    {
+        let stamp = self.stamp;
+        self.slots[place]
+            .record_mut()
+            .write_one(is_put, number, bytes, stamp)
     }
 
     /// A value that the record at this place had and has no more, if there is one: its memory may hold the next.

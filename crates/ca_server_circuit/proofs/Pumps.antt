@@ -1,6 +1,7 @@
 -- Updates leave the queues of an end.
 use Rattle.std.proofs.Common.{◌≡◌, ℕ, zero, suc, take, ◌+◌, ◌-◌, ◌*◌, ◌<◌, ◌≤◌, ◌⊎◌, inl, inr, Bool, true, false, cond, List, [], ◌∷◌, ◌++◌, length, replicate, Option, Some, None, Result, Ok, Err, refl, sym, ap, ◌∙◌, subst, arith}
 use Rattle.std.proofs.lemmas.List.{append-nil, length-append}
+use Rattle.std.specs.Prelude.{slice_set}
 use Rattle.std.specs.List.{FoldsTo}
 use Rattle.std.specs.Result.{IsErr}
 use Rattle.std.specs.declared.alloc.AllocError.{AllocError}
@@ -8,7 +9,8 @@ use Rattle.ca_text.specs.declared.refusal.Refusal.{Refusal}
 use Rattle.ca_text.specs.declared.refusal.Refusal.TheVariants as refusal
 use Rattle.ca_text.specs.Limits.{element_limit, output_limit, payload_limit}
 use Rattle.ca_text.specs.Status.{get_fail, normal}
-use Rattle.ca_text.proofs.Places.{At-within, some_is}
+use Rattle.ca_text.specs.Place.{At}
+use Rattle.ca_text.proofs.Places.{At-one, At-within, some_is}
 use Rattle.ca_dbr.specs.declared.data_type.BaseType.{BaseType}
 use Rattle.ca_dbr.specs.declared.data_type.BaseType.TheVariants as base
 use Rattle.ca_dbr.specs.declared.data_type.DataType.{DataType}
@@ -23,6 +25,7 @@ use Rattle.ca_link.specs.Calls.{IsOpen}
 use Rattle.ca_link.specs.Link.{LinkState, with_sent}
 use Rattle.ca_queue.specs.declared.entry.SubKey.{SubKey}
 use Rattle.ca_queue.specs.Circuit.{RestBefore}
+use Rattle.ca_queue.specs.Queue.{with_front_taken}
 use Rattle.ca_wire.specs.declared.requests.Wanted.{Wanted}
 use Rattle.ca_wire.specs.Fields.{Fields}
 use Rattle.ca_wire.specs.Header.{header_spelling}
@@ -33,7 +36,7 @@ use Rattle.ca_model.specs.Server.{ServerEnd, key_of}
 use Rattle.ca_model.specs.ServerSteps.{Leaves, Rests, Update}
 use Rattle.ca_model.specs.Speech.{Stored}
 use Rattle.ca_model.specs.Updates.{ShowsTo, update_count, update_in}
-use Rattle.ca_server_subscriptions.specs.Pumping.{GivesUpdate}
+use Rattle.ca_server_subscriptions.specs.Pumping.{GivesUpdate, MayGive}
 use Rattle.ca_server_subscriptions.specs.Subscribed.{Subscribed}
 use Rattle.ca_server_circuit.specs.Pumping.{PumpsEnd, PumpsOne}
 use Rattle.ca_server_circuit.specs.Subscribing.{events_of}
@@ -88,6 +91,55 @@ leaves-one v e l new w x m is room g shows sent =
     let u = leaving v w x new m room g shows in
     subst (λ (k : LinkState). PumpsOne e (Ok true) (record v { link = k; subscriptions = new.subscriptions; queues = new.queues })) (sym sent)
     (subst (λ (z : ServerEnd). PumpsOne z (Ok true) (record v { link = with_sent (m ∷ []) v.link; subscriptions = new.subscriptions; queues = new.queues })) is u)
+
+-- ---- the one that is the next
+
+order : (a b : ℕ) → (a < b) ⊎ ((a ≡ b) ⊎ (b < a))
+order zero zero = inr (inl refl)
+order zero (suc b) = inl (omega arith)
+order (suc a) zero = inr (inr (omega arith))
+order (suc a) (suc b) = elim (order a b) [
+  | inl lt ↦ inl (omega (arith, lt))
+  | inr more ↦ elim more [ inl e ↦ inr (inl (ap suc e)) | inr lt ↦ inr (inr (omega (arith, lt))) ]
+]
+
+no-entry : {A : Type 0} (w : SubKey × Stored) → (let none : Option (SubKey × Stored) = None in none ≡ Some w) → A
+no-entry w e = absurd cc
+
+-- one alone is the next
+gives-same : (old : Subscribed) (w : Wanted) (v : Stored) (x y : Subscribed) (r : Option (Wanted × Stored)) → GivesUpdate old (Some (w, v)) x → GivesUpdate old r y → GivesUpdate old (Some (w, v)) y
+gives-same old w v x y None g n = no-entry (key_of g.2, v) (sym (n.0 g.0 g.1 (At-within old.queues g.0 g.1 g.3) g.3) ∙ g.5)
+gives-same old w v x y (Some (w2, v2)) g h = by (order g.0 h.0)
+  where
+    by : (g.0 < h.0) ⊎ ((g.0 ≡ h.0) ⊎ (h.0 < g.0)) → GivesUpdate old (Some (w, v)) y
+    by (inl lt) = no-entry (key_of g.2, v) (sym (h.4 g.0 g.1 lt g.3) ∙ g.5)
+    by (inr (inr lt)) = no-entry (key_of h.2, v2) (sym (g.4 h.0 h.1 lt h.3) ∙ h.5)
+    by (inr (inl e)) =
+        let one : g.1 ≡ h.1 = At-one old.queues h.0 g.1 h.1 (subst (λ (n : ℕ). At old.queues n g.1) e g.3) h.3 in
+        (g.0, g.1, g.2, g.3, g.4, g.5, g.6, g.7, h.8 ∙ sym (λ i. record old { queues = slice_set old.queues (e i) (with_front_taken (one i)) }))
+
+pub lacks-first : (v e : ServerEnd) (l : LinkState) (w : Wanted) (x : Stored) (r : Result Bool AllocError) → IsErr r → v ≡ e → length v.link.output < output_limit
+    → MayGive (events_of v) w x → ((m : Fields) × ShowsTo w x m) → l ≡ v.link → PumpsOne e r (record v { link = l })
+lacks-first v e l w x (Ok b) no_it is room g shows same = absurd cc
+lacks-first v e l w x (Err a) yes_it is room g shows same =
+    let u = leaving v w x g.0 shows.0 room g.1 shows.1 in (
+      subst (λ (z : ServerEnd). (y : Update) × (t : ServerEnd) × Leaves z y t) is (u.0, record v { link = with_sent (shows.0 ∷ []) v.link; subscriptions = g.0.subscriptions; queues = g.0.queues }, u.1),
+      ap (λ (k : LinkState). k.output) same ∙ ap (λ (z : ServerEnd). z.link.output) is,
+      ap (λ (z : ServerEnd). z.channels) is,
+    )
+
+pub leaves-first : (v e : ServerEnd) (l : LinkState) (new : Subscribed) (w : Wanted) (x : Stored) (m : Fields) → v ≡ e → length v.link.output < output_limit
+    → MayGive (events_of v) w x → ((r : Option (Wanted × Stored)) × GivesUpdate (events_of v) r new) → ShowsTo w x m → l ≡ with_sent (m ∷ []) v.link
+    → PumpsOne e (Ok true) (record v { link = l; subscriptions = new.subscriptions; queues = new.queues })
+leaves-first v e l new w x m is room g drops shows sent =
+    leaves-one v e l new w x m is room (gives-same (events_of v) w x g.0 new drops.0 g.1 drops.1) shows sent
+
+-- nothing waits
+pub idle-one : (v e : ServerEnd) → v ≡ e → RestBefore v.queues (length v.queues) → PumpsOne e (Ok false) e
+idle-one v e is rest = (rests-none e (subst (λ (z : ServerEnd). RestBefore z.queues (length z.queues)) is rest), refl)
+
+pub idle-end : (v e : ServerEnd) (d : Unit {0}) → v ≡ e → RestBefore v.queues (length v.queues) → PumpsEnd e (Ok d) e
+idle-end v e d is rest = ([], refl, rests-none e (subst (λ (z : ServerEnd). RestBefore z.queues (length z.queues)) is rest))
 
 -- one more after others
 pub folds-more : (p : ServerEnd) (us : List Update) (q r : ServerEnd) (u : Update) → FoldsTo Leaves p us q → Leaves q u r → FoldsTo Leaves p (us ++ u ∷ []) r

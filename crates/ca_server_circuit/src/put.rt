@@ -1,5 +1,7 @@
-ghost use Rattle.std.specs.Prelude.{◌≡◌, IfOk, OnErr};
+ghost use Rattle.std.specs.Prelude.{◌≡◌, IfOk, OnErr, Option, false, is_some, true};
 ghost use Rattle.ca_dbr.specs.Reading.{least_size};
+ghost use Rattle.ca_records.specs.declared.puts.Begun.TheVariants.{Applied};
+ghost use Rattle.ca_records.specs.declared.puts.Put.{Put};
 ghost use Rattle.ca_records.specs.Store.{IsThere};
 ghost use Rattle.ca_server_circuit.specs.Putting.{IsGiven, WritesTo};
 
@@ -16,6 +18,27 @@ pub(crate) enum Given {
     Elements(Value),
     /// They are not read: the put is refused by this status.
     Fault(Status),
+}
+
+/// Writes the one element of this message to the record at this place under these rights, as a put with notification or as none, if it is
+/// applied at once and takes no memory, as most are. False, and nothing changes, if `begin` has to judge it.
+#[inline(always)]
+pub(crate) fn write_one(
+    records: &mut ServedRecords,
+    place: usize,
+    rights: u32,
+    is_put: bool,
+    message: &Message,
+) -> bool
+    requires { IsThere records.old place }
+    ensures written { result ≡ true → (put : Option Put) → is_some put ≡ is_put
+        → WritesTo records.old place rights put message.now (Applied false) records.new }
+    ensures stays { result ≡ false → records.new ≡ records.old }
+{
+    if message.count() != 1 || rights / 2 % 2 != 1 {
+        return false;
+    }
+    records.write_one(place, is_put, message.data_type(), message.payload())
 }
 
 /// Begins the write of this message to the record at this place under these rights: a put with notification, or a plain write,

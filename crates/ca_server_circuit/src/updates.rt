@@ -1,6 +1,6 @@
-ghost use Rattle.std.specs.Prelude.{◌≡◌, ◌≤◌, ◌==◌, IfOk, OnErr, OnOk, [], ◌∷◌, if◌then◌else◌, replicate, true};
+ghost use Rattle.std.specs.Prelude.{◌≡◌, ◌<◌, ◌≤◌, ◌==◌, IfOk, OnErr, OnOk, [], ◌∷◌, if◌then◌else◌, length, replicate, true};
 ghost use Rattle.std.specs.List.{list_any};
-ghost use Rattle.ca_text.specs.Limits.{element_limit, payload_limit};
+ghost use Rattle.ca_text.specs.Limits.{element_limit, output_limit, payload_limit};
 ghost use Rattle.ca_dbr.specs.Elements.{count_of};
 ghost use Rattle.ca_link.specs.Calls.{IsOpen};
 ghost use Rattle.ca_link.specs.Link.{with_sent};
@@ -37,13 +37,27 @@ impl End {
     {
         let on = self
             .subscriptions
-            .post(self.alloc, of.name(), mask, of.value(), of.meta())?;
+            .post(of.name(), mask, of.value(), of.meta())?;
         Ok(on)
     }
 
     /// Puts updates into the output until none may go. Without memory for the next the end is to be closed, and the output has those
     /// before it.
+    #[inline(always)]
     pub(crate) fn pump(&mut self) -> Result<(), AllocError>
+        requires { IsOpen self.old.link }
+        ensures { PumpsEnd self.old result self.new }
+    {
+        // So it is after most messages.
+        if self.subscriptions.is_idle() {
+            return Ok(());
+        }
+        self.pump_all()
+    }
+
+    /// The same where something waits.
+    #[inline(never)]
+    fn pump_all(&mut self) -> Result<(), AllocError>
         requires { IsOpen self.old.link }
         ensures { PumpsEnd self.old result self.new }
     {
@@ -62,6 +76,25 @@ impl End {
         if self.link.is_full() {
             return Ok(false);
         }
+        if self.subscriptions.is_idle() {
+            return Ok(false);
+        }
+        // Mostly one waits alone, and is shown where it is.
+        let Some((wanted, update)) = self.subscriptions.first() else {
+            return self.pump_queued();
+        };
+        show(self.alloc, &mut self.link, wanted, update)?;
+        self.subscriptions.drop_first();
+        Ok(true)
+    }
+
+    /// The same of an update in a queue. The output is not full.
+    #[inline(never)]
+    fn pump_queued(&mut self) -> Result<bool, AllocError>
+        requires open { IsOpen self.old.link }
+        requires room { length self.old.link.output < output_limit }
+        ensures { PumpsOne self.old result self.new }
+    {
         let Some((wanted, update)) = self.subscriptions.take() else {
             return Ok(false);
         };
@@ -72,6 +105,7 @@ impl End {
 }
 
 /// Shows an update to whoever asked so, with an image that is made in its place: GETFAIL and zero bytes if its elements have no place in that type.
+#[inline(always)]
 fn show(alloc: Global, link: &mut Link, wanted: Wanted, shown: &Update) -> Result<(), AllocError>
     requires open { IsOpen link.old }
     requires askable { IsAskable wanted }

@@ -5,7 +5,7 @@ use Rattle.std.specs.Str.{bytes_eq}
 use Rattle.std.proofs.lemmas.Slice.Eq.{bytes_eq-Decides}
 use Rattle.ca_arena.specs.declared.handle.Handle.{Handle}
 use Rattle.ca_beacon.specs.Clock.{Clock}
-use Rattle.ca_ids.specs.Table.{Table, same_handle, under, with_changed}
+use Rattle.ca_ids.specs.Table.{Table, same_handle, under, with_changed, with_freed}
 use Rattle.ca_records.specs.declared.puts.Finished.{Finished}
 use Rattle.ca_records.specs.declared.puts.Put.{Put}
 use Rattle.ca_records.specs.declared.puts.Stamp.{Stamp}
@@ -27,18 +27,20 @@ use Rattle.ca_server_circuit.specs.declared.cause.Cause.{Cause}
 use Rattle.ca_server_circuit.specs.declared.step.Effect.{Effect}
 use Rattle.ca_server_circuit.specs.declared.step.Effect.TheVariants as effect
 use Rattle.ca_server_circuit.specs.declared.step.EndStep.TheVariants as step
+use Rattle.ca_server_circuit.specs.Circuits.{is_open}
 use Rattle.ca_server_circuit.specs.Ending.{EndsAt, KeepsPlaces}
 use Rattle.ca_server_circuit.specs.Handling.{Recorded, Tells, is_wrote}
 use Rattle.ca_server_circuit.specs.Serving.{CircuitSteps}
 use Rattle.ca_server_circuit.specs.Stepping.{after_first, why_is}
 use Rattle.ca_server_circuit.proofs.Tables.{changed-own, find-at, none-some}
 use Rattle.ca_server_core.specs.Ending.{EndsIn}
-use Rattle.ca_server_core.specs.Following.{Follows}
+use Rattle.ca_server_core.specs.Following.{Follows, IsSettled, Settles}
 use Rattle.ca_server_core.specs.Noting.{BusyBut, EndsPutAt, IsBusy, LeadsTo, Notes, NotesAt, ServesNext, Tries, TriesAt, busy_name, was_handled, wrote_busy}
 use Rattle.ca_server_core.specs.Finishing.{RepliesIn, effect_after}
 use Rattle.ca_server_core.specs.Serving.{IsReport, Reports, StepsIn, more_applied, stepped}
 use Rattle.ca_server_core.specs.declared.stepping.Step.{Step}
-use Rattle.ca_server_core.proofs.Followed.{HandledBy, MakesBy}
+use Rattle.ca_server_core.specs.declared.stepping.Step.TheVariants as own
+use Rattle.ca_server_core.proofs.Followed.{HandledBy}
 use Rattle.ca_server_core.proofs.Nexts.{viewed-finish}
 use Rattle.ca_server_core.proofs.Reached.{there-is}
 use Rattle.ca_server_core.proofs.Servers.{became, server_of, stayed}
@@ -279,11 +281,20 @@ not-handled steps.NeedBytes f is = cc
 not-handled steps.OutputFull f is = cc
 not-handled (steps.Closed w left) f is = cc
 
-pub is-handled : (did : Stepped) → was_handled did ≡ true → did ≡ steps.Handled
-is-handled steps.Handled t = refl
-is-handled steps.NeedBytes t = absurd (both-bools false t refl)
-is-handled steps.OutputFull t = absurd (both-bools false t refl)
-is-handled (steps.Closed w left) t = absurd (both-bools false t refl)
+-- the end of a circuit that is over was closed
+pub over-closed : (o : Option ServerCircuit) (did : Stepped) → is_open o ≡ false → IsReport o did → was_handled did ≡ false
+over-closed None did shut is = ap (λ (d : Stepped). was_handled d) is
+over-closed (Some (Ended w left)) did shut is = ap (λ (d : Stepped). was_handled d) is
+over-closed (Some (Open e)) did shut is = absurd (both-bools true refl shut)
+
+-- an open one stays as it is
+pub open-settles : (t : Circuits) (h : Handle) (waited : ℕ) → is_open (under t h) ≡ true → Settles t h waited own.Handled t
+open-settles t h waited opened = (by (under t h) opened, sym (ap (λ (b : Bool). cond b t (with_freed h t)) opened))
+  where
+    by : (o : Option ServerCircuit) → is_open o ≡ true → IsSettled o waited own.Handled
+    by (Some (Open e)) is = refl
+    by (Some (Ended w left)) is = absurd (both-bools false is refl)
+    by None is = absurd (both-bools false is refl)
 
 -- ---- the put that it made busy
 
@@ -357,13 +368,11 @@ viewed-quiet y port now n k b s u t after h is g made =
     (viewed-noting y port now n k b s u u t after after after h effect.Quiet None is g (refl, refl) refl made) refl
 
 -- a message was handled, and the put of the record to which it wrote ended
-pub viewed-served : (y : Server) (port now n k j : ℕ) (b : Clock) (s u x z : Store) (t after last mid final : Circuits) (h : Handle) (did : Effect) (result : Stepped) → server_of port s now t b n ≡ y → StepsIn port t h s (Some (step.Handled did)) after u → Follows did h after u last x
-    → ((P : Action → Type 0) → ((a : Action) → Tells a did u → P a) → MakesBy P y h result (server_of port x now mid b k)) → result ≡ steps.Handled → TriesAt did k mid x j final z → ServesNext y h result (server_of port z now final b j)
-viewed-served y port now n k j b s u x z t after last mid final h did result is g f made handled tries =
+pub viewed-served : (y : Server) (port now n k j : ℕ) (b : Clock) (s u x z : Store) (t after last mid final : Circuits) (h : Handle) (did : Effect) → server_of port s now t b n ≡ y → StepsIn port t h s (Some (step.Handled did)) after u → Follows did h after u last x
+    → HandlesAny y h did u (server_of port x now mid b k) → TriesAt did k mid x j final z → ServesNext y h steps.Handled (server_of port z now final b j)
+viewed-served y port now n k j b s u x z t after last mid final h did is g f made tries =
     let it = tried-at did port now b k j mid final x z tries in
-    subst (λ (d : Stepped). ServesNext y h d (server_of port z now final b j)) (sym handled)
-    (served y h it.0 (server_of port x now mid b k) (server_of port z now final b j)
-    (viewed-noting y port now n k b s u x t after last mid h did it.0 is g f it.1 (λ P holds. subst (λ (d : Stepped). MakesBy P y h d (server_of port x now mid b k)) handled (made P holds))) it.2)
+    served y h it.0 (server_of port x now mid b k) (server_of port z now final b j) (viewed-noting y port now n k b s u x t after last mid h did it.0 is g f it.1 made) it.2
 
 -- the record to which a message wrote is there after what followed
 pub leads-after : (did : Effect) (h : Handle) (t last : Circuits) (u x : Store) → Follows did h t u last x → LeadsTo did x

@@ -16,6 +16,7 @@ pub(crate) const WRITE_MASK: u16 = 3;
 
 /// What a message that was handled leaves to do: a write reaches all subscriptions on its record; and the circuit watches the record of a
 /// subscription that began. Without memory for that its end has ended.
+#[inline(always)]
 pub(crate) fn follow(
     circuits: &mut HeldTable<Circuit>,
     records: &mut ServedRecords,

@@ -43,7 +43,33 @@ impl ServerCore {
 /// The value of the record at this place reaches all subscriptions on it whose mask shares a bit with this one, on all circuits. An end
 /// without memory for an update has ended. The circuits in the record's list are visited, and no other. A list may have some that watch the
 /// record no more: these are taken out, and get nothing.
+#[inline(always)]
 pub(crate) fn post_to_all(
+    circuits: &mut HeldTable<Circuit>,
+    records: &mut ServedRecords,
+    watchers: &mut Watchers,
+    place: usize,
+    mask: u16,
+)
+    requires there { IsThere records.old place }
+    requires sound { IsSound (records_of records.old) circuits.old }
+    requires covered { Covers watchers.old circuits.old }
+    requires listed { AreListed (records_of records.old) watchers.old }
+    ensures reaches { ReachesFrom place mask circuits.old records.old circuits.new records.new }
+    ensures sound { IsSound (records_of records.new) circuits.new }
+    ensures covered { Covers watchers.new circuits.new }
+    ensures listed { AreListed (records_of records.new) watchers.new }
+{
+    // Then a write pays for no more than this test.
+    if watchers.is_empty() {
+        return;
+    }
+    post_to_watching(circuits, records, watchers, place, mask);
+}
+
+/// The same, by the record's list.
+#[inline(never)]
+fn post_to_watching(
     circuits: &mut HeldTable<Circuit>,
     records: &mut ServedRecords,
     watchers: &mut Watchers,

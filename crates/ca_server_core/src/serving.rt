@@ -1,14 +1,13 @@
-ghost use Rattle.std.specs.Prelude.{◌≡◌};
 ghost use Rattle.ca_records.specs.Store.{IsThere, records_of};
 ghost use Rattle.ca_server_core.specs.Covering.{AreListed, Covers};
-ghost use Rattle.ca_server_core.specs.Noting.{EndsPutAt, LeadsTo, ServesNext, TriesAt, was_handled};
+ghost use Rattle.ca_server_core.specs.Noting.{EndsPutAt, LeadsTo, ServesNext, TriesAt};
 ghost use Rattle.ca_server_core.specs.Serving.{stepped};
 ghost use Rattle.ca_server_core.specs.Sound.{IsSound};
 
 use crate::finishing::{effect_of, reply_on};
 use crate::following::follow;
 use crate::server::ServerCore;
-use crate::stepping::{Step, is_quiet, more_applied, report, settle, step_on};
+use crate::stepping::{Step, is_open, is_quiet, more_applied, over, report, step_on};
 use ca_arena::Handle;
 use ca_ids::HeldTable;
 use ca_records::ServedRecords;
@@ -41,34 +40,24 @@ impl ServerCore {
                     circuit,
                     effect,
                 );
-                let did = settle(self.alloc, &mut self.circuits, circuit, waited);
-                if !is_handled(&did) {
-                    return did;
+                if is_open(&self.circuits, circuit) {
+                    finish_busy(
+                        &mut self.applied,
+                        &mut self.circuits,
+                        &mut self.records,
+                        &mut self.watchers,
+                        effect,
+                    );
+                    Step::Handled
+                } else {
+                    over(self.alloc, &mut self.circuits, circuit, waited)
                 }
-                finish_busy(
-                    &mut self.applied,
-                    &mut self.circuits,
-                    &mut self.records,
-                    &mut self.watchers,
-                    effect,
-                );
-                did
             }
             Some(EndStep::NeedBytes) => Step::NeedBytes,
             Some(EndStep::OutputFull) => Step::OutputFull,
             Some(EndStep::Breaks(_)) => report(self.alloc, &mut self.circuits, circuit),
             None => report(self.alloc, &mut self.circuits, circuit),
         }
-    }
-}
-
-/// Whether a step handled a message, after which the end of its circuit is open.
-fn is_handled(did: &Step) -> bool
-    ensures { result ≡ was_handled (stepped did.now) }
-{
-    match did {
-        Step::Handled => true,
-        _ => false,
     }
 }
 

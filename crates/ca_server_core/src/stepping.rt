@@ -1,8 +1,9 @@
-ghost use Rattle.std.specs.Prelude.{◌≡◌, length, take, true};
+ghost use Rattle.std.specs.Prelude.{◌≡◌, false, length, take, true};
 ghost use Rattle.ca_ids.specs.Table.{under};
 ghost use Rattle.ca_model.specs.ServerSteps.{Steps, output_of};
 ghost use Rattle.ca_records.specs.Store.{records_of};
 ghost use Rattle.ca_server_core.specs.Following.{Settles};
+ghost use Rattle.ca_server_core.specs.Noting.{was_handled};
 ghost use Rattle.ca_server_circuit.specs.declared.step.Effect.TheVariants.{Quiet};
 ghost use Rattle.ca_server_circuit.specs.Circuits.{is_open};
 ghost use Rattle.ca_server_core.specs.Serving.{Closes, Reports, StepsIn, more_applied, stepped};
@@ -118,6 +119,21 @@ pub(crate) fn settle(
     if is_open(circuits, circuit) {
         return Step::Handled;
     }
+    over(alloc, circuits, circuit, waited)
+}
+
+/// The same of an end that has ended since.
+#[inline(never)]
+pub(crate) fn over(
+    alloc: Global,
+    circuits: &mut HeldTable<Circuit>,
+    circuit: Handle,
+    waited: usize,
+) -> Step
+    requires { is_open (under circuits.old circuit) ≡ false }
+    ensures settles { Settles circuits.old circuit waited result circuits.new }
+    ensures closed { was_handled (stepped result) ≡ false }
+{
     match report(alloc, circuits, circuit) {
         Step::Closed(cause, left) => Step::Closed(cause, first_of(left, waited)),
         other => other,

@@ -3,3 +3,4 @@ pub mod Placing
 pub mod Dropping
 pub mod Pumps
 pub mod Seeking
+pub mod Beside

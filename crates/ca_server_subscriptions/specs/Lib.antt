@@ -1,3 +1,4 @@
 pub mod Subscribed
+pub mod Held
 pub mod Pumping
 pub mod Concerned

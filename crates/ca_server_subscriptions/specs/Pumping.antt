@@ -15,3 +15,7 @@ GivesUpdate old None new = RestBefore old.queues (length old.queues) × (new ≡
 GivesUpdate old (Some (w, v)) new =
     (place : ℕ) × (q : Queue Stored) × (s : Subscription) × At old.queues place q × RestBefore old.queues place × (taken q.events_on q.waiting ≡ Some (key_of s, v))
     × In old.subscriptions s × (s.wanted ≡ w) × (new ≡ record old { queues = slice_set old.queues place (with_front_taken q) })
+
+-- an update may be taken next, for whoever asked so
+abbrev pub MayGive : Subscribed → Wanted → Stored → Type 0
+MayGive old w v = (new : Subscribed) × GivesUpdate old (Some (w, v)) new

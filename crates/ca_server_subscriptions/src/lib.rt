@@ -6,6 +6,7 @@
 mod standing;
 mod subscriptions;
 mod update;
+mod waiting;
 
 pub use subscriptions::Subscriptions;
 pub use update::Update;

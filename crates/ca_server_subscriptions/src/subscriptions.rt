@@ -1,4 +1,4 @@
-ghost use Rattle.std.specs.Prelude.{◌≡◌, ◌<◌, ◌==◌, ◌≤◌, ◌*◌, IfOk, IfSome, OnErr, OnOk, Some, false, true, map, length, option_map, option_to_list, slice_get};
+ghost use Rattle.std.specs.Prelude.{Option, ◌≡◌, ◌<◌, ◌==◌, ◌≤◌, ◌*◌, IfOk, IfSome, OnErr, OnOk, Some, false, true, map, length, option_map, option_to_list, slice_get};
 ghost use Rattle.std.specs.List.{list_any};
 ghost use Rattle.std.specs.Map.{lookup};
 ghost use Rattle.ca_text.specs.Limits.{circuit_queues, element_limit, queue_subscriptions};
@@ -7,29 +7,30 @@ ghost use Rattle.ca_queue.specs.Keys.{same};
 ghost use Rattle.ca_queue.specs.Queue.{switched};
 ghost use Rattle.ca_model.specs.Server.{concerns};
 ghost use Rattle.ca_server_subscriptions.specs.Concerned.{ConcernsAt};
-ghost use Rattle.ca_server_subscriptions.specs.Pumping.{GivesUpdate};
+ghost use Rattle.ca_queue.specs.Circuit.{RestBefore};
+ghost use Rattle.ca_model.specs.Speech.{Stored};
+ghost use Rattle.ca_wire.specs.declared.requests.Wanted.{Wanted};
+ghost use Rattle.ca_server_subscriptions.specs.Pumping.{GivesUpdate, MayGive};
 ghost use Rattle.ca_server_subscriptions.specs.Subscribed.{AreKnown, AtPlace, HasRoom, IsAskable, Joins, PassesAt, after_post, has_key, is_of_sid, is_on, none_yet, with_update, without_one, without_those};
 
 use crate::standing::Standing;
 use crate::update::Update;
+use crate::waiting::Waiting;
 use ca_dbr::{Meta, Value};
-use ca_queue::{EventQueue, QueuesAtNeed, SubKey};
+use ca_queue::SubKey;
 use ca_text::Refusal;
 use ca_wire::{Sid, Wanted};
 use indexmap::IndexMap;
 use std::alloc::{AllocError, Global};
 use std::marker::Model;
-use std::mem;
 
 /// The subscriptions of an end, in the order of their EVENT_ADDs, and the queues of their updates.
 #[derive(Drop)]
 pub struct Subscriptions {
     standing: IndexMap<SubKey, Standing>,
-    queues: QueuesAtNeed<Update, EventQueue<Update>>,
+    queues: Waiting,
     // The place after the subscription whose update was taken last: the next update is mostly of the one there. The key decides.
     next: usize,
-    // The value of an update that was shown, or one without elements: its memory is for the next.
-    spare: Value,
 }
 
 impl Model for Subscriptions {
@@ -52,9 +53,8 @@ impl Subscriptions {
     {
         Subscriptions {
             standing: IndexMap::new(alloc),
-            queues: QueuesAtNeed::new(alloc),
+            queues: Waiting::new(alloc),
             next: 0,
-            spare: Value::Chars(Vec::new(alloc)),
         }
     }
 
@@ -161,7 +161,6 @@ impl Subscriptions {
     /// memory for one all subscriptions stay, and some have the update, so that the end is to be closed.
     pub fn post(
         &mut self,
-        alloc: Global,
         name: &[u8],
         mask: u16,
         value: &Value,
@@ -178,7 +177,7 @@ impl Subscriptions {
     {
         let mut on = false;
         'posting: for place in 0..self.len() {
-            let here = self.post_at(alloc, place, name, mask, value, meta)?;
+            let here = self.post_at(place, name, mask, value, meta)?;
             on |= here;
         }
         Ok(on)
@@ -187,7 +186,6 @@ impl Subscriptions {
     // Gives the one at this place an update if the post concerns it, and says whether it is on the record.
     fn post_at(
         &mut self,
-        alloc: Global,
         place: usize,
         name: &[u8],
         mask: u16,
@@ -213,9 +211,8 @@ impl Subscriptions {
             return Ok(true);
         }
         let (key, queue) = (*key, standing.queue());
-        let room = mem::replace(&mut self.spare, Value::Chars(Vec::new(alloc)));
-        let update = Update::of_in(alloc, room, value, *meta)?;
-        self.queues.post(queue, key, update);
+        self.queues.post(queue, key, value, meta)?;
+        self.next = place;
         Ok(true)
     }
 
@@ -223,7 +220,7 @@ impl Subscriptions {
     pub fn recycle(&mut self, update: Update)
         ensures { self.new ≡ self.old }
     {
-        self.spare = update.into_value();
+        self.queues.recycle(update);
     }
 
     /// The place of the queue that has the one at this place, if a post to the record of this name, with this mask, concerns it. Only
@@ -238,6 +235,32 @@ impl Subscriptions {
             return None;
         }
         Some(standing.queue())
+    }
+
+    /// Tells if nothing waits and events are on, so that no update may be taken.
+    pub fn is_idle(&self) -> bool
+        ensures { result ≡ true → RestBefore self.now.queues (length self.now.queues) }
+    {
+        self.queues.is_idle()
+    }
+
+    /// The update that is taken next, and what its subscription asked for, if it was posted while nothing waited. It is not taken yet.
+    pub fn first(&self) -> Option<(Wanted, &Update)>
+        ensures gives { IfSome result (λ r. MayGive self.now r.0 r.1.now) }
+        ensures askable { IfSome result (λ r. IsAskable r.0) }
+    {
+        let (key, update) = self.queues.first()?;
+        let Some(standing) = seek(&self.standing, self.next, key) else {
+            unreachable!()
+        };
+        Some((standing.wanted(), update))
+    }
+
+    /// Takes an update from the first queue that may give one, and lets it go.
+    pub fn drop_first(&mut self)
+        ensures { (r : Option (Wanted × Stored)) × GivesUpdate self.old r self.new }
+    {
+        self.queues.drop_first();
     }
 
     /// Takes an update from the first queue that may give one, and says what its subscription asked for. None if none may.
@@ -276,6 +299,16 @@ fn find<'a>(
             *next = after(place, standing.len());
             Some(found)
         }
+    }
+}
+
+// The subscription of this key, which is looked for at this place first.
+fn seek(standing: &IndexMap<SubKey, Standing>, place: usize, key: SubKey) -> Option<&Standing>
+    ensures { option_map (λ s. s.now) result ≡ lookup (same key) standing.now.entries }
+{
+    match at_key(standing, place, key) {
+        Some(found) => Some(found),
+        None => standing.get(&key),
     }
 }
 

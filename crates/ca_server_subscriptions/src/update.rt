@@ -1,4 +1,4 @@
-ghost use Rattle.std.specs.Prelude.{◌≡◌, ◌≢◌, ◌≤◌, IfOk, OnErr};
+ghost use Rattle.std.specs.Prelude.{◌≡◌, ◌≢◌, ◌≤◌, [], IfOk, OnErr, OnOk};
 ghost use Rattle.ca_text.specs.Limits.{element_limit};
 ghost use Rattle.ca_dbr.specs.Elements.{count_of, elements};
 
@@ -41,26 +41,27 @@ impl Update {
         }
     }
 
-    /// The same in the memory of a value that is used no more, if it is of this type.
-    pub(crate) fn of_in(
-        alloc: Global,
-        room: Value,
-        value: &Value,
-        meta: Meta,
-    ) -> Result<Update, AllocError>
-        requires { count_of (elements value.now) ≤ element_limit }
-        ensures { IfOk result (λ u. u ≡ record { value = elements value.now; meta = meta }) }
-    {
-        match value.copy_into(alloc, Some(room)) {
-            Ok(value) => Ok(Update { value, meta }),
-            Err(_) => Err(AllocError),
+    // One without elements. It does not allocate.
+    pub(crate) fn empty(alloc: Global) -> Update {
+        Update {
+            value: Value::Chars(Vec::new(alloc)),
+            meta: Meta::ZERO,
         }
     }
 
-    // Its value, for its memory.
-    pub(crate) fn into_value(self) -> Value {
-        let Update { value, .. } = self;
-        value
+    // It is one of this value from now on, which it copies, into its own memory if that is of this type.
+    #[inline(always)]
+    pub(crate) fn renew(
+        &mut self,
+        alloc: Global,
+        value: &Value,
+        meta: Meta,
+    ) -> Result<(), AllocError>
+        requires { count_of (elements value.now) ≤ element_limit }
+        ensures { OnOk result (self.new ≡ record { value = elements value.now; meta = meta }) }
+    {
+        self.meta = meta;
+        copy_over(alloc, &mut self.value, value)
     }
 
     /// Its value.
@@ -77,4 +78,52 @@ impl Update {
     {
         &self.meta
     }
+}
+
+// This value is the same as the other from now on. Its memory is kept if both are of one type. Without memory it has no elements, or is as it was.
+#[inline(always)]
+fn copy_over(alloc: Global, room: &mut Value, value: &Value) -> Result<(), AllocError>
+    requires { count_of (elements room.old) ≤ element_limit }
+    ensures ok { OnOk result (elements room.new ≡ elements value.now) }
+    ensures few { OnErr result (count_of (elements room.new) ≤ element_limit) }
+{
+    match (value, &mut *room) {
+        (Value::Strings(from), Value::Strings(to)) => renew(to, from),
+        (Value::Ints(from), Value::Ints(to)) => renew(to, from),
+        (Value::Floats(from), Value::Floats(to)) => renew(to, from),
+        (Value::Enums(from), Value::Enums(to)) => renew(to, from),
+        (Value::Chars(from), Value::Chars(to)) => renew(to, from),
+        (Value::Longs(from), Value::Longs(to)) => renew(to, from),
+        (Value::Doubles(from), Value::Doubles(to)) => renew(to, from),
+        _ => replace(alloc, room, value),
+    }
+}
+
+// The same in memory of its own.
+#[inline(never)]
+fn replace(alloc: Global, room: &mut Value, value: &Value) -> Result<(), AllocError>
+    ensures ok { OnOk result (elements room.new ≡ elements value.now) }
+    ensures err { OnErr result (room.new ≡ room.old) }
+{
+    match value.copy(alloc) {
+        Ok(copy) => {
+            *room = copy;
+            Ok(())
+        }
+        Err(_) => Err(AllocError),
+    }
+}
+
+// These items in place of those that were there. Without memory there are none.
+fn renew<T: Copy + Drop>(items: &mut Vec<T>, from: &[T]) -> Result<(), AllocError>
+    ensures ok { OnOk result (items.new.items ≡ from.now) }
+    ensures err { OnErr result (items.new.items ≡ []) }
+{
+    // Most values have one element, as the one before had.
+    if items.len() == 1 && from.len() == 1 {
+        items[0] = from[0];
+        return Ok(());
+    }
+    items.clear();
+    items.extend_from_slice(from)
 }

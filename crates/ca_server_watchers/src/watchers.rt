@@ -1,4 +1,4 @@
-ghost use Rattle.std.specs.Prelude.{◌≡◌, ◌-◌, IfSome, OnErr, OnOk, [], length, slice_get};
+ghost use Rattle.std.specs.Prelude.{◌≡◌, ◌-◌, ◌↔◌, true, IfSome, OnErr, OnOk, [], length, slice_get};
 ghost use Rattle.ca_server_watchers.specs.Watching.{AreApart, Clears, LeavesAt, Watches, watching};
 
 use crate::line::Line;
@@ -34,6 +34,13 @@ impl Watchers {
             lines: IndexMap::new(alloc),
             recent: 0,
         }
+    }
+
+    /// Whether no record has a line: then nobody watches any.
+    pub fn is_empty(&self) -> bool
+        ensures { (result ≡ true) ↔ (self.now ≡ []) }
+    {
+        self.lines.is_empty()
     }
 
     /// The last of the circuits that watch the record of this name, and how many come before it.

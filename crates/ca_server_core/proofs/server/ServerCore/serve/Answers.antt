@@ -6,7 +6,7 @@ use Rattle.ca_records.specs.Store.{records_of}
 use Rattle.ca_server_core.proofs.Covered.{covers-thinned}
 use Rattle.ca_server_core.proofs.Followed.{broke-thins, made-followed, made-followed-by, none-thins, settled-sound, settled-thins, step-covers}
 use Rattle.ca_server_core.proofs.Listed.{listed-broke, listed-none, listed-step}
-use Rattle.ca_server_core.proofs.Noted.{broke-closes, is-handled, leads-after, none-closes, not-handled, noting-none, viewed-quiet, viewed-served}
+use Rattle.ca_server_core.proofs.Noted.{broke-closes, leads-after, none-closes, not-handled, noting-none, open-settles, viewed-quiet, viewed-served}
 use Rattle.ca_server_core.proofs.Servers.{server_of}
 use Rattle.ca_server_core.proofs.Stepped.{broke-sound, handled-settles, made-broke, made-none, none-sound, step-sound}
 use Rattle.ca_server_circuit.specs.declared.step.Effect.TheVariants.{Quiet}
@@ -55,32 +55,22 @@ follow-requires-clause-listed c =
     let did = rw c.in-Some-Handled.field-0-is at c.in-Some-Handled.ensures.steps in
     listed-step i.port i.records c.step_on.new.records i.circuits c.step_on.new.circuits c.args.circuit c.in-Some-Handled.effect i.watchers did c.self.invariant.listed
 
--- what the step left, before the put of its record ended
 pub finish_busy-requires-clause-leads : goal.finish_busy-requires-clause-leads
 finish_busy-requires-clause-leads c =
     leads-after c.in-Some-Handled.effect c.args.circuit c.step_on.new.circuits c.follow.new.circuits c.step_on.new.records c.follow.new.records c.follow.ensures.follows
 
-pub finish_busy-requires-clause-sound : goal.finish_busy-requires-clause-sound
-finish_busy-requires-clause-sound c =
+pub invariant_of-self-else-is_open : goal.invariant_of-self-else-is_open
+invariant_of-self-else-is_open c =
     let f = c.follow.new in
-    settled-sound (records_of f.records) f.circuits c.settle-did.new.circuits c.args.circuit _ c.settle-did.result c.settle-did.ensures c.follow.ensures.sound
-
-pub finish_busy-requires-clause-covered : goal.finish_busy-requires-clause-covered
-finish_busy-requires-clause-covered c =
-    let f = c.follow.new in
-    covers-thinned f.watchers f.circuits c.settle-did.new.circuits (settled-thins f.circuits c.settle-did.new.circuits c.args.circuit _ c.settle-did.result c.settle-did.ensures) c.follow.ensures.covered
-
-pub invariant_of-self-then-not-is_handled : goal.invariant_of-self-then-not-is_handled
-invariant_of-self-then-not-is_handled c =
-    let f = c.follow.new in
+    let settles = c.over.ensures.settles in
     record {
-      sound = settled-sound (records_of f.records) f.circuits c.settle-did.new.circuits c.args.circuit _ c.settle-did.result c.settle-did.ensures c.follow.ensures.sound;
-      covered = covers-thinned f.watchers f.circuits c.settle-did.new.circuits (settled-thins f.circuits c.settle-did.new.circuits c.args.circuit _ c.settle-did.result c.settle-did.ensures) c.follow.ensures.covered;
+      sound = settled-sound (records_of f.records) f.circuits c.over.new.circuits c.args.circuit _ c.over.result settles c.follow.ensures.sound;
+      covered = covers-thinned f.watchers f.circuits c.over.new.circuits (settled-thins f.circuits c.over.new.circuits c.args.circuit _ c.over.result settles) c.follow.ensures.covered;
       listed = c.follow.ensures.listed;
     }
 
-pub invariant_of-self-in-Some-Handled : goal.invariant_of-self-in-Some-Handled
-invariant_of-self-in-Some-Handled c =
+pub invariant_of-self-then-is_open : goal.invariant_of-self-then-is_open
+invariant_of-self-then-is_open c =
     record { sound = c.finish_busy.ensures.sound; covered = c.finish_busy.ensures.covered; listed = c.finish_busy.ensures.listed }
 
 pub invariant_of-self-in-Some-Breaks : goal.invariant_of-self-in-Some-Breaks
@@ -102,26 +92,26 @@ invariant_of-self-in-None c =
       listed = listed-none i.port i.records c.step_on.new.records i.circuits c.step_on.new.circuits c.args.circuit i.watchers c.in-None.ensures.steps c.self.invariant.listed;
     }
 
-pub returns-then-not-is_handled : goal.returns-then-not-is_handled
-returns-then-not-is_handled c =
+pub returns-else-is_open : goal.returns-else-is_open
+returns-else-is_open c =
     let i = c.self.inside in
     let did = rw c.in-Some-Handled.field-0-is at c.in-Some-Handled.ensures.steps in
     let f = c.follow.new in
     let long = c.in-Some-Handled.ensures.waited ∙ ap (λ (z : Server). length (output_of (under z.circuits c.args.circuit))) c.self.view_is in
-    let made = made-followed c.args.self.now i.port i.moment i.applied c.more_applied-self-inside.result _ i.beacons i.records c.step_on.new.records f.records i.circuits c.step_on.new.circuits f.circuits c.settle-did.new.circuits c.args.circuit c.in-Some-Handled.effect c.is_write.result c.settle-did.result c.self.view_is c.is_write.ensures c.more_applied-self-inside.ensures long did c.follow.ensures.follows c.follow.ensures.sound c.settle-did.ensures in
-    noting-none c.args.self.now c.args.circuit (stepped c.settle-did.result) (server_of i.port f.records i.moment c.settle-did.new.circuits i.beacons c.more_applied-self-inside.result)
-    (not-handled (stepped c.settle-did.result) (sym c.is_handled.ensures ∙ c.if-not-is_handled.true)) made
+    let made = made-followed c.args.self.now i.port i.moment i.applied c.more_applied-self-inside.result _ i.beacons i.records c.step_on.new.records f.records i.circuits c.step_on.new.circuits f.circuits c.over.new.circuits c.args.circuit c.in-Some-Handled.effect c.is_write.result c.over.result c.self.view_is c.is_write.ensures c.more_applied-self-inside.ensures long did c.follow.ensures.follows c.follow.ensures.sound c.over.ensures.settles in
+    noting-none c.args.self.now c.args.circuit (stepped c.over.result) (server_of i.port f.records i.moment c.over.new.circuits i.beacons c.more_applied-self-inside.result)
+    (not-handled (stepped c.over.result) c.over.ensures.closed) made
 
-pub returns-else-not-is_handled : goal.returns-else-not-is_handled
-returns-else-not-is_handled c =
+pub returns-then-is_open : goal.returns-then-is_open
+returns-then-is_open c =
     let i = c.self.inside in
     let did = rw c.in-Some-Handled.field-0-is at c.in-Some-Handled.ensures.steps in
     let f = c.follow.new in
     let long = c.in-Some-Handled.ensures.waited ∙ ap (λ (z : Server). length (output_of (under z.circuits c.args.circuit))) c.self.view_is in
-    let made = made-followed-by c.args.self.now i.port i.moment i.applied c.more_applied-self-inside.result _ i.beacons i.records c.step_on.new.records f.records i.circuits c.step_on.new.circuits f.circuits c.settle-did.new.circuits c.args.circuit c.in-Some-Handled.effect c.is_write.result c.settle-did.result c.self.view_is c.is_write.ensures c.more_applied-self-inside.ensures long did c.follow.ensures.follows c.follow.ensures.sound c.settle-did.ensures in
+    let settles = open-settles f.circuits c.args.circuit _ (sym c.is_open.ensures ∙ c.if-is_open.true) in
+    let made = made-followed-by c.args.self.now i.port i.moment i.applied c.more_applied-self-inside.result _ i.beacons i.records c.step_on.new.records f.records i.circuits c.step_on.new.circuits f.circuits f.circuits c.args.circuit c.in-Some-Handled.effect c.is_write.result own.Handled c.self.view_is c.is_write.ensures c.more_applied-self-inside.ensures long did c.follow.ensures.follows c.follow.ensures.sound settles in
     let fin = c.finish_busy in
-    viewed-served c.args.self.now i.port i.moment i.applied c.more_applied-self-inside.result fin.new.applied i.beacons i.records c.step_on.new.records f.records fin.new.records i.circuits c.step_on.new.circuits f.circuits c.settle-did.new.circuits fin.new.circuits c.args.circuit c.in-Some-Handled.effect (stepped c.settle-did.result) c.self.view_is did c.follow.ensures.follows made
-    (is-handled (stepped c.settle-did.result) (sym c.is_handled.ensures ∙ c.if-not-is_handled.false)) fin.ensures.tries
+    viewed-served c.args.self.now i.port i.moment i.applied c.more_applied-self-inside.result fin.new.applied i.beacons i.records c.step_on.new.records f.records fin.new.records i.circuits c.step_on.new.circuits f.circuits f.circuits fin.new.circuits c.args.circuit c.in-Some-Handled.effect c.self.view_is did c.follow.ensures.follows made fin.ensures.tries
 
 pub returns-in-Some-Breaks : goal.returns-in-Some-Breaks
 returns-in-Some-Breaks c =

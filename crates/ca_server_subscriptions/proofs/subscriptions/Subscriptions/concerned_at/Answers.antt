@@ -1,4 +1,4 @@
-use Rattle.std.proofs.Common.{Some, sym, ap, ◌∙◌, subst, ℕ}
+use Rattle.std.proofs.Common.{Some, sym, ◌∙◌, subst, ℕ}
 use Rattle.ca_server_subscriptions.specs.Concerned.{ConcernsAt}
 use Rattle.ca_server_subscriptions.proofs.Placing.{Entry, concerned-at}
 use Rattle.ca_server_subscriptions.proofs.subscriptions.Subscriptions.concerned_at.Goals as goal

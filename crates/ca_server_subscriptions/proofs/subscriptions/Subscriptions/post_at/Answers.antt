@@ -40,14 +40,15 @@ returns-then-not-is_masked c =
     }
 
 pub invariant_of-self : goal.invariant_of-self
-invariant_of-self c = c.self.invariant
+invariant_of-self c = subst (λ (rs : List (Queue Stored)). ArePlaced c.self.inside.standing.entries rs) (sym c.in_err-post.ensures.err) c.self.invariant
 
 pub invariant_of-self-2 : goal.invariant_of-self-2
 invariant_of-self-2 c =
     let es = c.self.inside.standing.entries in
     let qs = c.self.inside.queues in
-    subst (λ (rs : List (Queue Stored)). ArePlaced es rs) (sym c.post.ensures)
-    (placed-alike es qs (map (queue_posted c.in-Some.key.now c.in_ok-update.update) qs) (alike-posted c.in-Some.key.now c.in_ok-update.update qs) c.self.invariant)
+    let v : Stored = record { value = elements c.args.value.now; meta = c.args.meta.now } in
+    subst (λ (rs : List (Queue Stored)). ArePlaced es rs) (sym c.in_ok-post.ensures.ok)
+    (placed-alike es qs (map (queue_posted c.in-Some.key.now v) qs) (alike-posted c.in-Some.key.now v qs) c.self.invariant)
 
 -- the post concerns it
 both : (a b : Bool) → a ≡ true → b ≡ true → (a && b) ≡ true
@@ -62,7 +63,7 @@ returns-clause-ok c =
     let at = sym c.in-Some.ensures.entry in
     at-entry es qs c.self.invariant (concerns c.args.name.now c.args.mask) (with_update v) c.args.self.now (record { subscriptions = subscriptions_in es; queues = c.post.new.self }) c.args.place e true c.self.view_is
     at (both (is_on c.args.name.now e.1.0) (share_bit c.args.mask e.1.0.mask) (sym c.is_on.ensures ∙ c.if-not-is_on.false) (sym c.is_masked.ensures ∙ c.if-not-is_masked.false))
-    (updated-at es qs c.self.invariant c.args.self.now c.args.place e c.in_ok-update.update v c.post.new.self c.self.view_is at c.in_ok-update.ensures c.post.ensures)
+    (updated-at es qs c.self.invariant c.args.self.now c.args.place e v v c.post.new.self c.self.view_is at (λ i. v) c.in_ok-post.ensures.ok)
 
 pub returns-clause-on : goal.returns-clause-on
 returns-clause-on c =
@@ -71,8 +72,8 @@ returns-clause-on c =
     sym (on-at es c.self.inside.queues c.self.invariant (is_on c.args.name.now) c.args.self.now c.args.place e true c.self.view_is (sym c.in-Some.ensures.entry)
     (sym c.is_on.ensures ∙ c.if-not-is_on.false))
 
-pub returns-in_err-update-clause-err : goal.returns-in_err-update-clause-err
-returns-in_err-update-clause-err c =
+pub returns-in_err-post-clause-err : goal.returns-in_err-post-clause-err
+returns-in_err-post-clause-err c =
     let es = c.self.inside.standing.entries in
     let e : Entry = (c.in-Some.key.now, c.in-Some.standing.now) in
     in-err _

@@ -1,4 +1,4 @@
-use Rattle.std.proofs.Common.{◌≡◌, ◌-◌, List, length, slice_get, refl, sym, ap, subst, ◌∙◌}
+use Rattle.std.proofs.Common.{◌-◌, List, length, slice_get, refl, sym, ap, subst, ◌∙◌}
 use Rattle.ca_arena.specs.declared.handle.Handle.{Handle}
 use Rattle.ca_server_watchers.specs.Watching.{AreApart, Watched, watching}
 use Rattle.ca_server_watchers.proofs.Lines.{none-apart, unlisted, unwatched, watched}

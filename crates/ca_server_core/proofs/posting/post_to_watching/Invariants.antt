@@ -1,5 +1,5 @@
 use Rattle.ca_server_core.proofs.Reached.{Walk}
-use Rattle.ca_server_core.proofs.posting.post_to_all.Given as goal
+use Rattle.ca_server_core.proofs.posting.post_to_watching.Given as goal
 
 abbrev pub invariant-posting : goal.invariant-posting
 invariant-posting l = Walk l.fn.place l.fn.mask l.fn.watchers l.fn.circuits l.fn.records l.left l.watchers l.circuits l.records

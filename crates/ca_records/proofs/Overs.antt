@@ -1,0 +1,101 @@
+-- One element that is read over the value of a record, at a place of the store.
+use Rattle.std.proofs.Common.{◌≡◌, ℕ, ◌+◌, ◌≤◌, ◌&&◌, Bool, true, false, not, List, [], ◌∷◌, length, is_some, if◌then◌else◌, nat_lt, Option, None, Some, Ok, Result, slice_set, refl, sym, ap, ◌∙◌, subst, arith}
+use Rattle.ca_dbr.specs.declared.data_type.BaseType.{BaseType}
+use Rattle.ca_dbr.specs.declared.value.Meta.{Meta}
+use Rattle.ca_dbr.specs.Conversion.{converted}
+use Rattle.ca_dbr.specs.Elements.{Elements, strings, ints, floats, enums, chars, longs, doubles, base_of, count_of}
+use Rattle.ca_dbr.specs.Reading.{CanReadOver, ReadsElements, least_size}
+use Rattle.ca_dbr.specs.Types.{base_number}
+use Rattle.ca_text.specs.Limits.{waiting_puts}
+use Rattle.ca_text.specs.Place.{At}
+use Rattle.ca_text.proofs.Places.{At-one, some_is}
+use Rattle.ca_text.specs.declared.refusal.Refusal.{Refusal}
+use Rattle.ca_records.specs.declared.puts.Begun.TheVariants.{Applied}
+use Rattle.ca_records.specs.declared.puts.Put.{Put}
+use Rattle.ca_records.specs.declared.puts.Stamp.{Stamp}
+use Rattle.ca_records.specs.declared.slot.Slot.{Slot}
+use Rattle.ca_records.specs.declared.slot.Slot.TheVariants.{Full}
+use Rattle.ca_records.specs.Chain.{IsStored}
+use Rattle.ca_records.specs.Faults.{put_fault}
+use Rattle.ca_records.specs.Layout.{AreFit}
+use Rattle.ca_records.specs.Over.{IsOne, TakesOver, WritesOver}
+use Rattle.ca_records.specs.Puts.{Record, WaitingPut, with_value, written_meta}
+use Rattle.ca_records.specs.Record.{RecordState}
+use Rattle.ca_records.specs.Rules.{Rule}
+use Rattle.ca_records.specs.Writes.{BeginsOn, CanWriteOne, WritesOne, must_wait, write_fault}
+use Rattle.ca_records.proofs.Steps.{Change, change, seen, seen-full, store_of}
+
+-- what waits fits a record of the same type and count
+still-fit : (s t : RecordState) → t.count ≡ s.count → base_of t.value ≡ base_of s.value → (ws : List WaitingPut) → AreFit s ws → AreFit t ws
+still-fit s t count based [] fit = tt
+still-fit s t count based (w ∷ ws) fit =
+    let within : count_of w.value ≤ t.count = (let most = fit.0.holds.within in omega (arith, most, count)) in (
+      record {
+        holds = record { one = fit.0.holds.one; within = within; limit = (let most = fit.0.holds.limit in omega (arith, most, count)) };
+        valued = fit.0.valued;
+        based = fit.0.based ∙ sym based;
+      },
+      still-fit s t count based ws fit.1,
+    )
+
+pub kept-fit : (number : ℕ) (bytes : List ℕ) (meta : Meta) (old : RecordState) (result : Bool) (new : RecordState) (ws : List WaitingPut) → TakesOver number bytes meta old result new → AreFit old ws → AreFit new ws
+kept-fit number bytes meta old true new ws over fit =
+    still-fit old new (ap (λ (s : RecordState). s.count) over.2) (ap (λ (s : RecordState). base_of s.value) over.2 ∙ over.1.reads.based) ws fit
+kept-fit number bytes meta old false new ws over fit = subst (λ (s : RecordState). AreFit s ws) (sym over.1) fit
+
+converted-own : (e : Elements) → converted e (base_of e) ≡ (let same : Result Elements Refusal = Ok e in same)
+converted-own (strings xs) = refl
+converted-own (ints xs) = refl
+converted-own (floats xs) = refl
+converted-own (enums xs) = refl
+converted-own (chars xs) = refl
+converted-own (longs xs) = refl
+converted-own (doubles xs) = refl
+
+-- an element of the record's own type has no fault
+one-applied : (s : Stamp) (r : Record) (put : Option Put) (e : Elements) (next : Record) → base_of e ≡ base_of r.state.value → must_wait r put ≡ false → (is_some put && r.state.slow) ≡ false → next ≡ with_value e (written_meta s) r → BeginsOn s r put e (Ok (Applied false)) next
+one-applied s r put e next based free quick is =
+    let own : Result Elements Refusal = Ok e in
+    let made : converted e (base_of r.state.value) ≡ own = subst (λ (b : BaseType). converted e b ≡ own) based (converted-own e) in
+    let none : write_fault r put e ≡ None =
+    ap (λ (c : Result Elements Refusal). put_fault c (if must_wait r put then not (nat_lt (length r.waiting) waiting_puts) else false)) made
+    ∙ ap (λ (w : Bool). put_fault own (if w then not (nat_lt (length r.waiting) waiting_puts) else false)) free in
+    (e, none, made, (free, quick, is))
+
+pub record OverStep (slots : List Slot) (free : Option ℕ) (f : List ℕ → Option ℕ) (waiting : ℕ) (rules : List Rule) (stamp : Stamp) (place : ℕ) (next : Record) (is_put : Bool) (number : ℕ) (bytes : List ℕ) (result : Bool) : Type 0 where
+  pub stored : IsStored (slice_set slots place (Full next)) free f waiting
+  pub cannot : result ≡ false → CanWriteOne (store_of slots rules stamp) place is_put number bytes → ⊥
+  pub written : result ≡ true → WritesOne (store_of slots rules stamp) place is_put number bytes (store_of (slice_set slots place (Full next)) rules stamp)
+
+pub over-step : (slots : List Slot) (free : Option ℕ) (f : List ℕ → Option ℕ) (waiting : ℕ) (rules : List Rule) (stamp : Stamp) (place : ℕ) (r next : Record) (is_put : Bool) (number : ℕ) (bytes : List ℕ) (result : Bool) → IsStored slots free f waiting → At slots place (Full r) → WritesOver stamp r is_put number bytes result next → OverStep slots free f waiting rules stamp place next is_put number bytes result
+over-step slots free f waiting rules stamp place r next is_put number bytes true stored full over =
+    let e = over.0 in
+    let one : IsOne r.state number bytes e = over.1 in
+    let based : base_of e ≡ base_of r.state.value = one.reads.based in
+    let made : Change slots free f rules stamp place r next waiting = change slots free f waiting waiting rules stamp place r next stored full (ap (λ (q : Record). q.state.name) over.4) (ap (λ (q : Record). waiting + length q.waiting) (sym over.4)) in
+    record {
+      stored = made.stored;
+      cannot = λ no. absurd (let same : true ≡ false = no in cc);
+      written = λ yes. record {
+        e = e;
+        takes = (r, seen-full slots place r full, (let counted = one.reads.counted in omega (arith, counted)), (let counted = one.reads.counted in let some = one.some in omega (arith, counted, some)));
+        typed = ap base_number based ∙ one.typed;
+        long = subst (λ (b : BaseType). least_size b 1 ≤ length bytes) (sym based) one.long;
+        reads = subst (λ (b : BaseType). ReadsElements b 1 bytes e) (sym based) one.reads;
+        begins = λ put is. record {
+          r = r;
+          next = next;
+          begins = one-applied stamp r put e next based (ap (λ (b : Bool). b && is_some r.busy) is ∙ over.2) (ap (λ (b : Bool). b && r.state.slow) is ∙ over.3) over.4;
+          becomes = made.becomes;
+        };
+      };
+    }
+over-step slots free f waiting rules stamp place r next is_put number bytes false stored full over =
+    let made : Change slots free f rules stamp place r next waiting = change slots free f waiting waiting rules stamp place r next stored full (ap (λ (q : Record). q.state.name) over.1) (ap (λ (q : Record). waiting + length q.waiting) (sym over.1)) in
+    record {
+      stored = made.stored;
+      cannot = λ no can.
+          let one : can.r ≡ r = some_is can.r r (At-one (seen slots) place (Some can.r) (Some r) can.at (seen-full slots place r full)) in
+          over.0 (subst (λ (q : Record). (is_put && is_some q.busy) ≡ false) one can.free) (subst (λ (q : Record). (is_put && q.state.slow) ≡ false) one can.quick) (subst (λ (q : Record). CanReadOver number bytes q.state.value) one can.over);
+      written = λ no. absurd (let same : false ≡ true = no in cc);
+    }
