@@ -1,6 +1,6 @@
 -- Vocabulary: what the calls of a link answer and leave (section "Virtual Circuit"). Each definition by answer is the contract of the call
 -- that its comment names: from old, with this answer, it left new.
-use Rattle.std.specs.Prelude.{ℕ, ◌≡◌, ◌≢◌, ◌<◌, ◌≤◌, ◌⊎◌, true, false, List, [], ◌∷◌, Option, Some, None, Result, Ok, Err, length}
+use Rattle.std.specs.Prelude.{ℕ, ◌≡◌, ◌≢◌, ◌<◌, ◌≤◌, ◌⊎◌, true, false, List, [], ◌∷◌, Option, Some, None, Result, Ok, Err, drop, length}
 use Rattle.ca_text.specs.Limits.{output_limit}
 use Rattle.ca_text.specs.declared.refusal.Refusal.{Refusal}
 use Rattle.ca_text.specs.declared.refusal.Refusal.TheVariants as refusal
@@ -8,7 +8,7 @@ use Rattle.ca_text.specs.declared.command.Command.{Command}
 use Rattle.ca_wire.specs.declared.requests.Wanted.{Wanted}
 use Rattle.ca_wire.specs.Fields.{Fields}
 use Rattle.ca_wire.specs.Messages.{on_channel}
-use Rattle.ca_wire.specs.Reading.{NoBare}
+use Rattle.ca_wire.specs.Reading.{NoBare, NoShort, short_in}
 use Rattle.ca_wire.specs.Made.{with_payload}
 use Rattle.ca_wire.specs.Stream.{BadAt, NoneBegins, NotBad}
 use Rattle.ca_link.specs.Link.{LinkState, TakesFirst, with_given, with_rest, with_sent}
@@ -50,6 +50,16 @@ Nexts old (Err _) new = ⊥
 abbrev pub NextsBare : Command → LinkState → Option Wanted → LinkState → Type 0
 NextsBare c old (Some w) new = Nexts old (Ok (Some (on_channel c w []))) new
 NextsBare c old None new = (IsOpen old → NoBare old.input.bytes c) × (new ≡ old)
+
+-- `first_short`: the first message is of this command, names this, and is 24 bytes, of which eight are its payload.
+pub record HasShort (c : Command) (l : LinkState) (w : Wanted) : Type 0 where
+  pub live : IsOpen l
+  pub room : 24 ≤ length l.input.bytes
+  pub takes : TakesFirst l (short_in l.input.bytes c w) (drop 24 l.input.bytes)
+
+abbrev pub FirstShort : Command → LinkState → Option Wanted → Type 0
+FirstShort c l (Some w) = HasShort c l w
+FirstShort c l None = IsOpen l → NoShort l.input.bytes c
 
 -- `queue`: a message of a caller waits after the others, unless as many bytes wait as may. It takes memory.
 abbrev pub Queues : Fields → LinkState → Result (Unit {0}) Refusal → LinkState → Type 0

@@ -1,8 +1,8 @@
-ghost use Rattle.std.specs.Prelude.{ℕ, List, ◌≡◌, ◌≤◌, IfOk, length, nat_le, take};
+ghost use Rattle.std.specs.Prelude.{ℕ, List, ◌≡◌, ◌≤◌, IfOk, drop, length, nat_le, take};
 ghost use Rattle.ca_text.specs.Limits.{output_limit, payload_limit};
-ghost use Rattle.ca_link.specs.Calls.{Gives, Nexts, NextsBare, Queues, QueuesMade, QueuesOwn};
+ghost use Rattle.ca_link.specs.Calls.{FirstShort, Gives, Nexts, NextsBare, Queues, QueuesMade, QueuesOwn};
 ghost use Rattle.ca_wire.specs.Messages.{alone};
-ghost use Rattle.ca_link.specs.Link.{kept, mark_of, new_link, noted, restored, with_handed};
+ghost use Rattle.ca_link.specs.Link.{kept, mark_of, new_link, noted, restored, with_handed, with_rest};
 
 use crate::keep::Keep;
 use crate::mark::Mark;
@@ -99,6 +99,24 @@ impl Link {
         ensures { NextsBare command self.old result self.new }
     {
         self.input.next_bare(command)
+    }
+
+    /// What the first message names, if it is complete, of this command, and is a header in 16 bytes and a payload of eight. It stays there,
+    /// where its payload can be read without memory.
+    #[inline(always)]
+    pub fn first_short(&self, command: Command) -> Option<Wanted>
+        ensures { FirstShort command self.now result }
+    {
+        self.input.first_short(command)
+    }
+
+    /// Takes the 24 bytes of such a message.
+    #[inline(always)]
+    pub fn drop_short(&mut self)
+        requires { 24 ≤ length self.old.input.bytes }
+        ensures { self.new ≡ with_rest (drop 24 self.old.input.bytes) self.old }
+    {
+        self.input.drop_short();
     }
 
     /// A message that was handled gives its memory to the next one.

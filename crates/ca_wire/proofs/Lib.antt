@@ -6,6 +6,7 @@ pub mod Streams
 pub mod Padding
 pub mod Appends
 pub mod Taking
+pub mod Shorts
 pub mod Backs
 pub mod Making
 pub mod Words

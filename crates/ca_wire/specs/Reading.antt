@@ -1,5 +1,5 @@
 -- What reading gives.
-use Rattle.std.specs.Prelude.{ℕ, ◌≡◌, ◌≢◌, ◌+◌, ◌%◌, ◌≤◌, ◌++◌, List, [], length, take, true, false, Option, Some, None, Result, Ok, Err}
+use Rattle.std.specs.Prelude.{ℕ, ◌≡◌, ◌≢◌, ◌+◌, ◌%◌, ◌≤◌, ◌++◌, List, [], drop, length, take, true, false, Option, Some, None, Result, Ok, Err}
 use Rattle.ca_text.specs.Limits.{payload_limit}
 use Rattle.ca_text.specs.declared.refusal.Refusal.{Refusal}
 use Rattle.ca_text.specs.declared.refusal.Refusal.TheVariants.{OutOfMemory, Misaligned, TooLarge, CircuitClosed}
@@ -12,6 +12,7 @@ use Rattle.ca_wire.specs.Fields.{Fields}
 use Rattle.ca_wire.specs.Message.{Spells, header_of}
 use Rattle.ca_wire.specs.Messages.{on_channel}
 use Rattle.ca_wire.specs.declared.requests.Wanted.{Wanted}
+use Rattle.ca_text.specs.Command.{command_number}
 use Rattle.ca_text.specs.declared.command.Command.{Command}
 use Rattle.ca_wire.specs.Stream.{Held, NoneBegins, BadAt, NotBad}
 
@@ -31,6 +32,23 @@ BeginsBare bytes c w = BeginsHeader bytes (record { header = header_of (on_chann
 -- No message of this command without payload begins these bytes, in 16 of them.
 abbrev pub NoBare : List ℕ → Command → Type 0
 NoBare bytes c = (w : Wanted) → BeginsBare bytes c w → ⊥
+
+-- the header of a message of this command, which names this, with a payload of eight bytes
+abbrev pub short_of : Command → Wanted → Header
+short_of c w = record { command = command_number c; data_type = w.data_type; size = 8; count = w.count; p1 = w.sid; p2 = w.id }
+
+-- A message of this command, which names this, with a payload of eight bytes, begins these bytes: its header in 16 of them.
+pub record BeginsShort (bytes : List ℕ) (c : Command) (w : Wanted) : Type 0 where
+  pub header : HeaderSpells (take 16 bytes) (short_of c w)
+  pub room : 24 ≤ length bytes
+
+-- No message of this command with a payload of eight bytes begins these bytes, its header in 16 of them.
+abbrev pub NoShort : List ℕ → Command → Type 0
+NoShort bytes c = (w : Wanted) → BeginsShort bytes c w → ⊥
+
+-- that message, if it begins these bytes
+abbrev pub short_in : List ℕ → Command → Wanted → Fields
+short_in bytes c w = on_channel c w (take 8 (drop 16 bytes))
 
 -- A whole message begins these bytes: its header in the first `start` bytes, then `size` bytes of payload.
 pub record IsWhole (bytes : List ℕ) (head : Head) : Type 0 where
@@ -88,3 +106,8 @@ Nexts old (Err _) new = ⊥
 abbrev pub NextsBare : Command → Held → Option Wanted → Held → Type 0
 NextsBare c old (Some w) new = Nexts old (Ok (Some (on_channel c w []))) new
 NextsBare c old None new = (old.closed ≡ false → NoBare old.bytes c) × (new ≡ old)
+
+-- The first message was asked for, if it is of this command, with a payload of eight bytes, its header in 16; with this answer.
+abbrev pub FirstShort : Command → Held → Option Wanted → Type 0
+FirstShort c h (Some w) = (h.closed ≡ false) × BeginsShort h.bytes c w
+FirstShort c h None = h.closed ≡ false → NoShort h.bytes c

@@ -1,9 +1,9 @@
-ghost use Rattle.std.specs.Prelude.{◌≡◌, ◌≢◌, [], false, IfOk, OnErr};
-ghost use Rattle.ca_wire.specs.Reading.{Gives, Nexts, NextsBare};
+ghost use Rattle.std.specs.Prelude.{◌≡◌, ◌≢◌, ◌≤◌, [], drop, false, length, IfOk, OnErr};
+ghost use Rattle.ca_wire.specs.Reading.{FirstShort, Gives, Nexts, NextsBare};
 
 use crate::buffer::Buffer;
 use crate::message::Message;
-use crate::reading::{One, bare_at, read_one};
+use crate::reading::{One, bare_at, read_one, short_at};
 use crate::requests::Wanted;
 use ca_text::{Command, Refusal};
 use std::alloc::{AllocError, Global};
@@ -121,6 +121,26 @@ impl Deframer {
             }
             None => None,
         }
+    }
+
+    /// What the message at the front names, if it is of this command, and is a header in 16 bytes and a payload of eight. It stays there.
+    #[inline(always)]
+    pub fn first_short(&self, command: Command) -> Option<Wanted>
+        ensures { FirstShort command self.now result }
+    {
+        if self.closed {
+            return None;
+        }
+        short_at(self.buffer.bytes(), command)
+    }
+
+    /// Takes the 24 bytes at the front, which are such a message.
+    #[inline(always)]
+    pub fn drop_short(&mut self)
+        requires { 24 ≤ length self.old.bytes }
+        ensures { self.new ≡ record self.old { bytes = drop 24 self.old.bytes } }
+    {
+        self.buffer.drop_front(24);
     }
 
     /// A message that was handled gives its memory to the next one.

@@ -1,6 +1,6 @@
 ghost use Rattle.std.specs.Prelude.{◌≡◌, ◌+◌, ◌≤◌, ◌++◌, length, MatchOption};
 ghost use Rattle.ca_wire.specs.Header.{number16, number32};
-ghost use Rattle.ca_wire.specs.Reading.{BeginsBare, BeginsHeader, IsOne, NoBare, NoHeader};
+ghost use Rattle.ca_wire.specs.Reading.{BeginsBare, BeginsHeader, BeginsShort, IsOne, NoBare, NoHeader, NoShort};
 
 use crate::header::Header;
 use crate::ids::{Ioid, Sid};
@@ -102,6 +102,34 @@ pub(crate) fn bare_at(bytes: &[u8], command: Command) -> Option<Wanted>
     }
     let (size, rest) = number16_at(rest);
     if size != 0 {
+        return None;
+    }
+    let (data_type, rest) = number16_at(rest);
+    let (count16, rest) = number16_at(rest);
+    let (sid, rest) = number32_at(rest);
+    let (id, _rest) = number32_at(rest);
+    Some(Wanted {
+        sid: Sid::new(sid),
+        id: Ioid::new(id),
+        data_type,
+        count: u32::from(count16),
+    })
+}
+
+/// What the message at the front names, if it is of this command, and is a header in 16 bytes and a payload of eight.
+#[inline(always)]
+pub(crate) fn short_at(bytes: &[u8], command: Command) -> Option<Wanted>
+    ensures { MatchOption result (NoShort bytes.now command) (BeginsShort bytes.now command) }
+{
+    if bytes.len() < 24 {
+        return None;
+    }
+    let (number, rest) = number16_at(bytes);
+    if number != command.number() {
+        return None;
+    }
+    let (size, rest) = number16_at(rest);
+    if size != 8 {
         return None;
     }
     let (data_type, rest) = number16_at(rest);
