@@ -18,11 +18,11 @@ use Rattle.ca_records.specs.declared.slot.Slot.TheVariants.{Full}
 use Rattle.ca_records.specs.Chain.{IsStored}
 use Rattle.ca_records.specs.Faults.{put_fault}
 use Rattle.ca_records.specs.Layout.{AreFit}
-use Rattle.ca_records.specs.Over.{IsOne, TakesOver, WritesOver}
+use Rattle.ca_records.specs.Over.{IsOne, PutsOver, TakesOver, WritesOver}
 use Rattle.ca_records.specs.Puts.{Record, WaitingPut, with_value, written_meta}
 use Rattle.ca_records.specs.Record.{RecordState}
 use Rattle.ca_records.specs.Rules.{Rule}
-use Rattle.ca_records.specs.Writes.{BeginsOn, CanWriteOne, WritesOne, must_wait, write_fault}
+use Rattle.ca_records.specs.Writes.{BeginsOn, CanPutOne, CanWriteOne, PutsOne, WritesOne, must_wait, write_fault}
 use Rattle.ca_records.proofs.Steps.{Change, change, seen, seen-full, store_of}
 
 -- what waits fits a record of the same type and count
@@ -98,4 +98,48 @@ over-step slots free f waiting rules stamp place r next is_put number bytes fals
           let one : can.r ≡ r = some_is can.r r (At-one (seen slots) place (Some can.r) (Some r) can.at (seen-full slots place r full)) in
           over.0 (subst (λ (q : Record). (is_put && is_some q.busy) ≡ false) one can.free) (subst (λ (q : Record). (is_put && q.state.slow) ≡ false) one can.quick) (subst (λ (q : Record). CanReadOver number bytes q.state.value) one can.over);
       written = λ no. absurd (let same : false ≡ true = no in cc);
+    }
+
+-- ---- a put that makes its record busy
+
+put-applied : (s : Stamp) (r : Record) (put : Put) (e : Elements) (next : Record) → base_of e ≡ base_of r.state.value → r.busy ≡ None → r.state.slow ≡ true → next ≡ record (with_value e (written_meta s) r) { busy = Some put } → BeginsOn s r (Some put) e (Ok (Applied true)) next
+put-applied s r put e next based free slow is =
+    let own : Result Elements Refusal = Ok e in
+    let made : converted e (base_of r.state.value) ≡ own = subst (λ (b : BaseType). converted e b ≡ own) based (converted-own e) in
+    let none : write_fault r (Some put) e ≡ None =
+    ap (λ (c : Result Elements Refusal). put_fault c (if is_some r.busy then not (nat_lt (length r.waiting) waiting_puts) else false)) made
+    ∙ ap (λ (o : Option Put). put_fault own (if is_some o then not (nat_lt (length r.waiting) waiting_puts) else false)) free in
+    (e, none, made, (put, refl, free, slow, is))
+
+pub record PutStep (slots : List Slot) (free : Option ℕ) (f : List ℕ → Option ℕ) (waiting : ℕ) (rules : List Rule) (stamp : Stamp) (place : ℕ) (next : Record) (put : Put) (number : ℕ) (bytes : List ℕ) (result : Bool) : Type 0 where
+  pub stored : IsStored (slice_set slots place (Full next)) free f waiting
+  pub cannot : result ≡ false → CanPutOne (store_of slots rules stamp) place number bytes → ⊥
+  pub made : result ≡ true → PutsOne (store_of slots rules stamp) place put number bytes (store_of (slice_set slots place (Full next)) rules stamp)
+
+pub put-step : (slots : List Slot) (free : Option ℕ) (f : List ℕ → Option ℕ) (waiting : ℕ) (rules : List Rule) (stamp : Stamp) (place : ℕ) (r next : Record) (put : Put) (number : ℕ) (bytes : List ℕ) (result : Bool) → IsStored slots free f waiting → At slots place (Full r) → PutsOver stamp r put number bytes result next → PutStep slots free f waiting rules stamp place next put number bytes result
+put-step slots free f waiting rules stamp place r next put number bytes true stored full over =
+    let e = over.0 in
+    let one : IsOne r.state number bytes e = over.1 in
+    let based : base_of e ≡ base_of r.state.value = one.reads.based in
+    let made : Change slots free f rules stamp place r next waiting = change slots free f waiting waiting rules stamp place r next stored full (ap (λ (q : Record). q.state.name) over.4) (ap (λ (q : Record). waiting + length q.waiting) (sym over.4)) in
+    record {
+      stored = made.stored;
+      cannot = λ no. absurd (let same : true ≡ false = no in cc);
+      made = λ yes. record {
+        e = e;
+        takes = (r, seen-full slots place r full, (let counted = one.reads.counted in omega (arith, counted)), (let counted = one.reads.counted in let some = one.some in omega (arith, counted, some)));
+        typed = ap base_number based ∙ one.typed;
+        long = subst (λ (b : BaseType). least_size b 1 ≤ length bytes) (sym based) one.long;
+        reads = subst (λ (b : BaseType). ReadsElements b 1 bytes e) (sym based) one.reads;
+        begins = record { r = r; next = next; begins = put-applied stamp r put e next based over.2 over.3 over.4; becomes = made.becomes };
+      };
+    }
+put-step slots free f waiting rules stamp place r next put number bytes false stored full over =
+    let made : Change slots free f rules stamp place r next waiting = change slots free f waiting waiting rules stamp place r next stored full (ap (λ (q : Record). q.state.name) over.1) (ap (λ (q : Record). waiting + length q.waiting) (sym over.1)) in
+    record {
+      stored = made.stored;
+      cannot = λ no can.
+          let one : can.r ≡ r = some_is can.r r (At-one (seen slots) place (Some can.r) (Some r) can.at (seen-full slots place r full)) in
+          over.0 (subst (λ (q : Record). q.busy ≡ None) one can.free) (subst (λ (q : Record). q.state.slow ≡ true) one can.slow) (subst (λ (q : Record). CanReadOver number bytes q.state.value) one can.over);
+      made = λ no. absurd (let same : false ≡ true = no in cc);
     }

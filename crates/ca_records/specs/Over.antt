@@ -1,9 +1,10 @@
 -- Working: one element that is read over the value of a record.
-use Rattle.std.specs.Prelude.{ℕ, ◌≡◌, ◌≤◌, ◌&&◌, Bool, true, false, List, is_some, length}
+use Rattle.std.specs.Prelude.{ℕ, ◌≡◌, ◌≤◌, ◌&&◌, Bool, true, false, List, None, Some, is_some, length}
 use Rattle.ca_dbr.specs.declared.value.Meta.{Meta}
 use Rattle.ca_dbr.specs.Elements.{Elements, base_of}
 use Rattle.ca_dbr.specs.Reading.{CanReadOver, ReadsElements, least_size}
 use Rattle.ca_dbr.specs.Types.{base_number}
+use Rattle.ca_records.specs.declared.puts.Put.{Put}
 use Rattle.ca_records.specs.declared.puts.Stamp.{Stamp}
 use Rattle.ca_records.specs.Puts.{Record, with_value, written_meta}
 use Rattle.ca_records.specs.Record.{RecordState}
@@ -26,3 +27,9 @@ WritesOver s r is_put number bytes true next =
     (e : Elements) × IsOne r.state number bytes e × ((is_put && is_some r.busy) ≡ false) × ((is_put && r.state.slow) ≡ false) × (next ≡ with_value e (written_meta s) r)
 WritesOver s r is_put number bytes false next =
     ((is_put && is_some r.busy) ≡ false → (is_put && r.state.slow) ≡ false → CanReadOver number bytes r.state.value → ⊥) × (next ≡ r)
+
+-- the same by a put with notification, which makes a slow record busy
+abbrev pub PutsOver : Stamp → Record → Put → (number : ℕ) → List ℕ → Bool → Record → Type 0
+PutsOver s r p number bytes true next =
+    (e : Elements) × IsOne r.state number bytes e × (r.busy ≡ None) × (r.state.slow ≡ true) × (next ≡ record (with_value e (written_meta s) r) { busy = Some p })
+PutsOver s r p number bytes false next = (r.busy ≡ None → r.state.slow ≡ true → CanReadOver number bytes r.state.value → ⊥) × (next ≡ r)

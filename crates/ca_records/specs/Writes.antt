@@ -78,6 +78,23 @@ pub record CanWriteOne (s : Store) (place : ℕ) (is_put : Bool) (number : ℕ) 
   pub quick : (is_put && r.state.slow) ≡ false
   pub over : CanReadOver number bytes r.state.value
 
+-- The same of a put with notification that makes its record busy.
+pub record PutsOne (old : Store) (place : ℕ) (put : Put) (number : ℕ) (bytes : List ℕ) (new : Store) : Type 0 where
+  pub e : Elements
+  pub takes : TakesAt old place e
+  pub typed : base_number (base_of e) ≡ number
+  pub long : least_size (base_of e) 1 ≤ length bytes
+  pub reads : ReadsElements (base_of e) 1 bytes e
+  pub begins : Begins old place (Some put) e (Ok (Applied true)) new
+
+-- One element can be put so: the record at the place has one of that type, is slow, and is not busy.
+pub record CanPutOne (s : Store) (place : ℕ) (number : ℕ) (bytes : List ℕ) : Type 0 where
+  pub r : Record
+  pub at : HasAt s place r
+  pub free : r.busy ≡ None
+  pub slow : r.state.slow ≡ true
+  pub over : CanReadOver number bytes r.state.value
+
 -- ---- the end of a busy put
 
 -- the put that waits next

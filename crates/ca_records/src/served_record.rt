@@ -5,7 +5,7 @@ ghost use Rattle.ca_records.specs.Puts.{new_record, with_value, with_waiting, wi
 ghost use Rattle.ca_records.specs.Layout.{IsFit, waiting_put};
 ghost use Rattle.ca_records.specs.Writes.{BeginsOn, FinishesOn, Takes, is_of, must_wait};
 ghost use Rattle.ca_records.specs.Judging.{more_waiting};
-ghost use Rattle.ca_records.specs.Over.{WritesOver};
+ghost use Rattle.ca_records.specs.Over.{PutsOver, WritesOver};
 ghost use Rattle.ca_records.specs.declared.puts.Begun.TheVariants.{Waiting};
 
 use crate::judged::{Judged, judge};
@@ -132,6 +132,21 @@ impl ServedRecord {
             return false;
         }
         self.record.read_over(number, bytes, stamp.meta())
+    }
+
+    // The same of a put that makes the record busy.
+    #[inline(always)]
+    pub(crate) fn put_one(&mut self, put: Put, number: u16, bytes: &[u8], stamp: Stamp) -> bool
+        ensures { PutsOver stamp self.old put number bytes.now result self.new }
+    {
+        if self.busy.is_some() || !self.record.is_slow() {
+            return false;
+        }
+        if !self.record.read_over(number, bytes, stamp.meta()) {
+            return false;
+        }
+        self.busy = Some(put);
+        true
     }
 
     // Whether this write is one that is to wait, while as many wait as may.

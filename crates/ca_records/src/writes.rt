@@ -1,7 +1,7 @@
 ghost use Rattle.std.specs.Prelude.{◌≡◌, false, true};
 ghost use Rattle.ca_dbr.specs.Elements.{elements};
 ghost use Rattle.ca_records.specs.Store.{IsThere, TakesAt};
-ghost use Rattle.ca_records.specs.Writes.{Begins, CanWriteOne, Finishes, FinishesAt, Posts, Withdraws, WritesOne};
+ghost use Rattle.ca_records.specs.Writes.{Begins, CanPutOne, CanWriteOne, Finishes, FinishesAt, Posts, PutsOne, Withdraws, WritesOne};
 
 use crate::puts::{Begun, Finished, Put, fewer_waiting, more_waiting};
 use crate::served_records::ServedRecords;
@@ -53,6 +53,21 @@ impl ServedRecords {
         self.slots[place]
             .record_mut()
             .write_one(is_put, number, bytes, stamp)
+    }
+
+    /// The same of a put with notification that makes its record busy. False, and nothing changes, also if the record is busy, or is quick.
+    #[inline(always)]
+    pub fn put_one(&mut self, place: usize, put: Put, number: u16, bytes: &[u8]) -> bool
+        requires { IsThere self.old place }
+        ensures put { result ≡ true → PutsOne self.old place put number bytes.now self.new }
+        ensures cannot { result ≡ false → CanPutOne self.old place number bytes.now → ⊥ }
+        ensures stays { result ≡ false → self.new ≡ self.old }
+    {
+        let stamp = self.stamp;
+        self.recent = place;
+        self.slots[place]
+            .record_mut()
+            .put_one(put, number, bytes, stamp)
     }
 
     /// A value that the record at this place had and has no more, if there is one: its memory may hold the next.

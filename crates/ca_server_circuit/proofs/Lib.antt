@@ -13,6 +13,7 @@ pub mod Subscribes
 pub mod Joining
 pub mod Givens
 pub mod Steps
+pub mod Shorts
 pub mod Stays
 pub mod Walking
 pub mod Could

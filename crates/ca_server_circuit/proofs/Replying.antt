@@ -1,5 +1,5 @@
 -- What is due for a message on a channel, by what was found of its SID.
-use Rattle.std.proofs.Common.{◌≡◌, ℕ, inl, inr, List, [], ◌∷◌, Some, Result, Ok, Err, refl, sym, ap, ◌∙◌}
+use Rattle.std.proofs.Common.{◌≡◌, ℕ, inl, inr, List, [], ◌∷◌, Option, Some, None, Result, Ok, Err, refl, sym, ap, ◌∙◌, subst}
 use Rattle.std.specs.Prelude.{OnErr, OnOk, length, map, take}
 use Rattle.std.proofs.lemmas.List.{take_at}
 use Rattle.ca_text.proofs.Places.{At-one, some_is}
@@ -7,14 +7,18 @@ use Rattle.ca_queue.specs.Keys.{is_among}
 use Rattle.ca_records.specs.Puts.{Record}
 use Rattle.ca_records.specs.Record.{RecordState}
 use Rattle.ca_wire.specs.Message.{spelled}
-use Rattle.ca_model.specs.Faults.{subscription_fault, type_of}
+use Rattle.ca_model.specs.Faults.{read_fault, subscription_fault, type_of}
+use Rattle.ca_text.specs.Command.{command_number}
+use Rattle.ca_text.specs.declared.command.Command.TheVariants as command
+use Rattle.ca_dbr.specs.declared.data_type.DataType.{DataType}
+use Rattle.ca_wire.specs.declared.requests.Wanted.{Wanted}
 use Rattle.ca_link.specs.Link.{LinkState, with_sent}
 use Rattle.ca_text.specs.Status.{bad_channel}
 use Rattle.ca_wire.specs.Fields.{Fields}
-use Rattle.ca_wire.specs.Messages.{error_reply, status_reply}
+use Rattle.ca_wire.specs.Messages.{error_reply, read_request, status_reply, wanted_in}
 use Rattle.ca_records.specs.Rules.{rights}
 use Rattle.ca_records.specs.Store.{HasAt, Store}
-use Rattle.ca_model.specs.Due.{Nothing, ReadDue, StrayDue, fault_of_event, key_in}
+use Rattle.ca_model.specs.Due.{Action, Knows, Nothing, ReadDue, StrayDue, fault_of_event, key_in, rights_at}
 use Rattle.ca_model.specs.Server.{ServerEnd, key_of}
 use Rattle.ca_server_circuit.specs.declared.seek.Seat.{Seat}
 use Rattle.ca_server_circuit.specs.Handling.{Reads, Replies, Subscribes, known, replied}
@@ -63,6 +67,26 @@ served-read port s e new m reply seat i answers done = record {
     by : AnswersRead i.r.state (rights s.rules e.peer.user e.peer.host i.channel.name) m reply → ReadDue (known port s e) m (reply ∷ []) Nothing
     by (inl h) = (serves port s e m.p1 seat i, refl, inl (h.0, h.1, ap (λ (x : Fields). x ∷ []) h.2))
     by (inr h) = (serves port s e m.p1 seat i, refl, inr (h.0, (h.1.0, h.1.1, h.1.2, h.1.3, ap (λ (x : Fields). x ∷ []) h.1.4)))
+
+-- what a read asks for, whatever its payload is
+same-fault : (r : RecordState) (bits : ℕ) (m : Fields) (c : ℕ) (o : Option DataType) → (let bare : Fields = record { command = c; data_type = m.data_type; count = m.count; p1 = m.p1; p2 = m.p2; payload = [] } in read_fault r bits bare o ≡ read_fault r bits m o)
+same-fault r bits m c None = refl
+same-fault r bits m c (Some t) = refl
+
+-- the message without its payload
+abbrev without_payload : Fields → Fields
+without_payload m = record { command = m.command; data_type = m.data_type; count = m.count; p1 = m.p1; p2 = m.p2; payload = [] }
+
+due-anyway : (k : Knows) (m : Fields) (replies : List Fields) (action : Action) → Reads k (without_payload m) replies action → Reads k m replies action
+due-anyway k m replies action (inl (c, nothing, inl (status, fault, are))) = inl (c, nothing, inl (status, sym (same-fault c.known.state (rights_at k c.channel.name) m m.command (type_of m.data_type)) ∙ fault, are))
+due-anyway k m replies action (inl (c, nothing, inr (none, shows))) = inl (c, nothing, inr (sym (same-fault c.known.state (rights_at k c.channel.name) m m.command (type_of m.data_type)) ∙ none, shows))
+due-anyway k m replies action (inr stray) = inr stray
+
+pub read-of : (k : Knows) (e new : ServerEnd) (m : Fields) (w : Wanted) → m.command ≡ command_number command.ReadNotify → w ≡ wanted_in m → Replies (Reads k (read_request w)) e new → Replies (Reads k m) e new
+read-of k e new m w is wanted r =
+    let made : ℕ → Fields = λ c. record { command = c; data_type = m.data_type; count = m.count; p1 = m.p1; p2 = m.p2; payload = [] } in
+    let same : read_request w ≡ without_payload m = ap read_request wanted ∙ ap made (sym is) in
+    record { replies = r.replies; due = due-anyway k m r.replies Nothing (subst (λ (x : Fields). Reads k x r.replies Nothing) same r.due); leaves = r.leaves }
 
 -- the rights on the record of a channel
 pub right-is : (s : Store) (e v : ServerEnd) (sid : ℕ) (seat : Seat) (i : IsServed s e sid seat) (bits : ℕ) (user host name : List ℕ) (q : Record) (state : RecordState) → v ≡ e → user ≡ v.peer.user → host ≡ v.peer.host → HasAt s seat.place q → state ≡ q.state → name ≡ state.name → bits ≡ rights s.rules user host name → bits ≡ rights s.rules e.peer.user e.peer.host i.channel.name

@@ -1,27 +1,34 @@
 -- What a read of a record comes to.
-use Rattle.std.proofs.Common.{◌≡◌, ℕ, ◌<◌, ◌≤◌, ◌||◌, ◌⊎◌, inl, inr, Bool, true, false, not, nat_lt, [], ◌∷◌, length, Option, Some, None, Result, Ok, Err, refl, sym, ap, ◌∙◌, subst, arith}
+use Rattle.std.proofs.Common.{◌≡◌, ◌==◌, ℕ, zero, suc, List, if◌then◌else◌, ◌<◌, ◌≤◌, ◌||◌, ◌⊎◌, inl, inr, Bool, true, false, not, nat_lt, [], ◌∷◌, length, Option, Some, None, Result, Ok, Err, refl, sym, ap, ◌∙◌, subst, arith}
+use Rattle.std.specs.Option.{IfSome}
 use Rattle.std.proofs.lemmas.Bool.{le-ltb, lt-ltb, ltb-false}
 use Rattle.ca_text.specs.declared.refusal.Refusal.{Refusal}
 use Rattle.ca_text.specs.declared.refusal.Refusal.TheVariants as refusal
 use Rattle.ca_text.proofs.Places.{some_is}
 use Rattle.ca_text.specs.Limits.{payload_limit}
-use Rattle.ca_text.specs.Status.{bad_count, bad_type, get_fail, no_convert, no_read_access}
+use Rattle.ca_text.specs.Status.{bad_count, bad_type, get_fail, no_convert, no_read_access, normal}
+use Rattle.std.specs.Int.{to_be_bytes, w64}
+use Rattle.ca_dbr.specs.declared.data_type.BaseType.{BaseType}
+use Rattle.ca_dbr.specs.declared.data_type.BaseType.TheVariants as base
+use Rattle.ca_dbr.specs.declared.data_type.Form.TheVariants as form
+use Rattle.ca_dbr.specs.Alone.{IsAlone}
+use Rattle.ca_wire.specs.declared.requests.Wanted.{Wanted}
 use Rattle.ca_dbr.specs.declared.data_type.DataType.{DataType}
 use Rattle.ca_dbr.specs.Conversion.{Fails}
-use Rattle.ca_dbr.specs.Elements.{Elements, IsValue, count_of}
+use Rattle.ca_dbr.specs.Elements.{Elements, IsValue, base_of, bytes_8, count_of}
 use Rattle.ca_dbr.specs.Image.{image}
 use Rattle.ca_dbr.specs.Shown.{shown}
 use Rattle.ca_dbr.specs.Types.{size_of_image, type_number}
 use Rattle.ca_dbr.proofs.OneReading.{length-image}
 use Rattle.ca_dbr.proofs.Shows.{shown-is}
 use Rattle.ca_records.specs.Faults.{first_fault, has_misfit, lacks_conversion}
-use Rattle.ca_records.specs.Record.{RecordState}
+use Rattle.ca_records.specs.Record.{IsRecord, RecordState}
 use Rattle.ca_records.specs.Rules.{may_read}
 use Rattle.ca_wire.specs.Fields.{Fields}
-use Rattle.ca_wire.specs.Messages.{status_reply, value_reply}
+use Rattle.ca_wire.specs.Messages.{alone, read_request, status_reply, value_reply}
 use Rattle.ca_model.specs.Faults.{read_count, read_fault, read_shown, too_many, type_of}
 use Rattle.ca_server_circuit.specs.declared.read.Asked.{Asked}
-use Rattle.ca_server_circuit.specs.Showing.{AnswersRead, IsInOrder, ShowsRead, status_for}
+use Rattle.ca_server_circuit.specs.Showing.{AnswersRead, IsInOrder, ShowsRead, answer_alone, status_for}
 use Rattle.ca_server_circuit.proofs.Types.{type-of-none, type-of-number}
 
 -- the faults of a read in order, by their tests
@@ -159,3 +166,47 @@ shows-fails r m reply a why order memory replies (inr h) = by h.2
     by : Fails (shown r.value a.count h.0.base) why → ShowsRead r m reply
     by (inl is) = shows-refusal r m reply a h.0 why order h.1 is replies
     by (inr lacks) = absurd (memory lacks.0)
+
+-- ---- one element, in its own type
+
+plain-small : (b : BaseType) → (let t : DataType = record { base = b; form = form.Plain } in size_of_image t 1) ≤ payload_limit
+plain-small base.String = omega arith
+plain-small base.Int = omega arith
+plain-small base.Float = omega arith
+plain-small base.Enum = omega arith
+plain-small base.Char = omega arith
+plain-small base.Long = omega arith
+plain-small base.Double = omega arith
+
+one-read : (k n : ℕ) → k ≤ 1 → n ≡ 1 → (if k == 0 then n else k) ≡ 1
+one-read zero n few one = one
+one-read (suc zero) n few one = refl
+one-read (suc (suc k)) n few one = absurd (omega arith)
+
+pub shows-alone : (r : RecordState) (rights : ℕ) (w : Wanted) (n : ℕ) (v : Elements) → IsRecord r → may_read rights ≡ true → w.count ≤ 1 → v ≡ r.value → IsAlone v w.data_type n → AnswersRead r rights (read_request w) (alone (answer_alone w n))
+unfolding bytes_8
+shows-alone r rights w n v recorded right few same is =
+    let m : Fields = read_request w in
+    let t : DataType = record { base = base_of v; form = form.Plain } in
+    let typed : type_of m.data_type ≡ Some t = type-of-number t m.data_type (omega (arith, is.typed)) in
+    let held = recorded.value in
+    let one : count_of r.value ≡ 1 = ap count_of (sym same) ∙ is.one in
+    let asks : read_count r m ≡ 1 = one-read w.count (count_of r.value) few one in
+    let a : Asked = record { count = 1; size = size_of_image t 1 } in
+    let within : 1 ≤ r.count = omega (arith, held.one, held.within) in
+    let order : IsInOrder r m a = record {
+      t = t;
+      typed = typed;
+      count = sym asks;
+      size = ap (λ (k : ℕ). size_of_image t k) (sym asks);
+      few = subst (λ (k : ℕ). too_many r t k ≡ false) (sym asks) (not-many r rights m t 1 within (plain-small (base_of v)));
+    } in
+    let made : ℕ → List ℕ → Fields = λ k p. record { command = m.command; data_type = m.data_type; count = k; p1 = normal; p2 = m.p2; payload = p } in
+    let shown-so : read_shown r m t ≡ Ok v = ap (λ (e : Elements). shown e (read_count r m) (base_of v)) (sym same) ∙ ap (λ (k : ℕ). shown v k (base_of v)) asks ∙ is.shown in
+    let reply : alone (answer_alone w n) ≡ value_reply m (count_of v) (image t v r.meta) = ap (λ (k : ℕ). made k (to_be_bytes w64 n)) (sym is.one) ∙ ap (λ (p : List ℕ). made (count_of v) p) (sym is.bytes) in
+    answers-shown r rights m a (alone (answer_alone w n)) order right (record { t = t; typed = typed; shows = inl (v, shown-so, reply) })
+
+pub if-alone : (r : RecordState) (rights : ℕ) (w : Wanted) (v : Elements) (o : Option ℕ) → IsRecord r → may_read rights ≡ true → w.count ≤ 1 → v ≡ r.value → IfSome o (λ n. IsAlone v w.data_type n)
+    → IfSome o (λ n. AnswersRead r rights (read_request w) (alone (answer_alone w n)))
+if-alone r rights w v (Some n) recorded right few same is = shows-alone r rights w n v recorded right few same is
+if-alone r rights w v None recorded right few same is = tt

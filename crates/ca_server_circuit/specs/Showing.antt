@@ -10,6 +10,9 @@ use Rattle.ca_dbr.specs.Image.{image}
 use Rattle.ca_dbr.specs.Types.{size_of_image}
 use Rattle.ca_records.specs.Record.{RecordState}
 use Rattle.ca_records.specs.Rules.{may_read}
+use Rattle.ca_text.specs.declared.command.Command.TheVariants as command
+use Rattle.ca_wire.specs.declared.alone.Alone.{Alone}
+use Rattle.ca_wire.specs.declared.requests.Wanted.{Wanted}
 use Rattle.ca_wire.specs.Fields.{Fields}
 use Rattle.ca_wire.specs.Messages.{status_reply, value_reply}
 use Rattle.ca_model.specs.Faults.{read_count, read_fault, read_shown, too_many, type_of}
@@ -48,3 +51,7 @@ pub record ShowsRead (r : RecordState) (m reply : Fields) : Type 0 where
   pub shows :
       ((e : Elements) × (read_shown r m t ≡ Ok e) × (reply ≡ value_reply m (count_of e) (image t e r.meta)))
       ⊎ ((why : Refusal) × (read_shown r m t ≡ Err why) × (reply ≡ status_reply m (status_for why)))
+
+-- the answer to this read that shows one element by these eight bytes
+abbrev pub answer_alone : Wanted → ℕ → Alone
+answer_alone w n = record { command = command.ReadNotify; data_type = w.data_type; id = w.id; payload = n }

@@ -1,5 +1,5 @@
 -- Working: what one step of an open end comes to.
-use Rattle.std.specs.Prelude.{ℕ, ◌≡◌, ◌≢◌, ◌<◌, ◌≤◌, ◌⊎◌, List, [], length}
+use Rattle.std.specs.Prelude.{ℕ, ◌≡◌, ◌≢◌, ◌<◌, ◌≤◌, ◌⊎◌, List, [], drop, length}
 use Rattle.ca_arena.specs.declared.handle.Handle.{Handle}
 use Rattle.ca_dbr.specs.Octets.{AreBytes}
 use Rattle.ca_link.specs.Link.{TakesFirst, with_rest}
@@ -9,12 +9,16 @@ use Rattle.ca_text.specs.declared.refusal.Refusal.TheVariants as refusal
 use Rattle.ca_text.specs.Limits.{output_limit}
 use Rattle.ca_wire.specs.Fields.{Fields}
 use Rattle.ca_wire.specs.Stream.{BadAt, NoneBegins, NotBad}
-use Rattle.ca_model.specs.Due.{Due}
+use Rattle.ca_wire.specs.declared.requests.Wanted.{Wanted}
+use Rattle.ca_wire.specs.Reading.{short_in}
+use Rattle.ca_text.specs.declared.command.Command.{Command}
+use Rattle.ca_model.specs.Due.{Action, Due, Knows}
 use Rattle.ca_model.specs.Ends.{Why}
 use Rattle.ca_model.specs.Ends as why
 use Rattle.ca_model.specs.Server.{ServerEnd}
 use Rattle.ca_server_circuit.specs.declared.cause.Cause.{Cause}
 use Rattle.ca_server_circuit.specs.declared.cause.Cause.TheVariants as cause
+use Rattle.ca_server_circuit.specs.declared.step.Effect.{Effect}
 use Rattle.ca_server_circuit.specs.declared.step.EndStep.{EndStep}
 use Rattle.ca_server_circuit.specs.declared.step.EndStep.TheVariants.{Breaks, Handled, NeedBytes, OutputFull}
 use Rattle.ca_server_circuit.specs.Handling.{AllStay, Does, MayLack, known}
@@ -58,3 +62,12 @@ EndSteps port h e s NeedBytes new t =
 EndSteps port h e s (Handled did) new t =
     (x : Takes e) × Does (Due (known port s (after_first x)) x.m) s h (after_first x) x.m did t new
 EndSteps port h e s (Breaks c) new t = BreaksBy port s e c × (new.link.output ≡ e.link.output) × AllStay e.channels new.channels × (t ≡ s)
+
+-- the end without its first message, of 24 bytes
+abbrev pub after_short : ServerEnd → ServerEnd
+after_short e = record e { link = with_rest (drop 24 e.link.input.bytes) e.link }
+
+-- What is due by this relation was done for the first message, which is of this command, names this, and is 24 bytes.
+abbrev pub DoesShort : (Knows → Fields → List Fields → Action → Type 0) → Command → Wanted → Handle → Store → ServerEnd → Effect → Store → ServerEnd → Type 0
+DoesShort D c w h s e did t new =
+    (port : ℕ) → Does (D (known port s (after_short e)) (short_in e.link.input.bytes c w)) s h (after_short e) (short_in e.link.input.bytes c w) did t new

@@ -79,7 +79,7 @@ impl End {
             Command::Search => self.search(port, records, message),
             Command::CreateChannel => self.create(records, message),
             Command::ClearChannel => self.clear(circuit, records, message),
-            Command::ReadNotify => self.read(records, message),
+            Command::ReadNotify => self.read(records, &message.wanted()),
             Command::EventCancel => self.cancel(message),
             Command::EventsOff => {
                 self.switch_events(false);

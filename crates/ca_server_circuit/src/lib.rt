@@ -27,6 +27,7 @@ mod put;
 mod read;
 mod search;
 mod seek;
+mod short;
 mod shown;
 mod step;
 mod updates;

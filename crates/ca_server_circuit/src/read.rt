@@ -1,13 +1,14 @@
-ghost use Rattle.std.specs.Prelude.{ℕ, ◌≡◌, IfOk, MatchOption, OnErr, OnOk, [], ◌∷◌};
+ghost use Rattle.std.specs.Prelude.{ℕ, ◌≡◌, IfOk, IfSome, MatchOption, OnErr, OnOk, [], ◌∷◌};
 ghost use Rattle.ca_text.specs.declared.refusal.Refusal.TheVariants.{OutOfMemory};
 ghost use Rattle.ca_link.specs.Calls.{IsOpen};
 ghost use Rattle.ca_link.specs.Link.{with_sent};
 ghost use Rattle.ca_records.specs.Record.{IsRecord};
 ghost use Rattle.ca_records.specs.Store.{records_of};
 ghost use Rattle.ca_wire.specs.Fields.{Fields};
+ghost use Rattle.ca_wire.specs.Messages.{alone, read_request};
 ghost use Rattle.ca_model.specs.Faults.{read_count};
 ghost use Rattle.ca_server_circuit.specs.Handling.{AreServed, Reads, Replies, known};
-ghost use Rattle.ca_server_circuit.specs.Showing.{AnswersRead, IsInOrder, IsWanted, ShowsRead, status_for};
+ghost use Rattle.ca_server_circuit.specs.Showing.{AnswersRead, IsInOrder, IsWanted, ShowsRead, answer_alone, status_for};
 
 use crate::end::{End, send};
 use crate::seek::Sought;
@@ -15,8 +16,8 @@ use crate::shown::Shown;
 use ca_dbr::image_size;
 use ca_link::Link;
 use ca_records::{Record, ServedRecords};
-use ca_text::{PAYLOAD_LIMIT, Refusal, Status};
-use ca_wire::{Message, status_reply, value_head};
+use ca_text::{Command, PAYLOAD_LIMIT, Refusal, Status};
+use ca_wire::{Alone, Wanted, read_head, read_status};
 use std::alloc::{AllocError, Global};
 
 /// What a read asks for: how many elements, and the bytes of their image.
@@ -31,25 +32,25 @@ impl End {
     pub(crate) fn read(
         &mut self,
         records: &ServedRecords,
-        message: &Message,
+        wanted: &Wanted,
     ) -> Result<(), AllocError>
         requires open { IsOpen self.old.link }
         requires served { AreServed (records_of records.now) self.old.channels }
         ensures ok { OnOk result ((port : ℕ)
-            → Replies (Reads (known port records.now self.old) message.now) self.old self.new) }
+            → Replies (Reads (known port records.now self.old) (read_request wanted.now)) self.old self.new) }
         ensures output { OnErr result (self.new.link.output ≡ self.old.link.output) }
         ensures channels { OnErr result (self.new.channels ≡ self.old.channels) }
     {
-        match self.seek(records, message.wanted().sid) {
+        match self.seek(records, wanted.sid) {
             Sought::Stray(_) => {
-                let reply = status_reply(self.alloc, message, Status::BADCHID);
+                let reply = read_status(self.alloc, wanted, Status::BADCHID);
                 send(&mut self.link, &reply)?;
                 Ok(())
             }
             Sought::Served(seat) => {
                 let record = records.at(seat.place).state();
                 let rights = records.rights(&self.user, &self.host, record.name());
-                answer(self.alloc, &mut self.link, record, rights, message)?;
+                answer(self.alloc, &mut self.link, record, rights, wanted)?;
                 Ok(())
             }
         }
@@ -62,31 +63,67 @@ fn answer(
     link: &mut Link,
     of: &Record,
     rights: u32,
-    message: &Message,
+    wanted: &Wanted,
 ) -> Result<(), AllocError>
     requires { IsOpen link.old }
-    ensures ok { OnOk result ((reply : Fields) × AnswersRead of.now rights message.now reply
+    ensures ok { OnOk result ((reply : Fields) × AnswersRead of.now rights (read_request wanted.now) reply
         × (link.new ≡ with_sent (reply ∷ []) link.old)) }
     ensures err { OnErr result (link.new ≡ link.old) }
 {
-    match measure(of, rights, message) {
+    if let Some(payload) = shown_alone(of, rights, wanted) {
+        return send_alone(link, wanted, payload);
+    }
+    match measure(of, rights, wanted) {
         Err(status) => {
-            send(link, &status_reply(alloc, message, status))?;
+            send(link, &read_status(alloc, wanted, status))?;
             Ok(())
         }
         Ok(asked) => {
-            show(alloc, link, of, asked, message)?;
+            show(alloc, link, of, asked, wanted)?;
             Ok(())
         }
     }
 }
 
-/// What a read asks for, or the status that refuses it. The elements are not looked at.
-fn measure(of: &Record, rights: u32, message: &Message) -> Result<Asked, Status>
-    ensures { IsWanted of.now rights message.now result }
+/// What shows the record to this read in eight bytes, if it has one element, of the type that is asked for.
+#[inline(always)]
+fn shown_alone(of: &Record, rights: u32, wanted: &Wanted) -> Option<u64>
+    ensures { IfSome result (λ n.
+        AnswersRead of.now rights (read_request wanted.now) (alone (answer_alone wanted.now n))) }
 {
-    let count = count_of(of, message);
-    let Ok(size) = image_size(message.data_type(), count) else {
+    if rights % 2 != 1 || wanted.count > 1 {
+        return None;
+    }
+    of.value().alone(wanted.data_type)
+}
+
+/// Answers a read by one element.
+#[inline(always)]
+fn send_alone(link: &mut Link, wanted: &Wanted, payload: u64) -> Result<(), AllocError>
+    requires { IsOpen link.old }
+    ensures ok { OnOk result (link.new
+        ≡ with_sent (alone (answer_alone wanted.now payload) ∷ []) link.old) }
+    ensures err { OnErr result (link.new ≡ link.old) }
+{
+    let said = Alone {
+        command: Command::ReadNotify,
+        data_type: wanted.data_type,
+        id: wanted.id,
+        payload,
+    };
+    match link.queue_alone(said) {
+        Ok(()) => Ok(()),
+        Err(_) => Err(AllocError),
+    }
+}
+
+/// What a read asks for, or the status that refuses it. The elements are not looked at.
+fn measure(of: &Record, rights: u32, wanted: &Wanted) -> Result<Asked, Status>
+    ensures { IsWanted of.now rights (read_request wanted.now) result }
+{
+    let count = count_of(of, wanted);
+    let data_type = wanted.data_type;
+    let Ok(size) = image_size(data_type, count) else {
         return Err(Status::BADTYPE);
     };
     if rights % 2 != 1 {
@@ -102,12 +139,12 @@ fn measure(of: &Record, rights: u32, message: &Message) -> Result<Asked, Status>
 }
 
 /// How many elements a read asks for: 0 means the present count.
-fn count_of(of: &Record, message: &Message) -> u32
-    ensures count { result ≡ read_count of.now message.now }
+fn count_of(of: &Record, wanted: &Wanted) -> u32
+    ensures count { result ≡ read_count of.now (read_request wanted.now) }
     ensures state { IsRecord of.now }
 {
     let present = of.value().count() as u32;
-    let count = message.count();
+    let count = wanted.count;
     if count == 0 { present } else { count }
 }
 
@@ -117,29 +154,29 @@ fn show(
     link: &mut Link,
     of: &Record,
     asked: Asked,
-    message: &Message,
+    wanted: &Wanted,
 ) -> Result<(), AllocError>
     requires open { IsOpen link.old }
-    requires order { IsInOrder of.now message.now asked }
-    ensures ok { OnOk result ((reply : Fields) × ShowsRead of.now message.now reply
+    requires order { IsInOrder of.now (read_request wanted.now) asked }
+    ensures ok { OnOk result ((reply : Fields) × ShowsRead of.now (read_request wanted.now) reply
         × (link.new ≡ with_sent (reply ∷ []) link.old)) }
     ensures err { OnErr result (link.new ≡ link.old) }
 {
     let value = of.value();
     value.know();
     let image = Shown {
-        data_type: message.data_type(),
+        data_type: wanted.data_type,
         count: asked.count,
         value,
         meta: of.meta(),
     };
-    let head = value_head(alloc, message, asked.count);
+    let head = read_head(alloc, wanted, asked.count);
     match link.queue_made(&head, asked.size, &image) {
         Ok(()) => Ok(()),
         Err(refusal) => match status_of(refusal) {
             None => Err(AllocError),
             Some(status) => {
-                send(link, &status_reply(alloc, message, status))?;
+                send(link, &read_status(alloc, wanted, status))?;
                 Ok(())
             }
         },

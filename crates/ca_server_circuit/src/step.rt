@@ -1,4 +1,5 @@
-ghost use Rattle.std.specs.Prelude.{◌≡◌, IfOk, OnErr};
+ghost use Rattle.std.specs.Prelude.{◌≡◌, ◌<◌, IfOk, OnErr, length};
+ghost use Rattle.ca_text.specs.Limits.{output_limit};
 ghost use Rattle.ca_link.specs.Calls.{IsOpen};
 ghost use Rattle.ca_records.specs.Store.{records_of};
 ghost use Rattle.ca_server_circuit.specs.Clearing.{ArePuts};
@@ -11,7 +12,7 @@ use crate::cause::Cause;
 use crate::end::End;
 use ca_arena::Handle;
 use ca_records::ServedRecords;
-use ca_text::Refusal;
+use ca_text::{Command, Refusal};
 use ca_wire::Message;
 use std::alloc::AllocError;
 
@@ -67,6 +68,31 @@ impl End {
         if self.link.is_full() {
             return EndStep::OutputFull;
         }
+        know_bytes(self.link.in_bytes());
+        // A read is what comes most often, and has no payload that takes memory.
+        match self.link.next_bare(Command::ReadNotify) {
+            Some(wanted) => match self.read(records, &wanted) {
+                Ok(()) => EndStep::Handled(Effect::Quiet),
+                Err(_) => EndStep::Breaks(Cause::OutOfMemory),
+            },
+            None => self.step_by_write(port, circuit, records),
+        }
+    }
+
+    /// Handles the next message of this circuit, whatever it is.
+    #[inline(always)]
+    pub(crate) fn step_by_message(
+        &mut self,
+        port: u16,
+        circuit: Handle,
+        records: &mut ServedRecords,
+    ) -> EndStep
+        requires open { IsOpen self.old.link }
+        requires room { length self.old.link.output < output_limit }
+        requires served { AreServed (records_of records.old) self.old.channels }
+        requires puts { ArePuts circuit (records_of records.old) self.old.channels }
+        ensures { EndSteps port circuit self.old records.old result self.new records.new }
+    {
         know_bytes(self.link.in_bytes());
         match self.link.next_message() {
             Ok(None) => EndStep::NeedBytes,

@@ -1,16 +1,15 @@
-ghost use Rattle.std.specs.Prelude.{ℕ, ◌≡◌, IfOk, MatchOption, OnErr, OnOk, [], ◌∷◌};
+ghost use Rattle.std.specs.Prelude.{ℕ, ◌≡◌, IfOk, OnErr, OnOk, [], ◌∷◌};
 ghost use Rattle.ca_arena.specs.declared.handle.Handle.{Handle};
 ghost use Rattle.ca_text.specs.Command.{command_number};
 ghost use Rattle.ca_text.specs.declared.command.Command.TheVariants as Command;
 ghost use Rattle.ca_link.specs.Calls.{IsOpen};
 ghost use Rattle.ca_wire.specs.Messages.{error_reply};
 ghost use Rattle.ca_records.specs.Store.{records_of};
-ghost use Rattle.ca_server_circuit.specs.declared.step.Effect.TheVariants.{Wrote};
 ghost use Rattle.ca_server_circuit.specs.Handling.{AreServed, Does, Writes, known, replied};
 ghost use Rattle.ca_server_circuit.specs.Seeking.{IsServed};
 
 use crate::end::{End, send};
-use crate::put::{begin, write_one};
+use crate::put::begin;
 use crate::seek::{Seat, Sought};
 use crate::step::Effect;
 use ca_records::{Begun, ServedRecords};
@@ -22,50 +21,6 @@ impl End {
     /// WRITE: applied at once, with no reply; a refused one is answered by ERROR. Says where it was applied.
     #[inline(never)]
     pub(crate) fn write(
-        &mut self,
-        records: &mut ServedRecords,
-        message: &Message,
-    ) -> Result<Effect, AllocError>
-        requires open { IsOpen self.old.link }
-        requires served { AreServed (records_of records.old) self.old.channels }
-        requires command { message.now.command ≡ command_number Command.Write }
-        ensures ok { IfOk result (λ effect. (port : ℕ) (h : Handle)
-            → Does (Writes (known port records.old self.old) message.now) records.old h self.old
-            message.now effect records.new self.new) }
-        ensures err { OnErr result (records.new ≡ records.old) }
-        ensures output { OnErr result (self.new.link.output ≡ self.old.link.output) }
-        ensures channels { OnErr result (self.new.channels ≡ self.old.channels) }
-    {
-        match self.write_one(records, message) {
-            Some(place) => Ok(Effect::Wrote(place)),
-            None => self.write_any(records, message),
-        }
-    }
-
-    /// What most writes are: one element in the type of its record. It takes no memory. Says where it was applied; any other WRITE changes nothing
-    /// here.
-    #[inline(always)]
-    fn write_one(&self, records: &mut ServedRecords, message: &Message) -> Option<usize>
-        requires served { AreServed (records_of records.old) self.now.channels }
-        requires command { message.now.command ≡ command_number Command.Write }
-        ensures { MatchOption result (records.new ≡ records.old) (λ place. (port : ℕ) (h : Handle)
-            → Does (Writes (known port records.old self.now) message.now) records.old h self.now
-            message.now (Wrote place) records.new self.now) }
-    {
-        let Sought::Served(seat) = self.seek(records, message.wanted().sid) else {
-            return None;
-        };
-        let name = records.at(seat.place).state().name();
-        let rights = records.rights(&self.user, &self.host, name);
-        if !write_one(records, seat.place, rights, false, message) {
-            return None;
-        }
-        Some(seat.place)
-    }
-
-    /// WRITE, whatever it is. It stands out of line, and looks the channel up anew, so that those of `write_one` pay for nothing of it.
-    #[inline(never)]
-    fn write_any(
         &mut self,
         records: &mut ServedRecords,
         message: &Message,

@@ -1,4 +1,4 @@
-ghost use Rattle.std.specs.Prelude.{ℕ, ◌≡◌, IfOk, MatchOption, OnErr, OnOk, [], ◌∷◌, if◌then◌else◌, take};
+ghost use Rattle.std.specs.Prelude.{ℕ, ◌≡◌, IfOk, OnErr, OnOk, [], ◌∷◌, if◌then◌else◌, take};
 ghost use Rattle.ca_text.specs.Command.{command_number};
 ghost use Rattle.ca_text.specs.declared.command.Command.TheVariants as Command;
 ghost use Rattle.ca_text.specs.Status.{normal};
@@ -6,12 +6,11 @@ ghost use Rattle.ca_link.specs.Calls.{IsOpen};
 ghost use Rattle.ca_link.specs.Link.{with_sent};
 ghost use Rattle.ca_records.specs.Store.{records_of};
 ghost use Rattle.ca_wire.specs.Messages.{status_reply};
-ghost use Rattle.ca_server_circuit.specs.declared.step.Effect.TheVariants.{Wrote};
 ghost use Rattle.ca_server_circuit.specs.Handling.{AreServed, Does, Puts, known, replied};
 ghost use Rattle.ca_server_circuit.specs.Seeking.{IsServed};
 
 use crate::end::{End, send};
-use crate::put::{begin, write_one};
+use crate::put::begin;
 use crate::seek::{Seat, Sought};
 use crate::step::Effect;
 use ca_arena::Handle;
@@ -28,67 +27,6 @@ impl End {
     /// refused, or if there is no memory for the put itself.
     #[inline(never)]
     pub(crate) fn write_notify(
-        &mut self,
-        circuit: Handle,
-        records: &mut ServedRecords,
-        message: &Message,
-    ) -> Result<Effect, AllocError>
-        requires open { IsOpen self.old.link }
-        requires served { AreServed (records_of records.old) self.old.channels }
-        requires command { message.now.command ≡ command_number Command.WriteNotify }
-        ensures ok { IfOk result (λ effect. (port : ℕ)
-            → Does (Puts (known port records.old self.old) message.now) records.old circuit self.old
-            message.now effect records.new self.new) }
-        ensures err { OnErr result (records.new ≡ records.old) }
-        ensures output { OnErr result (self.new.link.output ≡ self.old.link.output) }
-        ensures channels { OnErr result (self.new.channels ≡ self.old.channels) }
-    {
-        match self.put_one(records, message)? {
-            Some(place) => Ok(Effect::Wrote(place)),
-            None => self.put_any(circuit, records, message),
-        }
-    }
-
-    /// What most puts are: one element in the type of its record, which is quick. It takes memory for its reply alone. Says where it was applied; any other
-    /// WRITE_NOTIFY changes nothing here.
-    #[inline(always)]
-    fn put_one(
-        &mut self,
-        records: &mut ServedRecords,
-        message: &Message,
-    ) -> Result<Option<usize>, AllocError>
-        requires open { IsOpen self.old.link }
-        requires served { AreServed (records_of records.old) self.old.channels }
-        requires command { message.now.command ≡ command_number Command.WriteNotify }
-        ensures ok { IfOk result (λ applied.
-            MatchOption applied ((records.new ≡ records.old) × (self.new ≡ self.old))
-            (λ place. (port : ℕ) (h : Handle)
-            → Does (Puts (known port records.old self.old) message.now) records.old h self.old
-            message.now (Wrote place) records.new self.new)) }
-        ensures err { OnErr result (records.new ≡ records.old) }
-        ensures output { OnErr result (self.new.link.output ≡ self.old.link.output) }
-        ensures channels { OnErr result (self.new.channels ≡ self.old.channels) }
-    {
-        let Sought::Served(seat) = self.seek(records, message.wanted().sid) else {
-            return Ok(None);
-        };
-        let state = records.at(seat.place).state();
-        if state.is_slow() || message.count() != 1 {
-            return Ok(None);
-        }
-        let rights = records.rights(&self.user, &self.host, state.name());
-        let waited = self.link.out_bytes().len();
-        self.acknowledge(false, message)?;
-        if !write_one(records, seat.place, rights, true, message) {
-            self.link.truncate(waited);
-            return Ok(None);
-        }
-        Ok(Some(seat.place))
-    }
-
-    /// WRITE_NOTIFY, whatever it is. It stands out of line, and looks the channel up anew, so that those of `put_one` pay for nothing of it.
-    #[inline(never)]
-    fn put_any(
         &mut self,
         circuit: Handle,
         records: &mut ServedRecords,

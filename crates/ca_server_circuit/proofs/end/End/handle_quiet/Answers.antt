@@ -1,8 +1,9 @@
 use Rattle.std.proofs.Common.{refl, ap, ◌∙◌}
 use Rattle.ca_text.specs.Command.{command_number}
 use Rattle.ca_text.specs.declared.command.Command.TheVariants as command
+use Rattle.ca_server_circuit.specs.Handling.{known}
 use Rattle.ca_server_circuit.proofs.Handled.{does-cancel, does-clear, does-create, does-echo, does-host, does-nothing, does-off, does-on, does-reply, does-search, does-user, does-version, other-command}
-use Rattle.ca_server_circuit.proofs.Replying.{ok-both, ok-then}
+use Rattle.ca_server_circuit.proofs.Replying.{ok-both, ok-then, read-of}
 use Rattle.ca_server_circuit.proofs.end.End.handle_quiet.Goals as goal
 
 pub returns-in-Version-clause-ok : goal.returns-in-Version-clause-ok
@@ -35,7 +36,7 @@ returns-in-CreateChannel-clause-ok c =
 
 pub returns-in-ReadNotify-clause-ok : goal.returns-in-ReadNotify-clause-ok
 returns-in-ReadNotify-clause-ok c =
-    ok-then c.read.result (λ d. does-reply c.args.port c.args.records.now c.args.circuit c.args.self.now c.args.message.now c.read.new.self command.ReadNotify (c.requires.quiet.is ∙ ap command_number c.in-ReadNotify.is) refl refl (d c.args.port)) c.read.ensures.ok
+    ok-then c.read.result (λ d. does-reply c.args.port c.args.records.now c.args.circuit c.args.self.now c.args.message.now c.read.new.self command.ReadNotify (c.requires.quiet.is ∙ ap command_number c.in-ReadNotify.is) refl refl (read-of (known c.args.port c.args.records.now c.args.self.now) c.args.self.now c.read.new.self c.args.message.now c.wanted.result (c.requires.quiet.is ∙ ap command_number c.in-ReadNotify.is) c.wanted.ensures (d c.args.port))) c.read.ensures.ok
 
 pub returns-in-EventsOff-clause-ok : goal.returns-in-EventsOff-clause-ok
 returns-in-EventsOff-clause-ok c = does-off c.args.port c.args.records.now c.args.circuit c.args.self.now c.args.message.now c.switch_events.new.self (c.requires.quiet.is ∙ ap command_number c.in-EventsOff.is) c.switch_events.ensures

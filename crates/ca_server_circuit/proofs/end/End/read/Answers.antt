@@ -2,8 +2,7 @@ use Rattle.std.proofs.Common.{ℕ, [], ◌∷◌, ap, ◌∙◌, subst}
 use Rattle.ca_link.specs.Link.{with_sent}
 use Rattle.ca_records.specs.Record.{RecordState}
 use Rattle.ca_wire.specs.Fields.{Fields}
-use Rattle.ca_wire.specs.declared.requests.Wanted.{Wanted}
-use Rattle.ca_wire.specs.Messages.{status_reply}
+use Rattle.ca_wire.specs.Messages.{read_request, status_reply}
 use Rattle.ca_server_circuit.specs.Seeking.{IsServed, IsStray}
 use Rattle.ca_server_circuit.specs.Showing.{AnswersRead}
 use Rattle.ca_server_circuit.proofs.Replying.{relinked, right-is, served-read, state-is, stray-read}
@@ -13,17 +12,17 @@ pub returns-in_ok-send-in-Stray-clause-ok : goal.returns-in_ok-send-in-Stray-cla
 returns-in_ok-send-in-Stray-clause-ok c port =
     let s = c.args.records.now in
     let e = c.args.self.now in
-    let m = c.args.message.now in
-    let is : IsStray e m.p1 c.in-Stray.field-0 = subst (λ (n : ℕ). IsStray e n c.in-Stray.field-0) (ap (λ (w : Wanted). w.sid) c.wanted.ensures) c.in-Stray.ensures.seeks in
-    let sent = c.in_ok-send-in-Stray.ensures.ok ∙ ap (λ (x : Fields). with_sent (x ∷ []) c.self.inside.link) c.status_reply-reply.ensures in
+    let m = read_request c.args.wanted.now in
+    let is : IsStray e m.p1 c.in-Stray.field-0 = c.in-Stray.ensures.seeks in
+    let sent = c.in_ok-send-in-Stray.ensures.ok ∙ ap (λ (x : Fields). with_sent (x ∷ []) c.self.inside.link) c.read_status-reply.ensures in
     stray-read port s e _ m c.in-Stray.field-0 is (relinked _ e c.send.new.link (status_reply m 410 ∷ []) c.self.view_is sent)
 
 pub returns-in_ok-answer-in-Served-clause-ok : goal.returns-in_ok-answer-in-Served-clause-ok
 returns-in_ok-answer-in-Served-clause-ok c port =
     let s = c.args.records.now in
     let e = c.args.self.now in
-    let m = c.args.message.now in
-    let at_sid : IsServed s e m.p1 c.in-Served.seat = subst (λ (n : ℕ). IsServed s e n c.in-Served.seat) (ap (λ (w : Wanted). w.sid) c.wanted.ensures) c.in-Served.ensures.seeks in
+    let m = read_request c.args.wanted.now in
+    let at_sid : IsServed s e m.p1 c.in-Served.seat = c.in-Served.ensures.seeks in
     let right = right-is c.args.records.now c.args.self.now _ m.p1 c.in-Served.seat at_sid c.rights-rights.result _ _ _ c.at.result.now _ c.self.view_is c.deref.ensures.value c.deref-in-Served.ensures.value c.at.ensures.at c.state-record.ensures c.name.ensures c.rights-rights.ensures in
     let state = state-is s e m.p1 c.in-Served.seat at_sid c.at.result.now c.state-record.result.now c.at.ensures.at c.state-record.ensures in
     let did = c.in_ok-answer-in-Served.ensures.ok in

@@ -6,7 +6,7 @@ use Rattle.ca_wire.specs.Messages.{status_reply}
 use Rattle.ca_server_circuit.specs.Seeking.{IsStray}
 use Rattle.ca_server_circuit.proofs.Replying.{relinked}
 use Rattle.ca_server_circuit.proofs.Taken.{put-stray}
-use Rattle.ca_server_circuit.proofs.end.End.put_any.Goals as goal
+use Rattle.ca_server_circuit.proofs.end.End.write_notify.Goals as goal
 
 pub returns-in_ok-send-in-Stray-clause-ok : goal.returns-in_ok-send-in-Stray-clause-ok
 returns-in_ok-send-in-Stray-clause-ok c port =

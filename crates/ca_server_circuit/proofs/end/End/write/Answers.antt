@@ -2,7 +2,7 @@ use Rattle.std.proofs.Common.{ℕ, ap, subst}
 use Rattle.ca_wire.specs.declared.requests.Wanted.{Wanted}
 use Rattle.ca_server_circuit.specs.Seeking.{IsStray}
 use Rattle.ca_server_circuit.proofs.Taken.{write-stray}
-use Rattle.ca_server_circuit.proofs.end.End.write_any.Goals as goal
+use Rattle.ca_server_circuit.proofs.end.End.write.Goals as goal
 
 pub returns-in_ok-refuse-in-Stray-clause-ok : goal.returns-in_ok-refuse-in-Stray-clause-ok
 returns-in_ok-refuse-in-Stray-clause-ok c port h =
