@@ -71,6 +71,7 @@ impl ServedRecords {
     }
 
     /// The place of the record of this name.
+    #[inline(never)]
     pub fn find(&self, name: &[u8]) -> Option<usize>
         ensures { MatchOption result (record_named (records_of self.now) name.now ≡ None)
             (λ place. Finds self.now name.now place) }
@@ -79,6 +80,7 @@ impl ServedRecords {
     }
 
     /// The place of the record of this name, which is looked for at this place first.
+    #[inline(always)]
     pub fn find_near(&self, place: usize, name: &[u8]) -> Option<usize>
         ensures { MatchOption result (record_named (records_of self.now) name.now ≡ None)
             (λ found. Finds self.now name.now found) }
@@ -90,6 +92,7 @@ impl ServedRecords {
     }
 
     // Whether the record at this place has this name.
+    #[inline(always)]
     fn is_named(&self, place: usize, name: &[u8]) -> bool
         ensures { result ≡ true → Finds self.now name.now place }
     {
