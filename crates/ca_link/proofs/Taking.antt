@@ -1,5 +1,6 @@
 -- What a link's reader answers, as an answer of the link.
 use Rattle.std.proofs.Common.{◌≡◌, Bool, [], take, Option, Some, None, Result, Ok, Err, sym, ap, ◌∙◌, subst}
+use Rattle.std.proofs.lemmas.List.{take-append-drop}
 use Rattle.ca_text.specs.declared.refusal.Refusal.{Refusal}
 use Rattle.ca_text.specs.declared.refusal.Refusal.TheVariants as refusal
 use Rattle.ca_text.specs.declared.command.Command.{Command}
@@ -8,10 +9,9 @@ use Rattle.ca_wire.specs.Fields.{Fields}
 use Rattle.ca_wire.specs.Messages.{on_channel}
 use Rattle.ca_wire.specs.Reading as wire
 use Rattle.ca_wire.specs.Stream.{Held}
+use Rattle.ca_wire.proofs.Shorts.{short-spells}
 use Rattle.ca_link.specs.Calls.{FirstShort, Nexts, NextsBare}
 use Rattle.ca_link.specs.Link.{LinkState}
-use Rattle.std.proofs.lemmas.List.{take-append-drop}
-use Rattle.ca_wire.proofs.Shorts.{short-spells}
 
 -- the link with this in its reader
 abbrev pub with_input : LinkState → Held → LinkState

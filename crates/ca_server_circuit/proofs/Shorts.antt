@@ -14,12 +14,12 @@ use Rattle.ca_wire.specs.Fields.{Fields}
 use Rattle.ca_wire.specs.Reading.{short_in}
 use Rattle.ca_wire.specs.declared.requests.Wanted.{Wanted}
 use Rattle.ca_model.specs.Due.{is_known}
-use Rattle.ca_model.specs.Server.{OpenChannel, ServerEnd}
+use Rattle.ca_model.specs.Server.{ServerEnd}
 use Rattle.ca_server_circuit.specs.declared.cause.Cause.TheVariants as cause
 use Rattle.ca_server_circuit.specs.declared.seek.Seat.{Seat}
 use Rattle.ca_server_circuit.specs.declared.step.Effect.{Effect}
 use Rattle.ca_server_circuit.specs.declared.step.EndStep.TheVariants.{Breaks, Handled}
-use Rattle.ca_server_circuit.specs.Handling.{AllStay, Does, known, replied}
+use Rattle.ca_server_circuit.specs.Handling.{Does, replied}
 use Rattle.ca_server_circuit.specs.Seeking.{IsServed}
 use Rattle.ca_server_circuit.specs.Stepping.{EndSteps, Takes, after_short}
 use Rattle.ca_server_circuit.proofs.Dues.{command_at}

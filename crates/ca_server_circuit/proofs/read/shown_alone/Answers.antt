@@ -6,4 +6,4 @@ use Rattle.ca_server_circuit.proofs.read.shown_alone.Goals as goal
 
 pub returns : goal.returns
 returns c =
-    if-alone c.args.of.now c.args.rights c.args.wanted.now (elements c.value.result.now) c.alone.result c.value.ensures.record (eq-eqb (c.args.rights % 2) 1 c.if-rights-ne1.false) c.if-wanted-gt1.false c.value.ensures.value c.alone.ensures
+    if-alone c.args.of.now c.args.rights c.args.wanted.now (elements c.value.result.now) c.alone.result c.value.ensures.record (eq-eqb (c.args.rights % 2) 1 c.if-rights-ne1.false) c.if-wanted-gt1.false c.value.ensures.value c.alone.ensures.some

@@ -1,14 +1,11 @@
-use Rattle.std.proofs.Common.{◌≡◌, ◌++◌, refl, sym, ◌∙◌, subst, arith}
+use Rattle.std.proofs.Common.{◌≡◌, ◌++◌, take, refl, sym, ◌∙◌, subst, arith}
 use Rattle.ca_wire.specs.declared.header.Header.{Header}
-use Rattle.ca_wire.specs.Header.{number16}
-use Rattle.ca_wire.specs.Reading.{BeginsHeader}
+use Rattle.ca_wire.specs.declared.requests.Wanted.{Wanted}
+use Rattle.ca_wire.specs.Header.{HeaderSpells, number16}
+use Rattle.ca_wire.specs.Reading.{BeginsHeader, short_of}
 use Rattle.ca_wire.proofs.Headers.{header-same}
 use Rattle.ca_wire.proofs.Fronts.{begins-short, six-numbers}
 use Rattle.ca_wire.proofs.Shorts.{short-command, short-size}
-use Rattle.ca_wire.specs.declared.requests.Wanted.{Wanted}
-use Rattle.ca_wire.specs.Reading.{short_of}
-use Rattle.ca_wire.specs.Header.{HeaderSpells}
-use Rattle.std.proofs.Common.{take}
 use Rattle.ca_wire.proofs.reading.short_at.Goals as goal
 
 pub returns-then-bytes-lt24 : goal.returns-then-bytes-lt24

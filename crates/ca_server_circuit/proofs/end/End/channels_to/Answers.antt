@@ -1,4 +1,4 @@
-use Rattle.std.proofs.Common.{ap, arith, length, refl}
+use Rattle.std.proofs.Common.{ap, arith, length}
 use Rattle.ca_model.specs.Server.{ServerEnd}
 use Rattle.ca_server_circuit.proofs.Lost.{listed-all, listed-more, listed-some}
 use Rattle.ca_server_circuit.proofs.Replying.{in-err}

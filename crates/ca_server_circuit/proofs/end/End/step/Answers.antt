@@ -11,7 +11,7 @@ use Rattle.ca_model.specs.Due.{Due}
 use Rattle.ca_model.specs.Server.{OpenChannel, ServerEnd}
 use Rattle.ca_server_circuit.specs.declared.step.Effect.TheVariants as effect
 use Rattle.ca_server_circuit.specs.Clearing.{ArePuts}
-use Rattle.ca_server_circuit.specs.Handling.{AllStay, AreServed, Does, MayLack, known}
+use Rattle.ca_server_circuit.specs.Handling.{AllStay, AreServed, Does, known}
 use Rattle.ca_dbr.specs.Octets.{AreBytes}
 use Rattle.ca_server_circuit.specs.Stepping.{EndSteps, Takes, after_first}
 use Rattle.ca_server_circuit.proofs.Dues.{lack-read}
