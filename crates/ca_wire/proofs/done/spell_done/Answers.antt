@@ -1,4 +1,4 @@
-use Rattle.std.proofs.Common.{rules, ◌≡◌, List, ℕ, ◌+◌, ◌++◌, ap, ◌∙◌}
+use Rattle.std.proofs.Common.{rules, List, ℕ, ◌+◌, ◌++◌, ap, ◌∙◌}
 use Rattle.ca_wire.proofs.Words.{over-end, two-words}
 use Rattle.ca_wire.proofs.done.spell_done.Goals as goal
 
