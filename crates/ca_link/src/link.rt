@@ -1,14 +1,14 @@
 ghost use Rattle.std.specs.Prelude.{ℕ, List, ◌≡◌, ◌≤◌, IfOk, drop, length, nat_le, take};
 ghost use Rattle.ca_text.specs.Limits.{output_limit, payload_limit};
 ghost use Rattle.ca_link.specs.Calls.{FirstShort, Gives, Nexts, NextsBare, Queues, QueuesMade, QueuesOwn};
-ghost use Rattle.ca_wire.specs.Messages.{alone};
+ghost use Rattle.ca_wire.specs.Messages.{alone, done};
 ghost use Rattle.ca_link.specs.Link.{kept, mark_of, new_link, noted, restored, with_handed, with_rest};
 
 use crate::keep::Keep;
 use crate::mark::Mark;
 use crate::spares::Spares;
 use ca_text::{CLOSE_SILENCE, Command, ECHO_SILENCE, OUTPUT_LIMIT, Refusal};
-use ca_wire::{Alone, Deframer, Message, Payload, Pipe, Wanted};
+use ca_wire::{Alone, Deframer, Done, Message, Payload, Pipe, Wanted};
 use std::alloc::Global;
 use std::marker::Model;
 
@@ -176,6 +176,20 @@ impl Link {
             return Err(Refusal::CircuitClosed);
         }
         self.output.put_alone(said)?;
+        Ok(())
+    }
+
+    /// Puts the reply to a WRITE_NOTIFY of one element after what waits, however much that is.
+    ///
+    /// Refused as CircuitClosed, then as OutOfMemory.
+    #[inline(always)]
+    pub fn queue_done(&mut self, said: Done) -> Result<(), Refusal>
+        ensures { QueuesOwn (done said) self.old result self.new }
+    {
+        if self.input.is_closed() {
+            return Err(Refusal::CircuitClosed);
+        }
+        self.output.put_done(said)?;
         Ok(())
     }
 

@@ -9,6 +9,7 @@ use Rattle.ca_text.specs.declared.refusal.Refusal.TheVariants as refusal
 use Rattle.ca_text.specs.Limits.{output_limit}
 use Rattle.ca_wire.specs.Fields.{Fields}
 use Rattle.ca_wire.specs.Stream.{BadAt, NoneBegins, NotBad}
+use Rattle.ca_wire.specs.declared.done.Done.{Done}
 use Rattle.ca_wire.specs.declared.requests.Wanted.{Wanted}
 use Rattle.ca_wire.specs.Reading.{short_in}
 use Rattle.ca_text.specs.declared.command.Command.{Command}
@@ -71,3 +72,7 @@ after_short e = record e { link = with_rest (drop 24 e.link.input.bytes) e.link 
 abbrev pub DoesShort : (Knows → Fields → List Fields → Action → Type 0) → Command → Wanted → Handle → Store → ServerEnd → Effect → Store → ServerEnd → Type 0
 DoesShort D c w h s e did t new =
     (port : ℕ) → Does (D (known port s (after_short e)) (short_in e.link.input.bytes c w)) s h (after_short e) (short_in e.link.input.bytes c w) did t new
+
+-- the reply to a WRITE_NOTIFY of one element that names this
+abbrev pub done_for : Wanted → Done
+done_for w = record { data_type = w.data_type; id = w.id }

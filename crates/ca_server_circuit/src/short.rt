@@ -1,26 +1,29 @@
 //! Writes of one element, which are handled where they came: no message is made of them, and they take no memory.
-ghost use Rattle.std.specs.Prelude.{ℕ, ◌≡◌, ◌<◌, IfOk, MatchOption, OnErr, length};
+ghost use Rattle.std.specs.Prelude.{ℕ, ◌≡◌, ◌<◌, [], ◌∷◌, IfOk, MatchOption, OnErr, OnOk, length};
 ghost use Rattle.ca_dbr.specs.Octets.{AreBytes};
 ghost use Rattle.ca_text.specs.declared.command.Command.TheVariants as command;
 ghost use Rattle.ca_text.specs.Limits.{output_limit};
 ghost use Rattle.ca_link.specs.Calls.{HasShort, IsOpen};
+ghost use Rattle.ca_link.specs.Link.{with_sent};
 ghost use Rattle.ca_records.specs.Store.{records_of};
+ghost use Rattle.ca_wire.specs.Messages.{done};
 ghost use Rattle.ca_server_circuit.specs.Clearing.{ArePuts};
 ghost use Rattle.ca_server_circuit.specs.declared.step.Effect.TheVariants.{Wrote};
 ghost use Rattle.ca_arena.specs.declared.handle.Handle.{Handle};
 ghost use Rattle.ca_server_circuit.specs.Handling.{AreServed, Puts, Writes};
-ghost use Rattle.ca_server_circuit.specs.Stepping.{DoesShort, EndSteps};
+ghost use Rattle.ca_server_circuit.specs.Stepping.{DoesShort, EndSteps, done_for};
 
 use crate::bytes::know_bytes;
 use crate::cause::Cause;
-use crate::end::{End, send};
+use crate::end::End;
 use crate::put::{put_from, put_one, write_one};
 use crate::seek::Sought;
 use crate::step::{Effect, EndStep};
 use ca_arena::Handle;
+use ca_link::Link;
 use ca_records::ServedRecords;
-use ca_text::{Command, Status};
-use ca_wire::{Wanted, put_status};
+use ca_text::Command;
+use ca_wire::{Done, Wanted};
 use std::alloc::AllocError;
 
 impl End {
@@ -111,6 +114,9 @@ impl End {
             (Wrote place) records.new self.new)) }
         ensures err { OnErr result ((self.new ≡ self.old) × (records.new ≡ records.old)) }
     {
+        if wanted.count != 1 {
+            return Ok(None);
+        }
         let Sought::Served(seat) = self.seek(records, wanted.sid) else {
             return Ok(None);
         };
@@ -120,8 +126,7 @@ impl End {
         }
         let rights = records.rights(&self.user, &self.host, state.name());
         let waited = self.link.out_bytes().len();
-        let reply = put_status(self.alloc, *wanted, Status::NORMAL);
-        send(&mut self.link, &reply)?;
+        send_done(&mut self.link, wanted)?;
         let payload = &self.link.in_bytes()[16..24];
         if !write_one(records, seat.place, rights, true, wanted, payload) {
             self.link.truncate(waited);
@@ -160,5 +165,22 @@ impl End {
         }
         self.link.drop_short();
         Some(seat.place)
+    }
+}
+
+/// Puts the reply to a put of one element after what waits on an open link. Without memory the link is as it was.
+#[inline(always)]
+fn send_done(link: &mut Link, wanted: &Wanted) -> Result<(), AllocError>
+    requires { IsOpen link.old }
+    ensures ok { OnOk result (link.new ≡ with_sent (done (done_for wanted.now) ∷ []) link.old) }
+    ensures err { OnErr result (link.new ≡ link.old) }
+{
+    let said = Done {
+        data_type: wanted.data_type,
+        id: wanted.id,
+    };
+    match link.queue_done(said) {
+        Ok(()) => Ok(()),
+        Err(_) => Err(AllocError),
     }
 }

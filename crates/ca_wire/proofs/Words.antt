@@ -1,14 +1,16 @@
--- A message of one element, in three numbers of eight bytes.
-use Rattle.std.proofs.Common.{◌≡◌, ℕ, zero, suc, ◌+◌, ◌*◌, ◌<◌, ◌≤◌, ◌^◌, List, [], ◌∷◌, ◌++◌, get_or, length, refl, sym, take, take_all, ap, ◌∙◌, append_assoc, arith}
+-- A message of one element in three numbers of eight bytes, and one without payload in two.
+use Rattle.std.proofs.Common.{◌≡◌, ℕ, zero, suc, ◌+◌, ◌*◌, ◌<◌, ◌≤◌, ◌^◌, List, [], ◌∷◌, ◌++◌, get_or, length, refl, sym, take, take_all, ap, ◌∙◌, append-nil, append_assoc, arith}
 use Rattle.std.proofs.Math.Seq.{take-append-add, take-append_seam}
 use Rattle.std.proofs.lemmas.Nat.{be_bytes_8, from_be_bytes-to_be_bytes_2, from_be_bytes-to_be_bytes_4}
 use Rattle.std.specs.Int.{to_be_bytes, w16, w32, w64}
 use Rattle.ca_text.specs.Command.{command_number}
+use Rattle.ca_text.specs.declared.command.Command.TheVariants as command
 use Rattle.ca_text.specs.Status.{normal}
 use Rattle.ca_wire.specs.declared.alone.Alone.{Alone}
+use Rattle.ca_wire.specs.declared.done.Done.{Done}
 use Rattle.ca_wire.specs.Header.{header_spelling, number16, number32, short_header}
 use Rattle.ca_wire.specs.Message.{header_of, spelling}
-use Rattle.ca_wire.specs.Messages.{alone}
+use Rattle.ca_wire.specs.Messages.{alone, done}
 use Rattle.ca_wire.proofs.Headers.{spelling-short}
 
 eight-bytes : (a b c d e f g h : ℕ) → a < 256 → b < 256 → c < 256 → d < 256 → e < 256 → f < 256 → g < 256 → h < 256 → (i : ℕ) → get_or (a ∷ (b ∷ (c ∷ (d ∷ (e ∷ (f ∷ (g ∷ (h ∷ [])))))))) i 0 < 256
@@ -27,6 +29,14 @@ pub first-half : (c t n : ℕ) → c < 2 ^ 16 → t < 2 ^ 16 → n ≡ c * 28147
 unfolding number16
 first-half c t n cfits tfits e =
     be_bytes_8 (to_be_bytes w16 c ++ (to_be_bytes w16 8 ++ (to_be_bytes w16 t ++ to_be_bytes w16 1))) n refl
+    (eight-bytes _ _ _ _ _ _ _ _ (omega arith) (omega arith) (omega arith) (omega arith) (omega arith) (omega arith) (omega arith) (omega arith))
+    (omega (arith, e, from_be_bytes-to_be_bytes_2 c cfits, from_be_bytes-to_be_bytes_2 t tfits))
+
+-- the same without payload
+pub done-half : (c t n : ℕ) → c < 2 ^ 16 → t < 2 ^ 16 → n ≡ c * 281474976710656 + t * 65536 + 1 → to_be_bytes w64 n ≡ number16 c ++ (number16 0 ++ (number16 t ++ number16 1))
+unfolding number16
+done-half c t n cfits tfits e =
+    be_bytes_8 (to_be_bytes w16 c ++ (to_be_bytes w16 0 ++ (to_be_bytes w16 t ++ to_be_bytes w16 1))) n refl
     (eight-bytes _ _ _ _ _ _ _ _ (omega arith) (omega arith) (omega arith) (omega arith) (omega arith) (omega arith) (omega arith) (omega arith))
     (omega (arith, e, from_be_bytes-to_be_bytes_2 c cfits, from_be_bytes-to_be_bytes_2 t tfits))
 
@@ -56,3 +66,18 @@ three-words a x y is at =
     ∙ ap (λ (t : List ℕ). (number16 (command_number a.command) ++ (number16 8 ++ (number16 a.data_type ++ number16 1))) ++ (t ++ to_be_bytes w64 a.payload)) at
     ∙ regrouped (number16 (command_number a.command)) (number16 8) (number16 a.data_type) (number16 1) (number32 normal) (number32 a.id) (to_be_bytes w64 a.payload)
     ∙ ap (λ (t : List ℕ). t ++ to_be_bytes w64 a.payload) (sym short)
+
+regrouped-two : (a b c d e f : List ℕ) → (a ++ (b ++ (c ++ d))) ++ (e ++ f) ≡ (a ++ (b ++ (c ++ (d ++ (e ++ f)))))
+regrouped-two a b c d e f = simp append_assoc
+
+-- the two one after another
+pub two-words : (d : Done) (x y : List ℕ) → x ≡ number16 (command_number command.WriteNotify) ++ (number16 0 ++ (number16 d.data_type ++ number16 1)) → y ≡ number32 normal ++ number32 d.id → x ++ y ≡ spelling (done d)
+unfolding spelling short_header
+two-words d x y is at =
+    let h = header_of (done d) in
+    let short : header_spelling h ≡ short_header h = spelling-short h (omega arith) (omega arith) in
+    ap (λ (t : List ℕ). t ++ y) is
+    ∙ ap (λ (t : List ℕ). (number16 (command_number command.WriteNotify) ++ (number16 0 ++ (number16 d.data_type ++ number16 1))) ++ t) at
+    ∙ regrouped-two (number16 (command_number command.WriteNotify)) (number16 0) (number16 d.data_type) (number16 1) (number32 normal) (number32 d.id)
+    ∙ sym short
+    ∙ sym (append-nil (header_spelling h))

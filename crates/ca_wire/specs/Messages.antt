@@ -14,6 +14,7 @@ use Rattle.ca_wire.specs.Message.{header_of}
 -- channel (ChannelIds). What a search found (Found), a channel as it was created (Created), and what an answer or an update is about
 -- (Answered).
 use Rattle.ca_wire.specs.declared.alone.Alone.{Alone}
+use Rattle.ca_wire.specs.declared.done.Done.{Done}
 use Rattle.ca_wire.specs.declared.requests.Wanted.{Wanted}
 use Rattle.ca_wire.specs.declared.requests.ChannelIds.{ChannelIds}
 use Rattle.ca_wire.specs.declared.replies.Found.{Found}
@@ -126,6 +127,10 @@ cancel_reply m = record m { command = command_number command.EventAdd; payload =
 -- an answer or an update with one element, whose payload is eight bytes
 abbrev pub alone : Alone → Fields
 alone a = record { command = command_number a.command; data_type = a.data_type; count = 1; p1 = normal; p2 = a.id; payload = to_be_bytes w64 a.payload }
+
+-- the reply to a WRITE_NOTIFY of one element that was done ("CA_PROTO_WRITE_NOTIFY")
+abbrev pub done : Done → Fields
+done d = record { command = command_number command.WriteNotify; data_type = d.data_type; count = 1; p1 = normal; p2 = d.id; payload = [] }
 
 -- what is in place of a CID if the SID is unknown ("CA_PROTO_ERROR")
 abbrev pub no_cid : ℕ

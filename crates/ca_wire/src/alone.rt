@@ -49,7 +49,7 @@ fn first_half(command: Command, data_type: u16) -> u64
 
 /// Status and id.
 #[inline(always)]
-fn second_half(id: Ioid) -> u64
+pub(crate) fn second_half(id: Ioid) -> u64
     ensures { to_be_bytes w64 result ≡ number32 normal ++ number32 id }
 {
     u64::from(Status::NORMAL.number) * 0x1_0000_0000 + u64::from(id.number())

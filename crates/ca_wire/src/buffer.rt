@@ -2,9 +2,10 @@ ghost use Rattle.std.specs.Prelude.{ℕ, List, ◌≡◌, ◌≢◌, ◌≤◌, 
 ghost use Rattle.ca_text.specs.Limits.{payload_limit};
 ghost use Rattle.ca_wire.specs.Made.{PutsMade};
 ghost use Rattle.ca_wire.specs.Message.{spelling};
-ghost use Rattle.ca_wire.specs.Messages.{alone};
+ghost use Rattle.ca_wire.specs.Messages.{alone, done};
 
 use crate::alone::{Alone, spell_alone};
+use crate::done::{Done, spell_done};
 use crate::made::{Payload, spell_made};
 use crate::message::{Message, spell};
 use ca_text::Refusal;
@@ -101,6 +102,16 @@ impl Buffer {
     {
         self.let_go();
         spell_alone(said, &mut self.bytes)
+    }
+
+    /// Puts the one spelling of this after the others. A refusal changes nothing.
+    #[inline(always)]
+    pub fn put_done(&mut self, said: Done) -> Result<(), AllocError>
+        ensures ok { OnOk result (self.new ≡ self.old ++ spelling (done said)) }
+        ensures err { OnErr result (self.new ≡ self.old) }
+    {
+        self.let_go();
+        spell_done(said, &mut self.bytes)
     }
 
     /// Only the first n bytes stay.

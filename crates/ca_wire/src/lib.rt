@@ -5,6 +5,7 @@
 mod alone;
 mod buffer;
 mod deframer;
+mod done;
 mod header;
 mod ids;
 mod laws;
@@ -18,6 +19,7 @@ mod requests;
 pub use alone::Alone;
 pub use buffer::Buffer;
 pub use deframer::Deframer;
+pub use done::Done;
 pub use header::{Header, short_form, spell_header};
 pub use ids::{Cid, Ioid, Priority, Sid};
 pub use laws::{one_reading, read_again};
@@ -27,9 +29,8 @@ pub use pipe::Pipe;
 pub use reading::{Head, One, read_one};
 pub use replies::{
     Answered, Created, Found, cancel_reply, cleared_reply, created_reply, disconnect, error_reply,
-    failed_reply, no_cid, not_found_reply, put_status, read_head, read_status, rights_reply,
-    search_reply, status_reply, update, update_head, value_head, value_reply, version_header,
-    version_reply,
+    failed_reply, no_cid, not_found_reply, read_head, read_status, rights_reply, search_reply,
+    status_reply, update, update_head, value_head, value_reply, version_header, version_reply,
 };
 pub use requests::{
     ChannelIds, Wanted, bare, clear_request, create_request, event_add_request,

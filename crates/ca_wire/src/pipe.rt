@@ -2,10 +2,11 @@ ghost use Rattle.std.specs.Prelude.{ℕ, List, ◌≡◌, ◌≤◌, ◌++◌, [
 ghost use Rattle.ca_text.specs.Limits.{payload_limit};
 ghost use Rattle.ca_wire.specs.Made.{PutsMade};
 ghost use Rattle.ca_wire.specs.Message.{spelling};
-ghost use Rattle.ca_wire.specs.Messages.{alone};
+ghost use Rattle.ca_wire.specs.Messages.{alone, done};
 
 use crate::alone::Alone;
 use crate::buffer::Buffer;
+use crate::done::Done;
 use crate::made::Payload;
 use crate::message::Message;
 use ca_text::Refusal;
@@ -83,6 +84,15 @@ impl Pipe {
         ensures err { OnErr result (self.new ≡ self.old) }
     {
         self.buffer.put_alone(said)
+    }
+
+    /// Puts the one spelling of this after what waits. A refusal changes nothing.
+    #[inline(always)]
+    pub fn put_done(&mut self, said: Done) -> Result<(), AllocError>
+        ensures ok { OnOk result (self.new ≡ self.old ++ spelling (done said)) }
+        ensures err { OnErr result (self.new ≡ self.old) }
+    {
+        self.buffer.put_done(said)
     }
 
     /// Only the first n of the bytes still wait.

@@ -1,4 +1,4 @@
-use Rattle.std.proofs.Common.{rules, ◌≡◌, List, ℕ, ◌+◌, ◌++◌, ap, ◌∙◌}
+use Rattle.std.proofs.Common.{rules, List, ℕ, ◌+◌, ◌++◌, ap, ◌∙◌}
 use Rattle.ca_wire.proofs.Words.{over-end, three-words}
 use Rattle.ca_wire.proofs.alone.spell_alone.Goals as goal
 
