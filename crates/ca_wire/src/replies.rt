@@ -130,16 +130,6 @@ pub fn value_reply(request: &Message, count: u32, image: Vec<u8>) -> Result<Mess
     Message::with_padding(command, data_type, count, normal, request.p2(), image)
 }
 
-/// READ_NOTIFY, answered, with no image, which is to be made in its place.
-pub fn value_head(alloc: Global, request: &Message, count: u32) -> Message
-    ensures { result ≡ value_reply request.now count [] }
-{
-    let (command, data_type) = (request.command(), request.data_type());
-    let normal = Status::NORMAL.number;
-    let payload = Vec::new(alloc);
-    Message::of_fields(command, data_type, count, normal, request.p2(), payload)
-}
-
 /// READ_NOTIFY of this, answered, with no image, which is to be made in its place.
 pub fn read_head(alloc: Global, wanted: &Wanted, count: u32) -> Message
     ensures { result ≡ value_reply (read_request wanted.now) count [] }
