@@ -49,16 +49,3 @@ pub steps-short : (port : ℕ) (h : Handle) (s : Store) (e : ServerEnd) (c : Com
     → Does (DueFor port s h (after_short e) (short_in e.link.input.bytes c w) c) s h (after_short e) (short_in e.link.input.bytes c w) did t new → EndSteps port h e s (Handled did) new t
 steps-short port h s e c w did t new room short is one d =
     (takes-short e c w room short, does-for port s h (after_short e) (short_in e.link.input.bytes c w) did t new c refl is one d)
-
--- a step that found no memory for it
-pub breaks-short : (port : ℕ) (h : Handle) (s : Store) (e : ServerEnd) (c : Command) (w : Wanted) (t : Store) (new : ServerEnd) → AreBytes e.link.input.bytes → length e.link.output < output_limit → HasShort c e.link w → new ≡ e → t ≡ s → EndSteps port h e s (Breaks cause.OutOfMemory) new t
-breaks-short port h s e c w t new are room short same stays =
-    let bytes = e.link.input.bytes in
-    let enough : 24 ≤ length bytes = short.room in
-    let eight : length (take 8 (drop 16 bytes)) ≡ 8 = length-take-le 8 (drop 16 bytes) (omega (arith, enough, length-drop 16 bytes)) in
-    let some : take 8 (drop 16 bytes) ≢ [] = λ none. omega (arith, eight, ap length none) in (
-      (takes-short e c w room short, are, inl some),
-      ap (λ (x : ServerEnd). x.link.output) same,
-      (λ k o at. subst (λ (x : ServerEnd). under x.channels k ≡ Some o) (sym same) at),
-      stays,
-    )

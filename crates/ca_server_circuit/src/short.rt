@@ -1,6 +1,5 @@
 //! Writes of one element, which are handled where they came: no message is made of them, and they take no memory.
-ghost use Rattle.std.specs.Prelude.{ℕ, ◌≡◌, ◌<◌, [], ◌∷◌, IfOk, MatchOption, OnErr, OnOk, length};
-ghost use Rattle.ca_dbr.specs.Octets.{AreBytes};
+ghost use Rattle.std.specs.Prelude.{ℕ, ◌≡◌, ◌<◌, [], ◌∷◌, MatchOption, false, length, true};
 ghost use Rattle.ca_text.specs.declared.command.Command.TheVariants as command;
 ghost use Rattle.ca_text.specs.Limits.{output_limit};
 ghost use Rattle.ca_link.specs.Calls.{HasShort, IsOpen};
@@ -13,8 +12,6 @@ ghost use Rattle.ca_arena.specs.declared.handle.Handle.{Handle};
 ghost use Rattle.ca_server_circuit.specs.Handling.{AreServed, Puts, Writes};
 ghost use Rattle.ca_server_circuit.specs.Stepping.{DoesShort, EndSteps, done_for};
 
-use crate::bytes::know_bytes;
-use crate::cause::Cause;
 use crate::end::End;
 use crate::put::{put_from, put_one, write_one};
 use crate::seek::Sought;
@@ -24,7 +21,6 @@ use ca_link::Link;
 use ca_records::ServedRecords;
 use ca_text::Command;
 use ca_wire::{Done, Wanted};
-use std::alloc::AllocError;
 
 impl End {
     /// Handles the next message of this circuit: mostly a write of one element.
@@ -41,7 +37,6 @@ impl End {
         requires puts { ArePuts circuit (records_of records.old) self.old.channels }
         ensures { EndSteps port circuit self.old records.old result self.new records.new }
     {
-        know_bytes(self.link.in_bytes());
         match self.step_short(circuit, records) {
             Some(step) => step,
             None => self.step_by_message(port, circuit, records),
@@ -53,7 +48,6 @@ impl End {
     #[inline(always)]
     fn step_short(&mut self, circuit: Handle, records: &mut ServedRecords) -> Option<EndStep>
         requires room { length self.old.link.output < output_limit }
-        requires bytes { AreBytes self.old.link.input.bytes }
         requires served { AreServed (records_of records.old) self.old.channels }
         ensures { MatchOption result ((self.new ≡ self.old) × (records.new ≡ records.old))
             (λ step. (port : ℕ)
@@ -67,9 +61,8 @@ impl End {
         }
         if let Some(wanted) = self.link.first_short(Command::WriteNotify) {
             return match self.put_short(circuit, records, &wanted) {
-                Ok(Some(place)) => Some(EndStep::Handled(Effect::Wrote(place))),
-                Ok(None) => None,
-                Err(_) => Some(EndStep::Breaks(Cause::OutOfMemory)),
+                Some(place) => Some(EndStep::Handled(Effect::Wrote(place))),
+                None => None,
             };
         }
         None
@@ -105,35 +98,35 @@ impl End {
         circuit: Handle,
         records: &mut ServedRecords,
         wanted: &Wanted,
-    ) -> Result<Option<usize>, AllocError>
+    ) -> Option<usize>
         requires served { AreServed (records_of records.old) self.old.channels }
         requires short { HasShort command.WriteNotify self.old.link wanted.now }
-        ensures ok { IfOk result (λ applied.
-            MatchOption applied ((self.new ≡ self.old) × (records.new ≡ records.old))
+        ensures { MatchOption result ((self.new ≡ self.old) × (records.new ≡ records.old))
             (λ place. DoesShort Puts command.WriteNotify wanted.now circuit records.old self.old
-            (Wrote place) records.new self.new)) }
-        ensures err { OnErr result ((self.new ≡ self.old) × (records.new ≡ records.old)) }
+            (Wrote place) records.new self.new) }
     {
         if wanted.count != 1 {
-            return Ok(None);
+            return None;
         }
         let Sought::Served(seat) = self.seek(records, wanted.sid) else {
-            return Ok(None);
+            return None;
         };
         let state = records.at(seat.place).state();
         if state.is_slow() {
-            return Ok(self.put_slow(circuit, records, wanted));
+            return self.put_slow(circuit, records, wanted);
         }
         let rights = records.rights(&self.user, &self.host, state.name());
         let waited = self.link.out_bytes().len();
-        send_done(&mut self.link, wanted)?;
+        if !send_done(&mut self.link, wanted) {
+            return None;
+        }
         let payload = &self.link.in_bytes()[16..24];
         if !write_one(records, seat.place, rights, true, wanted, payload) {
             self.link.truncate(waited);
-            return Ok(None);
+            return None;
         }
         self.link.drop_short();
-        Ok(Some(seat.place))
+        Some(seat.place)
     }
 
     /// The same on a slow record, whose put stays busy: its reply comes as it is finished.
@@ -168,19 +161,19 @@ impl End {
     }
 }
 
-/// Puts the reply to a put of one element after what waits on an open link. Without memory the link is as it was.
+/// Puts the reply to a put of one element after what waits on an open link. False, and the link is as it was, without memory.
 #[inline(always)]
-fn send_done(link: &mut Link, wanted: &Wanted) -> Result<(), AllocError>
+fn send_done(link: &mut Link, wanted: &Wanted) -> bool
     requires { IsOpen link.old }
-    ensures ok { OnOk result (link.new ≡ with_sent (done (done_for wanted.now) ∷ []) link.old) }
-    ensures err { OnErr result (link.new ≡ link.old) }
+    ensures sent { result ≡ true → link.new ≡ with_sent (done (done_for wanted.now) ∷ []) link.old }
+    ensures stays { result ≡ false → link.new ≡ link.old }
 {
     let said = Done {
         data_type: wanted.data_type,
         id: wanted.id,
     };
     match link.queue_done(said) {
-        Ok(()) => Ok(()),
-        Err(_) => Err(AllocError),
+        Ok(()) => true,
+        Err(_) => false,
     }
 }

@@ -18,8 +18,8 @@ use Rattle.ca_server_circuit.proofs.Shorts.{answered, served-after}
 use Rattle.ca_server_circuit.proofs.Taken.{one-record, put-applied, put_in}
 use Rattle.ca_server_circuit.proofs.end.End.put_short.Goals as goal
 
-pub returns-clause-ok : goal.returns-clause-ok
-returns-clause-ok c port =
+pub returns : goal.returns
+returns c port =
     let s = c.args.records.now in
     let e = c.args.self.now in
     let w = c.args.wanted.now in
@@ -31,7 +31,7 @@ returns-clause-ok c port =
     let right = right-is s e _ w.sid seat i bits _ _ _ c.at.result.now _ c.self.view_is c.deref.ensures.value c.deref-2.ensures.value c.at.ensures.at c.state-state.ensures c.name.ensures c.rights-rights.ensures in
     let quick : false ≡ i.r.state.slow = sym c.if-is_slow.false ∙ c.is_slow.ensures ∙ ap (λ (x : RecordState). x.slow) (state-is s e w.sid seat i c.at.result.now c.state-state.result.now c.at.ensures.at c.state-state.ensures) in
     let reply = status_reply m 1 in
-    let sent = c.in_ok-send_done.ensures.ok ∙ ap (λ (n : ℕ). let r : Fields = record reply { count = n } in with_sent (r ∷ []) c.self.inside.link) (sym c.if-wanted-ne1.false) in
+    let sent = c.send_done.ensures.sent c.if-not-send_done.false ∙ ap (λ (n : ℕ). let r : Fields = record reply { count = n } in with_sent (r ∷ []) c.self.inside.link) (sym c.if-wanted-ne1.false) in
     let done = answered _ e c.send_done.new.link _ (reply ∷ []) c.self.view_is sent c.drop_short.ensures ∙ ap (λ (b : Bool). let none : List Fields = [] in replied (if b then none else reply ∷ []) (after_short e)) quick in
     let came = c.in_bytes.ensures ∙ ap (λ (l : LinkState). l.input.bytes) sent ∙ ap (λ (x : ServerEnd). x.link.input.bytes) c.self.view_is in
     let did = subst (λ (b : List ℕ). WritesTo s seat.place bits (Some p) (short_in b command.WriteNotify w) (begun.Applied false) c.write_one.new.records) came (c.write_one.ensures.written c.if-not-write_one.false command.WriteNotify (Some p) refl) in

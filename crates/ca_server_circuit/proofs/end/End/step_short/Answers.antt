@@ -3,7 +3,7 @@ use Rattle.ca_link.specs.Calls.{HasShort}
 use Rattle.ca_text.specs.declared.command.Command.TheVariants as command
 use Rattle.ca_model.specs.Server.{ServerEnd}
 use Rattle.ca_server_circuit.specs.declared.step.Effect.TheVariants as effect
-use Rattle.ca_server_circuit.proofs.Shorts.{breaks-short, steps-short}
+use Rattle.ca_server_circuit.proofs.Shorts.{steps-short}
 use Rattle.ca_server_circuit.proofs.end.End.step_short.Goals as goal
 
 pub returns-in-Some-write_short : goal.returns-in-Some-write_short
@@ -12,15 +12,8 @@ returns-in-Some-write_short c port =
     let short = subst (λ (x : ServerEnd). HasShort command.Write x.link w) c.self.view_is c.in-Some.ensures in
     steps-short port c.args.circuit c.args.records.now c.args.self.now command.Write w (effect.Wrote c.in-Some-write_short.place) c.write_short.new.records c.write_short.new.self c.requires.room short refl refl (c.in-Some-write_short.ensures c.args.circuit port)
 
-pub returns-in-Ok-Some : goal.returns-in-Ok-Some
-returns-in-Ok-Some c port =
+pub returns-in-Some-put_short : goal.returns-in-Some-put_short
+returns-in-Some-put_short c port =
     let w = c.in-Some-first_short.wanted in
     let short = subst (λ (x : ServerEnd). HasShort command.WriteNotify x.link w) c.self.view_is c.in-Some-first_short.ensures in
-    let did = rw c.in-Ok-Some.field-0-is at c.in-Ok-Some.ensures.ok in
-    steps-short port c.args.circuit c.args.records.now c.args.self.now command.WriteNotify w (effect.Wrote c.in-Ok-Some.place) c.put_short.new.records c.put_short.new.self c.requires.room short refl refl (did port)
-
-pub returns-in-Err : goal.returns-in-Err
-returns-in-Err c port =
-    let w = c.in-Some-first_short.wanted in
-    let short = subst (λ (x : ServerEnd). HasShort command.WriteNotify x.link w) c.self.view_is c.in-Some-first_short.ensures in
-    breaks-short port c.args.circuit c.args.records.now c.args.self.now command.WriteNotify w c.put_short.new.records c.put_short.new.self c.requires.bytes c.requires.room short c.in-Err.ensures.err.0 c.in-Err.ensures.err.1
+    steps-short port c.args.circuit c.args.records.now c.args.self.now command.WriteNotify w (effect.Wrote c.in-Some-put_short.place) c.put_short.new.records c.put_short.new.self c.requires.room short refl refl (c.in-Some-put_short.ensures port)
