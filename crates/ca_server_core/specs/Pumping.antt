@@ -1,12 +1,9 @@
 -- Working: updates leave the queues of an end, in the table of circuits.
-use Rattle.std.specs.Prelude.{ℕ, ◌≡◌, ◌≢◌, ◌⊎◌, ◌++◌, List, [], Some, None, Ok, Err, Result, length}
-use Rattle.std.specs.declared.alloc.AllocError.{AllocError}
+use Rattle.std.specs.Prelude.{◌≡◌, ◌⊎◌, Some, None}
 use Rattle.ca_arena.specs.declared.handle.Handle.{Handle}
 use Rattle.ca_ids.specs.Table.{Table, under, with_changed}
 use Rattle.ca_records.specs.Store.{Store}
-use Rattle.ca_model.specs.Server.{Server, ServerCircuit}
-use Rattle.ca_model.specs.ServerSteps.{Pumps, Sends, Update, output_of}
-use Rattle.ca_server_core.specs.Circuits.{SendsIn}
+use Rattle.ca_model.specs.Server.{ServerCircuit}
 use Rattle.ca_server_circuit.specs.Pumping.{PumpsAt}
 
 -- updates leave the queues of the circuit of a handle
