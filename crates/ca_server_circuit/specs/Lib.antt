@@ -18,5 +18,4 @@ pub mod Removing
 pub mod NextPut
 pub mod Imaging
 pub mod Concerned
-pub mod Handing
 pub mod Names

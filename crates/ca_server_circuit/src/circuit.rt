@@ -8,7 +8,6 @@ ghost use Rattle.ca_server_circuit.specs.Clearing.{ArePuts};
 ghost use Rattle.ca_server_circuit.specs.Concerned.{ConcernsOn, bytes_on, channels_on};
 ghost use Rattle.ca_server_circuit.specs.Ending.{ArePutsAt, EndsAt, IsLeft, WithdrawsAll};
 ghost use Rattle.ca_server_circuit.specs.Finishing.{RepliesAt};
-ghost use Rattle.ca_server_circuit.specs.Handing.{HandsAt};
 ghost use Rattle.ca_server_circuit.specs.NextPut.{IsPutAt, NamesAt};
 ghost use Rattle.ca_server_circuit.specs.Posting.{PostsAt, WatchesAt};
 ghost use Rattle.ca_server_circuit.specs.Pumping.{PumpsAt};
@@ -17,7 +16,7 @@ ghost use Rattle.ca_server_circuit.specs.Serving.{CircuitSteps};
 ghost use Rattle.ca_server_circuit.specs.Stepping.{why_is};
 
 use crate::cause::Cause;
-use crate::end::{End, hand_over};
+use crate::end::End;
 use crate::step::EndStep;
 use ca_arena::Handle;
 use ca_link::Spares;
@@ -189,16 +188,6 @@ impl Circuit {
                 Err(_) => self.close(circuit, Cause::OutOfMemory, records),
             },
             State::Ended(_, _) => {}
-        }
-    }
-
-    /// Moves what waits to be sent to the end of these bytes. Without memory for it all is as it was.
-    pub fn hand_over(&mut self, bytes: &mut Vec<u8>) -> Result<(), AllocError>
-        ensures { HandsAt self.old bytes.old.items result self.new bytes.new.items }
-    {
-        match &mut self.state {
-            State::Open(end) => hand_over(&mut end.link, bytes),
-            State::Ended(_, _) => Ok(()),
         }
     }
 

@@ -1,6 +1,6 @@
-ghost use Rattle.std.specs.Prelude.{◌≡◌, ◌≢◌, ◌++◌, IfOk, OnErr, OnOk, [], ◌∷◌, length};
+ghost use Rattle.std.specs.Prelude.{◌≡◌, IfOk, OnErr, OnOk, [], ◌∷◌};
 ghost use Rattle.ca_link.specs.Calls.{IsOpen};
-ghost use Rattle.ca_link.specs.Link.{with_handed, with_sent};
+ghost use Rattle.ca_link.specs.Link.{with_sent};
 ghost use Rattle.ca_model.specs.Server.{new_end};
 ghost use Rattle.ca_wire.specs.Messages.{text_in};
 
@@ -73,23 +73,6 @@ pub(crate) fn send(link: &mut Link, message: &Message) -> Result<(), AllocError>
         Ok(()) => Ok(()),
         Err(_) => Err(AllocError),
     }
-}
-
-/// Moves what waits on a link to the end of these bytes. Without memory for it all is as it was.
-pub(crate) fn hand_over(link: &mut Link, bytes: &mut Vec<u8>) -> Result<(), AllocError>
-    ensures ok { OnOk result ((link.new ≡ with_handed (length link.old.output) link.old)
-        × (bytes.new.items ≡ bytes.old.items ++ link.old.output)) }
-    ensures err { OnErr result ((link.new ≡ link.old) × (bytes.new.items ≡ bytes.old.items)
-        × (link.old.output ≢ [])) }
-{
-    let waits = link.out_bytes();
-    let n = waits.len();
-    if n == 0 {
-        return Ok(());
-    }
-    bytes.extend_from_slice(waits)?;
-    link.sent(n);
-    Ok(())
 }
 
 /// The text of a message, in a Vec of its own. An empty text does not allocate.

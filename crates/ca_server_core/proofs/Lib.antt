@@ -19,6 +19,5 @@ pub mod Removed
 pub mod Peeked
 pub mod Histories
 pub mod Ordered
-pub mod Handed
 pub mod Idle
 pub mod Listed
