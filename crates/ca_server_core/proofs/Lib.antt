@@ -20,5 +20,6 @@ pub mod Peeked
 pub mod Histories
 pub mod Ordered
 pub mod Handed
+pub mod Served
 pub mod Idle
 pub mod Listed
