@@ -122,7 +122,12 @@ impl Engine {
 
     // So many bytes wait after a message and a pump, which was made as if nothing had waited before. Then so little waits that the next message
     // is handled.
-    fn keep<K: Sink>(&mut self, waiting: usize, sink: &mut K, turns: &mut u64) -> Result<(), Refusal>
+    fn keep<K: Sink>(
+        &mut self,
+        waiting: usize,
+        sink: &mut K,
+        turns: &mut u64,
+    ) -> Result<(), Refusal>
         requires few { self.old.waiting < output_limit }
         requires within { turns.old ≤ engine_turns }
         requires calls { K.call_count sink.old < 2 ^ 63 + turns.old }

@@ -57,7 +57,6 @@ fn is_still(did: Option<EndStep>) -> bool
 }
 
 /// Pumps the end of a circuit, if it is open, and counts what waits on it.
-#[inline(never)]
 pub(crate) fn pump_counting_on(
     circuits: &mut HeldTable<Circuit>,
     records: &mut ServedRecords,

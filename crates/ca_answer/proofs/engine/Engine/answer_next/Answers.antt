@@ -1,7 +1,9 @@
 use Rattle.std.proofs.Common.{◌≡◌, Bool, ℕ, take, refl, sym, ap, subst, arith}
 use Rattle.std.specs.Prelude.{Result, Err}
+use Rattle.ca_arena.specs.declared.handle.Handle.{Handle}
 use Rattle.ca_text.specs.declared.refusal.Refusal.{Refusal}
 use Rattle.ca_server_circuit.specs.Stepping.{why_is}
+use Rattle.ca_server_core.specs.Counting.{PumpsCounting}
 use Rattle.ca_answer.specs.Engines.{EngineState}
 use Rattle.ca_answer.specs.Serving.{Comes, Goes, Hands}
 use Rattle.ca_answer.proofs.Servings.{closes-comes, comes-handled, comes-left, comes-stopped, comes-unpumped, rests, same-error}
@@ -13,9 +15,11 @@ returns-in_err-keep-in-Handled-clause-comes g c = λ rules states.
     let did = c.in-Handled.ensures.served in
     let mid : EngineState = record c.serve_next.new.self { core = did.0 } in
     let same : mid ≡ (let x : EngineState = record c.args.self.now { core = did.0 } in x) = ap (λ (z : EngineState). let x : EngineState = record z { core = did.0 } in x) c.serve_next.ensures.stays in
+    let here = ap (λ (z : EngineState). z.circuit) c.serve_next.ensures.stays in
+    let pumps = subst (λ (h : Handle). PumpsCounting did.0 h c.serve_next.new.waiting c.serve_next.new.self.core) (sym here) did.2 in
     subst (λ (r : Result Bool Refusal). Comes g.K.Sink.takes g.K.Sink.fault_count rules states c.args.sink.now c.keep.new.sink c.args.self.now c.keep.new.self c.keep.new.turns r)
     (sym (same-error c.from_residual.result c.in_err-keep-in-Handled.field-0.0 c.from_residual.ensures.1))
-    (comes-unpumped g.K.Sink.takes g.K.Sink.fault_count rules states c.args.sink.now c.keep.new.sink c.args.self.now mid c.keep.new.self c.keep.new.turns c.in_err-keep-in-Handled.field-0.0 same did.1 (c.in_err-keep-in-Handled.ensures.pumped rules states did.0 did.2))
+    (comes-unpumped g.K.Sink.takes g.K.Sink.fault_count rules states c.args.sink.now c.keep.new.sink c.args.self.now mid c.keep.new.self c.keep.new.turns c.in_err-keep-in-Handled.field-0.0 same did.1 (c.in_err-keep-in-Handled.ensures.pumped rules states did.0 pumps))
 
 pub returns-in_err-hand_left-in-Closed-clause-comes : goal.returns-in_err-hand_left-in-Closed-clause-comes
 returns-in_err-hand_left-in-Closed-clause-comes g c = λ rules states.
@@ -37,15 +41,19 @@ returns-in_ok-keep-in-Handled-clause-comes g c = λ rules states.
     let did = c.in-Handled.ensures.served in
     let mid : EngineState = record c.serve_next.new.self { core = did.0 } in
     let same : mid ≡ (let x : EngineState = record c.args.self.now { core = did.0 } in x) = ap (λ (z : EngineState). let x : EngineState = record z { core = did.0 } in x) c.serve_next.ensures.stays in
-    comes-handled g.K.Sink.takes g.K.Sink.fault_count rules states c.args.sink.now c.keep.new.sink c.args.self.now mid c.keep.new.self c.keep.new.turns same did.1 (c.in_ok-keep-in-Handled.ensures.pumped rules states did.0 did.2)
+    let here = ap (λ (z : EngineState). z.circuit) c.serve_next.ensures.stays in
+    let pumps = subst (λ (h : Handle). PumpsCounting did.0 h c.serve_next.new.waiting c.serve_next.new.self.core) (sym here) did.2 in
+    comes-handled g.K.Sink.takes g.K.Sink.fault_count rules states c.args.sink.now c.keep.new.sink c.args.self.now mid c.keep.new.self c.keep.new.turns same did.1 (c.in_ok-keep-in-Handled.ensures.pumped rules states did.0 pumps)
 
 pub returns-in_ok-keep-in-Handled-clause-smaller : goal.returns-in_ok-keep-in-Handled-clause-smaller
 returns-in_ok-keep-in-Handled-clause-smaller g c = λ more.
     let did = c.in-Handled.ensures.served in
     let mid : EngineState = record c.serve_next.new.self { core = did.0 } in
     let same : mid ≡ (let x : EngineState = record c.args.self.now { core = did.0 } in x) = ap (λ (z : EngineState). let x : EngineState = record z { core = did.0 } in x) c.serve_next.ensures.stays in
+    let here = ap (λ (z : EngineState). z.circuit) c.serve_next.ensures.stays in
+    let pumps = subst (λ (h : Handle). PumpsCounting did.0 h c.serve_next.new.waiting c.serve_next.new.self.core) (sym here) did.2 in
     let less = stepped-size c.args.self.now mid same did.1 in
-    let pumped = pumped-size mid c.serve_next.new.self did.2.0.0 c.serve_next.new.self.waiting refl did.2.0.1 in
+    let pumped = pumped-size mid c.serve_next.new.self pumps.0.0 c.serve_next.new.self.waiting refl pumps.0.1 in
     let few = c.in_ok-keep-in-Handled.ensures.fewer in
     omega (arith, less, pumped, few)
 
