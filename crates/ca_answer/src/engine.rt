@@ -4,7 +4,9 @@ ghost use Rattle.ca_text.specs.Limits.{engine_turns, output_limit};
 ghost use Rattle.ca_records.specs.Record.{RecordState};
 ghost use Rattle.ca_records.specs.Rules.{Rule};
 ghost use Rattle.ca_model.specs.ServerSteps.{Gives};
-ghost use Rattle.ca_server_core.specs.Noting.{ServesNext};
+ghost use Rattle.ca_model.specs.Server.{Server};
+ghost use Rattle.ca_server_core.specs.Counting.{PumpsCounting};
+ghost use Rattle.ca_server_core.specs.Noting.{ServesAndPumps};
 ghost use Rattle.ca_server_core.specs.Serving.{stepped};
 ghost use Rattle.ca_server_circuit.specs.Stepping.{why_is};
 ghost use Rattle.ca_answer.specs.Engines.{HasSent, IsNew, refusal_for, unread_size, what_waits};
@@ -90,9 +92,10 @@ impl Engine {
         ensures within { turns.new ≤ engine_turns }
         ensures calls { K.call_count sink.new + turns.old ≡ K.call_count sink.old + turns.new }
     {
-        match self.serve_next() {
+        let mut waiting = 0;
+        match self.serve_next(&mut waiting) {
             Step::Handled => {
-                self.pump(sink, turns)?;
+                self.keep(waiting, sink, turns)?;
                 Ok(true)
             }
             Step::Closed(cause, left) => {
@@ -108,30 +111,37 @@ impl Engine {
         }
     }
 
-    // Handles the next message, and finishes the record that it made busy.
-    fn serve_next(&mut self) -> Step
-        ensures served { ServesNext self.old.core self.old.circuit (stepped result) self.new.core }
+    // Handles the next message, finishes the record that it made busy, and pumps once. So many bytes wait then.
+    fn serve_next(&mut self, waiting: &mut usize) -> Step
+        ensures served { ServesAndPumps self.old.core self.old.circuit (stepped result) waiting.new
+            self.new.core }
         ensures stays { self.new ≡ record self.old { core = self.new.core } }
     {
-        self.core.serve(self.circuit)
+        self.core.serve_and_pump(self.circuit, waiting)
     }
 
-    // Pumps once after a message, as if nothing had waited before it. Then so little waits that the next message is handled.
-    fn pump<K: Sink>(&mut self, sink: &mut K, turns: &mut u64) -> Result<(), Refusal>
+    // So many bytes wait after a message and a pump, which was made as if nothing had waited before. Then so little waits that the next message
+    // is handled.
+    fn keep<K: Sink>(
+        &mut self,
+        waiting: usize,
+        sink: &mut K,
+        turns: &mut u64,
+    ) -> Result<(), Refusal>
         requires few { self.old.waiting < output_limit }
         requires within { turns.old ≤ engine_turns }
         requires calls { K.call_count sink.old < 2 ^ 63 + turns.old }
         requires faults { K.fault_count sink.old < 2 ^ 63 }
-        ensures pumped { (rules : List Rule) (states : List RecordState)
-            → Pumped K.takes K.fault_count rules states sink.old sink.new self.old self.new turns.new
-            result }
+        ensures pumped { (rules : List Rule) (states : List RecordState) (handled : Server)
+            → PumpsCounting handled self.old.circuit waiting self.old.core
+            → Pumped K.takes K.fault_count rules states sink.old sink.new
+            (record self.old { core = handled }) self.new turns.new result }
         ensures few { OnOk result (self.new.waiting < output_limit) }
         ensures fewer { OnOk result (unread_size self.new ≤ unread_size self.old) }
         ensures rises { turns.old ≤ turns.new }
         ensures within { turns.new ≤ engine_turns }
         ensures calls { K.call_count sink.new + turns.old ≡ K.call_count sink.old + turns.new }
     {
-        let waiting = self.core.pump_counting(self.circuit);
         if waiting >= OUTPUT_LIMIT {
             return self.make_room(sink, turns);
         }

@@ -19,5 +19,6 @@ pub mod Removed
 pub mod Peeked
 pub mod Histories
 pub mod Ordered
+pub mod Served
 pub mod Idle
 pub mod Listed

@@ -35,7 +35,7 @@ use Rattle.ca_server_circuit.specs.Stepping.{after_first, why_is}
 use Rattle.ca_server_circuit.proofs.Tables.{changed-own, find-at, none-some}
 use Rattle.ca_server_core.specs.Ending.{EndsIn}
 use Rattle.ca_server_core.specs.Following.{Follows, IsSettled, Settles}
-use Rattle.ca_server_core.specs.Noting.{BusyBut, EndsPutAt, IsBusy, LeadsTo, Notes, NotesAt, ServesNext, Tries, TriesAt, busy_name, was_handled, wrote_busy}
+use Rattle.ca_server_core.specs.Noting.{BusyBut, EndsPutAt, IsBusy, LeadsTo, Notes, NotesAt, HandlesAndFinishes, ServesAndPumps, Tries, TriesAt, busy_name, was_handled, wrote_busy}
 use Rattle.ca_server_core.specs.Finishing.{RepliesIn, effect_after}
 use Rattle.ca_server_core.specs.Serving.{IsReport, Reports, StepsIn, more_applied, stepped}
 use Rattle.ca_server_core.specs.declared.stepping.Step.{Step}
@@ -269,11 +269,11 @@ none-closes port s u t after last h did (inl g) r handled = by g.0 g.1 g.2 g.3 g
         never-closed w left (sym (subst (λ (o : Option ServerCircuit). IsReport o (stepped did)) found r.0) ∙ handled)
 
 -- nothing is to be noted of them
-pub noting-none : (y : Server) (h : Handle) (did : Stepped) (new : Server) → (did ≡ steps.Handled → ⊥) → Makes y h did new → ServesNext y h did new
-noting-none y h steps.Handled new other made = absurd (other refl)
-noting-none y h steps.NeedBytes new other made = made
-noting-none y h steps.OutputFull new other made = made
-noting-none y h (steps.Closed w left) new other made = made
+pub noting-none : (y : Server) (h : Handle) (did : Stepped) (waiting : ℕ) (new : Server) → (did ≡ steps.Handled → ⊥) → Makes y h did new → ServesAndPumps y h did waiting new
+noting-none y h steps.Handled waiting new other made = absurd (other refl)
+noting-none y h steps.NeedBytes waiting new other made = made
+noting-none y h steps.OutputFull waiting new other made = made
+noting-none y h (steps.Closed w left) waiting new other made = made
 
 pub not-handled : (did : Stepped) → was_handled did ≡ false → did ≡ steps.Handled → ⊥
 not-handled steps.Handled f is = both-bools true refl f
@@ -351,7 +351,7 @@ tried-at (effect.Wrote place) port now b n k t last s x (r, at, found, inr (free
     (None, (r, at, found, ap (λ (c : Bool). cond c (Some r.state.name) None) (sym free)), same-server port now n k b s x t last is.0 is.1 is.2)
 
 -- the put of the record to which a message wrote ended
-served : (y : Server) (h : Handle) (noted : Option (List ℕ)) (mid new : Server) → StepsNoting y h noted mid → Tries mid noted new → ServesNext y h steps.Handled new
+served : (y : Server) (h : Handle) (noted : Option (List ℕ)) (mid new : Server) → StepsNoting y h noted mid → Tries mid noted new → HandlesAndFinishes y h new
 served y h noted mid new did tries = record {
   put = noted;
   stepped = mid;
@@ -362,14 +362,14 @@ served y h noted mid new did tries = record {
 }
 
 -- a message was handled that leaves nothing to do
-pub viewed-quiet : (y : Server) (port now n k : ℕ) (b : Clock) (s u : Store) (t after : Circuits) (h : Handle) → server_of port s now t b n ≡ y → StepsIn port t h s (Some (step.Handled effect.Quiet)) after u → HandlesAny y h effect.Quiet u (server_of port u now after b k) → ServesNext y h steps.Handled (server_of port u now after b k)
+pub viewed-quiet : (y : Server) (port now n k : ℕ) (b : Clock) (s u : Store) (t after : Circuits) (h : Handle) → server_of port s now t b n ≡ y → StepsIn port t h s (Some (step.Handled effect.Quiet)) after u → HandlesAny y h effect.Quiet u (server_of port u now after b k) → HandlesAndFinishes y h (server_of port u now after b k)
 viewed-quiet y port now n k b s u t after h is g made =
     served y h None (server_of port u now after b k) (server_of port u now after b k)
     (viewed-noting y port now n k b s u u t after after after h effect.Quiet None is g (refl, refl) refl made) refl
 
 -- a message was handled, and the put of the record to which it wrote ended
 pub viewed-served : (y : Server) (port now n k j : ℕ) (b : Clock) (s u x z : Store) (t after last mid final : Circuits) (h : Handle) (did : Effect) → server_of port s now t b n ≡ y → StepsIn port t h s (Some (step.Handled did)) after u → Follows did h after u last x
-    → HandlesAny y h did u (server_of port x now mid b k) → TriesAt did k mid x j final z → ServesNext y h steps.Handled (server_of port z now final b j)
+    → HandlesAny y h did u (server_of port x now mid b k) → TriesAt did k mid x j final z → HandlesAndFinishes y h (server_of port z now final b j)
 viewed-served y port now n k j b s u x z t after last mid final h did is g f made tries =
     let it = tried-at did port now b k j mid final x z tries in
     served y h it.0 (server_of port x now mid b k) (server_of port z now final b j) (viewed-noting y port now n k b s u x t after last mid h did it.0 is g f it.1 made) it.2

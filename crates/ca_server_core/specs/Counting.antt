@@ -1,4 +1,4 @@
--- Vocabulary: `pump_counting`, which is a pump, and says how much waits after it.
+-- Vocabulary: a pump that says how much waits after it.
 use Rattle.std.specs.Prelude.{ℕ, ◌≡◌, List, length}
 use Rattle.ca_arena.specs.declared.handle.Handle.{Handle}
 use Rattle.ca_ids.specs.Table.{under}

@@ -1,5 +1,5 @@
--- Vocabulary: `serve`, which is a step, and then the finish of the put by which its message made a record busy (section
--- "CA_PROTO_WRITE_NOTIFY").
+-- Vocabulary: `serve_and_pump`, which is a step, then the finish of the put by which its message made a record busy (section
+-- "CA_PROTO_WRITE_NOTIFY"), and then a pump.
 use Rattle.std.specs.Prelude.{ℕ, ◌≡◌, ◌⊎◌, Bool, true, false, if◌then◌else◌, List, Option, None, Some, Result, Ok, is_some}
 use Rattle.ca_arena.specs.declared.handle.Handle.{Handle}
 use Rattle.ca_ids.specs.Table.{Table, under}
@@ -17,6 +17,7 @@ use Rattle.ca_model.specs.Speech.{In}
 use Rattle.ca_server_circuit.specs.declared.step.Effect.{Effect}
 use Rattle.ca_server_circuit.specs.declared.step.Effect.TheVariants as effect
 use Rattle.ca_server_circuit.specs.Handling.{is_wrote}
+use Rattle.ca_server_core.specs.Counting.{PumpsCounting}
 use Rattle.ca_server_core.specs.Finishing.{RepliesIn, effect_after}
 use Rattle.ca_server_core.specs.Following.{Follows}
 use Rattle.ca_server_core.specs.Serving.{Closes, more_applied}
@@ -118,7 +119,8 @@ pub record HandlesAndFinishes (old : Server) (h : Handle) (new : Server) : Type 
   pub notes : Notes old.records stepped.records put
   pub tries : Tries stepped put new
 
--- `serve`: what was done with the next message
-abbrev pub ServesNext : Server → Handle → Stepped → Server → Type 0
-ServesNext old h Handled new = HandlesAndFinishes old h new
-ServesNext old h did new = Steps old h did new × Closes old h did new
+-- `serve_and_pump`: what was done with the next message. If it was handled, updates left the queues of an open end then, and so many bytes
+-- wait on it.
+abbrev pub ServesAndPumps : Server → Handle → Stepped → (waiting : ℕ) → Server → Type 0
+ServesAndPumps old h Handled waiting new = (finished : Server) × HandlesAndFinishes old h finished × PumpsCounting finished h waiting new
+ServesAndPumps old h did waiting new = Steps old h did new × Closes old h did new

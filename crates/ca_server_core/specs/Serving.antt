@@ -1,5 +1,5 @@
 -- Working: what a step makes of the table of circuits, and how it is reported.
-use Rattle.std.specs.Prelude.{ℕ, ◌≡◌, ◌+◌, ◌⊎◌, Bool, true, [], Option, Some, None, if◌then◌else◌, min}
+use Rattle.std.specs.Prelude.{ℕ, ◌≡◌, ◌+◌, ◌⊎◌, Bool, true, false, [], Option, Some, None, if◌then◌else◌, min}
 use Rattle.ca_arena.specs.declared.handle.Handle.{Handle}
 use Rattle.ca_ids.specs.Table.{Table, under, with_changed, with_freed}
 use Rattle.ca_records.specs.Store.{Store}
@@ -9,7 +9,10 @@ use Rattle.ca_model.specs.Server.{Server, ServerCircuit, ServerEnd}
 use Rattle.ca_model.specs.Server as server
 use Rattle.ca_model.specs.ServerSteps.{LacksMemory, Stepped}
 use Rattle.ca_model.specs.ServerSteps as steps
+use Rattle.ca_server_circuit.specs.declared.step.Effect.{Effect}
+use Rattle.ca_server_circuit.specs.declared.step.Effect.TheVariants as effect
 use Rattle.ca_server_circuit.specs.declared.step.EndStep.{EndStep}
+use Rattle.ca_server_circuit.specs.declared.step.EndStep.TheVariants as step
 use Rattle.ca_server_core.specs.declared.stepping.Step.{Step}
 use Rattle.ca_server_core.specs.declared.stepping.Step.TheVariants.{Closed, Handled, NeedBytes, OutputFull}
 use Rattle.ca_server_circuit.specs.Serving.{CircuitSteps}
@@ -21,6 +24,16 @@ stepped Handled = steps.Handled
 stepped NeedBytes = steps.NeedBytes
 stepped OutputFull = steps.OutputFull
 stepped (Closed cause left) = steps.Closed (why_is cause) left
+
+-- whether a message leaves nothing to do
+abbrev pub is_quiet : Effect → Bool
+is_quiet effect.Quiet = true
+is_quiet did = false
+
+-- whether a step handled a message that leaves nothing to do
+abbrev pub is_still : Option EndStep → Bool
+is_still (Some (step.Handled did)) = is_quiet did
+is_still did = false
 
 -- how many writes were applied after a message that applied one, or not
 abbrev pub more_applied : (writes : Bool) → ℕ → ℕ

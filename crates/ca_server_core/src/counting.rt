@@ -1,29 +1,63 @@
-ghost use Rattle.std.specs.Prelude.{◌≡◌, length};
+ghost use Rattle.std.specs.Prelude.{◌≡◌, false, length, true};
 ghost use Rattle.ca_ids.specs.Table.{under};
 ghost use Rattle.ca_model.specs.ServerSteps.{output_of};
 ghost use Rattle.ca_records.specs.Store.{records_of};
-ghost use Rattle.ca_server_core.specs.Counting.{PumpsCounting};
-ghost use Rattle.ca_server_core.specs.Pumping.{PumpsIn};
+ghost use Rattle.ca_server_core.specs.Pumping.{PumpsIn, StepsAndPumps};
+ghost use Rattle.ca_server_core.specs.Serving.{StepsIn, is_still};
 ghost use Rattle.ca_server_core.specs.Sound.{IsSound};
 
-use crate::server::ServerCore;
+use crate::stepping::is_quiet;
 use ca_arena::Handle;
 use ca_ids::HeldTable;
 use ca_records::ServedRecords;
-use ca_server_circuit::Circuit;
+use ca_server_circuit::{Circuit, EndStep};
 
-impl ServerCore {
-    /// Puts updates that wait on a circuit after what waits to be sent, as `pump` does, and says how many bytes wait then: none if its end
-    /// is not open.
-    pub fn pump_counting(&mut self, circuit: Handle) -> usize
-        ensures { PumpsCounting self.old circuit result self.new }
-    {
-        pump_counting_on(&mut self.circuits, &mut self.records, circuit)
+/// One step of a circuit's end, as `step_on`. If nothing is left to do then, its end is pumped, and so many bytes wait on it: so a read
+/// takes one look-up of its circuit.
+#[inline(always)]
+pub(crate) fn step_counting_on(
+    port: u16,
+    circuits: &mut HeldTable<Circuit>,
+    records: &mut ServedRecords,
+    circuit: Handle,
+    waited: &mut usize,
+    waiting: &mut usize,
+) -> Option<EndStep>
+    requires { IsSound (records_of records.old) circuits.old }
+    ensures pumps { is_still result ≡ true
+        → StepsAndPumps port circuits.old circuit records.old waiting.new circuits.new records.new }
+    ensures steps { is_still result ≡ false
+        → StepsIn port circuits.old circuit records.old result circuits.new records.new }
+    ensures stays { is_still result ≡ false → waiting.new ≡ waiting.old }
+    ensures waited { waited.new ≡ length (output_of (under circuits.old circuit)) }
+{
+    let Some(found) = circuits.by_handle_mut(circuit) else {
+        *waited = 0;
+        return None;
+    };
+    *waited = found.out_bytes().len();
+    let did = found.step(port, circuit, records);
+    if !is_still(did) {
+        return did;
+    }
+    found.pump(circuit, records);
+    *waiting = found.out_bytes().len();
+    did
+}
+
+/// Whether a step handled a message that leaves nothing to do.
+#[inline(always)]
+fn is_still(did: Option<EndStep>) -> bool
+    ensures { result ≡ is_still did }
+{
+    match did {
+        Some(EndStep::Handled(effect)) => is_quiet(effect),
+        _ => false,
     }
 }
 
 /// Pumps the end of a circuit, if it is open, and counts what waits on it.
-fn pump_counting_on(
+pub(crate) fn pump_counting_on(
     circuits: &mut HeldTable<Circuit>,
     records: &mut ServedRecords,
     circuit: Handle,

@@ -1,13 +1,15 @@
+ghost use Rattle.std.specs.Prelude.{◌≡◌, false};
 ghost use Rattle.ca_records.specs.Store.{IsThere, records_of};
 ghost use Rattle.ca_server_core.specs.Covering.{AreListed, Covers};
-ghost use Rattle.ca_server_core.specs.Noting.{EndsPutAt, LeadsTo, ServesNext, TriesAt};
+ghost use Rattle.ca_server_core.specs.Noting.{EndsPutAt, LeadsTo, ServesAndPumps, TriesAt, was_handled};
 ghost use Rattle.ca_server_core.specs.Serving.{stepped};
 ghost use Rattle.ca_server_core.specs.Sound.{IsSound};
 
+use crate::counting::{pump_counting_on, step_counting_on};
 use crate::finishing::{effect_of, reply_on};
 use crate::following::follow;
 use crate::server::ServerCore;
-use crate::stepping::{Step, is_open, is_quiet, more_applied, over, report, step_on};
+use crate::stepping::{Step, is_open, is_quiet, more_applied, over, report};
 use ca_arena::Handle;
 use ca_ids::HeldTable;
 use ca_records::ServedRecords;
@@ -15,18 +17,24 @@ use ca_server_circuit::{Circuit, Effect, EndStep};
 use ca_server_watchers::Watchers;
 
 impl ServerCore {
-    /// Handles the next message of a circuit as `step` does, and then finishes the put by which it made a record busy, as `finish` does. A
-    /// record that was busy before is finished too if the message wrote to it. The record is found by its place.
-    pub fn serve(&mut self, circuit: Handle) -> Step
-        ensures { ServesNext self.old circuit (stepped result) self.new }
+    /// Handles the next message of a circuit as `step` does, finishes the put by which it made a record busy, as `finish` does, and then puts
+    /// updates that wait on the circuit after what waits to be sent, as `pump` does. It says how many bytes wait then: none if its end is not
+    /// open.
+    ///
+    /// A record that was busy before is finished too if the message wrote to it. The record is found by its place. Where no message was
+    /// handled nothing is pumped, and nothing is said of the bytes.
+    pub fn serve_and_pump(&mut self, circuit: Handle, waiting: &mut usize) -> Step
+        ensures serves { ServesAndPumps self.old circuit (stepped result) waiting.new self.new }
+        ensures stays { was_handled (stepped result) ≡ false → waiting.new ≡ waiting.old }
     {
         let mut waited = 0;
-        let effect = match step_on(
+        let effect = match step_counting_on(
             self.port,
             &mut self.circuits,
             &mut self.records,
             circuit,
             &mut waited,
+            waiting,
         ) {
             Some(EndStep::Handled(effect)) => effect,
             Some(EndStep::NeedBytes) => return Step::NeedBytes,
@@ -55,6 +63,7 @@ impl ServerCore {
             &mut self.watchers,
             effect,
         );
+        *waiting = pump_counting_on(&mut self.circuits, &mut self.records, circuit);
         Step::Handled
     }
 }

@@ -1,12 +1,11 @@
-ghost use Rattle.std.specs.Prelude.{◌≡◌, false, length, take, true};
+ghost use Rattle.std.specs.Prelude.{◌≡◌, false, length, take};
 ghost use Rattle.ca_ids.specs.Table.{under};
 ghost use Rattle.ca_model.specs.ServerSteps.{Steps, output_of};
 ghost use Rattle.ca_records.specs.Store.{records_of};
 ghost use Rattle.ca_server_core.specs.Following.{Settles};
 ghost use Rattle.ca_server_core.specs.Noting.{was_handled};
-ghost use Rattle.ca_server_circuit.specs.declared.step.Effect.TheVariants.{Quiet};
 ghost use Rattle.ca_server_circuit.specs.Circuits.{is_open};
-ghost use Rattle.ca_server_core.specs.Serving.{Closes, Reports, StepsIn, more_applied, stepped};
+ghost use Rattle.ca_server_core.specs.Serving.{Closes, Reports, StepsIn, is_quiet, more_applied, stepped};
 ghost use Rattle.ca_server_core.specs.Sound.{IsSound};
 
 use crate::following::follow;
@@ -98,7 +97,7 @@ pub(crate) fn step_on(
 
 /// Whether nothing is left to do: so it is after most messages.
 pub(crate) fn is_quiet(effect: Effect) -> bool
-    ensures { result ≡ true → effect ≡ Quiet }
+    ensures { result ≡ is_quiet effect }
 {
     match effect {
         Effect::Quiet => true,

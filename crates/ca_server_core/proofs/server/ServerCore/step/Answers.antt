@@ -1,4 +1,4 @@
-use Rattle.std.proofs.Common.{◌∙◌, false, length, refl, ap}
+use Rattle.std.proofs.Common.{◌∙◌, false, length, refl, sym, ap}
 use Rattle.ca_ids.specs.Table.{under}
 use Rattle.ca_model.specs.Server.{Server}
 use Rattle.ca_model.specs.ServerSteps.{output_of}
@@ -6,6 +6,7 @@ use Rattle.ca_records.specs.Store.{records_of}
 use Rattle.ca_server_core.proofs.Covered.{covers-thinned}
 use Rattle.ca_server_core.proofs.Followed.{broke-thins, made-followed, none-thins, settled-sound, settled-thins, step-covers, viewed-followed}
 use Rattle.ca_server_core.proofs.Listed.{listed-broke, listed-none, listed-step}
+use Rattle.ca_server_core.proofs.Served.{quiet-is}
 use Rattle.ca_server_core.proofs.Stepped.{broke-sound, handled-settles, made-broke, made-none, none-sound, step-sound, viewed-broke, viewed-none}
 use Rattle.ca_server_circuit.specs.declared.step.Effect.TheVariants.{Quiet}
 use Rattle.ca_server_core.specs.declared.stepping.Step.TheVariants as own
@@ -14,7 +15,7 @@ use Rattle.ca_server_core.proofs.server.ServerCore.step.Goals as goal
 pub invariant_of-self : goal.invariant_of-self
 invariant_of-self c =
     let i = c.self.inside in
-    let quiet = c.is_quiet.ensures c.if-is_quiet.true in
+    let quiet = quiet-is c.in-Some-Handled.effect (sym c.is_quiet.ensures ∙ c.if-is_quiet.true) in
     let did = rw quiet at (rw c.in-Some-Handled.field-0-is at c.in-Some-Handled.ensures.steps) in
     record {
       sound = step-sound i.port i.records c.step_on.new.records i.circuits c.step_on.new.circuits c.args.circuit Quiet did c.self.invariant.sound;
@@ -26,7 +27,7 @@ pub returns-then-is_quiet-clause-steps : goal.returns-then-is_quiet-clause-steps
 returns-then-is_quiet-clause-steps c =
     let i = c.self.inside in
     let u = c.step_on.new in
-    let quiet = c.is_quiet.ensures c.if-is_quiet.true in
+    let quiet = quiet-is c.in-Some-Handled.effect (sym c.is_quiet.ensures ∙ c.if-is_quiet.true) in
     let did = rw quiet at (rw c.in-Some-Handled.field-0-is at c.in-Some-Handled.ensures.steps) in
     let long = c.in-Some-Handled.ensures.waited ∙ ap (λ (z : Server). length (output_of (under z.circuits c.args.circuit))) c.self.view_is in
     let sound = step-sound i.port i.records u.records i.circuits u.circuits c.args.circuit Quiet did c.self.invariant.sound in
@@ -37,7 +38,7 @@ pub returns-then-is_quiet-clause-closes : goal.returns-then-is_quiet-clause-clos
 returns-then-is_quiet-clause-closes c =
     let i = c.self.inside in
     let u = c.step_on.new in
-    let quiet = c.is_quiet.ensures c.if-is_quiet.true in
+    let quiet = quiet-is c.in-Some-Handled.effect (sym c.is_quiet.ensures ∙ c.if-is_quiet.true) in
     let did = rw quiet at (rw c.in-Some-Handled.field-0-is at c.in-Some-Handled.ensures.steps) in
     let long = c.in-Some-Handled.ensures.waited ∙ ap (λ (z : Server). length (output_of (under z.circuits c.args.circuit))) c.self.view_is in
     let sound = step-sound i.port i.records u.records i.circuits u.circuits c.args.circuit Quiet did c.self.invariant.sound in

@@ -1,0 +1,86 @@
+-- A step that leaves nothing to do, and then a pump, by one look-up of the circuit.
+use Rattle.std.proofs.Common.{◌≡◌, ℕ, zero, suc, inl, true, cond, length, List, [], ◌∷◌, Option, Some, None, is_some, slice_set, refl, sym, ap, ◌∙◌}
+use Rattle.std.specs.Prelude.{option_map}
+use Rattle.ca_arena.specs.declared.handle.Handle.{Handle}
+use Rattle.ca_arena.specs.Arena.{Place}
+use Rattle.ca_ids.specs.Table.{Table, under, with_changed}
+use Rattle.ca_records.specs.Store.{Store, records_of}
+use Rattle.ca_model.specs.Server.{Ended, Open, ServerCircuit}
+use Rattle.ca_model.specs.ServerSteps.{output_of}
+use Rattle.ca_server_circuit.specs.declared.step.Effect.{Effect}
+use Rattle.ca_server_circuit.specs.declared.step.Effect.TheVariants as effect
+use Rattle.ca_server_circuit.specs.declared.step.EndStep.{EndStep}
+use Rattle.ca_server_circuit.specs.declared.step.EndStep.TheVariants as step
+use Rattle.ca_server_circuit.specs.Circuits.{CircuitIsSound}
+use Rattle.ca_server_circuit.specs.Pumping.{PumpsAt}
+use Rattle.ca_server_circuit.specs.Serving.{CircuitSteps}
+use Rattle.ca_server_circuit.proofs.Tables.{changed-own}
+use Rattle.ca_server_core.specs.Pumping.{StepsAndPumps}
+use Rattle.ca_server_core.specs.Serving.{is_quiet, is_still}
+use Rattle.ca_server_core.specs.Sound.{IsSound}
+use Rattle.ca_server_core.proofs.Stepped.{step-sound}
+
+abbrev Circuits : Type 0
+Circuits = Table ServerCircuit
+
+-- ---- a circuit that is changed twice
+
+set-set : {A : Type 0} (xs : List A) (i : ℕ) (x y : A) → slice_set (slice_set xs i x) i y ≡ slice_set xs i y
+set-set [] i x y = refl
+set-set (z ∷ xs) zero x y = refl
+set-set (z ∷ xs) (suc i) x y = ap (λ ys. z ∷ ys) (set-set xs i x y)
+
+changed-there : (t : Circuits) (h : Handle) (c d : ServerCircuit) → under t h ≡ Some c
+    → with_changed (λ (x : ServerCircuit). d) h t ≡ (let p : Place ServerCircuit = record { generation = h.generation; value = Some d } in slice_set t h.index p)
+changed-there t h c d is =
+    ap (λ (o : Option ServerCircuit). let p : Place ServerCircuit = record { generation = h.generation; value = option_map (λ (x : ServerCircuit). d) o } in cond (is_some o) (slice_set t h.index p) t) is
+
+changed-twice : (t : Circuits) (h : Handle) (c d u : ServerCircuit) → under t h ≡ Some c
+    → with_changed (λ (x : ServerCircuit). u) h (with_changed (λ (x : ServerCircuit). d) h t) ≡ with_changed (λ (x : ServerCircuit). u) h t
+changed-twice t h c d u is =
+    let p : Place ServerCircuit = record { generation = h.generation; value = Some d } in
+    let q : Place ServerCircuit = record { generation = h.generation; value = Some u } in
+    changed-there (with_changed (λ (x : ServerCircuit). d) h t) h d u (changed-own (λ (x : ServerCircuit). d) t h c is)
+    ∙ ap (λ (s : Circuits). slice_set s h.index q) (changed-there t h c d is)
+    ∙ set-set t h.index p q
+    ∙ sym (changed-there t h c u is)
+
+-- ---- a step that leaves nothing to do
+
+pub quiet-is : (did : Effect) → is_quiet did ≡ true → did ≡ effect.Quiet
+quiet-is effect.Quiet is = refl
+quiet-is (effect.Wrote place) is = absurd cc
+quiet-is (effect.Began place) is = absurd cc
+
+pub still-is : (did : Option EndStep) → is_still did ≡ true → did ≡ Some (step.Handled effect.Quiet)
+still-is None is = absurd cc
+still-is (Some (step.Handled did)) is = ap (λ (x : Effect). Some (step.Handled x)) (quiet-is did is)
+still-is (Some step.NeedBytes) is = absurd cc
+still-is (Some step.OutputFull) is = absurd cc
+still-is (Some (step.Breaks cause)) is = absurd cc
+
+-- a circuit that handled a message is sound
+pub stepped-sound : (port : ℕ) (s u : Store) (t : Circuits) (h : Handle) (c new : ServerCircuit) (did : Effect) → under t h ≡ Some c → CircuitSteps port h c s (Some (step.Handled did)) new u → IsSound (records_of s) t
+    → CircuitIsSound (records_of u) h new
+stepped-sound port s u t h c new did there steps sound = by new (changed-own (λ (x : ServerCircuit). new) t h c there)
+  where
+    after : IsSound (records_of u) (with_changed (λ (x : ServerCircuit). new) h t)
+    after = step-sound port s u t (with_changed (λ (x : ServerCircuit). new) h t) h did (inl (c, new, there, steps, refl)) sound
+
+    by : (x : ServerCircuit) → under (with_changed (λ (z : ServerCircuit). new) h t) h ≡ Some x → CircuitIsSound (records_of u) h x
+    by (Open e) at = after.ends h e at
+    by (Ended w left) at = tt
+
+-- it was changed twice
+pub steps-and-pumps : (port waiting : ℕ) (s v u : Store) (t after : Circuits) (h : Handle) (c mid new : ServerCircuit) → under t h ≡ Some c → CircuitSteps port h c s (Some (step.Handled effect.Quiet)) mid v → PumpsAt h mid v new u
+    → after ≡ with_changed (λ (x : ServerCircuit). new) h t → waiting ≡ length (output_of (Some new)) → StepsAndPumps port t h s waiting after u
+steps-and-pumps port waiting s v u t after h c mid new there steps pumps changed counts = (
+  with_changed (λ (x : ServerCircuit). mid) h t,
+  v,
+  inl (c, mid, there, steps, refl),
+  inl (mid, new, changed-own (λ (x : ServerCircuit). mid) t h c there, pumps, changed ∙ sym (changed-twice t h c mid new there)),
+  counts ∙ ap (λ (o : Option ServerCircuit). length (output_of o)) (sym found),
+)
+  where
+    found : under after h ≡ Some new
+    found = ap (λ (z : Circuits). under z h) changed ∙ changed-own (λ (x : ServerCircuit). new) t h c there
