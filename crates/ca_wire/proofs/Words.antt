@@ -1,6 +1,5 @@
 -- A message of one element in three numbers of eight bytes, and one without payload in two.
-use Rattle.std.proofs.Common.{◌≡◌, ℕ, zero, suc, ◌+◌, ◌*◌, ◌<◌, ◌≤◌, ◌^◌, List, [], ◌∷◌, ◌++◌, get_or, length, refl, sym, take, take_all, ap, ◌∙◌, append-nil, append_assoc, arith}
-use Rattle.std.proofs.Math.Seq.{take-append-add, take-append_seam}
+use Rattle.std.proofs.Common.{◌≡◌, ℕ, zero, suc, ◌+◌, ◌*◌, ◌<◌, ◌^◌, List, [], ◌∷◌, ◌++◌, get_or, length, refl, sym, ap, ◌∙◌, append-nil, append_assoc, arith}
 use Rattle.std.proofs.lemmas.Nat.{be_bytes_8, from_be_bytes-to_be_bytes_2, from_be_bytes-to_be_bytes_4}
 use Rattle.std.specs.Int.{to_be_bytes, w16, w32, w64}
 use Rattle.ca_text.specs.Command.{command_number}
@@ -47,11 +46,6 @@ second-half s i n sfits ifits e =
     be_bytes_8 (to_be_bytes w32 s ++ to_be_bytes w32 i) n refl
     (eight-bytes _ _ _ _ _ _ _ _ (omega arith) (omega arith) (omega arith) (omega arith) (omega arith) (omega arith) (omega arith) (omega arith))
     (omega (arith, e, from_be_bytes-to_be_bytes_4 s sfits, from_be_bytes-to_be_bytes_4 i ifits))
-
--- what is written over the end of a row
-pub over-end : (n s m : ℕ) (now old end new rest tail : List ℕ) → now ≡ take m old ++ end → length old ≤ m → s ≡ length old → n ≡ length old + length new → take n ((take s now ++ (new ++ rest)) ++ tail) ≡ old ++ new
-over-end n s m now old end new rest tail is few at many =
-    rw (is, take_all m old few, at, many, take-append_seam old end, append_assoc old (new ++ rest) tail, take-append-add old ((new ++ rest) ++ tail) (length new), append_assoc new rest tail, take-append_seam new (rest ++ tail)) refl
 
 regrouped : (a b c d e f p : List ℕ) → (a ++ (b ++ (c ++ d))) ++ ((e ++ f) ++ p) ≡ (a ++ (b ++ (c ++ (d ++ (e ++ f))))) ++ p
 regrouped a b c d e f p = simp append_assoc

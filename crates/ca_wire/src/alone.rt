@@ -1,4 +1,4 @@
-ghost use Rattle.std.specs.Prelude.{◌≡◌, ◌++◌, OnErr, OnOk, length};
+ghost use Rattle.std.specs.Prelude.{◌≡◌, ◌++◌, OnErr, OnOk};
 ghost use Rattle.std.specs.Int.{to_be_bytes, w64};
 ghost use Rattle.ca_text.specs.Command.{command_number};
 ghost use Rattle.ca_text.specs.Status.{normal};
@@ -26,15 +26,11 @@ pub(crate) fn spell_alone(said: Alone, out: &mut Vec<u8>) -> Result<(), AllocErr
     ensures ok { OnOk result (out.new.items ≡ out.old.items ++ spelling (alone said)) }
     ensures err { OnErr result (out.new.items ≡ out.old.items) }
 {
-    let start = out.len();
-    out.resize(start + 24, 0)?;
-    put_words(
+    out.extend_from_slice(&three_words(
         first_half(said.command, said.data_type),
         second_half(said.id),
         said.payload,
-        &mut out[start..],
-    );
-    Ok(())
+    ))
 }
 
 /// Command, size, type and count.
@@ -55,13 +51,17 @@ pub(crate) fn second_half(id: Ioid) -> u64
     u64::from(Status::NORMAL.number) * 0x1_0000_0000 + u64::from(id.number())
 }
 
-/// Writes three numbers over these bytes, the highest byte of each first.
+/// The bytes of three numbers, the highest byte of each first.
 #[inline(always)]
-fn put_words(first: u64, second: u64, third: u64, row: &mut [u8])
-    requires { length row.old ≡ 24 }
-    ensures { row.new ≡ to_be_bytes w64 first ++ (to_be_bytes w64 second ++ to_be_bytes w64 third) }
+fn three_words(first: u64, second: u64, third: u64) -> [u8; 24]
+    ensures { result ≡ to_be_bytes w64 first ++ (to_be_bytes w64 second ++ to_be_bytes w64 third) }
 {
-    row[..8].copy_from_slice(&first.to_be_bytes());
-    row[8..16].copy_from_slice(&second.to_be_bytes());
-    row[16..].copy_from_slice(&third.to_be_bytes());
+    let first = first.to_be_bytes();
+    let second = second.to_be_bytes();
+    let third = third.to_be_bytes();
+    [
+        first[0], first[1], first[2], first[3], first[4], first[5], first[6], first[7], second[0],
+        second[1], second[2], second[3], second[4], second[5], second[6], second[7], third[0],
+        third[1], third[2], third[3], third[4], third[5], third[6], third[7],
+    ]
 }

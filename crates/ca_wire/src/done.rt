@@ -1,4 +1,4 @@
-ghost use Rattle.std.specs.Prelude.{◌≡◌, ◌++◌, OnErr, OnOk, length};
+ghost use Rattle.std.specs.Prelude.{◌≡◌, ◌++◌, OnErr, OnOk};
 ghost use Rattle.std.specs.Int.{to_be_bytes, w64};
 ghost use Rattle.ca_text.specs.Command.{command_number};
 ghost use Rattle.ca_text.specs.declared.command.Command.TheVariants as command;
@@ -24,14 +24,7 @@ pub(crate) fn spell_done(said: Done, out: &mut Vec<u8>) -> Result<(), AllocError
     ensures ok { OnOk result (out.new.items ≡ out.old.items ++ spelling (done said)) }
     ensures err { OnErr result (out.new.items ≡ out.old.items) }
 {
-    let start = out.len();
-    out.resize(start + 16, 0)?;
-    put_words(
-        done_half(said.data_type),
-        second_half(said.id),
-        &mut out[start..],
-    );
-    Ok(())
+    out.extend_from_slice(&two_words(done_half(said.data_type), second_half(said.id)))
 }
 
 /// Command, size, type and count.
@@ -45,12 +38,15 @@ fn done_half(data_type: u16) -> u64
         + 1
 }
 
-/// Writes two numbers over these bytes, the highest byte of each first.
+/// The bytes of two numbers, the highest byte of each first.
 #[inline(always)]
-fn put_words(first: u64, second: u64, row: &mut [u8])
-    requires { length row.old ≡ 16 }
-    ensures { row.new ≡ to_be_bytes w64 first ++ to_be_bytes w64 second }
+fn two_words(first: u64, second: u64) -> [u8; 16]
+    ensures { result ≡ to_be_bytes w64 first ++ to_be_bytes w64 second }
 {
-    row[..8].copy_from_slice(&first.to_be_bytes());
-    row[8..].copy_from_slice(&second.to_be_bytes());
+    let first = first.to_be_bytes();
+    let second = second.to_be_bytes();
+    [
+        first[0], first[1], first[2], first[3], first[4], first[5], first[6], first[7], second[0],
+        second[1], second[2], second[3], second[4], second[5], second[6], second[7],
+    ]
 }

@@ -19,7 +19,7 @@ pub struct Header {
 }
 
 /// Sizes and counts from this one on take the extended form.
-const EXTENDED: u32 = 0xffff;
+pub(crate) const EXTENDED: u32 = 0xffff;
 
 /// Bytes that the header takes as it is written: 16 or 24.
 pub(crate) fn header_size(header: &Header) -> usize
@@ -41,25 +41,9 @@ pub fn spell_header(header: &Header, out: &mut Vec<u8>) -> Result<(), AllocError
     ensures capacity { vec_capacity out.old ≤ vec_capacity out.new }
 {
     if header.size < EXTENDED && header.count < EXTENDED {
-        return put_short(header, out);
+        return out.extend_from_slice(&short_form(header));
     }
     out.extend_from_slice(&extended_form(header))
-}
-
-/// Puts the header in 16 bytes at the end.
-#[inline(always)]
-fn put_short(header: &Header, out: &mut Vec<u8>) -> Result<(), AllocError>
-    requires size { header.now.size < 65536 }
-    requires count { header.now.count < 65536 }
-    ensures ok { OnOk result (out.new.items ≡ out.old.items ++ short_header header.now) }
-    ensures err { OnErr result (out.new.items ≡ out.old.items) }
-    ensures room { OnErr result (vec_capacity out.old < vec_len out.old + 16) }
-    ensures capacity { vec_capacity out.old ≤ vec_capacity out.new }
-{
-    let start = out.len();
-    out.resize(start + 16, 0)?;
-    out[start..].copy_from_slice(&short_form(header));
-    Ok(())
 }
 
 /// The header in 16 bytes, also at a size or count of 65,535, with which `spell_header` never writes it so.

@@ -5,7 +5,7 @@ ghost use Rattle.ca_wire.specs.Fields.{Fields, IsPayload, padded};
 ghost use Rattle.ca_wire.specs.Front.{FrontFits};
 ghost use Rattle.ca_wire.specs.Message.{IsMade, IsMessage, header_of, spelling};
 
-use crate::header::{Header, header_size, spell_header};
+use crate::header::{EXTENDED, Header, header_size, short_form, spell_header};
 use crate::reading::{One, read_one};
 use ca_text::{Command, PAYLOAD_LIMIT, Refusal};
 use std::alloc::{AllocError, Global};
@@ -262,8 +262,9 @@ pub fn spell(message: &Message, out: &mut Vec<u8>) -> Result<(), AllocError>
     ensures capacity { vec_capacity out.old ≤ vec_capacity out.new }
 {
     let header = message.header();
-    if header.size == 0 {
-        return spell_header(&header, out);
+    // Where there is room a header alone is written without a call.
+    if header.size == 0 && header.count < EXTENDED && out.capacity() - out.len() >= 16 {
+        return out.extend_from_slice(&short_form(&header));
     }
     spell_all(message, out)
 }

@@ -1,9 +1,8 @@
-use Rattle.std.proofs.Common.{rules, List, ℕ, ◌+◌, ◌++◌, ap, ◌∙◌}
-use Rattle.ca_wire.proofs.Words.{over-end, two-words}
+use Rattle.std.proofs.Common.{◌∙◌}
+use Rattle.ca_wire.proofs.Appends.{appended}
+use Rattle.ca_wire.proofs.Words.{two-words}
 use Rattle.ca_wire.proofs.done.spell_done.Goals as goal
 
 pub returns-clause-ok : goal.returns-clause-ok
 returns-clause-ok c =
-    let start = c.len-start.result in
-    over-end _ start (start + 16) c.deref_mut.result.now c.args.out.now.items _ c.put_words.new.row _ _ (c.deref_mut.ensures.value ∙ c.in_ok-resize.ensures.items) (search rules) (search rules) (search rules)
-    ∙ ap (λ (t : List ℕ). c.args.out.now.items ++ t) (c.put_words.ensures ∙ two-words c.args.said _ _ c.done_half.ensures c.second_half.ensures)
+    appended c.extend_from_slice.result _ _ _ _ c.extend_from_slice.ensures.items (c.two_words.ensures ∙ two-words c.args.said _ _ c.done_half.ensures c.second_half.ensures)

@@ -1,12 +1,11 @@
-use Rattle.std.proofs.Common.{◌≡◌, ◌++◌, List, ℕ, OnOk, ap, length, subst}
-use Rattle.ca_wire.proofs.Appends.{lacked}
+use Rattle.std.proofs.Common.{◌∙◌, sym, arith}
+use Rattle.ca_wire.proofs.Appends.{appended}
+use Rattle.ca_wire.proofs.Headers.{spelling-short}
 use Rattle.ca_wire.proofs.Messages.{spelling-bare}
 use Rattle.ca_wire.proofs.message.spell.Goals as goal
 
-pub returns-then-header-eq0-clause-ok : goal.returns-then-header-eq0-clause-ok
-returns-then-header-eq0-clause-ok c =
-    subst (λ (t : List ℕ). OnOk c.spell_header.result (c.spell_header.new.out.items ≡ c.args.out.now.items ++ t)) (spelling-bare c.args.message.now c.header-header.result c.header-header.ensures.header c.if-header-eq0.true) c.spell_header.ensures.ok
-
-pub returns-then-header-eq0-clause-room : goal.returns-then-header-eq0-clause-room
-returns-then-header-eq0-clause-room c =
-    lacked c.spell_header.result _ _ _ _ c.spell_header.ensures.room (ap length (spelling-bare c.args.message.now c.header-header.result c.header-header.ensures.header c.if-header-eq0.true))
+pub returns-then-capacity-len-ge16-clause-ok : goal.returns-then-capacity-len-ge16-clause-ok
+returns-then-capacity-len-ge16-clause-ok c =
+    let h = c.header-header.result in
+    appended c.extend_from_slice.result _ _ _ _ c.extend_from_slice.ensures.items
+    (c.short_form.ensures ∙ sym (spelling-short h (omega (arith, c.if-header-eq0.true)) (omega (arith, c.if-header-lt-EXTENDED.true))) ∙ spelling-bare c.args.message.now h c.header-header.ensures.header c.if-header-eq0.true)
