@@ -175,8 +175,9 @@ impl Engine {
         Ok(())
     }
 
-    // Hands what waited to the sink, of what an end has left. What it left after that belongs to a message that was not answered whole.
-    #[inline(never)]
+    // Hands what waited to the sink, of what an end has left. What it left after that belongs to a message that was not answered whole. In line, since
+    // for a call each step would be put into memory, where it is large.
+    #[inline(always)]
     fn hand_left<K: Sink>(&self, left: &Pipe, sink: &mut K, turns: &mut u64) -> Result<(), Refusal>
         requires within { turns.old ≤ engine_turns }
         requires calls { K.call_count sink.old < 2 ^ 63 + turns.old }
@@ -219,6 +220,7 @@ fn first(bytes: &[u8], n: usize) -> &[u8]
 }
 
 // Hands bytes to the sink in one call, or makes none where there are none.
+#[inline(never)]
 fn hand<K: Sink>(sink: &mut K, turns: &mut u64, bytes: &[u8]) -> Result<(), Refusal>
     requires within { turns.old ≤ engine_turns }
     requires calls { K.call_count sink.old < 2 ^ 63 + turns.old }
