@@ -4,8 +4,9 @@ use Rattle.std.specs.declared.alloc.AllocError.{AllocError}
 use Rattle.ca_arena.specs.declared.handle.Handle.{Handle}
 use Rattle.ca_ids.specs.Table.{Table, under, with_changed}
 use Rattle.ca_records.specs.Store.{Store}
-use Rattle.ca_model.specs.Server.{Server, ServerCircuit}
-use Rattle.ca_model.specs.ServerSteps.{Pumps, Sends, Update, output_of}
+use Rattle.ca_model.specs.Server.{Server, ServerCircuit, ServerEnd}
+use Rattle.ca_model.specs.Server as server
+use Rattle.ca_model.specs.ServerSteps.{Pumps, Rests, Sends, Update, output_of}
 use Rattle.ca_server_core.specs.Circuits.{SendsIn}
 use Rattle.ca_server_circuit.specs.declared.step.Effect.TheVariants as effect
 use Rattle.ca_server_circuit.specs.declared.step.EndStep.TheVariants as step
@@ -18,11 +19,14 @@ PumpsIn t h s after u =
     ((c : ServerCircuit) × (new : ServerCircuit) × (under t h ≡ Some c) × PumpsAt h c s new u × (after ≡ with_changed (λ (x : ServerCircuit). new) h t))
     ⊎ ((under t h ≡ None) × (after ≡ t) × (u ≡ s))
 
--- The same after a step that leaves nothing to do, and so many bytes wait on the circuit then.
-abbrev pub StepsAndPumps : (port : ℕ) → Table ServerCircuit → Handle → Store → (waiting : ℕ) → Table ServerCircuit → Store → Type 0
-StepsAndPumps port t h s waiting after u =
+-- the same after a step that leaves nothing to do
+abbrev pub StepsAndPumps : (port : ℕ) → Table ServerCircuit → Handle → Store → Table ServerCircuit → Store → Type 0
+StepsAndPumps port t h s after u =
     (mid : Table ServerCircuit) × (v : Store) × StepsIn port t h s (Some (step.Handled effect.Quiet)) mid v × PumpsIn mid h v after u
-    × (waiting ≡ length (output_of (under after h)))
+
+-- a pump of the circuit of a handle does nothing
+abbrev pub IsIdleIn : Table ServerCircuit → Handle → Type 0
+IsIdleIn t h = (e : ServerEnd) → under t h ≡ Some (server.Open e) → Rests e
 
 -- What waits on the circuit of a handle was put after these bytes; or memory lacks for it, and all is as it was.
 abbrev pub HandsIn : Table ServerCircuit → Handle → (bytes : List ℕ) → Result (Unit {0}) AllocError → Table ServerCircuit → (now : List ℕ) → Type 0
