@@ -1,7 +1,7 @@
-ghost use Rattle.std.specs.Prelude.{◌≡◌, ◌≢◌, ◌≤◌, [], IfOk, OnErr, Some, length, option_map};
-ghost use Rattle.ca_model.specs.Server.{new_end};
+ghost use Rattle.std.specs.Prelude.{◌≡◌, ◌≢◌, ◌≤◌, [], IfOk, OnErr, Some, length, option_map, true};
+ghost use Rattle.ca_model.specs.Server.{ServerEnd, new_end};
 ghost use Rattle.ca_model.specs.Server as server;
-ghost use Rattle.ca_model.specs.ServerSteps.{output_of};
+ghost use Rattle.ca_model.specs.ServerSteps.{Rests, output_of};
 ghost use Rattle.ca_records.specs.Store.{IsThere, records_of};
 ghost use Rattle.ca_server_circuit.specs.Circuits.{CircuitIsSound, GivesAt, IsLive, SendsAt, circuit_of, is_open};
 ghost use Rattle.ca_server_circuit.specs.Clearing.{ArePuts};
@@ -188,6 +188,16 @@ impl Circuit {
                 Err(_) => self.close(circuit, Cause::OutOfMemory, records),
             },
             State::Ended(_, _) => {}
+        }
+    }
+
+    /// Tells if no update waits on its end and events are on: then a pump does nothing.
+    pub fn is_idle(&self) -> bool
+        ensures { result ≡ true → (e : ServerEnd) → self.now ≡ server.Open e → Rests e }
+    {
+        match &self.state {
+            State::Open(end) => end.subscriptions.is_idle(),
+            State::Ended(_, _) => true,
         }
     }
 

@@ -1,12 +1,13 @@
--- A step that leaves nothing to do, and then a pump, by one look-up of the circuit.
-use Rattle.std.proofs.Common.{◌≡◌, ℕ, zero, suc, inl, true, cond, length, List, [], ◌∷◌, Option, Some, None, is_some, slice_set, refl, sym, ap, ◌∙◌}
+-- A message and its pump by one look-up of the circuit.
+use Rattle.std.proofs.Common.{◌≡◌, ℕ, zero, suc, inl, inr, true, cond, length, List, [], ◌∷◌, Option, Some, None, is_some, slice_set, refl, sym, ap, ◌∙◌}
 use Rattle.std.specs.Prelude.{option_map}
 use Rattle.ca_arena.specs.declared.handle.Handle.{Handle}
 use Rattle.ca_arena.specs.Arena.{Place}
 use Rattle.ca_ids.specs.Table.{Table, under, with_changed}
 use Rattle.ca_records.specs.Store.{Store, records_of}
-use Rattle.ca_model.specs.Server.{Ended, Open, ServerCircuit}
-use Rattle.ca_model.specs.ServerSteps.{output_of}
+use Rattle.ca_text.proofs.Places.{some_is}
+use Rattle.ca_model.specs.Server.{Ended, Open, ServerCircuit, ServerEnd}
+use Rattle.ca_model.specs.ServerSteps.{Rests, output_of}
 use Rattle.ca_server_circuit.specs.declared.step.Effect.{Effect}
 use Rattle.ca_server_circuit.specs.declared.step.Effect.TheVariants as effect
 use Rattle.ca_server_circuit.specs.declared.step.EndStep.{EndStep}
@@ -15,9 +16,10 @@ use Rattle.ca_server_circuit.specs.Circuits.{CircuitIsSound}
 use Rattle.ca_server_circuit.specs.Pumping.{PumpsAt}
 use Rattle.ca_server_circuit.specs.Serving.{CircuitSteps}
 use Rattle.ca_server_circuit.proofs.Tables.{changed-own}
-use Rattle.ca_server_core.specs.Pumping.{StepsAndPumps}
+use Rattle.ca_server_core.specs.Pumping.{IsIdleIn, PumpsIn, StepsAndPumps}
 use Rattle.ca_server_core.specs.Serving.{is_quiet, is_still}
 use Rattle.ca_server_core.specs.Sound.{IsSound}
+use Rattle.ca_server_core.proofs.Moves.{changed-nothing}
 use Rattle.ca_server_core.proofs.Stepped.{step-sound}
 
 abbrev Circuits : Type 0
@@ -72,15 +74,29 @@ stepped-sound port s u t h c new did there steps sound = by new (changed-own (λ
     by (Ended w left) at = tt
 
 -- it was changed twice
-pub steps-and-pumps : (port waiting : ℕ) (s v u : Store) (t after : Circuits) (h : Handle) (c mid new : ServerCircuit) → under t h ≡ Some c → CircuitSteps port h c s (Some (step.Handled effect.Quiet)) mid v → PumpsAt h mid v new u
-    → after ≡ with_changed (λ (x : ServerCircuit). new) h t → waiting ≡ length (output_of (Some new)) → StepsAndPumps port t h s waiting after u
-steps-and-pumps port waiting s v u t after h c mid new there steps pumps changed counts = (
+pub steps-and-pumps : (port : ℕ) (s v u : Store) (t : Circuits) (h : Handle) (c mid new : ServerCircuit) → under t h ≡ Some c → CircuitSteps port h c s (Some (step.Handled effect.Quiet)) mid v → PumpsAt h mid v new u
+    → StepsAndPumps port t h s (with_changed (λ (x : ServerCircuit). new) h t) u
+steps-and-pumps port s v u t h c mid new there steps pumps = (
   with_changed (λ (x : ServerCircuit). mid) h t,
   v,
   inl (c, mid, there, steps, refl),
-  inl (mid, new, changed-own (λ (x : ServerCircuit). mid) t h c there, pumps, changed ∙ sym (changed-twice t h c mid new there)),
-  counts ∙ ap (λ (o : Option ServerCircuit). length (output_of o)) (sym found),
+  inl (mid, new, changed-own (λ (x : ServerCircuit). mid) t h c there, pumps, sym (changed-twice t h c mid new there)),
 )
+
+-- so many bytes wait on the circuit that was changed
+pub counted : (n : ℕ) (t : Circuits) (h : Handle) (c new : ServerCircuit) → under t h ≡ Some c → n ≡ length (output_of (Some new)) → n ≡ length (output_of (under (with_changed (λ (x : ServerCircuit). new) h t) h))
+counted n t h c new there counts = counts ∙ ap (λ (o : Option ServerCircuit). length (output_of o)) (sym (changed-own (λ (x : ServerCircuit). new) t h c there))
+
+-- ---- an end that is idle
+
+pub idle-changed : (t : Circuits) (h : Handle) (c new : ServerCircuit) → under t h ≡ Some c → ((e : ServerEnd) → new ≡ Open e → Rests e) → IsIdleIn (with_changed (λ (x : ServerCircuit). new) h t) h
+idle-changed t h c new there rests e at = rests e (some_is new (Open e) (sym (changed-own (λ (x : ServerCircuit). new) t h c there) ∙ at))
+
+-- a pump does nothing
+pub idle-pumps : (s : Store) (t : Circuits) (h : Handle) → IsSound (records_of s) t → IsIdleIn t h → PumpsIn t h s t s
+idle-pumps s t h sound idle = by (under t h) refl
   where
-    found : under after h ≡ Some new
-    found = ap (λ (z : Circuits). under z h) changed ∙ changed-own (λ (x : ServerCircuit). new) t h c there
+    by : (o : Option ServerCircuit) → under t h ≡ o → PumpsIn t h s t s
+    by None none = inr (none, refl, refl)
+    by (Some (Open e)) at = inl (Open e, Open e, at, ([], e, refl, inl (idle e at, refl, (sound.ends h e at).room, refl)), sym (changed-nothing t h (Open e) at))
+    by (Some (Ended w left)) at = inl (Ended w left, Ended w left, at, (refl, refl), sym (changed-nothing t h (Ended w left) at))

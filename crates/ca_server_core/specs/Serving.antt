@@ -30,6 +30,11 @@ abbrev pub is_quiet : Effect → Bool
 is_quiet effect.Quiet = true
 is_quiet did = false
 
+-- whether a step handled a message
+abbrev pub is_handled : Option EndStep → Bool
+is_handled (Some (step.Handled did)) = true
+is_handled did = false
+
 -- whether a step handled a message that leaves nothing to do
 abbrev pub is_still : Option EndStep → Bool
 is_still (Some (step.Handled did)) = is_quiet did

@@ -2,8 +2,8 @@ ghost use Rattle.std.specs.Prelude.{◌≡◌, false, length, true};
 ghost use Rattle.ca_ids.specs.Table.{under};
 ghost use Rattle.ca_model.specs.ServerSteps.{output_of};
 ghost use Rattle.ca_records.specs.Store.{records_of};
-ghost use Rattle.ca_server_core.specs.Pumping.{PumpsIn, StepsAndPumps};
-ghost use Rattle.ca_server_core.specs.Serving.{StepsIn, is_still};
+ghost use Rattle.ca_server_core.specs.Pumping.{IsIdleIn, PumpsIn, StepsAndPumps};
+ghost use Rattle.ca_server_core.specs.Serving.{StepsIn, is_handled, is_still};
 ghost use Rattle.ca_server_core.specs.Sound.{IsSound};
 
 use crate::stepping::is_quiet;
@@ -12,8 +12,8 @@ use ca_ids::HeldTable;
 use ca_records::ServedRecords;
 use ca_server_circuit::{Circuit, EndStep};
 
-/// One step of a circuit's end, as `step_on`. If nothing is left to do then, its end is pumped, and so many bytes wait on it: so a read
-/// takes one look-up of its circuit.
+/// One step of a circuit's end, as `step_on`. If nothing is left to do then, its end is pumped: so a read takes one look-up of its circuit.
+/// Else it says whether the end is idle. So many bytes wait on it in the end.
 #[inline(always)]
 pub(crate) fn step_counting_on(
     port: u16,
@@ -21,27 +21,40 @@ pub(crate) fn step_counting_on(
     records: &mut ServedRecords,
     circuit: Handle,
     waited: &mut usize,
-    waiting: &mut usize,
+    left: &mut usize,
+    idle: &mut bool,
 ) -> Option<EndStep>
     requires { IsSound (records_of records.old) circuits.old }
     ensures pumps { is_still result ≡ true
-        → StepsAndPumps port circuits.old circuit records.old waiting.new circuits.new records.new }
+        → StepsAndPumps port circuits.old circuit records.old circuits.new records.new }
     ensures steps { is_still result ≡ false
         → StepsIn port circuits.old circuit records.old result circuits.new records.new }
-    ensures stays { is_still result ≡ false → waiting.new ≡ waiting.old }
     ensures waited { waited.new ≡ length (output_of (under circuits.old circuit)) }
+    ensures left { is_handled result ≡ true
+        → left.new ≡ length (output_of (under circuits.new circuit)) }
+    ensures idle { idle.new ≡ true → IsIdleIn circuits.new circuit }
 {
     let Some(found) = circuits.by_handle_mut(circuit) else {
         *waited = 0;
+        *left = 0;
+        *idle = false;
         return None;
     };
     *waited = found.out_bytes().len();
     let did = found.step(port, circuit, records);
-    if !is_still(did) {
+    if is_still(did) {
+        found.pump(circuit, records);
+        *left = found.out_bytes().len();
+        *idle = false;
         return did;
     }
-    found.pump(circuit, records);
-    *waiting = found.out_bytes().len();
+    if !is_handled(did) {
+        *left = 0;
+        *idle = false;
+        return did;
+    }
+    *left = found.out_bytes().len();
+    *idle = found.is_idle();
     did
 }
 
@@ -56,8 +69,41 @@ fn is_still(did: Option<EndStep>) -> bool
     }
 }
 
+/// Whether a step handled a message.
+#[inline(always)]
+fn is_handled(did: Option<EndStep>) -> bool
+    ensures { result ≡ is_handled did }
+{
+    match did {
+        Some(EndStep::Handled(_)) => true,
+        _ => false,
+    }
+}
+
+/// Pumps the end of a circuit, if it is open, and counts what waits on it. If it is known to be idle, so many bytes wait, and it is not
+/// looked up.
+#[inline(always)]
+pub(crate) fn pump_unless_idle(
+    circuits: &mut HeldTable<Circuit>,
+    records: &mut ServedRecords,
+    circuit: Handle,
+    idle: bool,
+    waiting: usize,
+) -> usize
+    requires sound { IsSound (records_of records.old) circuits.old }
+    requires rests { idle ≡ true → IsIdleIn circuits.old circuit }
+    requires counted { idle ≡ true → waiting ≡ length (output_of (under circuits.old circuit)) }
+    ensures pumps { PumpsIn circuits.old circuit records.old circuits.new records.new }
+    ensures counts { result ≡ length (output_of (under circuits.new circuit)) }
+{
+    if idle {
+        return waiting;
+    }
+    pump_counting_on(circuits, records, circuit)
+}
+
 /// Pumps the end of a circuit, if it is open, and counts what waits on it.
-pub(crate) fn pump_counting_on(
+fn pump_counting_on(
     circuits: &mut HeldTable<Circuit>,
     records: &mut ServedRecords,
     circuit: Handle,

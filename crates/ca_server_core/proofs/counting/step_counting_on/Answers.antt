@@ -2,18 +2,21 @@ use Rattle.std.proofs.Common.{◌∙◌, ℕ, List, length, Option, refl, sym, a
 use Rattle.ca_server_circuit.specs.declared.step.Effect.TheVariants.{Quiet}
 use Rattle.ca_server_circuit.specs.declared.step.EndStep.{EndStep}
 use Rattle.ca_server_circuit.specs.Serving.{CircuitSteps}
-use Rattle.ca_server_core.proofs.Served.{stepped-sound, steps-and-pumps, still-is}
+use Rattle.ca_server_core.proofs.Served.{idle-changed, stepped-sound, steps-and-pumps, still-is}
 use Rattle.ca_server_core.proofs.counting.step_counting_on.Goals as goal
 
 pub pump-requires : goal.pump-requires
 pump-requires c =
     let s = c.step-did in
-    let quiet = still-is s.result (sym c.is_still.ensures ∙ c.if-not-is_still.false) in
+    let quiet = still-is s.result (sym c.is_still.ensures ∙ c.if-is_still.true) in
     let steps = subst (λ (d : Option EndStep). CircuitSteps c.args.port c.args.circuit c.in-Some.found.now c.args.records.now d s.new.self s.new.records) quiet s.ensures in
     stepped-sound c.args.port c.args.records.now s.new.records c.args.circuits.now c.args.circuit c.in-Some.found.now s.new.self Quiet (sym c.in-Some.ensures.value) steps c.requires
 
-pub returns-clause-pumps : goal.returns-clause-pumps
-returns-clause-pumps c = λ still.
+pub returns-then-is_still-clause-pumps : goal.returns-then-is_still-clause-pumps
+returns-then-is_still-clause-pumps c = λ still.
     let s = c.step-did in
     let steps = subst (λ (d : Option EndStep). CircuitSteps c.args.port c.args.circuit c.in-Some.found.now c.args.records.now d s.new.self s.new.records) (still-is s.result still) s.ensures in
-    steps-and-pumps c.args.port _ c.args.records.now s.new.records c.pump.new.records c.args.circuits.now _ c.args.circuit c.in-Some.found.now s.new.self c.pump.new.self (sym c.in-Some.ensures.value) steps c.pump.ensures refl (ap (λ (bytes : List ℕ). length bytes) c.out_bytes-2.ensures)
+    steps-and-pumps c.args.port c.args.records.now s.new.records c.pump.new.records c.args.circuits.now c.args.circuit c.in-Some.found.now s.new.self c.pump.new.self (sym c.in-Some.ensures.value) steps c.pump.ensures
+
+pub returns-clause-idle : goal.returns-clause-idle
+returns-clause-idle c = λ yes. idle-changed c.args.circuits.now c.args.circuit c.in-Some.found.now c.step-did.new.self (sym c.in-Some.ensures.value) (c.is_idle.ensures yes)

@@ -2,21 +2,45 @@ use Rattle.std.proofs.Common.{◌∙◌, false, length, refl, sym, ap, subst}
 use Rattle.ca_ids.specs.Table.{Table, under}
 use Rattle.ca_model.specs.Server.{Server, ServerCircuit}
 use Rattle.ca_model.specs.ServerSteps.{output_of}
-use Rattle.ca_records.specs.Store.{records_of}
+use Rattle.ca_records.specs.Store.{Store, records_of}
 use Rattle.ca_server_core.proofs.Covered.{covers-thinned}
 use Rattle.ca_server_core.proofs.Followed.{broke-thins, made-followed, made-followed-by, none-thins, settled-sound, settled-thins, step-covers}
 use Rattle.ca_server_core.proofs.Listed.{listed-broke, listed-none, listed-pumped, listed-step}
 use Rattle.ca_server_core.proofs.Noted.{broke-closes, leads-after, none-closes, not-handled, noting-none, open-settles, viewed-quiet, viewed-served}
 use Rattle.ca_server_core.proofs.Pumped.{pumps-at, sound-pumped}
 use Rattle.ca_server_core.proofs.Servers.{server_of}
-use Rattle.ca_server_core.proofs.Stepped.{broke-sound, handled-settles, made-broke, made-none, none-sound, step-sound}
+use Rattle.ca_server_core.proofs.Stepped.{broke-sound, full-same, handled-settles, idle-same, made-broke, made-none, none-sound, step-sound, still-sound}
 use Rattle.ca_server_core.proofs.Thinned.{thins-pumped}
 use Rattle.ca_server_circuit.specs.declared.step.Effect.TheVariants.{Quiet}
+use Rattle.ca_server_core.specs.Covering.{AreListed, Covers}
 use Rattle.ca_server_core.specs.Following.{Settles}
+use Rattle.ca_server_core.specs.Pumping.{IsIdleIn}
 use Rattle.ca_server_core.specs.Serving.{stepped}
 use Rattle.ca_server_core.specs.declared.stepping.Step.TheVariants as own
 use Rattle.ca_server_core.proofs.server.ServerCore.serve_and_pump.Goals.{else-may_have_ended-via-then-may_have_ended+else-not-is_open, else-may_have_ended-via-else-may_have_ended}
 use Rattle.ca_server_core.proofs.server.ServerCore.serve_and_pump.Goals as goal
+
+pub invariant_of-self : goal.invariant_of-self
+invariant_of-self c =
+    let i = c.self.inside in
+    let u = c.step_counting_on.new in
+    let same = idle-same i.port i.records u.records i.circuits u.circuits c.args.circuit ((rw c.in-Some-NeedBytes.field-0-is at c.in-Some-NeedBytes.ensures.steps) refl) in
+    record {
+      sound = still-sound i.records u.records i.circuits u.circuits same c.self.invariant.sound;
+      covered = subst (λ (t : Table ServerCircuit). Covers i.watchers t) (sym same.1) c.self.invariant.covered;
+      listed = subst (λ (s : Store). AreListed (records_of s) i.watchers) (sym same.0) c.self.invariant.listed;
+    }
+
+pub invariant_of-self-in-Some-OutputFull : goal.invariant_of-self-in-Some-OutputFull
+invariant_of-self-in-Some-OutputFull c =
+    let i = c.self.inside in
+    let u = c.step_counting_on.new in
+    let same = full-same i.port i.records u.records i.circuits u.circuits c.args.circuit ((rw c.in-Some-OutputFull.field-0-is at c.in-Some-OutputFull.ensures.steps) refl) in
+    record {
+      sound = still-sound i.records u.records i.circuits u.circuits same c.self.invariant.sound;
+      covered = subst (λ (t : Table ServerCircuit). Covers i.watchers t) (sym same.1) c.self.invariant.covered;
+      listed = subst (λ (s : Store). AreListed (records_of s) i.watchers) (sym same.0) c.self.invariant.listed;
+    }
 
 pub invariant_of-self-then-is_quiet : goal.invariant_of-self-then-is_quiet
 invariant_of-self-then-is_quiet c =
@@ -40,7 +64,7 @@ returns-then-is_quiet-clause-serves c =
       server_of i.port did.1 i.moment did.0 i.beacons i.applied,
       viewed-quiet c.args.self.now i.port i.moment i.applied i.applied i.beacons i.records did.1 i.circuits did.0 c.args.circuit c.self.view_is did.2
           (made-followed-by c.args.self.now i.port i.moment i.applied i.applied _ i.beacons i.records did.1 did.1 i.circuits did.0 did.0 did.0 c.args.circuit Quiet false own.Handled c.self.view_is refl refl long did.2 (refl, refl) sound settles),
-      (pumps-at (server_of i.port did.1 i.moment did.0 i.beacons i.applied) i.port i.moment i.applied i.beacons did.1 u.records did.0 u.circuits c.args.circuit refl did.3, did.4),
+      (pumps-at (server_of i.port did.1 i.moment did.0 i.beacons i.applied) i.port i.moment i.applied i.beacons did.1 u.records did.0 u.circuits c.args.circuit refl did.3, (rw c.in-Some-Handled.field-0-is at c.in-Some-Handled.ensures.left) refl),
     )
 
 pub follow-may_have_ended-requires-clause-sound : goal.follow-may_have_ended-requires-clause-sound
@@ -61,8 +85,8 @@ follow-may_have_ended-requires-clause-listed c =
     let did = (rw c.in-Some-Handled.field-0-is at c.in-Some-Handled.ensures.steps) (sym c.is_quiet.ensures ∙ c.if-is_quiet.false) in
     listed-step i.port i.records c.step_counting_on.new.records i.circuits c.step_counting_on.new.circuits c.args.circuit c.in-Some-Handled.effect i.watchers did c.self.invariant.listed
 
-pub finish_busy-requires-clause-leads : goal.finish_busy-requires-clause-leads
-finish_busy-requires-clause-leads c =
+pub finish_busy-finished-requires-clause-leads : goal.finish_busy-finished-requires-clause-leads
+finish_busy-finished-requires-clause-leads c =
     leads-after c.in-Some-Handled.effect c.args.circuit c.step_counting_on.new.circuits c.follow-may_have_ended.new.circuits c.step_counting_on.new.records c.follow-may_have_ended.new.records c.follow-may_have_ended.ensures.follows
 
 pub invariant_of-self-then-not-is_open : goal.invariant_of-self-then-not-is_open
@@ -101,7 +125,7 @@ returns-then-not-is_open-clause-serves c =
     let f = c.follow-may_have_ended.new in
     let long = c.in-Some-Handled.ensures.waited ∙ ap (λ (z : Server). length (output_of (under z.circuits c.args.circuit))) c.self.view_is in
     let made = made-followed c.args.self.now i.port i.moment i.applied c.more_applied-self-inside.result _ i.beacons i.records c.step_counting_on.new.records f.records i.circuits c.step_counting_on.new.circuits f.circuits c.over.new.circuits c.args.circuit c.in-Some-Handled.effect c.is_write.result c.over.result c.self.view_is c.is_write.ensures c.more_applied-self-inside.ensures long did c.follow-may_have_ended.ensures.follows c.follow-may_have_ended.ensures.sound c.over.ensures.settles in
-    noting-none c.args.self.now c.args.circuit (stepped c.over.result) c.step_counting_on.new.waiting (server_of i.port f.records i.moment c.over.new.circuits i.beacons c.more_applied-self-inside.result)
+    noting-none c.args.self.now c.args.circuit (stepped c.over.result) c.args.waiting.now (server_of i.port f.records i.moment c.over.new.circuits i.beacons c.more_applied-self-inside.result)
     (not-handled (stepped c.over.result) c.over.ensures.closed) made
 
 pub returns-clause-serves : goal.returns-clause-serves
@@ -118,17 +142,29 @@ returns-clause-serves c =
           (handled-settles i.port i.records c.step_counting_on.new.records i.circuits c.step_counting_on.new.circuits c.args.circuit c.in-Some-Handled.effect waited did)
     ] in
     let made = made-followed-by c.args.self.now i.port i.moment i.applied c.more_applied-self-inside.result _ i.beacons i.records c.step_counting_on.new.records f.records i.circuits c.step_counting_on.new.circuits f.circuits f.circuits c.args.circuit c.in-Some-Handled.effect c.is_write.result own.Handled c.self.view_is c.is_write.ensures c.more_applied-self-inside.ensures long did c.follow-may_have_ended.ensures.follows c.follow-may_have_ended.ensures.sound settles in
-    let fin = c.finish_busy in
-    let pumped = c.pump_counting_on in (
+    let fin = c.finish_busy-finished in
+    let pumped = c.pump_unless_idle in (
       server_of i.port fin.new.records i.moment fin.new.circuits i.beacons fin.new.applied,
       viewed-served c.args.self.now i.port i.moment i.applied c.more_applied-self-inside.result fin.new.applied i.beacons i.records c.step_counting_on.new.records f.records fin.new.records i.circuits c.step_counting_on.new.circuits f.circuits f.circuits fin.new.circuits c.args.circuit c.in-Some-Handled.effect c.self.view_is did c.follow-may_have_ended.ensures.follows made fin.ensures.tries,
       (pumps-at _ i.port i.moment fin.new.applied i.beacons fin.new.records pumped.new.records fin.new.circuits pumped.new.circuits c.args.circuit refl pumped.ensures.pumps, pumped.ensures.counts),
     )
 
+pub pump_unless_idle-requires-clause-rests : goal.pump_unless_idle-requires-clause-rests
+pump_unless_idle-requires-clause-rests c = λ yes.
+    let all = c.is_idle_still.ensures yes in
+    let same = c.finish_busy-finished.ensures.none all.2 ∙ c.follow-may_have_ended.ensures.none all.1 in
+    subst (λ (t : Table ServerCircuit). IsIdleIn t c.args.circuit) (sym same) (c.in-Some-Handled.ensures.idle all.0)
+
+pub pump_unless_idle-requires-clause-counted : goal.pump_unless_idle-requires-clause-counted
+pump_unless_idle-requires-clause-counted c = λ yes.
+    let all = c.is_idle_still.ensures yes in
+    let same = c.finish_busy-finished.ensures.none all.2 ∙ c.follow-may_have_ended.ensures.none all.1 in
+    (rw c.in-Some-Handled.field-0-is at c.in-Some-Handled.ensures.left) refl ∙ ap (λ (t : Table ServerCircuit). length (output_of (under t c.args.circuit))) (sym same)
+
 pub invariant_of-self-2 : goal.invariant_of-self-2
 invariant_of-self-2 c =
-    let fin = c.finish_busy in
-    let pumped = c.pump_counting_on in
+    let fin = c.finish_busy-finished in
+    let pumped = c.pump_unless_idle in
     record {
       sound = sound-pumped fin.new.records pumped.new.records fin.new.circuits pumped.new.circuits c.args.circuit pumped.ensures.pumps fin.ensures.sound;
       covered = covers-thinned fin.new.watchers fin.new.circuits pumped.new.circuits (thins-pumped fin.new.records pumped.new.records fin.new.circuits pumped.new.circuits c.args.circuit pumped.ensures.pumps) fin.ensures.covered;
@@ -139,13 +175,13 @@ pub returns-in-Some-Breaks-clause-serves : goal.returns-in-Some-Breaks-clause-se
 returns-in-Some-Breaks-clause-serves c =
     let i = c.self.inside in
     let did = (rw c.in-Some-Breaks.field-0-is at c.in-Some-Breaks.ensures.steps) refl in
-    noting-none c.args.self.now c.args.circuit (stepped c.report.result) c.step_counting_on.new.waiting (server_of i.port c.step_counting_on.new.records i.moment c.report.new.circuits i.beacons i.applied)
+    noting-none c.args.self.now c.args.circuit (stepped c.report.result) c.args.waiting.now (server_of i.port c.step_counting_on.new.records i.moment c.report.new.circuits i.beacons i.applied)
     (broke-closes i.port i.records c.step_counting_on.new.records i.circuits c.step_counting_on.new.circuits c.report.new.circuits c.args.circuit c.in-Some-Breaks.field-0-0 c.report.result did c.report.ensures)
     (made-broke c.args.self.now i.port i.moment i.applied i.beacons i.records c.step_counting_on.new.records i.circuits c.step_counting_on.new.circuits c.report.new.circuits c.args.circuit c.in-Some-Breaks.field-0-0 c.report.result c.self.view_is did c.report.ensures c.self.invariant.sound)
 
 pub returns-in-None-clause-serves : goal.returns-in-None-clause-serves
 returns-in-None-clause-serves c =
     let i = c.self.inside in
-    noting-none c.args.self.now c.args.circuit (stepped c.report-in-None.result) c.step_counting_on.new.waiting (server_of i.port c.step_counting_on.new.records i.moment c.report-in-None.new.circuits i.beacons i.applied)
+    noting-none c.args.self.now c.args.circuit (stepped c.report-in-None.result) c.args.waiting.now (server_of i.port c.step_counting_on.new.records i.moment c.report-in-None.new.circuits i.beacons i.applied)
     (none-closes i.port i.records c.step_counting_on.new.records i.circuits c.step_counting_on.new.circuits c.report-in-None.new.circuits c.args.circuit c.report-in-None.result (c.in-None.ensures.steps refl) c.report-in-None.ensures)
     (made-none c.args.self.now i.port i.moment i.applied i.beacons i.records c.step_counting_on.new.records i.circuits c.step_counting_on.new.circuits c.report-in-None.new.circuits c.args.circuit c.report-in-None.result c.self.view_is (c.in-None.ensures.steps refl) c.report-in-None.ensures c.self.invariant.sound)
