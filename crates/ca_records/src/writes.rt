@@ -94,6 +94,7 @@ impl ServedRecords {
     }
 
     /// The same of the record at this place: none if it is not busy.
+    #[inline(always)]
     pub fn finish_at(&mut self, place: usize) -> Option<Finished>
         requires { IsThere self.old place }
         ensures { FinishesAt self.old place result self.new }

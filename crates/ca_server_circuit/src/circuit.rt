@@ -102,6 +102,7 @@ impl Circuit {
     }
 
     /// One step of its end, which has ended if it broke. None if it had ended.
+    #[inline(always)]
     pub fn step(
         &mut self,
         port: u16,

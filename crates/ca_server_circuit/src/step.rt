@@ -54,6 +54,7 @@ impl Effect {
 
 impl End {
     /// Handles the next message of this circuit, unless 262,144 bytes wait to be sent.
+    #[inline(always)]
     pub(crate) fn step(
         &mut self,
         port: u16,

@@ -50,6 +50,7 @@ pub(crate) fn effect_of(finished: &Finished) -> Effect
 }
 
 /// Sends the reply of a put that is finished, if its channel is open. If there is no memory for it, the end of its circuit has ended.
+#[inline(always)]
 pub(crate) fn reply_on(circuits: &mut HeldTable<Circuit>, records: &mut ServedRecords, put: Put)
     requires { IsSound (records_of records.old) circuits.old }
     ensures { RepliesIn circuits.old put records.old circuits.new records.new }
