@@ -151,6 +151,7 @@ impl Circuit {
 
     /// A post to the record at this place: the subscriptions of its end that it concerns get an update. The end has ended if there is no
     /// memory for one. It says whether the end was open, with a subscription on the record.
+    #[inline(always)]
     pub fn post(
         &mut self,
         circuit: Handle,

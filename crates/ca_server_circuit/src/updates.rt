@@ -25,6 +25,7 @@ use std::alloc::{AllocError, Global};
 impl End {
     /// A post to this record: each subscription that it concerns gets an update, in their order. It says whether one is on the record. Without
     /// memory for one some have it, and the end is to be closed.
+    #[inline(always)]
     pub(crate) fn post(&mut self, of: &Record, mask: u16) -> Result<bool, AllocError>
         ensures ok { OnOk result (self.new ≡ with_post of.now.name mask
             (record { value = of.now.value; meta = of.now.meta }) self.old) }

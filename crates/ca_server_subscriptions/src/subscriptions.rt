@@ -159,6 +159,7 @@ impl Subscriptions {
 
     /// A post to the record of this name: each that it concerns gets an update, in their order. It says whether one is on the record. Without
     /// memory for one all subscriptions stay, and some have the update, so that the end is to be closed.
+    #[inline(always)]
     pub fn post(
         &mut self,
         name: &[u8],
@@ -184,6 +185,7 @@ impl Subscriptions {
     }
 
     // Gives the one at this place an update if the post concerns it, and says whether it is on the record.
+    #[inline(always)]
     fn post_at(
         &mut self,
         place: usize,

@@ -76,6 +76,7 @@ impl Waiting {
     }
 
     // Puts an update of this value, for a subscription whose queue is at this place. Without memory all is as it was.
+    #[inline(always)]
     pub(crate) fn post(
         &mut self,
         place: usize,
