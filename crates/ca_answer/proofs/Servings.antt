@@ -291,7 +291,7 @@ module _ {K : Type 0} (takes : K → List ℕ → K → Type 0) (faults : K → 
         all-gone k0 k k' s.waits s.text s.writes s.wrote s.parts (subst (λ (w : List ℕ). Goes takes k w k') (front-waits x s.waits s.now e s.core s.many has) goes),
       )
 
-  pub serving-sent : (k0 k k' : K) (bytes : List ℕ) (x x' : EngineState) → Serving takes rules states k0 bytes k x → output_limit ≤ length (output_of (under x.core.circuits x.circuit)) → Goes takes k (what_waits x) k' → HasSent x x' → Serving takes rules states k0 bytes k' x'
+  pub serving-sent : (k0 k k' : K) (bytes : List ℕ) (x x' : EngineState) → Serving takes rules states k0 bytes k x → 0 < length (output_of (under x.core.circuits x.circuit)) → Goes takes k (what_waits x) k' → HasSent x x' → Serving takes rules states k0 bytes k' x'
   serving-sent k0 k k' bytes x x' s full goes sent = go s.stands
     where
       go : Served rules states bytes x.circuit s.now s.text ⊎ Over rules states bytes x.circuit s.now s.text → Serving takes rules states k0 bytes k' x'
@@ -495,18 +495,18 @@ module _ {K : Type 0} (takes : K → List ℕ → K → Type 0) (faults : K → 
 
   -- the message's own answers and updates were handed over too
   pub room-emptied : (k l k' : K) (x mid new x' : EngineState) (us : List Update) (n turns : ℕ) → faults l ≡ faults k → Goes takes k (what_waits x) l → HasSent x mid → Pumps mid.core mid.circuit us new.core → n ≡ length (output_of (under new.core.circuits mid.circuit)) → new ≡ record mid { core = new.core; waiting = n }
-      → output_limit ≤ n → faults k' ≡ faults l → Goes takes l (what_waits new) k' → HasSent new x'
+      → 0 < n → faults k' ≡ faults l → Goes takes l (what_waits new) k' → HasSent new x'
       → (let done : Result (Unit {0}) Refusal = Ok tt in MakesRoom takes faults rules states k k' x x' turns done)
   room-emptied k l k' x mid new x' us n turns same goes sent pumps counted is full again goes' sent' =
       (again ∙ same, λ k0 bytes f. serving-sent k0 l k' bytes new x' (room-pumped k l x mid new us n goes sent pumps counted is k0 bytes f) (room-full mid new n counted is full) goes' sent')
     where
-      room-full : (mid new : EngineState) (n : ℕ) → n ≡ length (output_of (under new.core.circuits mid.circuit)) → new ≡ record mid { core = new.core; waiting = n } → output_limit ≤ n → output_limit ≤ length (output_of (under new.core.circuits new.circuit))
+      room-full : (mid new : EngineState) (n : ℕ) → n ≡ length (output_of (under new.core.circuits mid.circuit)) → new ≡ record mid { core = new.core; waiting = n } → 0 < n → 0 < length (output_of (under new.core.circuits new.circuit))
       room-full mid new n counted is full =
-          subst (λ (h : Handle). output_limit ≤ length (output_of (under new.core.circuits h))) (sym (ap (λ (z : EngineState). z.circuit) is)) (subst (λ (j : ℕ). output_limit ≤ j) counted full)
+          subst (λ (h : Handle). 0 < length (output_of (under new.core.circuits h))) (sym (ap (λ (z : EngineState). z.circuit) is)) (subst (λ (j : ℕ). 0 < j) counted full)
 
   -- or could not be
   pub room-unfinished : (k l k' : K) (x mid new x' : EngineState) (us : List Update) (n turns : ℕ) (r : Refusal) → faults l ≡ faults k → Goes takes k (what_waits x) l → HasSent x mid → Pumps mid.core mid.circuit us new.core → n ≡ length (output_of (under new.core.circuits mid.circuit)) → new ≡ record mid { core = new.core; waiting = n }
-      → output_limit ≤ n → Hands takes faults l (what_waits new) k' turns (Err r) → MakesRoom takes faults rules states k k' x x' turns (Err r)
+      → 0 < n → Hands takes faults l (what_waits new) k' turns (Err r) → MakesRoom takes faults rules states k k' x x' turns (Err r)
   room-unfinished k l k' x mid new x' us n turns r same goes sent pumps counted is full hands =
       leads-after (λ k0 bytes. Filled takes rules states k0 bytes k x) (λ k0 bytes. Serving takes rules states k0 bytes l new) k l k' new x' turns r same (room-pumped k l x mid new us n goes sent pumps counted is)
       (leads-stopped (λ k0 bytes. Serving takes rules states k0 bytes l new) l k' x' (what_waits new) turns r hands (λ k0 bytes s. open-waits k0 bytes s s.stands))

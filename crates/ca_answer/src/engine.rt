@@ -150,7 +150,7 @@ impl Engine {
         Ok(())
     }
 
-    // So much waits that a pump had to stop. Hands over what waited before the message, and pumps on.
+    // So much waits that a pump had to stop. Hands over what waited before the message, pumps on, and hands over the rest.
     #[inline(never)]
     fn make_room<K: Sink>(&mut self, sink: &mut K, turns: &mut u64) -> Result<(), Refusal>
         requires within { turns.old ≤ engine_turns }
@@ -168,7 +168,8 @@ impl Engine {
         self.flush(sink, turns)?;
         self.core.pump(self.circuit);
         self.waiting = self.core.out_bytes(self.circuit).len();
-        if self.waiting < OUTPUT_LIMIT {
+        // What is left goes too: it would be moved to the front of its memory at the next message.
+        if self.waiting == 0 {
             return Ok(());
         }
         self.flush(sink, turns)?;
