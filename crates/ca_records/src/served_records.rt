@@ -7,6 +7,7 @@ use crate::puts::Stamp;
 use crate::rules::{Rule, rights};
 use crate::served_record::ServedRecord;
 use crate::slot::Slot;
+use ca_text::is_same_name;
 use std::alloc::Global;
 use std::collections::HashMap;
 use std::marker::Model;
@@ -97,7 +98,7 @@ impl ServedRecords {
         ensures { result ≡ true → Finds self.now name.now place }
     {
         match self.slots.get(place) {
-            Some(Slot::Full(served)) => served.state().name() == name,
+            Some(Slot::Full(served)) => is_same_name(served.state().name(), name),
             _ => false,
         }
     }

@@ -3,7 +3,7 @@ ghost use Rattle.ca_model.specs.Server.{concerns};
 ghost use Rattle.ca_model.specs.Speech.{share_bit};
 ghost use Rattle.ca_server_subscriptions.specs.Subscribed.{IsAskable, is_on};
 
-use ca_text::Mask;
+use ca_text::{Mask, is_same_name};
 use ca_wire::Wanted;
 use std::marker::Model;
 
@@ -61,10 +61,11 @@ impl Standing {
     }
 
     // Whether it is on the record of this name.
+    #[inline(always)]
     pub(crate) fn is_on(&self, name: &[u8]) -> bool
         ensures { result ≡ is_on name.now self.now.0 }
     {
-        self.name.as_slice() == name
+        is_same_name(self.name.as_slice(), name)
     }
 
     // Whether a post to the record of this name, with this mask, concerns it.

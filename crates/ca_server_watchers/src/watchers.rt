@@ -3,6 +3,7 @@ ghost use Rattle.ca_server_watchers.specs.Watching.{AreApart, Clears, LeavesAt, 
 
 use crate::line::Line;
 use ca_arena::Handle;
+use ca_text::is_same_name;
 use indexmap::IndexMap;
 use std::alloc::{AllocError, Global};
 use std::marker::Model;
@@ -72,13 +73,14 @@ impl Watchers {
     }
 
     // The line of this name, if it was found last.
+    #[inline(always)]
     fn recent_line(&self, name: &[u8]) -> Option<&Line>
         ensures { IfSome result (λ l. l.now ≡ watching self.now name.now) }
     {
         let Some((key, line)) = self.lines.get_index(self.recent) else {
             return None;
         };
-        if key.as_slice() == name {
+        if is_same_name(key.as_slice(), name) {
             return Some(line);
         }
         None

@@ -1,3 +1,4 @@
 pub mod Commands
+pub mod Ends
 pub mod Places
 pub mod Waits

@@ -9,6 +9,7 @@ mod limits;
 mod mask;
 mod name;
 mod refusal;
+mod same;
 mod status;
 
 pub use command::Command;
@@ -23,4 +24,5 @@ pub use limits::{
 pub use mask::Mask;
 pub use name::{ChannelName, Name, RecordName};
 pub use refusal::Refusal;
+pub use same::is_same_name;
 pub use status::Status;
