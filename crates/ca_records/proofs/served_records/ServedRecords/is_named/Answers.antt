@@ -23,6 +23,6 @@ returns-in-Some-Full c yes_it =
     let full : At slots c.args.place (Full r) = subst (λ (t : Slot). At slots c.args.place t) c.in-Some-Full.field-0-is there in
     let at : At (seen slots) c.args.place (Some r) = seen-full slots c.args.place r full in
     let named : r.state.name ≡ c.args.name.now =
-    sym (c.name.ensures ∙ ap (λ x. x.name) c.state.ensures) ∙ (bytes_eq-Decides c.name.result.now c.args.name.now).0 (sym c.eq.ensures ∙ yes_it) in
+    sym (c.name.ensures ∙ ap (λ x. x.name) c.state.ensures) ∙ (bytes_eq-Decides c.name.result.now c.args.name.now).0 (sym c.is_same_name.ensures ∙ yes_it) in
     let found : record_named (present (seen slots)) r.state.name ≡ Some r = found-at (seen slots) _ c.args.place r c.self.invariant.index at in
     rw (← c.self.view_is) (record { r = r; at = at; named = named; found = subst (λ (n : List ℕ). record_named (present (seen slots)) n ≡ Some r) named found })
