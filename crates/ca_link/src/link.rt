@@ -110,13 +110,13 @@ impl Link {
         self.input.first_short(command)
     }
 
-    /// Takes the 24 bytes of such a message.
+    /// Takes the first n bytes that came: a message that was handled where it came.
     #[inline(always)]
-    pub fn drop_short(&mut self)
-        requires { 24 ≤ length self.old.input.bytes }
-        ensures { self.new ≡ with_rest (drop 24 self.old.input.bytes) self.old }
+    pub fn drop_front(&mut self, n: usize)
+        requires { n ≤ length self.old.input.bytes }
+        ensures { self.new ≡ with_rest (drop n self.old.input.bytes) self.old }
     {
-        self.input.drop_short();
+        self.input.drop_front(n);
     }
 
     /// A message that was handled gives its memory to the next one.

@@ -1,5 +1,5 @@
 -- Working: what a write to the record at a place comes to.
-use Rattle.std.specs.Prelude.{ℕ, ◌≡◌, ◌<◌, ◌≤◌, ◌⊎◌, Some, None, Ok, Option}
+use Rattle.std.specs.Prelude.{ℕ, List, ◌≡◌, ◌<◌, ◌≤◌, ◌⊎◌, Some, None, Ok, Option}
 use Rattle.ca_dbr.specs.Conversion.{converted}
 use Rattle.ca_dbr.specs.Elements.{Elements, base_of, count_of, elements}
 use Rattle.ca_records.specs.declared.puts.Begun.{Begun}
@@ -10,10 +10,15 @@ use Rattle.ca_records.specs.Record.{RecordState}
 use Rattle.ca_records.specs.Store.{Becomes, HasAt, Store}
 use Rattle.ca_records.specs.Writes.{Takes, write_fault}
 use Rattle.ca_wire.specs.Fields.{Fields}
+use Rattle.ca_wire.specs.declared.requests.Wanted.{Wanted}
 use Rattle.ca_model.specs.Due.{PutReads}
 use Rattle.ca_model.specs.Faults.{base_type_of, early_put_fault}
 use Rattle.ca_server_circuit.specs.declared.put.Given.{Given}
 use Rattle.ca_server_circuit.specs.declared.put.Given.TheVariants as given
+
+-- the message of a command of this number that names this, and has this payload
+abbrev pub asked : (command : ℕ) → Wanted → List ℕ → Fields
+asked command w payload = record { command = command; data_type = w.data_type; count = w.count; p1 = w.sid; p2 = w.id; payload = payload }
 
 -- the first fault of a put to this record under these rights, before its elements are read
 abbrev pub early : RecordState → (rights : ℕ) → Fields → Option ℕ

@@ -134,13 +134,13 @@ impl Deframer {
         short_at(self.buffer.bytes(), command)
     }
 
-    /// Takes the 24 bytes at the front, which are such a message.
+    /// Takes the first n bytes: a message that was handled where it came.
     #[inline(always)]
-    pub fn drop_short(&mut self)
-        requires { 24 ≤ length self.old.bytes }
-        ensures { self.new ≡ record self.old { bytes = drop 24 self.old.bytes } }
+    pub fn drop_front(&mut self, n: usize)
+        requires { n ≤ length self.old.bytes }
+        ensures { self.new ≡ record self.old { bytes = drop n self.old.bytes } }
     {
-        self.buffer.drop_front(24);
+        self.buffer.drop_front(n);
     }
 
     /// A message that was handled gives its memory to the next one.

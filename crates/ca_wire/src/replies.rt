@@ -1,10 +1,11 @@
 //! The messages of a server, by name: how each is made, and what it says (section "CA Protocol Messages"). `request` is the
 //! message that a reply answers.
 ghost use Rattle.std.specs.Prelude.{◌≡◌, ◌≢◌, ◌%◌, ◌≤◌, ◌++◌, [], IfOk, MatchOption, OnErr, length, replicate};
+ghost use Rattle.ca_text.specs.declared.command.Command.TheVariants as command;
 ghost use Rattle.ca_text.specs.Limits.{minor_version, payload_limit};
 ghost use Rattle.ca_wire.specs.Header.{header_spelling, number16};
 ghost use Rattle.ca_wire.specs.Message.{header_of};
-ghost use Rattle.ca_wire.specs.Messages.{answer_in, cancel_reply, cleared_reply, created_in, created_reply, disconnect, error_reply, failed_reply, found_in, no_cid, not_found_reply, read_request, rights_reply, search_reply, status_reply, update, value_reply, version_reply};
+ghost use Rattle.ca_wire.specs.Messages.{answer_in, cancel_reply, cleared_reply, created_in, created_reply, disconnect, error_reply, failed_reply, found_in, no_cid, not_found_reply, on_channel, read_request, rights_reply, search_reply, status_reply, update, value_reply, version_reply};
 ghost use Rattle.ca_wire.specs.Reading.{BeginsHeader, NoHeader};
 
 use crate::header::{Header, spell_header};
@@ -152,6 +153,22 @@ pub fn read_status(alloc: Global, wanted: &Wanted, status: Status) -> Message
     let (data_type, count) = (wanted.data_type, wanted.count);
     let (status, id) = (status.number, wanted.id.number());
     Message::with_no_payload(alloc, Command::ReadNotify, data_type, count, status, id)
+}
+
+/// WRITE_NOTIFY that names this, answered by a status alone.
+pub fn put_status(alloc: Global, wanted: &Wanted, status: Status) -> Message
+    ensures { result
+        ≡ status_reply (on_channel command.WriteNotify wanted.now []) status.number }
+{
+    let (data_type, count, id) = (wanted.data_type, wanted.count, wanted.id.number());
+    Message::with_no_payload(
+        alloc,
+        Command::WriteNotify,
+        data_type,
+        count,
+        status.number,
+        id,
+    )
 }
 
 /// READ_NOTIFY or WRITE_NOTIFY, answered by a status alone.
