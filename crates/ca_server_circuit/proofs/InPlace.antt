@@ -1,10 +1,15 @@
 -- A write that is handled where it came.
-use Rattle.std.proofs.Common.{◌≡◌, ℕ, ◌+◌, ◌<◌, Bool, List, [], ◌∷◌, Option, true, drop, if◌then◌else◌, length, take, ap, ◌∙◌, subst, sym}
-use Rattle.std.proofs.lemmas.List.{take-append-drop, take_at}
+use Rattle.std.proofs.Common.{◌≡◌, ℕ, ◌+◌, ◌<◌, ◌≤◌, Bool, Fits, List, [], ◌∷◌, None, Option, Some, true, drop, if◌then◌else◌, inl, inr, length, refl, take, w64, ap, ◌∙◌, subst, sym, arith}
+use Rattle.std.proofs.lemmas.List.{length-take-le, take-append-drop, take_at}
 use Rattle.ca_arena.specs.declared.handle.Handle.{Handle}
 use Rattle.ca_dgram.proofs.Readings.{spells-fields_at}
 use Rattle.ca_link.specs.Link.{LinkState, with_rest}
+use Rattle.ca_dbr.specs.declared.data_type.BaseType.{BaseType}
+use Rattle.ca_dbr.specs.Elements.{Elements}
 use Rattle.ca_records.specs.declared.puts.Begun.{Begun}
+use Rattle.ca_records.specs.declared.puts.Begun.TheVariants as begun
+use Rattle.ca_records.specs.Puts.{Record}
+use Rattle.ca_records.specs.Record.{RecordState}
 use Rattle.ca_records.specs.declared.puts.Put.{Put}
 use Rattle.ca_records.specs.Store.{Store}
 use Rattle.ca_text.specs.Command.{command_number}
@@ -18,24 +23,66 @@ use Rattle.ca_wire.specs.Messages.{on_channel, status_reply, wanted_in}
 use Rattle.ca_wire.specs.Reading.{IsWhole}
 use Rattle.ca_wire.specs.declared.reading.Head.{Head}
 use Rattle.ca_wire.specs.declared.requests.Wanted.{Wanted}
-use Rattle.ca_model.specs.Due.{is_known}
+use Rattle.ca_wire.proofs.Headers.{length-extended, length-short}
+use Rattle.ca_model.specs.Due.{PutReads, is_known}
+use Rattle.ca_model.specs.Faults.{base_type_of, early_put_fault}
 use Rattle.ca_model.specs.Server.{ServerEnd}
 use Rattle.ca_server_circuit.specs.declared.seek.Seat.{Seat}
 use Rattle.ca_server_circuit.specs.declared.step.Effect.{Effect}
 use Rattle.ca_server_circuit.specs.declared.step.EndStep.TheVariants.{Handled}
 use Rattle.ca_server_circuit.specs.Handling.{Does, replied}
-use Rattle.ca_server_circuit.specs.Putting.{WritesTo, asked}
+use Rattle.ca_server_circuit.specs.Putting.{IsRefused, IsTaken, WritesTo, asked, early}
 use Rattle.ca_server_circuit.specs.Seeking.{IsServed}
 use Rattle.ca_server_circuit.specs.Stepping.{EndSteps, Takes, after_head, first_at}
 use Rattle.ca_server_circuit.proofs.Dues.{command_at}
 use Rattle.ca_server_circuit.proofs.Handled.{DueFor, does-for}
 use Rattle.ca_server_circuit.proofs.Taken.{put_in}
 
+-- what a put asks for does not depend on its command
+module _ (w : Wanted) (bytes : List ℕ) (c : ℕ) where
+  abbrev by : Fields
+  by = record (asked w bytes) { command = c }
+
+  early-by : (r : RecordState) (rights : ℕ) (o : Option BaseType) → early_put_fault r rights (asked w bytes) o ≡ early_put_fault r rights by o
+  early-by r rights None = refl
+  early-by r rights (Some b) = refl
+
+  reads-by : (e : Elements) → PutReads (asked w bytes) e → PutReads by e
+  reads-by e x = record { base = x.base; typed = x.typed; reads = x.reads }
+
+  none-by : (r : RecordState) (rights : ℕ) (o : Option ℕ) → early r rights (asked w bytes) ≡ o → early r rights by ≡ o
+  none-by r rights o is = sym (early-by r rights (base_type_of w.data_type)) ∙ is
+
+  refused-by : (r : Record) (rights : ℕ) (put : Option Put) (status : ℕ) → IsRefused r rights put (asked w bytes) status → IsRefused r rights put by status
+  refused-by r rights put status (inl h) = inl (none-by r.state rights (Some status) h)
+  refused-by r rights put status (inr h) = inr (none-by r.state rights None h.0, (h.1.0, reads-by h.1.0 h.1.1, h.1.2))
+
+  taken-by : (s : Store) (r next : Record) (rights : ℕ) (put : Option Put) (b : Begun) → IsTaken s r rights put (asked w bytes) b next → IsTaken s r rights put by b next
+  taken-by s r next rights put b t =
+      record { e = t.e; no_early = none-by r.state rights None t.no_early; reads = reads-by t.e t.reads; no_late = t.no_late; v = t.v; is = t.is; takes = t.takes }
+
+  writes-by : (s t : Store) (place rights : ℕ) (put : Option Put) (b : Begun) → WritesTo s place rights put (asked w bytes) b t → WritesTo s place rights put by b t
+  writes-by s t place rights put (begun.Refused status) d = (d.0, d.1, refused-by d.0 rights put status.number d.2, d.3)
+  writes-by s t place rights put (begun.Applied busies) d = (d.0, d.1, taken-by s d.0 d.1 rights put (begun.Applied busies) d.2, d.3)
+  writes-by s t place rights put begun.Waiting d = (d.0, d.1, taken-by s d.0 d.1 rights put begun.Waiting d.2, d.3)
+
 -- a write is one of the message that names this and has this payload
-pub asked-is : (s t : Store) (place bits : ℕ) (put : Option Put) (b : Begun) (m : Fields) (w : Wanted) (bytes : List ℕ) → w ≡ wanted_in m → bytes ≡ m.payload → ((command : ℕ) → WritesTo s place bits put (asked command w bytes) b t) → WritesTo s place bits put m b t
+pub asked-is : (s t : Store) (place bits : ℕ) (put : Option Put) (b : Begun) (m : Fields) (w : Wanted) (bytes : List ℕ) → w ≡ wanted_in m → bytes ≡ m.payload → WritesTo s place bits put (asked w bytes) b t → WritesTo s place bits put m b t
 asked-is s t place bits put b m w bytes named lies did =
-    let one : WritesTo s place bits put (asked m.command (wanted_in m) bytes) b t = subst (λ (x : Wanted). WritesTo s place bits put (asked m.command x bytes) b t) named (did m.command) in
-    subst (λ (x : List ℕ). WritesTo s place bits put (asked m.command (wanted_in m) x) b t) lies one
+    let one : WritesTo s place bits put (by (wanted_in m) bytes m.command) b t = subst (λ (x : Wanted). WritesTo s place bits put (by x bytes m.command) b t) named (writes-by w bytes m.command s t place bits put b did) in
+    subst (λ (x : List ℕ). WritesTo s place bits put (by (wanted_in m) x m.command) b t) lies one
+
+-- the end of a message that is there
+pub end-fits : (bytes : List ℕ) (head : Head) → IsWhole bytes head → Fits w64 (head.start + head.header.size)
+end-fits bytes head whole =
+    let room = whole.room in
+    let within = whole.within in
+    let long : length (take head.start bytes) ≡ head.start = length-take-le head.start bytes (omega arith) in
+    let few : head.start ≤ 24 = elim whole.header.form [
+      | inl p ↦ omega (arith, long, ap length p.are, length-short head.header)
+      | inr p ↦ omega (arith, long, ap length p.are, length-extended p.count16 head.header)
+    ] in
+    omega (arith, few, within)
 
 -- the reply to a put with notification, by what that names
 pub acknowledged : (e new : ServerEnd) (m : Fields) (w : Wanted) (is slow : Bool) → w ≡ wanted_in m → m.command ≡ command_number command.WriteNotify → is ≡ slow

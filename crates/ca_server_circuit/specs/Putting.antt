@@ -9,16 +9,18 @@ use Rattle.ca_records.specs.Puts.{Record}
 use Rattle.ca_records.specs.Record.{RecordState}
 use Rattle.ca_records.specs.Store.{Becomes, HasAt, Store}
 use Rattle.ca_records.specs.Writes.{Takes, write_fault}
+use Rattle.ca_text.specs.declared.command.Command.TheVariants as command
 use Rattle.ca_wire.specs.Fields.{Fields}
+use Rattle.ca_wire.specs.Messages.{on_channel}
 use Rattle.ca_wire.specs.declared.requests.Wanted.{Wanted}
 use Rattle.ca_model.specs.Due.{PutReads}
 use Rattle.ca_model.specs.Faults.{base_type_of, early_put_fault}
 use Rattle.ca_server_circuit.specs.declared.put.Given.{Given}
 use Rattle.ca_server_circuit.specs.declared.put.Given.TheVariants as given
 
--- the message of a command of this number that names this, and has this payload
-abbrev pub asked : (command : ℕ) → Wanted → List ℕ → Fields
-asked command w payload = record { command = command; data_type = w.data_type; count = w.count; p1 = w.sid; p2 = w.id; payload = payload }
+-- A put that names this, with this payload, as the message of a WRITE: its elements and its faults are those of any command.
+abbrev pub asked : Wanted → List ℕ → Fields
+asked w payload = on_channel command.Write w payload
 
 -- the first fault of a put to this record under these rights, before its elements are read
 abbrev pub early : RecordState → (rights : ℕ) → Fields → Option ℕ

@@ -23,7 +23,7 @@ use ca_wire::{Head, Header, Ioid, One, Sid, Wanted, read_one};
 
 impl End {
     /// Handles the next message of this circuit: where it came, if it is a write, else as a message of its own.
-    #[inline(always)]
+    #[inline(never)]
     pub(crate) fn step_by_place(
         &mut self,
         port: u16,
@@ -88,7 +88,9 @@ impl End {
         let rights = records.rights(&self.user, &self.host, name);
         let end = head.start + head.header.size as usize;
         let payload = &self.link.in_bytes()[head.start..end];
-        let Ok(begun) = begin(self.alloc, records, seat.place, rights, None, &wanted, payload) else {
+        let Ok(begun) = begin(
+            self.alloc, records, seat.place, rights, None, &wanted, payload,
+        ) else {
             return None;
         };
         match begun {

@@ -1,4 +1,4 @@
-ghost use Rattle.std.specs.Prelude.{ℕ, ◌≡◌, IfOk, OnErr, Option, Some, false, is_some, true};
+ghost use Rattle.std.specs.Prelude.{◌≡◌, IfOk, OnErr, Option, Some, false, is_some, true};
 ghost use Rattle.ca_dbr.specs.Reading.{least_size};
 ghost use Rattle.ca_records.specs.declared.puts.Begun.TheVariants.{Applied};
 ghost use Rattle.ca_records.specs.declared.puts.Put.{Put};
@@ -101,13 +101,19 @@ pub(crate) fn begin(
     payload: &[u8],
 ) -> Result<Begun, AllocError>
     requires { IsThere records.old place }
-    ensures ok { IfOk result (λ begun. (command : ℕ)
-        → WritesTo records.old place rights put (asked command wanted.now payload.now) begun
-        records.new) }
+    ensures ok { IfOk result (λ begun.
+        WritesTo records.old place rights put (asked wanted.now payload.now) begun records.new) }
     ensures err { OnErr result (records.new ≡ records.old) }
 {
     let room = records.take_spare(place);
-    match read_elements(alloc, room, records.at(place).state(), rights, wanted, payload)? {
+    match read_elements(
+        alloc,
+        room,
+        records.at(place).state(),
+        rights,
+        wanted,
+        payload,
+    )? {
         Given::Fault(status) => Ok(Begun::Refused(status)),
         Given::Elements(value) => {
             let begun = records.begin_write(place, put, value)?;
@@ -127,8 +133,8 @@ fn read_elements(
     wanted: &Wanted,
     payload: &[u8],
 ) -> Result<Given, AllocError>
-    ensures { IfOk result (λ given. (command : ℕ)
-        → IsGiven of.now rights (asked command wanted.now payload.now) given) }
+    ensures { IfOk result (λ given.
+        IsGiven of.now rights (asked wanted.now payload.now) given) }
 {
     let Some(base) = BaseType::of(wanted.data_type) else {
         return Ok(Given::Fault(Status::BADTYPE));

@@ -65,7 +65,9 @@ impl End {
         let rights = records.rights(&self.user, &self.host, name);
         let wanted = message.wanted();
         let payload = message.payload();
-        let begun = begin(self.alloc, records, seat.place, rights, None, &wanted, payload)?;
+        let begun = begin(
+            self.alloc, records, seat.place, rights, None, &wanted, payload,
+        )?;
         match begun {
             Begun::Applied(_) => Ok(Effect::Wrote(seat.place)),
             Begun::Waiting => unreachable!(),

@@ -79,7 +79,15 @@ impl End {
         let wanted = message.wanted();
         self.acknowledge(is_slow, &wanted)?;
         let put = Some(put_from(circuit, seat.channel, &wanted));
-        let Ok(begun) = begin(alloc, records, place, rights, put, &wanted, message.payload()) else {
+        let Ok(begun) = begin(
+            alloc,
+            records,
+            place,
+            rights,
+            put,
+            &wanted,
+            message.payload(),
+        ) else {
             self.link.truncate(waited);
             return Err(AllocError);
         };
@@ -95,11 +103,7 @@ impl End {
     }
 
     /// The reply to a put with notification on a record that is quick.
-    pub(crate) fn acknowledge(
-        &mut self,
-        is_slow: bool,
-        wanted: &Wanted,
-    ) -> Result<(), AllocError>
+    pub(crate) fn acknowledge(&mut self, is_slow: bool, wanted: &Wanted) -> Result<(), AllocError>
         requires { IsOpen self.old.link }
         ensures ok { OnOk result (self.new ≡ replied (if is_slow then [] else status_reply
             (on_channel Command.WriteNotify wanted.now []) normal ∷ []) self.old) }

@@ -8,9 +8,9 @@ use Rattle.ca_server_circuit.proofs.Givens.{never-refused, no-early, put-reads}
 use Rattle.ca_server_circuit.proofs.put.read_elements.Goals as goal
 
 pub returns-in-Ok : goal.returns-in-Ok
-returns-in-Ok c command =
+returns-in-Ok c =
     let r = c.args.of.now in
-    let m = asked command c.args.wanted.now c.args.payload.now in
+    let m = asked c.args.wanted.now c.args.payload.now in
     let base = c.in-Some.base in
     let e = elements c.in-Ok.value in
     let read = c.in-Ok.ensures.read in
