@@ -1,4 +1,4 @@
-use Rattle.std.proofs.Common.{◌≡◌, Bool, List, [], ◌∷◌, length, if◌then◌else◌, Some, ap, ◌∙◌, subst}
+use Rattle.std.proofs.Common.{◌≡◌, [], ◌∷◌, length, Some, ap, ◌∙◌, subst}
 use Rattle.ca_records.specs.declared.puts.Begun.TheVariants as begun
 use Rattle.ca_records.specs.Puts.{Record}
 use Rattle.ca_records.specs.Record.{RecordState}
@@ -8,7 +8,7 @@ use Rattle.ca_wire.specs.Fields.{Fields}
 use Rattle.ca_wire.specs.Messages.{status_reply}
 use Rattle.ca_model.specs.Server.{ServerEnd}
 use Rattle.ca_server_circuit.specs.declared.step.Effect.TheVariants as effect
-use Rattle.ca_server_circuit.specs.Handling.{Puts, known, replied}
+use Rattle.ca_server_circuit.specs.Handling.{Puts, known}
 use Rattle.ca_server_circuit.specs.Putting.{IsRefused, IsTaken}
 use Rattle.ca_server_circuit.proofs.InPlace.{acknowledged, asked-is, put-is}
 use Rattle.ca_server_circuit.proofs.Replying.{right-is, state-is, undone}
