@@ -21,4 +21,5 @@ pub mod Pumps
 pub mod Lost
 pub mod Peeked
 pub mod Imaging
+pub mod InPlace
 pub mod Watched

@@ -1,9 +1,6 @@
 -- A first message that is handled where it came.
-use Rattle.std.proofs.Common.{◌≡◌, ◌≢◌, ℕ, ◌≤◌, ◌<◌, List, [], Some, true, drop, inl, length, refl, take, ap, ◌∙◌, subst, sym, arith}
-use Rattle.std.proofs.lemmas.List.{length-drop, length-take-le}
+use Rattle.std.proofs.Common.{◌≡◌, ℕ, ◌<◌, List, true, drop, length, refl, ap, ◌∙◌}
 use Rattle.ca_arena.specs.declared.handle.Handle.{Handle}
-use Rattle.ca_dbr.specs.Octets.{AreBytes}
-use Rattle.ca_ids.specs.Table.{under}
 use Rattle.ca_link.specs.Calls.{HasShort}
 use Rattle.ca_link.specs.Link.{LinkState, with_rest, with_sent}
 use Rattle.ca_records.specs.Store.{Store}
@@ -15,10 +12,9 @@ use Rattle.ca_wire.specs.Reading.{short_in}
 use Rattle.ca_wire.specs.declared.requests.Wanted.{Wanted}
 use Rattle.ca_model.specs.Due.{is_known}
 use Rattle.ca_model.specs.Server.{ServerEnd}
-use Rattle.ca_server_circuit.specs.declared.cause.Cause.TheVariants as cause
 use Rattle.ca_server_circuit.specs.declared.seek.Seat.{Seat}
 use Rattle.ca_server_circuit.specs.declared.step.Effect.{Effect}
-use Rattle.ca_server_circuit.specs.declared.step.EndStep.TheVariants.{Breaks, Handled}
+use Rattle.ca_server_circuit.specs.declared.step.EndStep.TheVariants.{Handled}
 use Rattle.ca_server_circuit.specs.Handling.{Does, replied}
 use Rattle.ca_server_circuit.specs.Seeking.{IsServed}
 use Rattle.ca_server_circuit.specs.Stepping.{EndSteps, Takes, after_short}

@@ -1,5 +1,5 @@
 -- Working: what a write to the record at a place comes to.
-use Rattle.std.specs.Prelude.{ℕ, ◌≡◌, ◌<◌, ◌≤◌, ◌⊎◌, Some, None, Ok, Option}
+use Rattle.std.specs.Prelude.{ℕ, List, ◌≡◌, ◌<◌, ◌≤◌, ◌⊎◌, Some, None, Ok, Option}
 use Rattle.ca_dbr.specs.Conversion.{converted}
 use Rattle.ca_dbr.specs.Elements.{Elements, base_of, count_of, elements}
 use Rattle.ca_records.specs.declared.puts.Begun.{Begun}
@@ -9,11 +9,18 @@ use Rattle.ca_records.specs.Puts.{Record}
 use Rattle.ca_records.specs.Record.{RecordState}
 use Rattle.ca_records.specs.Store.{Becomes, HasAt, Store}
 use Rattle.ca_records.specs.Writes.{Takes, write_fault}
+use Rattle.ca_text.specs.declared.command.Command.TheVariants as command
 use Rattle.ca_wire.specs.Fields.{Fields}
+use Rattle.ca_wire.specs.Messages.{on_channel}
+use Rattle.ca_wire.specs.declared.requests.Wanted.{Wanted}
 use Rattle.ca_model.specs.Due.{PutReads}
 use Rattle.ca_model.specs.Faults.{base_type_of, early_put_fault}
 use Rattle.ca_server_circuit.specs.declared.put.Given.{Given}
 use Rattle.ca_server_circuit.specs.declared.put.Given.TheVariants as given
+
+-- A put that names this, with this payload, as the message of a WRITE: its elements and its faults are those of any command.
+abbrev pub asked : Wanted → List ℕ → Fields
+asked w payload = on_channel command.Write w payload
 
 -- the first fault of a put to this record under these rights, before its elements are read
 abbrev pub early : RecordState → (rights : ℕ) → Fields → Option ℕ

@@ -1,5 +1,5 @@
 -- Working: what one step of an open end comes to.
-use Rattle.std.specs.Prelude.{ℕ, ◌≡◌, ◌≢◌, ◌<◌, ◌≤◌, ◌⊎◌, List, [], drop, length}
+use Rattle.std.specs.Prelude.{ℕ, ◌≡◌, ◌≢◌, ◌+◌, ◌<◌, ◌≤◌, ◌⊎◌, List, [], drop, length, take}
 use Rattle.ca_arena.specs.declared.handle.Handle.{Handle}
 use Rattle.ca_dbr.specs.Octets.{AreBytes}
 use Rattle.ca_link.specs.Link.{TakesFirst, with_rest}
@@ -10,6 +10,8 @@ use Rattle.ca_text.specs.Limits.{output_limit}
 use Rattle.ca_wire.specs.Fields.{Fields}
 use Rattle.ca_wire.specs.Stream.{BadAt, NoneBegins, NotBad}
 use Rattle.ca_wire.specs.declared.done.Done.{Done}
+use Rattle.ca_wire.specs.declared.header.Header.{Header}
+use Rattle.ca_wire.specs.declared.reading.Head.{Head}
 use Rattle.ca_wire.specs.declared.requests.Wanted.{Wanted}
 use Rattle.ca_wire.specs.Reading.{short_in}
 use Rattle.ca_text.specs.declared.command.Command.{Command}
@@ -76,3 +78,30 @@ DoesShort D c w h s e did t new =
 -- the reply to a WRITE_NOTIFY of one element that names this
 abbrev pub done_for : Wanted → Done
 done_for w = record { data_type = w.data_type; id = w.id }
+
+-- ---- a first message that is handled where it came
+
+-- the message at the front of these bytes, which has this header
+abbrev pub first_at : List ℕ → Head → Fields
+first_at bytes head = record {
+  command = head.header.command;
+  data_type = head.header.data_type;
+  count = head.header.count;
+  p1 = head.header.p1;
+  p2 = head.header.p2;
+  payload = take head.header.size (drop head.start bytes);
+}
+
+-- the end without it
+abbrev pub after_head : Head → ServerEnd → ServerEnd
+after_head head e = record e { link = with_rest (drop (head.start + head.header.size) e.link.input.bytes) e.link }
+
+-- What is due by this relation was done for the first message, which has this header.
+abbrev pub DoesFirst : (Knows → Fields → List Fields → Action → Type 0) → Head → Handle → Store → ServerEnd → Effect → Store → ServerEnd → Type 0
+DoesFirst D head h s e did t new =
+    (port : ℕ)
+    → Does (D (known port s (after_head head e)) (first_at e.link.input.bytes head)) s h (after_head head e) (first_at e.link.input.bytes head) did t new
+
+-- what a header of a request on a channel names
+abbrev pub named_by : Header → Wanted
+named_by h = record { sid = h.p1; id = h.p2; data_type = h.data_type; count = h.count }

@@ -18,6 +18,7 @@ mod ending;
 mod events;
 mod finishing;
 mod handle;
+mod in_place;
 mod leading;
 mod losing;
 mod name;

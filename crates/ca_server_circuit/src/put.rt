@@ -5,13 +5,13 @@ ghost use Rattle.ca_records.specs.declared.puts.Put.{Put};
 ghost use Rattle.ca_records.specs.Store.{IsThere};
 ghost use Rattle.ca_text.specs.declared.command.Command.{Command};
 ghost use Rattle.ca_wire.specs.Messages.{on_channel};
-ghost use Rattle.ca_server_circuit.specs.Putting.{IsGiven, WritesTo};
+ghost use Rattle.ca_server_circuit.specs.Putting.{IsGiven, WritesTo, asked};
 
 use ca_arena::Handle;
 use ca_dbr::{BaseType, Value, read_value_into};
 use ca_records::{Begun, Put, Record, ServedRecords};
 use ca_text::{Refusal, Status};
-use ca_wire::{Message, Wanted};
+use ca_wire::Wanted;
 use std::alloc::{AllocError, Global};
 
 /// What the payload of a put gives.
@@ -88,7 +88,7 @@ pub(crate) fn put_from(circuit: Handle, channel: Handle, wanted: &Wanted) -> Put
     }
 }
 
-/// Begins the write of this message to the record at this place under these rights: a put with notification, or a plain write,
+/// Begins the write of this payload to the record at this place under these rights: a put with notification, or a plain write,
 /// which has none. Without memory nothing changes.
 #[inline(always)]
 pub(crate) fn begin(
@@ -97,15 +97,23 @@ pub(crate) fn begin(
     place: usize,
     rights: u32,
     put: Option<Put>,
-    message: &Message,
+    wanted: &Wanted,
+    payload: &[u8],
 ) -> Result<Begun, AllocError>
     requires { IsThere records.old place }
     ensures ok { IfOk result (λ begun.
-        WritesTo records.old place rights put message.now begun records.new) }
+        WritesTo records.old place rights put (asked wanted.now payload.now) begun records.new) }
     ensures err { OnErr result (records.new ≡ records.old) }
 {
     let room = records.take_spare(place);
-    match read_elements(alloc, room, records.at(place).state(), rights, message)? {
+    match read_elements(
+        alloc,
+        room,
+        records.at(place).state(),
+        rights,
+        wanted,
+        payload,
+    )? {
         Given::Fault(status) => Ok(Begun::Refused(status)),
         Given::Elements(value) => {
             let begun = records.begin_write(place, put, value)?;
@@ -122,27 +130,29 @@ fn read_elements(
     room: Option<Value>,
     of: &Record,
     rights: u32,
-    message: &Message,
+    wanted: &Wanted,
+    payload: &[u8],
 ) -> Result<Given, AllocError>
-    ensures { IfOk result (λ given. IsGiven of.now rights message.now given) }
+    ensures { IfOk result (λ given.
+        IsGiven of.now rights (asked wanted.now payload.now) given) }
 {
-    let Some(base) = BaseType::of(message.data_type()) else {
+    let Some(base) = BaseType::of(wanted.data_type) else {
         return Ok(Given::Fault(Status::BADTYPE));
     };
     if rights / 2 % 2 != 1 {
         return Ok(Given::Fault(Status::NOWTACCESS));
     }
-    let count = message.count();
+    let count = wanted.count;
     if count == 0 {
         return Ok(Given::Fault(Status::BADCOUNT));
     }
     if count > of.count() {
         return Ok(Given::Fault(Status::BADCOUNT));
     }
-    if message.payload().len() < least_size(base, count) {
+    if payload.len() < least_size(base, count) {
         return Ok(Given::Fault(Status::BADCOUNT));
     }
-    match read_value_into(alloc, room, base.number(), count, message.payload()) {
+    match read_value_into(alloc, room, base.number(), count, payload) {
         Ok((value, _)) => Ok(Given::Elements(value)),
         Err(refusal) => match refusal {
             Refusal::OutOfMemory => Err(AllocError),

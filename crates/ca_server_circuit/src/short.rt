@@ -39,7 +39,7 @@ impl End {
     {
         match self.step_short(circuit, records) {
             Some(step) => step,
-            None => self.step_by_message(port, circuit, records),
+            None => self.step_by_place(port, circuit, records),
         }
     }
 
@@ -86,7 +86,7 @@ impl End {
         if !write_one(records, seat.place, rights, false, wanted, payload) {
             return None;
         }
-        self.link.drop_short();
+        self.link.drop_front(24);
         Some(seat.place)
     }
 
@@ -125,7 +125,7 @@ impl End {
             self.link.truncate(waited);
             return None;
         }
-        self.link.drop_short();
+        self.link.drop_front(24);
         Some(seat.place)
     }
 
@@ -156,7 +156,7 @@ impl End {
         if !put_one(records, seat.place, rights, put, wanted, payload) {
             return None;
         }
-        self.link.drop_short();
+        self.link.drop_front(24);
         Some(seat.place)
     }
 }

@@ -63,7 +63,11 @@ impl End {
     {
         let name = records.at(seat.place).state().name();
         let rights = records.rights(&self.user, &self.host, name);
-        let begun = begin(self.alloc, records, seat.place, rights, None, message)?;
+        let wanted = message.wanted();
+        let payload = message.payload();
+        let begun = begin(
+            self.alloc, records, seat.place, rights, None, &wanted, payload,
+        )?;
         match begun {
             Begun::Applied(_) => Ok(Effect::Wrote(seat.place)),
             Begun::Waiting => unreachable!(),

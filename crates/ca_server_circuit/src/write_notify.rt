@@ -5,18 +5,18 @@ ghost use Rattle.ca_text.specs.Status.{normal};
 ghost use Rattle.ca_link.specs.Calls.{IsOpen};
 ghost use Rattle.ca_link.specs.Link.{with_sent};
 ghost use Rattle.ca_records.specs.Store.{records_of};
-ghost use Rattle.ca_wire.specs.Messages.{status_reply};
+ghost use Rattle.ca_wire.specs.Messages.{on_channel, status_reply};
 ghost use Rattle.ca_server_circuit.specs.Handling.{AreServed, Does, Puts, known, replied};
 ghost use Rattle.ca_server_circuit.specs.Seeking.{IsServed};
 
 use crate::end::{End, send};
-use crate::put::begin;
+use crate::put::{begin, put_from};
 use crate::seek::{Seat, Sought};
 use crate::step::Effect;
 use ca_arena::Handle;
-use ca_records::{Begun, Put, ServedRecords};
+use ca_records::{Begun, ServedRecords};
 use ca_text::Status;
-use ca_wire::{Message, status_reply};
+use ca_wire::{Message, Wanted, put_status, status_reply};
 use std::alloc::AllocError;
 
 impl End {
@@ -76,9 +76,18 @@ impl End {
         let rights = records.rights(&self.user, &self.host, state.name());
         let is_slow = state.is_slow();
         let waited = self.link.out_bytes().len();
-        self.acknowledge(is_slow, message)?;
-        let put = Some(put_of(circuit, seat, message));
-        let Ok(begun) = begin(alloc, records, place, rights, put, message) else {
+        let wanted = message.wanted();
+        self.acknowledge(is_slow, &wanted)?;
+        let put = Some(put_from(circuit, seat.channel, &wanted));
+        let Ok(begun) = begin(
+            alloc,
+            records,
+            place,
+            rights,
+            put,
+            &wanted,
+            message.payload(),
+        ) else {
             self.link.truncate(waited);
             return Err(AllocError);
         };
@@ -94,37 +103,17 @@ impl End {
     }
 
     /// The reply to a put with notification on a record that is quick.
-    fn acknowledge(&mut self, is_slow: bool, message: &Message) -> Result<(), AllocError>
+    pub(crate) fn acknowledge(&mut self, is_slow: bool, wanted: &Wanted) -> Result<(), AllocError>
         requires { IsOpen self.old.link }
-        ensures ok { OnOk result (self.new
-            ≡ replied (if is_slow then [] else status_reply message.now normal ∷ []) self.old) }
-        ensures output { OnErr result (self.new.link.output ≡ self.old.link.output) }
-        ensures channels { OnErr result (self.new.channels ≡ self.old.channels) }
+        ensures ok { OnOk result (self.new ≡ replied (if is_slow then [] else status_reply
+            (on_channel Command.WriteNotify wanted.now []) normal ∷ []) self.old) }
+        ensures err { OnErr result (self.new ≡ self.old) }
     {
         if is_slow {
             return Ok(());
         }
-        let reply = status_reply(self.alloc, message, Status::NORMAL);
+        let reply = put_status(self.alloc, wanted, Status::NORMAL);
         send(&mut self.link, &reply)?;
         Ok(())
-    }
-}
-
-/// The put with notification that a message on a channel is.
-fn put_of(circuit: Handle, seat: Seat, message: &Message) -> Put
-    ensures { result ≡ record {
-      circuit = circuit;
-      channel = seat.channel;
-      data_type = message.now.data_type;
-      count = message.now.count;
-      ioid = message.now.p2;
-    } }
-{
-    Put {
-        circuit,
-        channel: seat.channel,
-        data_type: message.data_type(),
-        count: message.count(),
-        ioid: message.p2(),
     }
 }

@@ -1,4 +1,4 @@
-use Rattle.std.proofs.Common.{◌≡◌, Bool, List, [], ◌∷◌, length, if◌then◌else◌, Some, ap, ◌∙◌, subst}
+use Rattle.std.proofs.Common.{◌≡◌, [], ◌∷◌, length, Some, ap, ◌∙◌, subst}
 use Rattle.ca_records.specs.declared.puts.Begun.TheVariants as begun
 use Rattle.ca_records.specs.Puts.{Record}
 use Rattle.ca_records.specs.Record.{RecordState}
@@ -8,8 +8,9 @@ use Rattle.ca_wire.specs.Fields.{Fields}
 use Rattle.ca_wire.specs.Messages.{status_reply}
 use Rattle.ca_model.specs.Server.{ServerEnd}
 use Rattle.ca_server_circuit.specs.declared.step.Effect.TheVariants as effect
-use Rattle.ca_server_circuit.specs.Handling.{Puts, known, replied}
+use Rattle.ca_server_circuit.specs.Handling.{Puts, known}
 use Rattle.ca_server_circuit.specs.Putting.{IsRefused, IsTaken}
+use Rattle.ca_server_circuit.proofs.InPlace.{acknowledged, asked-is, put-is}
 use Rattle.ca_server_circuit.proofs.Replying.{right-is, state-is, undone}
 use Rattle.ca_server_circuit.proofs.Taken.{one-record, put-applied, put-refused, put-waits, put_in, with-store}
 use Rattle.ca_server_circuit.proofs.end.End.put_on.Goals as goal
@@ -24,9 +25,10 @@ returns-in-Applied-clause-ok c port =
     let p = put_in c.args.circuit c.args.seat m in
     let right = right-is c.args.records.now c.args.self.now _ m.p1 c.args.seat i c.rights-rights.result _ _ _ c.at.result.now _ c.self.view_is c.deref.ensures.value c.deref-2.ensures.value c.at.ensures.at c.state-state.ensures c.name.ensures c.rights-rights.ensures in
     let slow = c.is_slow-is_slow.ensures ∙ ap (λ (x : RecordState). x.slow) (state-is s e m.p1 c.args.seat i c.at.result.now c.state-state.result.now c.at.ensures.at c.state-state.ensures) in
-    let done = c.in_ok-acknowledge.ensures.ok ∙ ap (λ (b : Bool). let none : List Fields = [] in replied (if b then none else status_reply m 1 ∷ []) e) slow in
-    let w0 = rw c.in-Applied.is at c.in-Ok.ensures.ok in
-    let w = rw c.put_of.ensures at w0 in
+    let done = acknowledged e _ m c.wanted-wanted.result c.is_slow-is_slow.result i.r.state.slow c.wanted-wanted.ensures c.requires.command slow c.in_ok-acknowledge.ensures.ok in
+    let put = put-is c.args.circuit c.args.seat m c.wanted-wanted.result _ c.wanted-wanted.ensures c.put_from.ensures in
+    let w0 = asked-is s c.begin.new.records c.args.seat.place bits (Some c.put_from.result) (begun.Applied c.in-Applied.field-0) m c.wanted-wanted.result c.payload.result.now c.wanted-wanted.ensures c.payload.ensures (rw c.in-Applied.is at c.in-Ok.ensures.ok) in
+    let w = rw put at w0 in
     let one : w.0 ≡ i.r = one-record s c.args.seat.place w.0 i.r w.3.at i.at in
     let taken = subst (λ (r : Record). IsTaken s r bits (Some p) m (begun.Applied c.in-Applied.field-0) w.1) one w.2 in
     let becomes = subst (λ (r : Record). Becomes s c.args.seat.place r w.1 c.begin.new.records) one w.3 in
@@ -42,9 +44,10 @@ returns-in-Waiting-clause-ok c port =
     let p = put_in c.args.circuit c.args.seat m in
     let right = right-is c.args.records.now c.args.self.now _ m.p1 c.args.seat i c.rights-rights.result _ _ _ c.at.result.now _ c.self.view_is c.deref.ensures.value c.deref-2.ensures.value c.at.ensures.at c.state-state.ensures c.name.ensures c.rights-rights.ensures in
     let slow = c.is_slow-is_slow.ensures ∙ ap (λ (x : RecordState). x.slow) (state-is s e m.p1 c.args.seat i c.at.result.now c.state-state.result.now c.at.ensures.at c.state-state.ensures) in
-    let done = c.in_ok-acknowledge.ensures.ok ∙ ap (λ (b : Bool). let none : List Fields = [] in replied (if b then none else status_reply m 1 ∷ []) e) slow in
-    let w0 = rw c.in-Waiting.is at c.in-Ok.ensures.ok in
-    let w = rw c.put_of.ensures at w0 in
+    let done = acknowledged e _ m c.wanted-wanted.result c.is_slow-is_slow.result i.r.state.slow c.wanted-wanted.ensures c.requires.command slow c.in_ok-acknowledge.ensures.ok in
+    let put = put-is c.args.circuit c.args.seat m c.wanted-wanted.result _ c.wanted-wanted.ensures c.put_from.ensures in
+    let w0 = asked-is s c.begin.new.records c.args.seat.place bits (Some c.put_from.result) begun.Waiting m c.wanted-wanted.result c.payload.result.now c.wanted-wanted.ensures c.payload.ensures (rw c.in-Waiting.is at c.in-Ok.ensures.ok) in
+    let w = rw put at w0 in
     let one : w.0 ≡ i.r = one-record s c.args.seat.place w.0 i.r w.3.at i.at in
     let taken = subst (λ (r : Record). IsTaken s r bits (Some p) m begun.Waiting w.1) one w.2 in
     let becomes = subst (λ (r : Record). Becomes s c.args.seat.place r w.1 c.begin.new.records) one w.3 in
@@ -59,7 +62,7 @@ returns-in_ok-send-in-Refused-clause-ok c port =
     let bits = c.rights-rights.result in
     let p = put_in c.args.circuit c.args.seat m in
     let right = right-is c.args.records.now c.args.self.now _ m.p1 c.args.seat i c.rights-rights.result _ _ _ c.at.result.now _ c.self.view_is c.deref.ensures.value c.deref-2.ensures.value c.at.ensures.at c.state-state.ensures c.name.ensures c.rights-rights.ensures in
-    let w = rw c.in-Refused.is at c.in-Ok.ensures.ok in
+    let w = asked-is s c.begin.new.records c.args.seat.place bits (Some c.put_from.result) (begun.Refused c.in-Refused.status) m c.wanted-wanted.result c.payload.result.now c.wanted-wanted.ensures c.payload.ensures (rw c.in-Refused.is at c.in-Ok.ensures.ok) in
     let one : w.0 ≡ i.r = one-record s c.args.seat.place w.0 i.r w.1 i.at in
     let refused = subst (λ (r : Record). IsRefused r bits (Some p) m c.in-Refused.status.number) one w.2 in
     let all = ap length (c.out_bytes-waited.ensures ∙ ap (λ (x : ServerEnd). x.link.output) c.self.view_is) in

@@ -32,7 +32,7 @@ returns c port =
     let quick : false ≡ i.r.state.slow = sym c.if-is_slow.false ∙ c.is_slow.ensures ∙ ap (λ (x : RecordState). x.slow) (state-is s e w.sid seat i c.at.result.now c.state-state.result.now c.at.ensures.at c.state-state.ensures) in
     let reply = status_reply m 1 in
     let sent = c.send_done.ensures.sent c.if-not-send_done.false ∙ ap (λ (n : ℕ). let r : Fields = record reply { count = n } in with_sent (r ∷ []) c.self.inside.link) (sym c.if-wanted-ne1.false) in
-    let done = answered _ e c.send_done.new.link _ (reply ∷ []) c.self.view_is sent c.drop_short.ensures ∙ ap (λ (b : Bool). let none : List Fields = [] in replied (if b then none else reply ∷ []) (after_short e)) quick in
+    let done = answered _ e c.send_done.new.link _ (reply ∷ []) c.self.view_is sent c.drop_front.ensures ∙ ap (λ (b : Bool). let none : List Fields = [] in replied (if b then none else reply ∷ []) (after_short e)) quick in
     let came = c.in_bytes.ensures ∙ ap (λ (l : LinkState). l.input.bytes) sent ∙ ap (λ (x : ServerEnd). x.link.input.bytes) c.self.view_is in
     let did = subst (λ (b : List ℕ). WritesTo s seat.place bits (Some p) (short_in b command.WriteNotify w) (begun.Applied false) c.write_one.new.records) came (c.write_one.ensures.written c.if-not-write_one.false command.WriteNotify (Some p) refl) in
     let one : did.0 ≡ i.r = one-record s seat.place did.0 i.r did.3.at i.at in

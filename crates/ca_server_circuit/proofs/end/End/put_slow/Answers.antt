@@ -30,7 +30,7 @@ returns c port =
     let bits = c.rights-rights.result in
     let right = right-is s e _ w.sid seat i bits _ _ _ c.at.result.now _ c.self.view_is c.deref.ensures.value c.deref-2.ensures.value c.at.ensures.at c.state-state.ensures c.name.ensures c.rights-rights.ensures in
     let slow : true ≡ i.r.state.slow = sym c.if-not-is_slow.false ∙ c.is_slow.ensures ∙ ap (λ (x : RecordState). x.slow) (state-is s e w.sid seat i c.at.result.now c.state-state.result.now c.at.ensures.at c.state-state.ensures) in
-    let done = dropped _ e _ c.self.view_is c.drop_short.ensures ∙ sym (replied-none (after_short e)) ∙ ap (λ (b : Bool). let none : List Fields = [] in replied (if b then none else status_reply m 1 ∷ []) (after_short e)) slow in
+    let done = dropped _ e _ c.self.view_is c.drop_front.ensures ∙ sym (replied-none (after_short e)) ∙ ap (λ (b : Bool). let none : List Fields = [] in replied (if b then none else status_reply m 1 ∷ []) (after_short e)) slow in
     let came = c.in_bytes.ensures ∙ ap (λ (x : ServerEnd). x.link.input.bytes) c.self.view_is in
     let put = subst (λ (q : Put). WritesTo s seat.place bits (Some q) (short_in c.in_bytes.result.now command.WriteNotify w) (begun.Applied true) c.put_one.new.records) c.put_from-put.ensures (c.put_one.ensures.put c.if-not-put_one.false command.WriteNotify) in
     let did = subst (λ (b : List ℕ). WritesTo s seat.place bits (Some p) (short_in b command.WriteNotify w) (begun.Applied true) c.put_one.new.records) came put in

@@ -1,4 +1,4 @@
-use Rattle.std.proofs.Common.{ℕ, [], ◌∷◌, ap, ◌∙◌, subst}
+use Rattle.std.proofs.Common.{ℕ, [], ◌∷◌, subst}
 use Rattle.ca_records.specs.Record.{RecordState}
 use Rattle.ca_wire.specs.Messages.{read_request, status_reply}
 use Rattle.ca_server_circuit.specs.Seeking.{IsServed}

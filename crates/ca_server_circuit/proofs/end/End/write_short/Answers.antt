@@ -28,4 +28,4 @@ returns c h port =
     let one : did.0 ≡ i.r = one-record s seat.place did.0 i.r did.3.at i.at in
     let taken = subst (λ (r : Record). IsTaken s r bits None m (begun.Applied false) did.1) one did.2 in
     let becomes = subst (λ (r : Record). Becomes s seat.place r did.1 c.write_one.new.records) one did.3 in
-    write-applied port s c.write_one.new.records h (after_short e) _ m seat (served-after s e w.sid seat i) bits false did.1 right refl taken becomes (dropped _ e _ c.self.view_is c.drop_short.ensures)
+    write-applied port s c.write_one.new.records h (after_short e) _ m seat (served-after s e w.sid seat i) bits false did.1 right refl taken becomes (dropped _ e _ c.self.view_is c.drop_front.ensures)
