@@ -4,3 +4,5 @@ pub mod Dropping
 pub mod Pumps
 pub mod Seeking
 pub mod Beside
+pub mod Receivers
+pub mod Lines

@@ -1,6 +1,7 @@
 -- The subscriptions of an end, each in the queue that it was given.
 use Rattle.std.proofs.Common.{◌≡◌, ℕ, zero, suc, ◌+◌, ◌*◌, ◌<◌, ◌≤◌, ◌⊎◌, ◌||◌, inl, inr, Bool, true, false, not, cond, List, [], ◌∷◌, ◌++◌, length, filter, map, Option, Some, None, Result, Ok, Err, is_some, nat_lt, refl, sym, ap, ◌∙◌, subst, arith}
-use Rattle.std.specs.Prelude.{OnErr, option_to_list, slice_get, slice_set}
+use Rattle.std.specs.Result.{is_err}
+use Rattle.std.specs.Prelude.{OnErr, OnOk, option_to_list, slice_get, slice_set}
 use Rattle.std.specs.List.{list_any}
 use Rattle.std.proofs.lemmas.Bool.{both_ways, cases_Bool, ltb-false, ltb-true, or_left, or_right, or_parts, or_cases}
 use Rattle.std.proofs.lemmas.List.{length_push, length-map}
@@ -26,6 +27,15 @@ use Rattle.ca_server_subscriptions.specs.Subscribed.{ArePlaced, AtPlace, HasRoom
 pub in-err : {T E P : Type 0} (r : Result T E) → P → OnErr r P
 in-err (Ok x) p = tt
 in-err (Err e) p = p
+
+-- what holds of a call that was done, or refused
+pub if-ok : {T E P : Type 0} (r : Result T E) → is_err r ≡ false → OnOk r P → P
+if-ok (Ok x) is p = p
+if-ok (Err e) is p = absurd cc
+
+pub if-err : {T E P : Type 0} (r : Result T E) → is_err r ≡ true → OnErr r P → P
+if-err (Ok x) is p = absurd cc
+if-err (Err e) is p = p
 
 abbrev pub Q : Type 0
 Q = Queue Stored
@@ -259,7 +269,7 @@ looked-up key (e ∷ es) x is = elim (cases_Bool (same key e.0)) [
       (suc r.0, r.1, r.2, r.3, r.4)
 ]
 
-abbrev other : SubKey → Entry → Bool
+abbrev pub other : SubKey → Entry → Bool
 other key e = not (same key e.0)
 
 all-other : (key : SubKey) (es : Standings) → is_among key (keys_in es) ≡ false → filter (other key) es ≡ es

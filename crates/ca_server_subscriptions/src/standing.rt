@@ -60,6 +60,13 @@ impl Standing {
         self.queue
     }
 
+    // The name of its record.
+    pub(crate) fn name(&self) -> &[u8]
+        ensures { result.now ≡ self.now.0.name }
+    {
+        self.name.as_slice()
+    }
+
     // Whether it is on the record of this name.
     pub(crate) fn is_on(&self, name: &[u8]) -> bool
         ensures { result ≡ is_on name.now self.now.0 }
