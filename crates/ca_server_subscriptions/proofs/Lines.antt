@@ -1,6 +1,6 @@
 -- Lines of subscriptions, as the map that has them leaves them.
-use Rattle.std.proofs.Common.{◌≡◌, ℕ, Bool, true, false, cond, List, [], ◌∷◌, ◌++◌, length, Option, Some, None, refl, sym, ap, ◌∙◌, subst, arith}
-use Rattle.std.specs.Prelude.{Err, IsSome, Ok, OnErr, Result, map, option_map, unwrap_or}
+use Rattle.std.proofs.Common.{◌≡◌, ℕ, Bool, true, false, cond, List, [], ◌∷◌, ◌++◌, Option, Some, None, refl, sym, ap, ◌∙◌, subst}
+use Rattle.std.specs.Prelude.{IsSome, map, option_map, unwrap_or}
 use Rattle.std.specs.HashMap as hash
 use Rattle.std.specs.HashMap.{HashMap}
 use Rattle.std.specs.Map.{IsKeyTest, KeepsOthers, lookup, set_value}
@@ -85,11 +85,11 @@ module _ {K : Type 0} (bytes : K → List ℕ) where
       ap (λ (es : Map). lines_in bytes es) (through.0 ∙ ap (λ (x : List Receiver). set_value (is_named name) m.entries x) same ∙ set_value_same (is_named name) m.entries v found)
 
   -- a line with none is none
-  pub emptied : {S : Type 0} (m n : HashMap K (List Receiver) S) (name : List ℕ) (v : List Receiver) → lookup (is_named name) m.entries ≡ Some v → v ≡ [] → hash.UpdatesBy equal (is_named name) m n None → (other : List ℕ) → receivers_in (lines_in bytes n.entries) other ≡ receivers_in (lines_in bytes m.entries) other
-  emptied m n name v found none u other = by (bytes_eq other name) refl
+  pub emptied : {S : Type 0} (m n : HashMap K (List Receiver) S) (name : List ℕ) → receivers_in (lines_in bytes m.entries) name ≡ [] → hash.UpdatesBy equal (is_named name) m n None → (other : List ℕ) → receivers_in (lines_in bytes n.entries) other ≡ receivers_in (lines_in bytes m.entries) other
+  emptied m n name none u other = by (bytes_eq other name) refl
     where
       own : receivers_in (lines_in bytes n.entries) name ≡ receivers_in (lines_in bytes m.entries) name
-      own = own-is m n name None u ∙ sym none ∙ sym (lined name m.entries v found)
+      own = own-is m n name None u ∙ sym none
 
       by : (b : Bool) → bytes_eq other name ≡ b → receivers_in (lines_in bytes n.entries) other ≡ receivers_in (lines_in bytes m.entries) other
       by true is = subst (λ (t : List ℕ). receivers_in (lines_in bytes n.entries) t ≡ receivers_in (lines_in bytes m.entries) t) (sym ((bytes_eq-Decides other name).0 is)) own

@@ -1,25 +1,25 @@
 -- The subscriptions of an end by the names of their records.
-use Rattle.std.proofs.Common.{◌≡◌, ℕ, zero, suc, ◌+◌, ◌<◌, ◌||◌, ◌==◌, inl, inr, Bool, true, false, not, cond, List, [], ◌∷◌, ◌++◌, length, drop, filter, map, slice_get, slice_index_or, Option, Some, None, Result, Ok, refl, sym, ap, ◌∙◌, subst, arith}
+use Rattle.std.proofs.Common.{◌≡◌, ℕ, zero, suc, ◌+◌, ◌<◌, ◌≤◌, ◌||◌, ◌==◌, inl, inr, Bool, true, false, not, cond, List, [], ◌∷◌, ◌++◌, length, drop, filter, map, slice_get, slice_index_or, Option, Some, None, Ok, refl, sym, ap, ◌∙◌, subst, arith}
 use Rattle.std.specs.Prelude.{slice_set}
 use Rattle.std.specs.List.{fold, list_any}
 use Rattle.std.specs.Str.{bytes_eq}
 use Rattle.std.proofs.lemmas.Slice.Eq.{bytes_eq-Decides}
 use Rattle.std.proofs.lemmas.Bool.{both_ways, cases_Bool, ne_eqb, or_parts, or_right}
 use Rattle.ca_text.specs.Place.{At}
-use Rattle.ca_text.proofs.Places.{At-mapped, At-within, some_is}
+use Rattle.ca_text.proofs.Places.{At-mapped, At-one, At-within, some_is}
 use Rattle.ca_queue.specs.declared.entry.SubKey.{SubKey}
 use Rattle.ca_queue.specs.Circuit.{Begins, HasAt, queue_posted, queue_without, without_each}
 use Rattle.ca_queue.specs.Keys.{is_among, same}
-use Rattle.ca_queue.specs.Queue.{Queue, added, cancelled, posted}
+use Rattle.ca_queue.specs.Queue.{added, posted}
 use Rattle.ca_queue.specs.Sound.{IsSound}
-use Rattle.ca_queue.specs.Waiting.{has_entry, is_of, after_post, replaces}
+use Rattle.ca_queue.specs.Waiting.{has_entry, is_of, after_post}
 use Rattle.ca_queue.proofs.Circuits.{set-here}
 use Rattle.ca_queue.proofs.Keys.{among_push, same_itself}
 use Rattle.ca_model.specs.Server.{Subscription, concerns, key_of}
 use Rattle.ca_model.specs.Speech.{Stored, share_bit}
 use Rattle.ca_server_subscriptions.proofs.Placing.{Entry, Q, alike-posted, filtered-at, has-none, other, placed-alike}
 use Rattle.ca_server_subscriptions.proofs.Sieves.{each-none, without-one}
-use Rattle.ca_server_subscriptions.specs.ByRecord.{Adds, AreByRecord, ArePlacedIn, Lines, Receiver, is_masked, receiver_of, receivers_in, receivers_of, without}
+use Rattle.ca_server_subscriptions.specs.ByRecord.{Adds, AreByRecord, ArePlacedIn, IsSole, Lines, Receiver, is_masked, receiver_of, receivers_in, receivers_of, without}
 use Rattle.ca_server_subscriptions.specs.Subscribed.{ArePlaced, Standings, is_on, keys_in, subscriptions_in}
 
 -- ---- those on a record
@@ -74,7 +74,7 @@ posts-all name mask v (e ∷ es) qs keyed =
   where
     by : (a b : Bool) → is_on name e.1.0 ≡ a → share_bit mask e.1.0.mask ≡ b
         → ((rs : List Q) → fold (λ (zs : List Q) (r : Receiver). map (queue_posted r.key v) zs) rs (filter (is_masked mask) (receivers_of name es))
-          ≡ fold (λ (zs : List Q) (x : Subscription). map (queue_posted (key_of x) v) zs) rs (filter (concerns name mask) (subscriptions_in es)))
+        ≡ fold (λ (zs : List Q) (x : Subscription). map (queue_posted (key_of x) v) zs) rs (filter (concerns name mask) (subscriptions_in es)))
         → fold (λ (rs : List Q) (r : Receiver). map (queue_posted r.key v) rs) qs (filter (is_masked mask) (receivers_of name (e ∷ es)))
         ≡ fold (λ (rs : List Q) (x : Subscription). map (queue_posted (key_of x) v) rs) qs (filter (concerns name mask) (subscriptions_in (e ∷ es)))
     by true true on masked rest =
@@ -242,3 +242,75 @@ index-at (y ∷ xs) (suc i) x lt is = index-at xs i x (omega (arith, lt)) is
 pub some-there : (rs : List Receiver) (b : Bool) → b ≡ (length rs == 0) → not b ≡ list_any (λ (r : Receiver). true) rs
 some-there [] b is = ap not is
 some-there (r ∷ rs) b is = ap not (is ∙ ne_eqb (length (r ∷ rs)) 0 (λ hit. omega (arith, hit)))
+
+-- ---- the only one on a record
+
+pub none-sole : (es : Standings) → IsSole None es
+none-sole es place e is at = absurd (nothing place is)
+  where
+    nothing : (n : ℕ) → (let none : Option ℕ = None in none ≡ Some n) → ⊥
+    nothing n is = cc
+
+some-on : (name : List ℕ) (es : Standings) (place : ℕ) (e : Entry) → At es place e → is_on name e.1.0 ≡ true → 1 ≤ length (receivers_of name es)
+some-on name [] place e at on = absurd cc
+some-on name (x ∷ es) zero e at on = (let here : is_on name x.1.0 ≡ true = ap (λ (y : Entry). is_on name y.1.0) (some_is x e at) ∙ on in rw here (omega arith))
+some-on name (x ∷ es) (suc place) e at on =
+    elim (cases_Bool (is_on name x.1.0)) [
+      | inl here ↦ rw here (omega arith)
+      | inr there ↦ rw there (some-on name es place e at on)
+    ]
+
+none-left : (rs : List Receiver) → length rs ≡ 0 → rs ≡ []
+none-left [] none = refl
+none-left (r ∷ rs) none = absurd (omega (arith, none))
+
+one-on : (name : List ℕ) (es : Standings) (place : ℕ) (e : Entry) → At es place e → is_on name e.1.0 ≡ true → length (receivers_of name es) ≡ 1 → receivers_of name es ≡ receiver_of e ∷ []
+one-on name [] place e at on one = absurd cc
+one-on name (x ∷ es) zero e at on one =
+    let is : x ≡ e = some_is x e at in
+    let here : is_on name x.1.0 ≡ true = ap (λ (y : Entry). is_on name y.1.0) is ∙ on in
+    let shown : receivers_of name (x ∷ es) ≡ receiver_of x ∷ receivers_of name es = rw here refl in
+    let rest : length (receivers_of name es) ≡ 0 = (let n : suc (length (receivers_of name es)) ≡ 1 = sym (ap (λ (rs : List Receiver). length rs) shown) ∙ one in omega (arith, n)) in
+    shown ∙ (λ i. receiver_of (is i) ∷ none-left (receivers_of name es) rest i)
+one-on name (x ∷ es) (suc place) e at on one = by (is_on name x.1.0) refl (one-on name es place e at on)
+  where
+    by : (b : Bool) → is_on name x.1.0 ≡ b → (length (receivers_of name es) ≡ 1 → receivers_of name es ≡ receiver_of e ∷ []) → receivers_of name (x ∷ es) ≡ receiver_of e ∷ []
+    by true here rest =
+        let shown : receivers_of name (x ∷ es) ≡ receiver_of x ∷ receivers_of name es = rw here refl in
+        let more = some-on name es place e at on in
+        let n : suc (length (receivers_of name es)) ≡ 1 = sym (ap (λ (rs : List Receiver). length rs) shown) ∙ one in
+        absurd (omega (arith, n, more))
+    by false there rest =
+        let shown : receivers_of name (x ∷ es) ≡ receivers_of name es = rw there refl in
+        shown ∙ rest (sym (ap (λ (rs : List Receiver). length rs) shown) ∙ one)
+
+pub sole-found : (name : List ℕ) (es : Standings) (place : ℕ) (e : Entry) → At es place e → is_on name e.1.0 ≡ true → length (receivers_of name es) ≡ 1 → IsSole (Some place) es
+sole-found name es place e at on one p x is there =
+    let same_place : place ≡ p = some_is place p is in
+    let own : x ≡ e = At-one es place x e (subst (λ (n : ℕ). At es n x) (sym same_place) there) at in
+    subst (λ (y : Entry). receivers_of y.1.0.name es ≡ receiver_of y ∷ []) (sym own)
+    (subst (λ (t : List ℕ). receivers_of t es ≡ receiver_of e ∷ []) (sym ((bytes_eq-Decides e.1.0.name name).0 on)) (one-on name es place e at on one))
+
+pub sole-on : (sole : Option ℕ) (name : List ℕ) (es : Standings) (place : ℕ) (e : Entry) → IsSole sole es → sole ≡ Some place → At es place e → is_on name e.1.0 ≡ true → receivers_of name es ≡ receiver_of e ∷ []
+sole-on sole name es place e s is at on = subst (λ (t : List ℕ). receivers_of t es ≡ receiver_of e ∷ []) ((bytes_eq-Decides e.1.0.name name).0 on) (s place e is at)
+
+module _ (name : List ℕ) (es : Standings) (r : Receiver) (are : receivers_of name es ≡ r ∷ []) where
+  pub sole-has : (qs : List Q) → ArePlaced es qs → HasAt qs r.queue r.key
+  sole-has qs p = receiver-has es qs name 0 r p (ap (λ (rs : List Receiver). slice_get rs 0) are)
+
+  pub sole-posts : (mask : ℕ) (v : Stored) (qs now : List Q) → ((i : ℕ) (e : Entry) → At es i e → e.0 ≡ key_of e.1.0) → now ≡ cond (is_masked mask r) (map (queue_posted r.key v) qs) qs
+      → now ≡ fold (λ (rs : List Q) (x : Subscription). map (queue_posted (key_of x) v) rs) qs (filter (concerns name mask) (subscriptions_in es))
+  sole-posts mask v qs now keyed did =
+      did ∙ by (is_masked mask r)
+      ∙ ap (λ (rs : List Receiver). fold (λ (zs : List Q) (x : Receiver). map (queue_posted x.key v) zs) qs (filter (is_masked mask) rs)) (sym are)
+      ∙ posts-all name mask v es qs keyed
+    where
+      by : (b : Bool) → cond b (map (queue_posted r.key v) qs) qs ≡ fold (λ (zs : List Q) (x : Receiver). map (queue_posted x.key v) zs) qs (cond b (r ∷ []) [])
+      by true = refl
+      by false = refl
+
+  pub sole-is-on : list_any (is_on name) (subscriptions_in es) ≡ true
+  sole-is-on = any-on name es ∙ ap (λ (rs : List Receiver). list_any (λ (x : Receiver). true) rs) are
+
+  pub sole-concerned : (mask : ℕ) → is_masked mask r ≡ true → list_any (concerns name mask) (subscriptions_in es) ≡ true
+  sole-concerned mask masked = any-concerned name mask es ∙ ap (λ (rs : List Receiver). list_any (is_masked mask) rs) are ∙ ap (λ (b : Bool). b || false) masked

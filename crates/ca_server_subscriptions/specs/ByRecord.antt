@@ -1,7 +1,8 @@
 -- Working: the subscriptions of an end by the names of their records, as far as a post needs them.
-use Rattle.std.specs.Prelude.{ℕ, ◌≡◌, Bool, false, not, List, [], ◌∷◌, ◌++◌, filter, map, unwrap_or}
+use Rattle.std.specs.Prelude.{ℕ, ◌≡◌, Bool, false, not, List, [], ◌∷◌, ◌++◌, Option, Some, filter, map, unwrap_or}
 use Rattle.std.specs.Map.{lookup}
 use Rattle.std.specs.Str.{bytes_eq}
+use Rattle.ca_text.specs.Place.{At}
 use Rattle.ca_queue.specs.declared.entry.SubKey.{SubKey}
 use Rattle.ca_queue.specs.Keys.{same}
 use Rattle.ca_model.specs.Server.{Subscription}
@@ -58,3 +59,7 @@ AreByRecord lines es = (name : List ℕ) → receivers_in lines name ≡ receive
 -- these are those on a record, of subscriptions that the queues have
 abbrev pub ArePlacedIn : List Receiver → List (Queue Stored) → Type 0
 ArePlacedIn rs qs = (es : Standings) × (name : List ℕ) × ArePlaced es qs × (rs ≡ receivers_of name es)
+
+-- whoever is at this place is the only one on its record
+abbrev pub IsSole : Option ℕ → Standings → Type 0
+IsSole sole es = (place : ℕ) (e : SubKey × (Subscription × ℕ)) → sole ≡ Some place → At es place e → receivers_of e.1.0.name es ≡ receiver_of e ∷ []

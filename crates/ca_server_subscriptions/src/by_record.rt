@@ -129,7 +129,15 @@ impl ByRecord {
             return;
         };
         if line.is_empty() {
-            self.lines.swap_remove(name);
+            self.drop_line(name);
         }
+    }
+
+    // Without the line of this name, which has none.
+    fn drop_line(&mut self, name: &[u8])
+        requires { receivers_in self.old name.now ≡ [] }
+        ensures { (other : List ℕ) → receivers_in self.new other ≡ receivers_in self.old other }
+    {
+        self.lines.swap_remove(name);
     }
 }

@@ -51,6 +51,11 @@ impl Receiver {
         key == self.key
     }
 
+    // Where it is, mostly.
+    pub(crate) fn place(&self) -> usize {
+        self.place
+    }
+
     // One at this place is gone, and those after it have moved up.
     pub(crate) fn move_up(&mut self, gone: usize)
         ensures { self.new ≡ self.old }

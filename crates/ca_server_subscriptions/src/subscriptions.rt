@@ -1,4 +1,4 @@
-ghost use Rattle.std.specs.Prelude.{Option, ◌≡◌, ◌<◌, ◌==◌, ◌≤◌, ◌*◌, IfOk, IfSome, OnErr, OnOk, Some, false, true, filter, map, length, option_map};
+ghost use Rattle.std.specs.Prelude.{Option, ◌≡◌, ◌∷◌, [], ◌<◌, ◌==◌, ◌≤◌, ◌*◌, IfOk, IfSome, OnErr, OnOk, Some, false, true, filter, map, length, option_map};
 ghost use Rattle.std.specs.List.{fold, list_any};
 ghost use Rattle.std.specs.Map.{lookup};
 ghost use Rattle.ca_text.specs.Limits.{circuit_queues, element_limit, queue_subscriptions};
@@ -10,7 +10,7 @@ ghost use Rattle.ca_server_subscriptions.specs.Concerned.{ConcernsAt};
 ghost use Rattle.ca_queue.specs.Circuit.{RestBefore, queue_posted};
 ghost use Rattle.ca_model.specs.Speech.{Stored};
 ghost use Rattle.ca_wire.specs.declared.requests.Wanted.{Wanted};
-ghost use Rattle.ca_server_subscriptions.specs.ByRecord.{ArePlacedIn, is_masked};
+ghost use Rattle.ca_server_subscriptions.specs.ByRecord.{ArePlacedIn, IsSole, is_masked, receivers_of};
 ghost use Rattle.ca_server_subscriptions.specs.Pumping.{GivesUpdate, MayGive};
 ghost use Rattle.ca_server_subscriptions.specs.Subscribed.{AreKnown, ArePlaced, AtPlace, HasRoom, IsAskable, Joins, Standings, after_post, has_key, is_of_sid, is_on, none_yet, without_one, without_those};
 
@@ -34,6 +34,8 @@ pub struct Subscriptions {
     by_record: ByRecord,
     // Where the line of a record was found last: mostly the same is asked for again. The name decides.
     recent: usize,
+    // Where the subscription is that was posted to last, if it is the only one on its record: then no line need be looked at.
+    sole: Option<usize>,
     queues: Waiting,
     // The place after the subscription whose update was taken last: the next update is mostly of the one there. The key decides.
     next: usize,
@@ -44,14 +46,15 @@ impl Model for Subscriptions {
 
     ghost Value = { Subscribed };
 
-    ghost use Rattle.ca_server_subscriptions.specs.ByRecord.{AreByRecord};
+    ghost use Rattle.ca_server_subscriptions.specs.ByRecord.{AreByRecord, IsSole};
     ghost use Rattle.ca_server_subscriptions.specs.Subscribed.{ArePlaced, subscriptions_in};
 
     ghost view = { λ s.
         record { subscriptions = subscriptions_in s.standing.entries; queues = s.queues } };
 
     ghost invariant = { λ s.
-        ArePlaced s.standing.entries s.queues × AreByRecord s.by_record s.standing.entries };
+        ArePlaced s.standing.entries s.queues × AreByRecord s.by_record s.standing.entries
+        × IsSole s.sole s.standing.entries };
 }
 
 impl Subscriptions {
@@ -63,6 +66,7 @@ impl Subscriptions {
             standing: IndexMap::new(alloc),
             by_record: ByRecord::new(alloc),
             recent: 0,
+            sole: None,
             queues: Waiting::new(alloc),
             next: 0,
         }
@@ -102,6 +106,7 @@ impl Subscriptions {
             sid: wanted.sid.number(),
             sub: wanted.id.number(),
         };
+        self.sole = None;
         self.standing.reserve(1)?;
         let queue = match self.queues.begin(key, update) {
             Ok(queue) => queue,
@@ -128,6 +133,7 @@ impl Subscriptions {
             return;
         };
         let queue = standing.queue();
+        self.sole = None;
         self.by_record.take_out(standing.name(), key, place);
         self.queues.cancel(queue, key);
         self.standing.shift_remove(&key);
@@ -192,8 +198,41 @@ impl Subscriptions {
             (list_any (concerns name.now mask) self.old.subscriptions ≡ true) }
         ensures stay { OnErr result (self.new.subscriptions ≡ self.old.subscriptions) }
     {
+        if let Some(receiver) = sole_on(self.sole, &self.standing, name) {
+            receiver.post(&mut self.queues, &mut self.next, mask, value, meta)?;
+            return Ok(true);
+        }
+        self.post_to_each(name, mask, value, meta)
+    }
+
+    // The same by the line of the record.
+    #[inline(never)]
+    fn post_to_each(
+        &mut self,
+        name: &[u8],
+        mask: u16,
+        value: &Value,
+        meta: &Meta,
+    ) -> Result<bool, AllocError>
+        requires { count_of (elements value.now) ≤ element_limit }
+        ensures ok { OnOk result (self.new ≡ after_post name.now mask
+            (record { value = elements value.now; meta = meta.now }) self.old) }
+        ensures on { IfOk result (λ on.
+            on ≡ list_any (is_on name.now) self.old.subscriptions) }
+        ensures err { OnErr result
+            (list_any (concerns name.now mask) self.old.subscriptions ≡ true) }
+        ensures stay { OnErr result (self.new.subscriptions ≡ self.old.subscriptions) }
+    {
         let receivers = self.by_record.receivers(&mut self.recent, name);
-        post_to(receivers, &mut self.queues, &mut self.next, mask, value, meta)?;
+        self.sole = sole_of(receivers, &self.standing, name);
+        post_to(
+            receivers,
+            &mut self.queues,
+            &mut self.next,
+            mask,
+            value,
+            meta,
+        )?;
         Ok(!receivers.is_empty())
     }
 
@@ -334,4 +373,46 @@ fn post_to(
         receivers[i].post(queues, next, mask, value, meta)?;
     }
     Ok(())
+}
+
+// The only one on the record of this name, if it is at this place.
+#[inline(always)]
+fn sole_on(
+    sole: Option<usize>,
+    standing: &IndexMap<SubKey, Standing>,
+    name: &[u8],
+) -> Option<Receiver>
+    requires { IsSole sole standing.now.entries }
+    ensures { IfSome result (λ r. receivers_of name.now standing.now.entries ≡ r ∷ []) }
+{
+    let place = sole?;
+    let Some((key, standing)) = standing.get_index(place) else {
+        return None;
+    };
+    if !standing.is_on(name) {
+        return None;
+    }
+    Some(standing.receiver(*key, place))
+}
+
+// Where the only one of those on the record of this name is, if there is one alone.
+fn sole_of(
+    receivers: &[Receiver],
+    standing: &IndexMap<SubKey, Standing>,
+    name: &[u8],
+) -> Option<usize>
+    requires { receivers.now ≡ receivers_of name.now standing.now.entries }
+    ensures { IsSole result standing.now.entries }
+{
+    if receivers.len() != 1 {
+        return None;
+    }
+    let place = receivers[0].place();
+    let Some((_, standing)) = standing.get_index(place) else {
+        return None;
+    };
+    if !standing.is_on(name) {
+        return None;
+    }
+    Some(place)
 }

@@ -1,4 +1,3 @@
-use Rattle.std.proofs.Common.{ap, ◌∙◌}
 use Rattle.ca_dbr.specs.Elements.{elements}
 use Rattle.ca_model.specs.Speech.{Stored}
 use Rattle.ca_server_subscriptions.proofs.Receivers.{has-in, index-at, placed-posted, posts-next}

@@ -1,4 +1,4 @@
-use Rattle.std.proofs.Common.{◌≡◌, ◌<◌, None, false, List, [], ◌∷◌, ◌++◌, length, refl, sym, ap, ◌∙◌, subst, arith}
+use Rattle.std.proofs.Common.{◌≡◌, ◌<◌, None, false, List, [], ◌∷◌, ◌++◌, length, sym, ap, ◌∙◌, subst, arith}
 use Rattle.std.specs.Map.{lookup}
 use Rattle.std.proofs.lemmas.List.{length-map}
 use Rattle.ca_queue.specs.declared.entry.SubKey.{SubKey}
@@ -7,10 +7,10 @@ use Rattle.indexmap.proofs.CallerLemmas.{insert_entry-new}
 use Rattle.ca_queue.specs.Queue.{Queue}
 use Rattle.ca_model.specs.Server.{Subscription, key_of}
 use Rattle.ca_model.specs.Speech.{Stored}
-use Rattle.ca_server_subscriptions.specs.ByRecord.{Adds, Lines, receivers_in, receivers_of}
+use Rattle.ca_server_subscriptions.specs.ByRecord.{Lines, receivers_in, receivers_of}
 use Rattle.ca_server_subscriptions.specs.Subscribed.{ArePlaced, Joins, Standings, Subscribed, keys_in, subscriptions_in}
 use Rattle.ca_server_subscriptions.proofs.Placing.{begins-new, has-none, if-err, if-ok, new-key, not-there, some-room}
-use Rattle.ca_server_subscriptions.proofs.Receivers.{begun-gone, begun-has, lines-more}
+use Rattle.ca_server_subscriptions.proofs.Receivers.{begun-gone, begun-has, lines-more, none-sole}
 use Rattle.ca_server_subscriptions.proofs.subscriptions.Subscriptions.begin.Goals as goal
 
 pub begin-requires : goal.begin-requires
@@ -66,6 +66,7 @@ invariant_of-self-2 c =
       (begun c).0,
       lines-more c.self.inside.by_record c.add.new.self c.self.inside.standing.entries c.insert.new.self.entries (key, (s, c.in-Ok.queue)) c.as_slice.result.now c.new-receiver.result (sym name)
           c.new-receiver.ensures (grown c) adds c.self.invariant.1,
+      none-sole c.insert.new.self.entries,
     )
 
 pub returns-clause-ok : goal.returns-clause-ok
@@ -99,6 +100,7 @@ invariant_of-self-then-is_err c =
     let same_lines = if-err c.add.result (sym c.is_err.ensures.value ∙ c.if-is_err.true) c.add.ensures.err in (
       subst (λ (xs : Standings). ArePlaced xs c.cancel.new.self) (sym still) (subst (λ (rs : List (Queue Stored)). ArePlaced es rs) (sym (gone c)) c.self.invariant.0),
       λ name. ap (λ (w : Lines). receivers_in w name) same_lines ∙ c.self.invariant.1 name ∙ ap (receivers_of name) (sym still),
+      none-sole c.reserve.new.self.entries,
     )
 
 pub returns-then-is_err-clause-err : goal.returns-then-is_err-clause-err

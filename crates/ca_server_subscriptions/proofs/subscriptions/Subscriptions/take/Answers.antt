@@ -15,6 +15,7 @@ pub invariant_of-self-2 : goal.invariant_of-self-2
 invariant_of-self-2 c = (
   placed-taken c.self.inside.standing.entries c.self.inside.queues c.self.invariant.0 c.in_ok-key.field-0-0 c.in_ok-key.key c.in_ok-key.update c.take.new.self c.in_ok-key.ensures,
   c.self.invariant.1,
+  c.self.invariant.2,
 )
 
 pub returns-clause-gives : goal.returns-clause-gives
