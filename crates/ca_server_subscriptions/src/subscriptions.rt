@@ -31,14 +31,14 @@ use std::marker::Model;
 #[derive(Drop)]
 pub struct Subscriptions {
     standing: IndexMap<SubKey, Standing>,
-    by_record: ByRecord,
-    // Where the line of a record was found last: mostly the same is asked for again. The name decides.
-    recent: usize,
     // Where the subscription is that was posted to last, if it is the only one on its record: then no line need be looked at.
     sole: Option<usize>,
     queues: Waiting,
     // The place after the subscription whose update was taken last: the next update is mostly of the one there. The key decides.
     next: usize,
+    by_record: ByRecord,
+    // Where the line of a record was found last: mostly the same is asked for again. The name decides.
+    recent: usize,
 }
 
 impl Model for Subscriptions {
@@ -64,11 +64,11 @@ impl Subscriptions {
     {
         Subscriptions {
             standing: IndexMap::new(alloc),
-            by_record: ByRecord::new(alloc),
-            recent: 0,
             sole: None,
             queues: Waiting::new(alloc),
             next: 0,
+            by_record: ByRecord::new(alloc),
+            recent: 0,
         }
     }
 
