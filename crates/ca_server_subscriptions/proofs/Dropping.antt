@@ -1,18 +1,15 @@
--- Subscriptions place by place: those of a SID are taken out, and those that a post concerns get an update.
-use Rattle.std.proofs.Common.{◌≡◌, ℕ, zero, suc, ◌+◌, ◌≤◌, ◌⊎◌, ◌||◌, ◌==◌, inl, inr, Bool, true, false, not, cond, List, [], ◌∷◌, length, filter, map, drop, refl, sym, ap, ◌∙◌, subst, arith}
-use Rattle.std.specs.List.{fold, list_any}
-use Rattle.std.proofs.lemmas.Bool.{both_ways, cases_Bool, or_cases, or_left, or_right}
+-- Subscriptions place by place: those of a SID are taken out.
+use Rattle.std.proofs.Common.{◌≡◌, ℕ, zero, suc, ◌+◌, ◌≤◌, ◌⊎◌, ◌||◌, ◌==◌, inl, inr, Bool, true, false, not, cond, List, [], ◌∷◌, length, filter, map, refl, sym, ap, ◌∙◌, subst, arith}
+use Rattle.std.proofs.lemmas.Bool.{both_ways, cases_Bool, or_cases}
 use Rattle.ca_text.specs.Place.{At}
 use Rattle.ca_text.proofs.Places.{At-mapped, At-one, At-within, some_is}
 use Rattle.ca_queue.specs.declared.entry.SubKey.{SubKey}
-use Rattle.ca_queue.specs.Circuit.{queue_posted, without_each}
+use Rattle.ca_queue.specs.Circuit.{without_each}
 use Rattle.ca_queue.specs.Keys.{is_among, same}
-use Rattle.ca_queue.specs.Queue.{Queue}
 use Rattle.ca_queue.proofs.Keys.{same_is, same_itself}
 use Rattle.ca_model.specs.Server.{Subscription, key_of}
-use Rattle.ca_model.specs.Speech.{Stored}
 use Rattle.ca_server_subscriptions.proofs.Sieves.{Test, each-both, each-false, filter-all, filter-both}
-use Rattle.ca_server_subscriptions.specs.Subscribed.{AreKnown, AtPlace, PassesAt, Subscribed, is_of_sid, with_update, without_one, without_those}
+use Rattle.ca_server_subscriptions.specs.Subscribed.{AreKnown, AtPlace, Subscribed, is_of_sid, without_one, without_those}
 
 -- what passes a test was no earlier in the list
 pub filtered-later : {A : Type 0} (f : A → Bool) (xs : List A) (i : ℕ) (x : A) → At (filter f xs) i x → (k : ℕ) × (i ≤ k) × At xs k x × (f x ≡ true)
@@ -118,76 +115,3 @@ leaves-all f old now l known =
     ap f m.2 ∙ l.done a.0 m.0 (omega arith) m.1) in
     let same_it : without_those f now ≡ now = λ i. record { subscriptions = subs i; queues = queues i } in
     sym same_it ∙ l.rest
-
--- ---- a post
-
--- what is left of a post after those before this place
-abbrev pub posting : (c : Subscription → Bool) → Stored → List (Queue Stored) → List Subscription → List (Queue Stored)
-posting c v qs ss = fold (λ (rs : List (Queue Stored)) (x : Subscription). map (queue_posted (key_of x) v) rs) qs (filter c ss)
-
-pub record Posts (c : Subscription → Bool) (v : Stored) (old now : Subscribed) (place : ℕ) : Type 0 where
-  pub same_ones : now.subscriptions ≡ old.subscriptions
-  pub rest : posting c v now.queues (drop place old.subscriptions) ≡ posting c v old.queues old.subscriptions
-
-from-here : {A : Type 0} (xs : List A) (n : ℕ) (x : A) → At xs n x → drop n xs ≡ x ∷ drop (suc n) xs
-from-here [] n x at = absurd cc
-from-here (y ∷ xs) zero x at = ap (λ (z : _). z ∷ xs) (some_is y x at)
-from-here (y ∷ xs) (suc n) x at = from-here xs n x at
-
-from-place : {A : Type 0} (xs : List A) (n : ℕ) (x : A) → At xs n x → drop n xs ≡ x ∷ drop (n + 1) xs
-from-place xs n x at = from-here xs n x at ∙ ap (λ (k : ℕ). x ∷ drop k xs) {x = suc n} {y = n + 1} (omega arith)
-
-none-from : {A : Type 0} (xs : List A) (n : ℕ) → length xs ≤ n → drop n xs ≡ []
-none-from [] zero all = refl
-none-from [] (suc n) all = refl
-none-from (x ∷ xs) zero all = absurd (omega (arith, all))
-none-from (x ∷ xs) (suc n) all = none-from xs n (omega (arith, all))
-
-pub posts-next : (c : Subscription → Bool) (v : Stored) (old now next : Subscribed) (place : ℕ) → Posts c v old now place → AtPlace c (with_update v) place now next → Posts c v old next (place + 1)
-posts-next c v old now next place p (inr past) = record {
-  same_ones = ap (λ (z : Subscribed). z.subscriptions) past.1 ∙ p.same_ones;
-  rest =
-      let few : length old.subscriptions ≤ place = (let e = ap length p.same_ones in let none = past.0 in omega (arith, e, none)) in
-      let here : drop place old.subscriptions ≡ [] = none-from old.subscriptions place few in
-      let there : drop (place + 1) old.subscriptions ≡ [] = none-from old.subscriptions (place + 1) (omega (arith, few)) in
-      ap (λ (z : Subscribed). posting c v z.queues (drop (place + 1) old.subscriptions)) past.1
-      ∙ ap (λ (ss : List Subscription). posting c v now.queues ss) (there ∙ sym here) ∙ p.rest;
-}
-posts-next c v old now next place p (inl (s, at, is)) = record {
-  same_ones = by (c s) is ∙ p.same_ones;
-  rest =
-      let here : drop place old.subscriptions ≡ s ∷ drop (place + 1) old.subscriptions = from-place old.subscriptions place s (subst (λ (ss : List Subscription). At ss place s) p.same_ones at) in
-      step (c s) refl ∙ sym (ap (λ (ss : List Subscription). posting c v now.queues ss) here) ∙ p.rest;
-}
-  where
-    by : (b : Bool) → next ≡ cond b (with_update v s now) now → next.subscriptions ≡ now.subscriptions
-    by true e = ap (λ (z : Subscribed). z.subscriptions) e
-    by false e = ap (λ (z : Subscribed). z.subscriptions) e
-
-    step : (b : Bool) → c s ≡ b → posting c v next.queues (drop (place + 1) old.subscriptions) ≡ posting c v now.queues (s ∷ drop (place + 1) old.subscriptions)
-    step true e =
-        ap (λ (z : Subscribed). posting c v z.queues (drop (place + 1) old.subscriptions)) (is ∙ ap (λ (b : Bool). cond b (with_update v s now) now) e)
-        ∙ sym (ap (λ (b : Bool). fold (λ (rs : List (Queue Stored)) (x : Subscription). map (queue_posted (key_of x) v) rs) now.queues
-        (cond b (s ∷ filter c (drop (place + 1) old.subscriptions)) (filter c (drop (place + 1) old.subscriptions)))) e)
-    step false e =
-        ap (λ (z : Subscribed). posting c v z.queues (drop (place + 1) old.subscriptions)) (is ∙ ap (λ (b : Bool). cond b (with_update v s now) now) e)
-        ∙ sym (ap (λ (b : Bool). fold (λ (rs : List (Queue Stored)) (x : Subscription). map (queue_posted (key_of x) v) rs) now.queues
-        (cond b (s ∷ filter c (drop (place + 1) old.subscriptions)) (filter c (drop (place + 1) old.subscriptions)))) e)
-
-pub posts-all : (c : Subscription → Bool) (v : Stored) (old now : Subscribed) (place : ℕ) → length old.subscriptions ≤ place → Posts c v old now place
-    → now ≡ (let new : Subscribed = record old { queues = posting c v old.queues old.subscriptions } in new)
-posts-all c v old now place all p =
-    let none : drop place old.subscriptions ≡ [] = none-from old.subscriptions place all in
-    let queues : now.queues ≡ posting c v old.queues old.subscriptions = sym (ap (λ (ss : List Subscription). posting c v now.queues ss) none) ∙ p.rest in
-    let subs = p.same_ones in
-    λ i. record { subscriptions = subs i; queues = queues i }
-
--- one that passes is among them
-any-at : {A : Type 0} (test : A → Bool) (xs : List A) (i : ℕ) (x : A) → At xs i x → test x ≡ true → list_any test xs ≡ true
-any-at test [] i x at hit = absurd cc
-any-at test (y ∷ xs) zero x at hit = or_left (test y) (list_any test xs) (ap test (some_is y x at) ∙ hit)
-any-at test (y ∷ xs) (suc i) x at hit = or_right (test y) (list_any test xs) (any-at test xs i x at hit)
-
-pub passes-some : (c : Subscription → Bool) (v : Stored) (old now : Subscribed) (place : ℕ) → Posts c v old now place → PassesAt c place now → list_any c old.subscriptions ≡ true
-passes-some c v old now place p hit =
-    any-at c old.subscriptions place hit.0 (subst (λ (ss : List Subscription). At ss place hit.0) p.same_ones hit.1) hit.2

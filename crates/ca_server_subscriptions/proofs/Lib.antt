@@ -2,5 +2,6 @@ pub mod Sieves
 pub mod Placing
 pub mod Dropping
 pub mod Pumps
-pub mod Seeking
 pub mod Beside
+pub mod Receivers
+pub mod Lines

@@ -1,7 +1,7 @@
 -- The subscriptions of an end, each in the queue that it was given.
 use Rattle.std.proofs.Common.{◌≡◌, ℕ, zero, suc, ◌+◌, ◌*◌, ◌<◌, ◌≤◌, ◌⊎◌, ◌||◌, inl, inr, Bool, true, false, not, cond, List, [], ◌∷◌, ◌++◌, length, filter, map, Option, Some, None, Result, Ok, Err, is_some, nat_lt, refl, sym, ap, ◌∙◌, subst, arith}
-use Rattle.std.specs.Prelude.{OnErr, option_to_list, slice_get, slice_set}
-use Rattle.std.specs.List.{list_any}
+use Rattle.std.specs.Result.{is_err}
+use Rattle.std.specs.Prelude.{OnErr, OnOk, slice_set}
 use Rattle.std.proofs.lemmas.Bool.{both_ways, cases_Bool, ltb-false, ltb-true, or_left, or_right, or_parts, or_cases}
 use Rattle.std.proofs.lemmas.List.{length_push, length-map}
 use Rattle.std.specs.Map.{lookup, remove_entry}
@@ -20,12 +20,21 @@ use Rattle.ca_model.specs.Server.{Subscription, concerns, key_of}
 use Rattle.ca_model.specs.Speech.{Stored}
 use Rattle.ca_server_subscriptions.proofs.Sieves.{each-none, without-none, without-one}
 use Rattle.ca_server_subscriptions.specs.Concerned.{ConcernsAt}
-use Rattle.ca_server_subscriptions.specs.Subscribed.{ArePlaced, AtPlace, HasRoom, Joins, PassesAt, Standings, Subscribed, has_key, keys_in, subscriptions_in, total, with_update, without_one, without_those}
+use Rattle.ca_server_subscriptions.specs.Subscribed.{ArePlaced, AtPlace, HasRoom, Joins, Standings, Subscribed, has_key, keys_in, subscriptions_in, total, without_one, without_those}
 
 -- what holds anyway holds if the call was refused
 pub in-err : {T E P : Type 0} (r : Result T E) → P → OnErr r P
 in-err (Ok x) p = tt
 in-err (Err e) p = p
+
+-- what holds of a call that was done, or refused
+pub if-ok : {T E P : Type 0} (r : Result T E) → is_err r ≡ false → OnOk r P → P
+if-ok (Ok x) is p = p
+if-ok (Err e) is p = absurd cc
+
+pub if-err : {T E P : Type 0} (r : Result T E) → is_err r ≡ true → OnErr r P → P
+if-err (Ok x) is p = absurd cc
+if-err (Err e) is p = p
 
 abbrev pub Q : Type 0
 Q = Queue Stored
@@ -259,7 +268,7 @@ looked-up key (e ∷ es) x is = elim (cases_Bool (same key e.0)) [
       (suc r.0, r.1, r.2, r.3, r.4)
 ]
 
-abbrev other : SubKey → Entry → Bool
+abbrev pub other : SubKey → Entry → Bool
 other key e = not (same key e.0)
 
 all-other : (key : SubKey) (es : Standings) → is_among key (keys_in es) ≡ false → filter (other key) es ≡ es
@@ -562,21 +571,6 @@ module _ (es : Standings) (qs : List Q) (p : ArePlaced es qs) where
         did ∙ sym (ap (λ (c : Bool). cond c (f e.1.0 old) old) told),
       )
 
-  pub passes-at : (test : Subscription → Bool) (old : Subscribed) (place : ℕ) (e : Entry) → whole ≡ old → At es place e → test e.1.0 ≡ true → PassesAt test place old
-  passes-at test old place e is at hit =
-      (e.1.0, subst (λ (s : Subscribed). At s.subscriptions place e.1.0) is (At-map (λ (x : Entry). x.1.0) es place e at), hit)
-
-  -- whether the one at a place passes a test
-  pub on-at : (test : Subscription → Bool) (old : Subscribed) (place : ℕ) (e : Entry) (b : Bool) → whole ≡ old → At es place e → test e.1.0 ≡ b → list_any test (option_to_list (slice_get old.subscriptions place)) ≡ b
-  on-at test old place e b is at told =
-      ap (λ (o : Option Subscription). list_any test (option_to_list o))
-      (subst (λ (s : Subscribed). At s.subscriptions place e.1.0) is (At-map (λ (x : Entry). x.1.0) es place e at))
-      ∙ or-none (test e.1.0) ∙ told
-    where
-      or-none : (b : Bool) → (b || false) ≡ b
-      or-none true = refl
-      or-none false = refl
-
   -- the one at a place, which a post concerns, and its queue
   pub concerned-at : (name : List ℕ) (mask : ℕ) (old : Subscribed) (place : ℕ) (e : Entry) → whole ≡ old → At es place e → concerns name mask e.1.0 ≡ true → ConcernsAt name mask place old.subscriptions old.queues (Some e.1.1)
   concerned-at name mask old place e is at hit =
@@ -589,10 +583,3 @@ module _ (es : Standings) (qs : List Q) (p : ArePlaced es qs) where
 
   pub without-at : (old new : Subscribed) (place : ℕ) (e : Entry) → At es place e → new ≡ without_those (same e.0) old → new ≡ without_one e.1.0 old
   without-at old new place e at did = did ∙ ap (λ (k : SubKey). without_those (same k) old) (p.keyed place e at)
-
-  pub updated-at : (old : Subscribed) (place : ℕ) (e : Entry) (u v : Stored) (qs2 : List Q) → whole ≡ old → At es place e → u ≡ v → qs2 ≡ map (queue_posted e.0 u) qs
-      → (let new : Subscribed = record { subscriptions = subscriptions_in es; queues = qs2 } in new) ≡ with_update v e.1.0 old
-  updated-at old place e u v qs2 is at same_value did =
-      (λ i. let new : Subscribed = record { subscriptions = subscriptions_in es; queues = did i } in new)
-      ∙ (λ i. let new : Subscribed = record { subscriptions = subscriptions_in es; queues = map (queue_posted (p.keyed place e at i) (same_value i)) qs } in new)
-      ∙ ap (λ (s : Subscribed). with_update v e.1.0 s) is

@@ -1,4 +1,5 @@
 pub mod Subscribed
+pub mod ByRecord
 pub mod Held
 pub mod Pumping
 pub mod Concerned

@@ -96,17 +96,9 @@ AtPlace test f place old new =
     ((s : Subscription) × At old.subscriptions place s × (new ≡ (if test s then f s old else old)))
     ⊎ ((length old.subscriptions ≤ place) × (new ≡ old))
 
--- the subscription at a place passes the test
-abbrev pub PassesAt : (test : Subscription → Bool) → (place : ℕ) → Subscribed → Type 0
-PassesAt test place old = (s : Subscription) × At old.subscriptions place s × (test s ≡ true)
-
 -- without this subscription
 abbrev pub without_one : Subscription → Subscribed → Subscribed
 without_one s old = without_those (same (key_of s)) old
-
--- with one more update of this subscription
-abbrev pub with_update : Stored → Subscription → Subscribed → Subscribed
-with_update v s old = record old { queues = map (queue_posted (key_of s) v) old.queues }
 
 -- after a post to the record of this name
 abbrev pub after_post : (name : List ℕ) → (mask : ℕ) → Stored → Subscribed → Subscribed

@@ -3,6 +3,9 @@
 //! The server's core holds one for each open end.
 #![tactic(auto)]
 
+mod by_record;
+mod line;
+mod receiver;
 mod standing;
 mod subscriptions;
 mod update;

@@ -1,8 +1,11 @@
 ghost use Rattle.std.specs.Prelude.{◌≡◌};
 ghost use Rattle.ca_model.specs.Server.{concerns};
 ghost use Rattle.ca_model.specs.Speech.{share_bit};
+ghost use Rattle.ca_server_subscriptions.specs.ByRecord.{receiver_of};
 ghost use Rattle.ca_server_subscriptions.specs.Subscribed.{IsAskable, is_on};
 
+use crate::receiver::Receiver;
+use ca_queue::SubKey;
 use ca_text::{Mask, is_same_name};
 use ca_wire::Wanted;
 use std::marker::Model;
@@ -58,6 +61,21 @@ impl Standing {
         ensures { result ≡ self.now.1 }
     {
         self.queue
+    }
+
+    // What a post needs of it, at this place, under this key.
+    #[inline(always)]
+    pub(crate) fn receiver(&self, key: SubKey, place: usize) -> Receiver
+        ensures { result ≡ receiver_of (key, self.now) }
+    {
+        Receiver::new(key, self.mask, self.queue, place)
+    }
+
+    // The name of its record.
+    pub(crate) fn name(&self) -> &[u8]
+        ensures { result.now ≡ self.now.0.name }
+    {
+        self.name.as_slice()
     }
 
     // Whether it is on the record of this name.

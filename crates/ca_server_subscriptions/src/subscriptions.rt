@@ -1,5 +1,5 @@
-ghost use Rattle.std.specs.Prelude.{Option, ◌≡◌, ◌<◌, ◌==◌, ◌≤◌, ◌*◌, IfOk, IfSome, OnErr, OnOk, Some, false, true, map, length, option_map, option_to_list, slice_get};
-ghost use Rattle.std.specs.List.{list_any};
+ghost use Rattle.std.specs.Prelude.{Option, ◌≡◌, ◌∷◌, [], ◌<◌, ◌==◌, ◌≤◌, ◌*◌, IfOk, IfSome, OnErr, OnOk, Some, false, true, filter, map, length, option_map};
+ghost use Rattle.std.specs.List.{fold, list_any};
 ghost use Rattle.std.specs.Map.{lookup};
 ghost use Rattle.ca_text.specs.Limits.{circuit_queues, element_limit, queue_subscriptions};
 ghost use Rattle.ca_dbr.specs.Elements.{count_of, elements};
@@ -7,12 +7,15 @@ ghost use Rattle.ca_queue.specs.Keys.{same};
 ghost use Rattle.ca_queue.specs.Queue.{switched};
 ghost use Rattle.ca_model.specs.Server.{concerns};
 ghost use Rattle.ca_server_subscriptions.specs.Concerned.{ConcernsAt};
-ghost use Rattle.ca_queue.specs.Circuit.{RestBefore};
+ghost use Rattle.ca_queue.specs.Circuit.{RestBefore, queue_posted};
 ghost use Rattle.ca_model.specs.Speech.{Stored};
 ghost use Rattle.ca_wire.specs.declared.requests.Wanted.{Wanted};
+ghost use Rattle.ca_server_subscriptions.specs.ByRecord.{ArePlacedIn, IsSole, is_masked, receivers_of};
 ghost use Rattle.ca_server_subscriptions.specs.Pumping.{GivesUpdate, MayGive};
-ghost use Rattle.ca_server_subscriptions.specs.Subscribed.{AreKnown, AtPlace, HasRoom, IsAskable, Joins, PassesAt, after_post, has_key, is_of_sid, is_on, none_yet, with_update, without_one, without_those};
+ghost use Rattle.ca_server_subscriptions.specs.Subscribed.{AreKnown, ArePlaced, AtPlace, HasRoom, IsAskable, Joins, Standings, after_post, has_key, is_of_sid, is_on, none_yet, without_one, without_those};
 
+use crate::by_record::ByRecord;
+use crate::receiver::Receiver;
 use crate::standing::Standing;
 use crate::update::Update;
 use crate::waiting::Waiting;
@@ -28,9 +31,14 @@ use std::marker::Model;
 #[derive(Drop)]
 pub struct Subscriptions {
     standing: IndexMap<SubKey, Standing>,
+    // Where the subscription is that was posted to last, if it is the only one on its record: then no line need be looked at.
+    sole: Option<usize>,
     queues: Waiting,
     // The place after the subscription whose update was taken last: the next update is mostly of the one there. The key decides.
     next: usize,
+    by_record: ByRecord,
+    // Where the line of a record was found last: mostly the same is asked for again. The name decides.
+    recent: usize,
 }
 
 impl Model for Subscriptions {
@@ -38,12 +46,15 @@ impl Model for Subscriptions {
 
     ghost Value = { Subscribed };
 
+    ghost use Rattle.ca_server_subscriptions.specs.ByRecord.{AreByRecord, IsSole};
     ghost use Rattle.ca_server_subscriptions.specs.Subscribed.{ArePlaced, subscriptions_in};
 
     ghost view = { λ s.
         record { subscriptions = subscriptions_in s.standing.entries; queues = s.queues } };
 
-    ghost invariant = { λ s. ArePlaced s.standing.entries s.queues };
+    ghost invariant = { λ s.
+        ArePlaced s.standing.entries s.queues × AreByRecord s.by_record s.standing.entries
+        × IsSole s.sole s.standing.entries };
 }
 
 impl Subscriptions {
@@ -53,8 +64,11 @@ impl Subscriptions {
     {
         Subscriptions {
             standing: IndexMap::new(alloc),
+            sole: None,
             queues: Waiting::new(alloc),
             next: 0,
+            by_record: ByRecord::new(alloc),
+            recent: 0,
         }
     }
 
@@ -92,12 +106,18 @@ impl Subscriptions {
             sid: wanted.sid.number(),
             sub: wanted.id.number(),
         };
+        self.sole = None;
         self.standing.reserve(1)?;
         let queue = match self.queues.begin(key, update) {
             Ok(queue) => queue,
             Err(Refusal::TooManySubscriptions) => unreachable!(),
             Err(_) => return Err(AllocError),
         };
+        let receiver = Receiver::new(key, mask, queue, self.standing.len());
+        if self.by_record.add(name.as_slice(), receiver).is_err() {
+            self.queues.cancel(queue, key);
+            return Err(AllocError);
+        }
         let standing = Standing::new(wanted, name, mask, queue);
         match self.standing.insert(key, standing) {
             Ok(_) => Ok(()),
@@ -109,10 +129,12 @@ impl Subscriptions {
     pub fn cancel(&mut self, key: SubKey)
         ensures { self.new ≡ without_those (same key) self.old }
     {
-        let Some(standing) = self.standing.get(&key) else {
+        let Some((place, _, standing)) = self.standing.get_full(&key) else {
             return;
         };
         let queue = standing.queue();
+        self.sole = None;
+        self.by_record.take_out(standing.name(), key, place);
         self.queues.cancel(queue, key);
         self.standing.shift_remove(&key);
     }
@@ -176,46 +198,42 @@ impl Subscriptions {
             (list_any (concerns name.now mask) self.old.subscriptions ≡ true) }
         ensures stay { OnErr result (self.new.subscriptions ≡ self.old.subscriptions) }
     {
-        let mut on = false;
-        'posting: for place in 0..self.len() {
-            let here = self.post_at(place, name, mask, value, meta)?;
-            on |= here;
+        if let Some(receiver) = sole_on(self.sole, &self.standing, name) {
+            receiver.post(&mut self.queues, &mut self.next, mask, value, meta)?;
+            return Ok(true);
         }
-        Ok(on)
+        self.post_to_each(name, mask, value, meta)
     }
 
-    // Gives the one at this place an update if the post concerns it, and says whether it is on the record.
-    #[inline(always)]
-    fn post_at(
+    // The same by the line of the record.
+    #[inline(never)]
+    fn post_to_each(
         &mut self,
-        place: usize,
         name: &[u8],
         mask: u16,
         value: &Value,
         meta: &Meta,
     ) -> Result<bool, AllocError>
         requires { count_of (elements value.now) ≤ element_limit }
-        ensures ok { OnOk result (AtPlace (concerns name.now mask)
-            (with_update (record { value = elements value.now; meta = meta.now })) place self.old
-            self.new) }
-        ensures on { IfOk result (λ on. on ≡ list_any (is_on name.now)
-            (option_to_list (slice_get self.old.subscriptions place))) }
-        ensures err { OnErr result (PassesAt (concerns name.now mask) place self.old) }
-        ensures stay { OnErr result (self.new ≡ self.old) }
+        ensures ok { OnOk result (self.new ≡ after_post name.now mask
+            (record { value = elements value.now; meta = meta.now }) self.old) }
+        ensures on { IfOk result (λ on.
+            on ≡ list_any (is_on name.now) self.old.subscriptions) }
+        ensures err { OnErr result
+            (list_any (concerns name.now mask) self.old.subscriptions ≡ true) }
+        ensures stay { OnErr result (self.new.subscriptions ≡ self.old.subscriptions) }
     {
-        let Some((key, standing)) = self.standing.get_index(place) else {
-            return Ok(false);
-        };
-        if !standing.is_on(name) {
-            return Ok(false);
-        }
-        if !standing.is_masked(mask) {
-            return Ok(true);
-        }
-        let (key, queue) = (*key, standing.queue());
-        self.queues.post(queue, key, value, meta)?;
-        self.next = place;
-        Ok(true)
+        let receivers = self.by_record.receivers(&mut self.recent, name);
+        self.sole = sole_of(receivers, &self.standing, name);
+        post_to(
+            receivers,
+            &mut self.queues,
+            &mut self.next,
+            mask,
+            value,
+            meta,
+        )?;
+        Ok(!receivers.is_empty())
     }
 
     /// An update that was shown gives its memory to the next one.
@@ -331,4 +349,70 @@ fn at_key(standing: &IndexMap<SubKey, Standing>, place: usize, key: SubKey) -> O
 fn after(place: usize, n: usize) -> usize {
     let next = place.wrapping_add(1);
     if next < n { next } else { 0 }
+}
+
+// Gives each of these an update if this mask is its. Without memory for one some have it.
+#[inline(always)]
+fn post_to(
+    receivers: &[Receiver],
+    queues: &mut Waiting,
+    next: &mut usize,
+    mask: u16,
+    value: &Value,
+    meta: &Meta,
+) -> Result<(), AllocError>
+    requires placed { ArePlacedIn receivers.now queues.old }
+    requires few { count_of (elements value.now) ≤ element_limit }
+    ensures ok { OnOk result (queues.new ≡ fold
+        (λ qs r. map (queue_posted r.key (record { value = elements value.now; meta = meta.now })) qs)
+        queues.old (filter (is_masked mask) receivers.now)) }
+    ensures err { OnErr result (list_any (is_masked mask) receivers.now ≡ true) }
+    ensures placed { (es : Standings) → ArePlaced es queues.old → ArePlaced es queues.new }
+{
+    'posting: for i in 0..receivers.len() {
+        receivers[i].post(queues, next, mask, value, meta)?;
+    }
+    Ok(())
+}
+
+// The only one on the record of this name, if it is at this place.
+#[inline(always)]
+fn sole_on(
+    sole: Option<usize>,
+    standing: &IndexMap<SubKey, Standing>,
+    name: &[u8],
+) -> Option<Receiver>
+    requires { IsSole sole standing.now.entries }
+    ensures { IfSome result (λ r. receivers_of name.now standing.now.entries ≡ r ∷ []) }
+{
+    let place = sole?;
+    let Some((key, standing)) = standing.get_index(place) else {
+        return None;
+    };
+    if !standing.is_on(name) {
+        return None;
+    }
+    Some(standing.receiver(*key, place))
+}
+
+// Where the only one of those on the record of this name is, if there is one alone.
+fn sole_of(
+    receivers: &[Receiver],
+    standing: &IndexMap<SubKey, Standing>,
+    name: &[u8],
+) -> Option<usize>
+    requires { receivers.now ≡ receivers_of name.now standing.now.entries }
+    ensures { IsSole result standing.now.entries }
+{
+    if receivers.len() != 1 {
+        return None;
+    }
+    let place = receivers[0].place();
+    let Some((_, standing)) = standing.get_index(place) else {
+        return None;
+    };
+    if !standing.is_on(name) {
+        return None;
+    }
+    Some(place)
 }

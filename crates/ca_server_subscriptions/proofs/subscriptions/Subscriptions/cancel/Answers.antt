@@ -1,24 +1,32 @@
-use Rattle.std.proofs.Common.{sym}
+use Rattle.std.proofs.Common.{sym, ap, ◌∙◌}
 use Rattle.ca_server_subscriptions.proofs.Placing.{cancels-none, cancels-one, found-at, placed-cancelled, removed-is}
+use Rattle.ca_server_subscriptions.specs.ByRecord.{receivers_of, without}
+use Rattle.ca_server_subscriptions.proofs.Receivers.{none-sole, receivers-without}
 use Rattle.ca_server_subscriptions.proofs.subscriptions.Subscriptions.cancel.Goals as goal
 
 pub returns-in_default : goal.returns-in_default
 returns-in_default c =
-    cancels-none c.self.inside.standing.entries c.self.inside.queues c.self.invariant c.args.key c.args.self.now c.self.view_is (sym c.in_default.ensures.value)
+    cancels-none c.self.inside.standing.entries c.self.inside.queues c.self.invariant.0 c.args.key c.args.self.now c.self.view_is (sym c.in_default.ensures.value)
 
 pub cancel-requires : goal.cancel-requires
 cancel-requires c =
-    found-at c.self.inside.standing.entries c.self.inside.queues c.self.invariant c.args.key c.in-Some.standing.now c.queue-queue.result (sym c.in-Some.ensures.value) c.queue-queue.ensures
+    found-at c.self.inside.standing.entries c.self.inside.queues c.self.invariant.0 c.args.key c.in-Some.standing.now c.queue-queue.result (sym c.in-Some.ensures.value) c.queue-queue.ensures
 
 pub invariant_of-self : goal.invariant_of-self
 invariant_of-self c =
     let es = c.self.inside.standing.entries in
     let qs = c.self.inside.queues in
-    let has = found-at es qs c.self.invariant c.args.key c.in-Some.standing.now c.queue-queue.result (sym c.in-Some.ensures.value) c.queue-queue.ensures in
-    rw (c.cancel.ensures, c.shift_remove.ensures.entries, removed-is c.args.key es c.self.invariant.apart)
-    (placed-cancelled es qs c.self.invariant c.queue-queue.result c.args.key has)
+    let has = found-at es qs c.self.invariant.0 c.args.key c.in-Some.standing.now c.queue-queue.result (sym c.in-Some.ensures.value) c.queue-queue.ensures in
+    let left = c.shift_remove.ensures.entries ∙ removed-is c.args.key es c.self.invariant.0.apart in (
+      rw (c.cancel.ensures, c.shift_remove.ensures.entries, removed-is c.args.key es c.self.invariant.0.apart)
+          (placed-cancelled es qs c.self.invariant.0 c.queue-queue.result c.args.key has),
+      λ name.
+          c.take_out.ensures name ∙ ap (without c.args.key) (c.self.invariant.1 name) ∙ sym (receivers-without name c.args.key es)
+          ∙ ap (receivers_of name) (sym left),
+      none-sole c.shift_remove.new.self.entries,
+    )
 
 pub returns : goal.returns
 returns c =
-    cancels-one c.self.inside.standing.entries c.self.inside.queues c.self.invariant c.args.key c.args.self.now c.shift_remove.new.self.entries c.cancel.new.self
+    cancels-one c.self.inside.standing.entries c.self.inside.queues c.self.invariant.0 c.args.key c.args.self.now c.shift_remove.new.self.entries c.cancel.new.self
     c.self.view_is c.shift_remove.ensures.entries c.cancel.ensures

@@ -11,9 +11,9 @@ returns-then-key-number c =
     let qs = c.self.inside.queues in
     let e : Entry = (c.in-Some.key.now, c.in-Some.field-0-1.now) in
     let at = sym c.in-Some.ensures.entry in
-    let hit : e.1.0.wanted.sid ≡ c.args.sid = sym (sid-at es qs c.self.invariant c.args.place e at) ∙ c.if-key-number.true ∙ c.number.ensures in
-    at-entry es qs c.self.invariant (λ (s : Subscription). s.wanted.sid == c.args.sid) without_one c.args.self.now c.cancel.new.self c.args.place e true c.self.view_is at
-    (eq-eqb e.1.0.wanted.sid c.args.sid hit) (without-at es qs c.self.invariant c.args.self.now c.cancel.new.self c.args.place e at c.cancel.ensures)
+    let hit : e.1.0.wanted.sid ≡ c.args.sid = sym (sid-at es qs c.self.invariant.0 c.args.place e at) ∙ c.if-key-number.true ∙ c.number.ensures in
+    at-entry es qs c.self.invariant.0 (λ (s : Subscription). s.wanted.sid == c.args.sid) without_one c.args.self.now c.cancel.new.self c.args.place e true c.self.view_is at
+    (eq-eqb e.1.0.wanted.sid c.args.sid hit) (without-at es qs c.self.invariant.0 c.args.self.now c.cancel.new.self c.args.place e at c.cancel.ensures)
 
 pub returns-else-key-number : goal.returns-else-key-number
 returns-else-key-number c =
@@ -22,5 +22,5 @@ returns-else-key-number c =
     let e : Entry = (c.in-Some.key.now, c.in-Some.field-0-1.now) in
     let at = sym c.in-Some.ensures.entry in
     let miss : (e.1.0.wanted.sid == c.args.sid) ≡ false =
-    ne_eqb e.1.0.wanted.sid c.args.sid (λ hit. c.if-key-number.false (sid-at es qs c.self.invariant c.args.place e at ∙ hit ∙ sym c.number.ensures)) in
-    at-entry es qs c.self.invariant (λ (s : Subscription). s.wanted.sid == c.args.sid) without_one c.args.self.now c.args.self.now c.args.place e false c.self.view_is at miss (λ i. c.args.self.now)
+    ne_eqb e.1.0.wanted.sid c.args.sid (λ hit. c.if-key-number.false (sid-at es qs c.self.invariant.0 c.args.place e at ∙ hit ∙ sym c.number.ensures)) in
+    at-entry es qs c.self.invariant.0 (λ (s : Subscription). s.wanted.sid == c.args.sid) without_one c.args.self.now c.args.self.now c.args.place e false c.self.view_is at miss (λ i. c.args.self.now)

@@ -10,5 +10,5 @@ returns c =
     let es = c.self.inside.standing.entries in
     let k = c.args.key in
     c.contains_key.ensures ∙ held k es
-    ∙ ap (λ (ks : List SubKey). is_among k ks) (sym (keys-of es c.self.invariant.keyed))
+    ∙ ap (λ (ks : List SubKey). is_among k ks) (sym (keys-of es c.self.invariant.0.keyed))
     ∙ ap (λ (s : Subscribed). has_key k s) c.self.view_is

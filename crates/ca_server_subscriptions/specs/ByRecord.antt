@@ -1,0 +1,65 @@
+-- Working: the subscriptions of an end by the names of their records, as far as a post needs them.
+use Rattle.std.specs.Prelude.{ℕ, ◌≡◌, Bool, false, not, List, [], ◌∷◌, ◌++◌, Option, Some, filter, map, unwrap_or}
+use Rattle.std.specs.Map.{lookup}
+use Rattle.std.specs.Str.{bytes_eq}
+use Rattle.ca_text.specs.Place.{At}
+use Rattle.ca_queue.specs.declared.entry.SubKey.{SubKey}
+use Rattle.ca_queue.specs.Keys.{same}
+use Rattle.ca_model.specs.Server.{Subscription}
+use Rattle.ca_queue.specs.Queue.{Queue}
+use Rattle.ca_model.specs.Speech.{Stored, share_bit}
+use Rattle.ca_server_subscriptions.specs.Subscribed.{ArePlaced, Standings, is_on}
+
+-- what a post needs of a subscription: its key, its mask, and the place of its queue
+pub record Receiver : Type 0 where
+  pub key : SubKey
+  pub mask : ℕ
+  pub queue : ℕ
+
+abbrev pub receiver_of : SubKey × (Subscription × ℕ) → Receiver
+receiver_of e = record { key = e.0; mask = e.1.0.mask; queue = e.1.1 }
+
+-- those on the record of this name
+abbrev pub receivers_of : (name : List ℕ) → Standings → List Receiver
+receivers_of name es = map receiver_of (filter (λ (e : SubKey × (Subscription × ℕ)). is_on name e.1.0) es)
+
+-- its mask shares a bit with this one
+abbrev pub is_masked : (mask : ℕ) → Receiver → Bool
+is_masked mask r = share_bit mask r.mask
+
+-- these without the subscription of this key
+abbrev pub without : SubKey → List Receiver → List Receiver
+without key rs = filter (λ (r : Receiver). not (same key r.key)) rs
+
+-- ---- lines of them, each under the name of its record
+
+abbrev pub Lines : Type 0
+Lines = List (List ℕ × List Receiver)
+
+-- those in the line of this name
+abbrev pub receivers_in : Lines → (name : List ℕ) → List Receiver
+receivers_in lines name = unwrap_or (lookup (bytes_eq name) lines) []
+
+abbrev pub lines_in : {K : Type 0} → (K → List ℕ) → List (K × List Receiver) → Lines
+lines_in bytes es = map (λ e. (bytes e.0, e.1)) es
+
+-- One came to the end of the line of this name. All other lines have whom they had.
+pub record Adds (name : List ℕ) (r : Receiver) (old new : Lines) : Type 0 where
+  pub own : receivers_in new name ≡ receivers_in old name ++ r ∷ []
+  pub stay : (other : List ℕ) → bytes_eq other name ≡ false → receivers_in new other ≡ receivers_in old other
+
+-- The subscription of this key is in no line any more.
+abbrev pub Drops : SubKey → (old new : Lines) → Type 0
+Drops key old new = (name : List ℕ) → receivers_in new name ≡ without key (receivers_in old name)
+
+-- each line has just the subscriptions on the record of its name, in their order
+abbrev pub AreByRecord : Lines → Standings → Type 0
+AreByRecord lines es = (name : List ℕ) → receivers_in lines name ≡ receivers_of name es
+
+-- these are those on a record, of subscriptions that the queues have
+abbrev pub ArePlacedIn : List Receiver → List (Queue Stored) → Type 0
+ArePlacedIn rs qs = (es : Standings) × (name : List ℕ) × ArePlaced es qs × (rs ≡ receivers_of name es)
+
+-- whoever is at this place is the only one on its record
+abbrev pub IsSole : Option ℕ → Standings → Type 0
+IsSole sole es = (place : ℕ) (e : SubKey × (Subscription × ℕ)) → sole ≡ Some place → At es place e → receivers_of e.1.0.name es ≡ receiver_of e ∷ []

@@ -1,0 +1,143 @@
+ghost use Rattle.std.specs.Prelude.{ℕ, ◌≡◌, List, [], true, IfSome, OnErr, OnOk};
+ghost use Rattle.ca_server_subscriptions.specs.ByRecord.{Adds, Drops, receivers_in, without};
+
+use crate::line::Line;
+use crate::receiver::Receiver;
+use ca_queue::SubKey;
+use indexmap::IndexMap;
+use std::alloc::{AllocError, Global};
+use std::marker::Model;
+
+/// The subscriptions of an end by the names of their records, as far as a post needs them.
+#[derive(Drop)]
+pub(crate) struct ByRecord {
+    lines: IndexMap<Vec<u8>, Line>,
+}
+
+impl Model for ByRecord {
+    ghost use Rattle.ca_server_subscriptions.specs.ByRecord.{Lines};
+
+    ghost Value = { Lines };
+
+    ghost use Rattle.ca_server_subscriptions.specs.ByRecord.{lines_in};
+
+    ghost view = { λ r. lines_in (λ k. k.items) r.lines.entries };
+}
+
+impl ByRecord {
+    // None. It does not allocate yet.
+    pub(crate) fn new(alloc: Global) -> ByRecord
+        ensures { result ≡ [] }
+    {
+        ByRecord {
+            lines: IndexMap::new(alloc),
+        }
+    }
+
+    // Those on the record of this name. The line where one was found last is looked at first.
+    #[inline(always)]
+    pub(crate) fn receivers(&self, recent: &mut usize, name: &[u8]) -> &[Receiver]
+        ensures { result.now ≡ receivers_in self.now name.now }
+    {
+        match self.recent_line(*recent, name) {
+            Some(line) => line.as_slice(),
+            None => self.hashed(recent, name),
+        }
+    }
+
+    // The line here, if it is of this name.
+    #[inline(always)]
+    fn recent_line(&self, recent: usize, name: &[u8]) -> Option<&Line>
+        ensures { IfSome result (λ l. l.now ≡ receivers_in self.now name.now) }
+    {
+        let Some((key, line)) = self.lines.get_index(recent) else {
+            return None;
+        };
+        if key.as_slice() == name {
+            return Some(line);
+        }
+        None
+    }
+
+    // The same by the hash of the name.
+    #[inline(never)]
+    fn hashed(&self, recent: &mut usize, name: &[u8]) -> &[Receiver]
+        ensures { result.now ≡ receivers_in self.now name.now }
+    {
+        match self.lines.get_full(name) {
+            Some((place, _, line)) => {
+                *recent = place;
+                line.as_slice()
+            }
+            None => &[],
+        }
+    }
+
+    // One more is on the record of this name, after all others. Without memory all is as it was.
+    pub(crate) fn add(&mut self, name: &[u8], receiver: Receiver) -> Result<(), AllocError>
+        ensures ok { OnOk result (Adds name.now receiver self.old self.new) }
+        ensures err { OnErr result (self.new ≡ self.old) }
+    {
+        if let Some(line) = self.lines.get_mut(name) {
+            line.add(receiver)?;
+            return Ok(());
+        }
+        self.begin(name, receiver)
+    }
+
+    // The same for a record that has no line.
+    fn begin(&mut self, name: &[u8], receiver: Receiver) -> Result<(), AllocError>
+        requires { receivers_in self.old name.now ≡ [] }
+        ensures ok { OnOk result (Adds name.now receiver self.old self.new) }
+        ensures err { OnErr result (self.new ≡ self.old) }
+    {
+        let alloc = *self.lines.allocator();
+        let line = Line::one(alloc, receiver)?;
+        let name = Vec::from_slice(alloc, name)?;
+        self.lines.insert(name, line)?;
+        Ok(())
+    }
+
+    // The subscription of this key, on the record of this name, is gone from this place, and those after it have moved up. A line that
+    // has none left goes, so that names which come and go fill no memory.
+    pub(crate) fn take_out(&mut self, name: &[u8], key: SubKey, gone: usize)
+        ensures { Drops key self.old self.new }
+    {
+        self.take_out_of_all(key, gone);
+        self.drop_if_empty(name);
+    }
+
+    // The same, but that a line may have none.
+    fn take_out_of_all(&mut self, key: SubKey, gone: usize)
+        ensures { Drops key self.old self.new }
+    {
+        self.lines.retain(
+            |_name: &Vec<u8>, line: &mut Line| -> bool
+                ensures { (result ≡ true) × (line.new ≡ without key line.old) }
+            {
+                line.take_out(key, gone);
+                true
+            },
+        );
+    }
+
+    // Without the line of this name if it has none.
+    fn drop_if_empty(&mut self, name: &[u8])
+        ensures { (other : List ℕ) → receivers_in self.new other ≡ receivers_in self.old other }
+    {
+        let Some(line) = self.lines.get(name) else {
+            return;
+        };
+        if line.is_empty() {
+            self.drop_line(name);
+        }
+    }
+
+    // Without the line of this name, which has none.
+    fn drop_line(&mut self, name: &[u8])
+        requires { receivers_in self.old name.now ≡ [] }
+        ensures { (other : List ℕ) → receivers_in self.new other ≡ receivers_in self.old other }
+    {
+        self.lines.swap_remove(name);
+    }
+}

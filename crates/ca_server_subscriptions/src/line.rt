@@ -1,0 +1,74 @@
+ghost use Rattle.std.specs.Prelude.{◌≡◌, ◌∷◌, ◌++◌, ◌↔◌, [], true, IfOk, OnErr, OnOk};
+ghost use Rattle.ca_server_subscriptions.specs.ByRecord.{without};
+
+use crate::receiver::Receiver;
+use ca_queue::SubKey;
+use std::alloc::{AllocError, Global};
+use std::marker::Model;
+
+/// The subscriptions on one record, in the order of their EVENT_ADDs.
+#[derive(Drop)]
+pub(crate) struct Line {
+    receivers: Vec<Receiver>,
+}
+
+impl Model for Line {
+    ghost use Rattle.std.specs.Prelude.{List};
+    ghost use Rattle.ca_server_subscriptions.specs.ByRecord.{Receiver};
+
+    ghost Value = { List Receiver };
+
+    ghost view = { λ l. l.receivers.items };
+}
+
+impl Line {
+    // This one alone.
+    pub(crate) fn one(alloc: Global, receiver: Receiver) -> Result<Line, AllocError>
+        ensures { IfOk result (λ l. l ≡ receiver ∷ []) }
+    {
+        let mut receivers = Vec::new(alloc);
+        receivers.push(receiver)?;
+        Ok(Line { receivers })
+    }
+
+    // All of them.
+    #[inline(always)]
+    pub(crate) fn as_slice(&self) -> &[Receiver]
+        ensures { result.now ≡ self.now }
+    {
+        self.receivers.as_slice()
+    }
+
+    // Whether there is none.
+    pub(crate) fn is_empty(&self) -> bool
+        ensures { (result ≡ true) ↔ (self.now ≡ []) }
+    {
+        self.receivers.is_empty()
+    }
+
+    // One more, after all others. Without memory all is as it was.
+    pub(crate) fn add(&mut self, receiver: Receiver) -> Result<(), AllocError>
+        ensures ok { OnOk result (self.new ≡ self.old ++ receiver ∷ []) }
+        ensures err { OnErr result (self.new ≡ self.old) }
+    {
+        self.receivers.push(receiver)?;
+        Ok(())
+    }
+
+    // The one of this key is gone from this place of all of the end, and those after it have moved up.
+    pub(crate) fn take_out(&mut self, key: SubKey, gone: usize)
+        ensures { self.new ≡ without key self.old }
+    {
+        self.receivers.retain(|receiver| !receiver.is_of(key));
+        move_up(&mut self.receivers, gone);
+    }
+}
+
+// One at this place is gone, and those after it have moved up.
+fn move_up(receivers: &mut Vec<Receiver>, gone: usize)
+    ensures { receivers.new.items ≡ receivers.old.items }
+{
+    'moving: for i in 0..receivers.len() {
+        receivers[i].move_up(gone);
+    }
+}
