@@ -5,3 +5,4 @@ pub mod Pumps
 pub mod Beside
 pub mod Receivers
 pub mod Lines
+pub mod Passing

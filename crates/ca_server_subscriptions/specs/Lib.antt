@@ -3,3 +3,4 @@ pub mod ByRecord
 pub mod Held
 pub mod Pumping
 pub mod Concerned
+pub mod Passing

@@ -4,6 +4,7 @@ ghost use Rattle.ca_server_subscriptions.specs.ByRecord.{Adds, Drops, receivers_
 use crate::line::Line;
 use crate::receiver::Receiver;
 use ca_queue::SubKey;
+use ca_text::is_same_name;
 use indexmap::IndexMap;
 use std::alloc::{AllocError, Global};
 use std::marker::Model;
@@ -53,7 +54,7 @@ impl ByRecord {
         let Some((key, line)) = self.lines.get_index(recent) else {
             return None;
         };
-        if key.as_slice() == name {
+        if is_same_name(key.as_slice(), name) {
             return Some(line);
         }
         None

@@ -51,6 +51,20 @@ impl Receiver {
         key == self.key
     }
 
+    // Its key.
+    pub(crate) fn key(&self) -> SubKey
+        ensures { result ≡ self.now.key }
+    {
+        self.key
+    }
+
+    // Whether its mask shares a bit with this one.
+    pub(crate) fn is_masked(&self, mask: u16) -> bool
+        ensures { result ≡ is_masked mask self.now }
+    {
+        Mask::new(mask & self.mask).is_some()
+    }
+
     // Where it is, mostly.
     pub(crate) fn place(&self) -> usize {
         self.place

@@ -12,6 +12,8 @@ ghost use Rattle.ca_model.specs.Speech.{Stored};
 ghost use Rattle.ca_wire.specs.declared.requests.Wanted.{Wanted};
 ghost use Rattle.ca_server_subscriptions.specs.ByRecord.{ArePlacedIn, IsSole, is_masked, receivers_of};
 ghost use Rattle.ca_server_subscriptions.specs.Pumping.{GivesUpdate, MayGive};
+ghost use Rattle.ca_server_subscriptions.specs.Held.{AreEmpty, AreOn};
+ghost use Rattle.ca_server_subscriptions.specs.Passing.{IsWantedBy, PassesBy};
 ghost use Rattle.ca_server_subscriptions.specs.Subscribed.{AreKnown, ArePlaced, AtPlace, HasRoom, IsAskable, Joins, Standings, after_post, has_key, is_of_sid, is_on, none_yet, without_one, without_those};
 
 use crate::by_record::ByRecord;
@@ -264,6 +266,38 @@ impl Subscriptions {
         self.queues.is_idle()
     }
 
+    /// What the only subscription on the record of this name asked for, if there is one alone, a post with this mask concerns it, and
+    /// nothing waits while events are on: its update would be the next to be taken, and would leave all as it is. None says nothing.
+    #[inline(always)]
+    pub fn sole(&mut self, name: &[u8], mask: u16) -> Option<Wanted>
+        ensures passes { IfSome result (λ w. PassesBy name.now mask w self.old) }
+        ensures askable { IfSome result (λ w. IsAskable w) }
+        ensures stays { self.new ≡ self.old }
+    {
+        if !self.queues.is_idle() {
+            return None;
+        }
+        match sole_on(self.sole, &self.standing, name) {
+            Some(receiver) => wanted_by(&self.standing, &receiver, mask),
+            None => self.seek_sole(name, mask),
+        }
+    }
+
+    // The same by the line of the record.
+    #[inline(never)]
+    fn seek_sole(&mut self, name: &[u8], mask: u16) -> Option<Wanted>
+        requires on { AreOn self.old.queues }
+        requires empty { AreEmpty self.old.queues }
+        ensures passes { IfSome result (λ w. PassesBy name.now mask w self.old) }
+        ensures askable { IfSome result (λ w. IsAskable w) }
+        ensures stays { self.new ≡ self.old }
+    {
+        let receivers = self.by_record.receivers(&mut self.recent, name);
+        self.sole = sole_of(receivers, &self.standing, name);
+        let receiver = sole_on(self.sole, &self.standing, name)?;
+        wanted_by(&self.standing, &receiver, mask)
+    }
+
     /// The update that is taken next, and what its subscription asked for, if it was posted while nothing waited. It is not taken yet.
     pub fn first(&self) -> Option<(Wanted, &Update)>
         ensures gives { IfSome result (λ r. MayGive self.now r.0 r.1.now) }
@@ -393,6 +427,23 @@ fn sole_on(
         return None;
     }
     Some(standing.receiver(*key, place))
+}
+
+// What this one asked for, if this mask is its.
+#[inline(always)]
+fn wanted_by(
+    standing: &IndexMap<SubKey, Standing>,
+    receiver: &Receiver,
+    mask: u16,
+) -> Option<Wanted>
+    ensures wants { IfSome result (λ w. IsWantedBy mask receiver.now standing.now.entries w) }
+    ensures askable { IfSome result (λ w. IsAskable w) }
+{
+    if !receiver.is_masked(mask) {
+        return None;
+    }
+    let found = at_key(standing, receiver.place(), receiver.key())?;
+    Some(found.wanted())
 }
 
 // Where the only one of those on the record of this name is, if there is one alone.

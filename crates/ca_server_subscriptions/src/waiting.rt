@@ -5,7 +5,7 @@ ghost use Rattle.ca_queue.specs.Circuit.{AreInOne, Begins, HasAt, HasNone, RestB
 ghost use Rattle.ca_queue.specs.Keys.{same};
 ghost use Rattle.ca_queue.specs.Queue.{no_queue, switched};
 ghost use Rattle.ca_queue.specs.declared.entry.SubKey.{SubKey};
-ghost use Rattle.ca_server_subscriptions.specs.Held.{IsNext, LosesNext, with_held};
+ghost use Rattle.ca_server_subscriptions.specs.Held.{AreEmpty, AreOn, IsNext, LosesNext, with_held};
 
 use crate::update::Update;
 use ca_dbr::{Meta, Value};
@@ -129,7 +129,8 @@ impl Waiting {
 
     // Whether nothing waits, and events are on.
     pub(crate) fn is_idle(&self) -> bool
-        ensures { result ≡ true → RestBefore self.now (length self.now) }
+        ensures rests { result ≡ true → RestBefore self.now (length self.now) }
+        ensures quiet { result ≡ true → AreOn self.now × AreEmpty self.now }
     {
         is_alone(self.idle, &self.held)
     }
