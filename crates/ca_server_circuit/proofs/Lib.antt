@@ -23,3 +23,4 @@ pub mod Peeked
 pub mod Imaging
 pub mod InPlace
 pub mod Watched
+pub mod AtOnce

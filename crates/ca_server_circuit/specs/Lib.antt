@@ -19,3 +19,4 @@ pub mod NextPut
 pub mod Imaging
 pub mod Concerned
 pub mod Names
+pub mod AtOnce

@@ -1,8 +1,9 @@
-ghost use Rattle.std.specs.Prelude.{◌≡◌, ◌≢◌, ◌≤◌, [], IfOk, OnErr, Some, length, option_map, true};
+ghost use Rattle.std.specs.Prelude.{◌≡◌, ◌≢◌, ◌≤◌, [], IfOk, OnErr, Some, false, length, option_map, true};
 ghost use Rattle.ca_model.specs.Server.{ServerEnd, new_end};
 ghost use Rattle.ca_model.specs.Server as server;
 ghost use Rattle.ca_model.specs.ServerSteps.{Rests, output_of};
 ghost use Rattle.ca_records.specs.Store.{IsThere, records_of};
+ghost use Rattle.ca_server_circuit.specs.AtOnce.{ShowsAt};
 ghost use Rattle.ca_server_circuit.specs.Circuits.{CircuitIsSound, GivesAt, IsLive, SendsAt, circuit_of, is_open};
 ghost use Rattle.ca_server_circuit.specs.Clearing.{ArePuts};
 ghost use Rattle.ca_server_circuit.specs.Concerned.{ConcernsOn, bytes_on, channels_on};
@@ -175,6 +176,33 @@ impl Circuit {
                     true
                 }
             },
+            State::Ended(_, _) => false,
+        }
+    }
+
+    /// A post to the record at this place and then a pump, if they leave no more than one update in the output of its end: it is shown at
+    /// once. If it says false, all is as it was.
+    #[inline(always)]
+    pub fn show_at_once(
+        &mut self,
+        circuit: Handle,
+        place: usize,
+        mask: u16,
+        records: &ServedRecords,
+    ) -> bool
+        requires there { IsThere records.now place }
+        requires sound { CircuitIsSound (records_of records.now) circuit self.old }
+        ensures shown { result ≡ true → ShowsAt circuit place mask self.old records.now self.new }
+        ensures watches { result ≡ true → WatchesAt place self.old records.now true }
+        ensures opens { result ≡ true → is_open (Some self.new) ≡ true }
+        ensures stays { result ≡ false → self.new ≡ self.old }
+    {
+        match &mut self.state {
+            State::Open(end) => {
+                let shown = end.show_at_once(records.at(place).state(), mask);
+                end.know();
+                shown
+            }
             State::Ended(_, _) => false,
         }
     }

@@ -1,4 +1,4 @@
-ghost use Rattle.std.specs.Prelude.{◌≡◌, ◌<◌, ◌≤◌, ◌==◌, IfOk, IfSome, OnErr, OnOk, [], ◌∷◌, if◌then◌else◌, length, replicate, true};
+ghost use Rattle.std.specs.Prelude.{◌≡◌, ◌<◌, ◌≤◌, ◌==◌, IfOk, IfSome, OnErr, OnOk, [], ◌∷◌, false, if◌then◌else◌, length, replicate, true};
 ghost use Rattle.std.specs.List.{list_any};
 ghost use Rattle.ca_text.specs.Limits.{element_limit, output_limit, payload_limit};
 ghost use Rattle.ca_dbr.specs.Elements.{count_of};
@@ -8,6 +8,7 @@ ghost use Rattle.ca_wire.specs.Fields.{Fields};
 ghost use Rattle.ca_wire.specs.Messages.{alone, update};
 ghost use Rattle.ca_model.specs.Server.{concerns, with_post};
 ghost use Rattle.ca_model.specs.Updates.{ShowsTo};
+ghost use Rattle.ca_server_circuit.specs.AtOnce.{ShowsAtOnce};
 ghost use Rattle.ca_server_circuit.specs.Pumping.{PumpsEnd, PumpsOne, update_alone};
 ghost use Rattle.ca_server_subscriptions.specs.Subscribed.{IsAskable, is_on};
 
@@ -40,6 +41,26 @@ impl End {
             .subscriptions
             .post(of.name(), mask, of.value(), of.meta())?;
         Ok(on)
+    }
+
+    /// A post to this record and then a pump, if they leave no more than one update in the output, for which nothing need go through the
+    /// queues: it is shown at once. If it says false, all is as it was.
+    #[inline(always)]
+    pub(crate) fn show_at_once(&mut self, of: &Record, mask: u16) -> bool
+        requires { IsOpen self.old.link }
+        ensures shown { result ≡ true → ShowsAtOnce of.now mask self.old self.new }
+        ensures stays { result ≡ false → self.new ≡ self.old }
+    {
+        if self.link.is_full() {
+            return false;
+        }
+        let Some(wanted) = self.subscriptions.sole(of.name(), mask) else {
+            return false;
+        };
+        match value_alone(&wanted, of) {
+            Some(payload) => send_alone(&mut self.link, &wanted, payload).is_ok(),
+            None => false,
+        }
     }
 
     /// Puts updates into the output until none may go. Without memory for the next the end is to be closed, and the output has those
@@ -130,6 +151,18 @@ fn shown_alone(wanted: &Wanted, shown: &Update) -> Option<u64>
         return None;
     }
     shown.value().alone(wanted.data_type)
+}
+
+/// The same of the value of a record.
+#[inline(always)]
+fn value_alone(wanted: &Wanted, of: &Record) -> Option<u64>
+    ensures { IfSome result (λ n. ShowsTo wanted.now
+        (record { value = of.now.value; meta = of.now.meta }) (alone (update_alone wanted.now n))) }
+{
+    if wanted.count > 1 {
+        return None;
+    }
+    of.value().alone(wanted.data_type)
 }
 
 /// Puts an update of one element after what waits on an open link. Without memory the link is as it was.
