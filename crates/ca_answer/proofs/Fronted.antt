@@ -25,10 +25,9 @@ use Rattle.ca_model.specs.ServerSteps as did
 use Rattle.ca_model.specs.Speech.{Stored}
 use Rattle.ca_server_circuit.proofs.Cleared.{is-same, same-is}
 use Rattle.ca_server_circuit.proofs.Tables.{changed-own}
-use Rattle.ca_server_core.specs.Noting.{HandlesAndFinishes, Notes, Tries}
+use Rattle.ca_server_core.specs.Noting.{HandlesAndFinishes, Notes, Tries, action_at, wrote_busy}
 use Rattle.ca_server_core.proofs.Each.{each-back, each-ext, each-fuse, each-one-more, under-each}
 use Rattle.ca_server_core.proofs.Finished.{one-changes}
-use Rattle.ca_answer.specs.Engines.{HandlesFirst}
 use Rattle.ca_answer.specs.Fronting.{fronted, fronted_at, fronting, with_front}
 use Rattle.ca_answer.specs.Serving.{Leaving}
 use Rattle.ca_answer.proofs.Ends.{acts-link, changed-twice, end-there, one-end, records-circuits}
@@ -375,9 +374,10 @@ module _ (h : Handle) (b : List ℕ) where
 
   -- ---- a message, and its finish
 
-  pub front-one : (y : Server) (e : ServerEnd) (new : Server) → HasEnd y h e → HandlesAndFinishes (fronting h b y) h new → (x : Server) × HandlesFirst y h x × (new ≡ fronting h b x)
+  pub front-one : (y : Server) (e : ServerEnd) (new : Server) → HasEnd y h e → HandlesAndFinishes (fronting h b y) h new → (x : Server) × HandlesAndFinishes y h x × (new ≡ fronting h b x)
   front-one y e new has d =
-      let step = subst (λ (o : Option ServerCircuit). StepsAt (fronting h b y) h o did.Handled d.stepped) (has-front y e has) d.steps in
+      let stepped = subst (λ (o : Option ServerCircuit). (z : StepsAt (fronting h b y) h o did.Handled d.stepped) × (d.put ≡ wrote_busy (action_at (fronting h b y) h d.stepped o z) d.stepped.records)) (has-front y e has) (d.steps, d.own) in
+      let step = stepped.0 in
       let next = step.0 in
       let e' : ServerEnd = record e { link = with_rest next.rest e.link } in
       let handled = front-handles y (Open e) e' next.m next.replies next.action next.after has next.handles in
@@ -386,12 +386,15 @@ module _ (h : Handle) (b : List ℕ) where
       let tries : Tries (fronting h b reached.0) d.put new = subst (λ (z : Server). Tries z d.put new) reached.2 d.tries in
       let tried = front-tries d.put reached.0 new tries in
       let room : length e.link.output < output_limit = (let full = next.room in let long = length-append b e.link.output in omega (arith, full, long)) in
-      let mine : did.Next y h e = record { room = room; m = next.m; rest = next.rest; takes = next.takes; replies = next.replies; action = next.action; after = handled.0; handles = handled.1 } in (
+      let mine : did.Next y h e = record { room = room; m = next.m; rest = next.rest; takes = next.takes; replies = next.replies; action = next.action; after = handled.0; handles = handled.1 } in
+      let own : d.put ≡ wrote_busy next.action reached.0.records = stepped.1 ∙ ap (λ (z : Server). wrote_busy next.action z.records) reached.2 in
+      let steps = subst (λ (o : Option ServerCircuit). (z : StepsAt y h o did.Handled reached.0) × (d.put ≡ wrote_busy (action_at y h reached.0 o z) reached.0.records)) (sym has) ((mine, step.1, step.2, reached.1), own) in (
         tried.0,
         record {
           put = d.put;
           stepped = reached.0;
-          steps = subst (λ (o : Option ServerCircuit). StepsAt y h o did.Handled reached.0) (sym has) (mine, step.1, step.2, reached.1);
+          steps = steps.0;
+          own = steps.1;
           notes = subst (λ (z : Server). Notes y.records z.records d.put) reached.2 d.notes;
           tries = tried.1;
         },
