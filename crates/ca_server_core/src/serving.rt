@@ -27,13 +27,16 @@ impl ServerCore {
         ensures serves { ServesAndPumps self.old circuit (stepped result) waiting.new self.new }
         ensures stays { was_handled (stepped result) ≡ false → waiting.new ≡ waiting.old }
     {
+        let circuits = &mut self.circuits;
+        let records = &mut self.records;
+        let watchers = &mut self.watchers;
         let mut waited = 0;
         let mut left = 0;
         let mut idle = false;
         let effect = match step_counting_on(
             self.port,
-            &mut self.circuits,
-            &mut self.records,
+            circuits,
+            records,
             circuit,
             &mut waited,
             &mut left,
@@ -42,38 +45,21 @@ impl ServerCore {
             Some(EndStep::Handled(effect)) => effect,
             Some(EndStep::NeedBytes) => return Step::NeedBytes,
             Some(EndStep::OutputFull) => return Step::OutputFull,
-            Some(EndStep::Breaks(_)) => return report(self.alloc, &mut self.circuits, circuit),
-            None => return report(self.alloc, &mut self.circuits, circuit),
+            Some(EndStep::Breaks(_)) => return report(self.alloc, circuits, circuit),
+            None => return report(self.alloc, circuits, circuit),
         };
         if is_quiet(effect) {
             *waiting = left;
             return Step::Handled;
         }
         self.applied = more_applied(self.applied, effect.is_write());
-        let may_have_ended = follow(
-            &mut self.circuits,
-            &mut self.records,
-            &mut self.watchers,
-            circuit,
-            effect,
-        );
-        if may_have_ended && !is_open(&self.circuits, circuit) {
-            return over(self.alloc, &mut self.circuits, circuit, waited);
+        let may_have_ended = follow(circuits, records, watchers, circuit, effect);
+        if may_have_ended && !is_open(circuits, circuit) {
+            return over(self.alloc, circuits, circuit, waited);
         }
-        let finished = finish_busy(
-            &mut self.applied,
-            &mut self.circuits,
-            &mut self.records,
-            &mut self.watchers,
-            effect,
-        );
-        *waiting = pump_unless_idle(
-            &mut self.circuits,
-            &mut self.records,
-            circuit,
-            is_idle_still(idle, may_have_ended, finished),
-            left,
-        );
+        let finished = finish_busy(&mut self.applied, circuits, records, watchers, effect);
+        let still = is_idle_still(idle, may_have_ended, finished);
+        *waiting = pump_unless_idle(circuits, records, circuit, still, left);
         Step::Handled
     }
 }

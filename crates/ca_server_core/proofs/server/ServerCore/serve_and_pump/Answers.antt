@@ -151,13 +151,13 @@ returns-clause-serves c =
 
 pub pump_unless_idle-requires-clause-rests : goal.pump_unless_idle-requires-clause-rests
 pump_unless_idle-requires-clause-rests c = λ yes.
-    let all = c.is_idle_still.ensures yes in
+    let all = c.is_idle_still-still.ensures yes in
     let same = c.finish_busy-finished.ensures.none all.2 ∙ c.follow-may_have_ended.ensures.none all.1 in
     subst (λ (t : Table ServerCircuit). IsIdleIn t c.args.circuit) (sym same) (c.in-Some-Handled.ensures.idle all.0)
 
 pub pump_unless_idle-requires-clause-counted : goal.pump_unless_idle-requires-clause-counted
 pump_unless_idle-requires-clause-counted c = λ yes.
-    let all = c.is_idle_still.ensures yes in
+    let all = c.is_idle_still-still.ensures yes in
     let same = c.finish_busy-finished.ensures.none all.2 ∙ c.follow-may_have_ended.ensures.none all.1 in
     (rw c.in-Some-Handled.field-0-is at c.in-Some-Handled.ensures.left) refl ∙ ap (λ (t : Table ServerCircuit). length (output_of (under t c.args.circuit))) (sym same)
 
