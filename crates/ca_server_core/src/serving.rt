@@ -1,15 +1,16 @@
-ghost use Rattle.std.specs.Prelude.{◌≡◌, false, true};
+ghost use Rattle.std.specs.Prelude.{◌≡◌, false};
 ghost use Rattle.ca_records.specs.Store.{IsThere, records_of};
 ghost use Rattle.ca_server_core.specs.Covering.{AreListed, Covers};
 ghost use Rattle.ca_server_core.specs.Noting.{EndsPutAt, LeadsTo, ServesAndPumps, TriesAt, was_handled};
 ghost use Rattle.ca_server_core.specs.Serving.{stepped};
 ghost use Rattle.ca_server_core.specs.Sound.{IsSound};
 
-use crate::counting::{pump_unless_idle, step_counting_on};
+use crate::counting::{pump_counting_on, step_counting_on};
 use crate::finishing::{effect_of, reply_on};
 use crate::following::follow;
 use crate::server::ServerCore;
 use crate::stepping::{Step, is_open, is_quiet, more_applied, over, report};
+use crate::through::go_through;
 use ca_arena::Handle;
 use ca_ids::HeldTable;
 use ca_records::ServedRecords;
@@ -53,39 +54,30 @@ impl ServerCore {
             return Step::Handled;
         }
         self.applied = more_applied(self.applied, effect.is_write());
+        if go_through(
+            circuits, records, watchers, circuit, effect, idle, &mut left,
+        ) {
+            *waiting = left;
+            return Step::Handled;
+        }
         let may_have_ended = follow(circuits, records, watchers, circuit, effect);
         if may_have_ended && !is_open(circuits, circuit) {
             return over(self.alloc, circuits, circuit, waited);
         }
-        let finished = finish_busy(&mut self.applied, circuits, records, watchers, effect);
-        let still = is_idle_still(idle, may_have_ended, finished);
-        *waiting = pump_unless_idle(circuits, records, circuit, still, left);
+        finish_busy(&mut self.applied, circuits, records, watchers, effect);
+        *waiting = pump_counting_on(circuits, records, circuit);
         Step::Handled
     }
 }
 
-/// Whether an end that was idle is so still: nothing was posted to it, and nothing was finished.
-#[inline(always)]
-fn is_idle_still(idle: bool, posted: bool, finished: bool) -> bool
-    ensures { result ≡ true → (idle ≡ true) × (posted ≡ false) × (finished ≡ false) }
-{
-    if posted {
-        return false;
-    }
-    if finished {
-        return false;
-    }
-    idle
-}
-
-/// Finishes the put of the record to which a message wrote, if it is busy. It says whether it was.
+/// Finishes the put of the record to which a message wrote, if it is busy.
 fn finish_busy(
     applied: &mut u64,
     circuits: &mut HeldTable<Circuit>,
     records: &mut ServedRecords,
     watchers: &mut Watchers,
     effect: Effect,
-) -> bool
+)
     requires leads { LeadsTo effect records.old }
     requires sound { IsSound (records_of records.old) circuits.old }
     requires covered { Covers watchers.old circuits.old }
@@ -95,16 +87,14 @@ fn finish_busy(
     ensures sound { IsSound (records_of records.new) circuits.new }
     ensures covered { Covers watchers.new circuits.new }
     ensures listed { AreListed (records_of records.new) watchers.new }
-    ensures none { result ≡ false → circuits.new ≡ circuits.old }
 {
     let Effect::Wrote(place) = effect else {
-        return false;
+        return;
     };
     if !records.at(place).is_busy() {
-        return false;
+        return;
     }
     finish_here(applied, circuits, records, watchers, place);
-    true
 }
 
 /// Finishes the busy put of the record at this place.
