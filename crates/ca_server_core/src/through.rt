@@ -2,6 +2,8 @@ ghost use Rattle.std.specs.Prelude.{◌≡◌, false, length, true};
 ghost use Rattle.ca_ids.specs.Table.{under};
 ghost use Rattle.ca_model.specs.ServerSteps.{output_of};
 ghost use Rattle.ca_records.specs.Store.{IsThere, records_of};
+ghost use Rattle.ca_server_circuit.specs.declared.step.Effect.TheVariants.{Wrote};
+ghost use Rattle.ca_server_core.specs.Covering.{Covers};
 ghost use Rattle.ca_server_core.specs.Following.{CoversFor};
 ghost use Rattle.ca_server_core.specs.Pumping.{IsIdleIn};
 ghost use Rattle.ca_server_core.specs.Sound.{IsSound};
@@ -40,12 +42,40 @@ pub(crate) fn go_through(
     let Effect::Wrote(place) = effect else {
         return false;
     };
+    if watchers.is_empty() {
+        if records.at(place).is_busy() {
+            return false;
+        }
+        return idle;
+    }
+    go_to_watching(circuits, records, watchers, circuit, place, idle, left)
+}
+
+/// The same of a write to the record at this place, where somebody watches some record.
+#[inline(never)]
+fn go_to_watching(
+    circuits: &mut HeldTable<Circuit>,
+    records: &ServedRecords,
+    watchers: &mut Watchers,
+    circuit: Handle,
+    place: usize,
+    idle: bool,
+    left: &mut usize,
+) -> bool
+    requires there { IsThere records.now place }
+    requires sound { IsSound (records_of records.now) circuits.old }
+    requires covered { Covers watchers.old circuits.old }
+    requires rests { idle ≡ true → IsIdleIn circuits.old circuit }
+    requires counted { left.old ≡ length (output_of (under circuits.old circuit)) }
+    ensures through { result ≡ true
+        → GoesThrough (Wrote place) circuit watchers.old circuits.old records.now circuits.new }
+    ensures counts { result ≡ true → left.new ≡ length (output_of (under circuits.new circuit)) }
+    ensures stays { result ≡ false → (circuits.new ≡ circuits.old) × (left.new ≡ left.old) }
+    ensures watchers { watchers.new ≡ watchers.old }
+{
     let served = records.at(place);
     if served.is_busy() {
         return false;
-    }
-    if watchers.is_empty() {
-        return idle;
     }
     let mut before = 0;
     let Some(last) = watchers.last(served.state().name(), &mut before) else {

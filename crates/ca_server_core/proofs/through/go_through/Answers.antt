@@ -17,42 +17,20 @@ returns-then-is_empty-clause-through c = λ idle.
     let w = c.args.watchers.now in
     let t = c.args.circuits.now in
     let s = c.args.records.now in
-    let r = c.at-served.result.now in
+    let r = c.at.result.now in
     let none : w ≡ [] = c.is_empty.ensures.0 c.if-is_empty.true in
     let apart : AreApart (watching w r.state.name) = subst (λ (v : Watched). AreApart (watching v r.state.name)) (sym none) none-apart in
     subst (λ (e : Effect). GoesThrough e c.args.circuit w t s t) (sym c.in-Wrote.is)
-    (goes-idle c.in-Wrote.place c.args.circuit w t s r c.at-served.ensures.at c.at-served.ensures.found (sym c.is_busy.ensures ∙ c.if-is_busy.false) apart (ap (λ (v : Watched). length (watching v r.state.name)) none) c.requires.sound (subst (λ (e : Effect). CoversFor e c.args.circuit c.args.records.now c.args.watchers.now c.args.circuits.now) c.in-Wrote.is c.requires.covered).1 (c.requires.rests idle))
+    (goes-idle c.in-Wrote.place c.args.circuit w t s r c.at.ensures.at c.at.ensures.found (sym c.is_busy.ensures ∙ c.if-is_busy.false) apart (ap (λ (v : Watched). length (watching v r.state.name)) none) c.requires.sound (subst (λ (e : Effect). CoversFor e c.args.circuit c.args.records.now c.args.watchers.now c.args.circuits.now) c.in-Wrote.is c.requires.covered).1 (c.requires.rests idle))
 
-pub returns-in_default-last-clause-through : goal.returns-in_default-last-clause-through
-returns-in_default-last-clause-through c = λ idle.
-    let w = c.args.watchers.now in
-    let t = c.args.circuits.now in
-    let s = c.args.records.now in
-    let r = c.at-served.result.now in
-    let named : c.name.result.now ≡ r.state.name = c.name.ensures ∙ ap (λ (x : RecordState). x.name) c.state.ensures in
-    let none =
-    none-last (watching w r.state.name) c.last.new.before (c.last.ensures.before ∙ ap (λ (n : List ℕ). length (watching w n) - 1) named)
-    (ap (λ (n : List ℕ). slice_get (watching w n) c.last.new.before) (sym named) ∙ sym c.in_default-last.ensures.last) in
-    subst (λ (e : Effect). GoesThrough e c.args.circuit w t s t) (sym c.in-Wrote.is)
-    (goes-idle c.in-Wrote.place c.args.circuit w t s r c.at-served.ensures.at c.at-served.ensures.found (sym c.is_busy.ensures ∙ c.if-is_busy.false) (subst (λ (n : List ℕ). AreApart (watching w n)) named c.last.ensures.apart) none c.requires.sound (subst (λ (e : Effect). CoversFor e c.args.circuit c.args.records.now c.args.watchers.now c.args.circuits.now) c.in-Wrote.is c.requires.covered).1 (c.requires.rests idle))
+pub at-requires : goal.at-requires
+at-requires c = (subst (λ (e : Effect). CoversFor e c.args.circuit c.args.records.now c.args.watchers.now c.args.circuits.now) c.in-Wrote.is c.requires.covered).0
+
+pub go_to_watching-requires-clause-there : goal.go_to_watching-requires-clause-there
+go_to_watching-requires-clause-there c = (subst (λ (e : Effect). CoversFor e c.args.circuit c.args.records.now c.args.watchers.now c.args.circuits.now) c.in-Wrote.is c.requires.covered).0
+
+pub go_to_watching-requires-clause-covered : goal.go_to_watching-requires-clause-covered
+go_to_watching-requires-clause-covered c = (subst (λ (e : Effect). CoversFor e c.args.circuit c.args.records.now c.args.watchers.now c.args.circuits.now) c.in-Wrote.is c.requires.covered).1
 
 pub returns-clause-through : goal.returns-clause-through
-returns-clause-through c = λ yes.
-    let w = c.args.watchers.now in
-    let t = c.args.circuits.now in
-    let s = c.args.records.now in
-    let r = c.at-served.result.now in
-    let named : c.name.result.now ≡ r.state.name = c.name.ensures ∙ ap (λ (x : RecordState). x.name) c.state.ensures in
-    let sole = c.is_sole.ensures c.if-not-is_sole.false in
-    let there : At (watching w r.state.name) c.last.new.before c.in-Some.last = subst (λ (n : List ℕ). At (watching w n) c.last.new.before c.in-Some.last) named (sym c.in-Some.ensures.last) in
-    let within = At-within (watching w r.state.name) c.last.new.before c.in-Some.last there in
-    let one : length (watching w r.state.name) ≡ 1 = omega (arith, c.last.ensures.before ∙ ap (λ (n : List ℕ). length (watching w n) - 1) named, sole.0, within) in
-    let last : At (watching w r.state.name) 0 c.args.circuit = subst (λ (h : Handle). At (watching w r.state.name) 0 h) sole.1 (subst (λ (n : ℕ). At (watching w r.state.name) n c.in-Some.last) sole.0 there) in
-    subst (λ (e : Effect). GoesThrough e c.args.circuit w t s c.show_on.new.circuits) (sym c.in-Wrote.is)
-    (goes-shown c.in-Wrote.place c.args.circuit w t c.show_on.new.circuits s r c.at-served.ensures.at c.at-served.ensures.found (sym c.is_busy.ensures ∙ c.if-is_busy.false) (subst (λ (n : List ℕ). AreApart (watching w n)) named c.last.ensures.apart) one last c.requires.sound (subst (λ (e : Effect). CoversFor e c.args.circuit c.args.records.now c.args.watchers.now c.args.circuits.now) c.in-Wrote.is c.requires.covered).1 (c.show_on.ensures.shown yes))
-
-pub at-served-requires : goal.at-served-requires
-at-served-requires c = (subst (λ (e : Effect). CoversFor e c.args.circuit c.args.records.now c.args.watchers.now c.args.circuits.now) c.in-Wrote.is c.requires.covered).0
-
-pub show_on-requires-clause-there : goal.show_on-requires-clause-there
-show_on-requires-clause-there c = (subst (λ (e : Effect). CoversFor e c.args.circuit c.args.records.now c.args.watchers.now c.args.circuits.now) c.in-Wrote.is c.requires.covered).0
+returns-clause-through c = λ yes. subst (λ (e : Effect). GoesThrough e c.args.circuit c.args.watchers.now c.args.circuits.now c.args.records.now c.go_to_watching.new.circuits) (sym c.in-Wrote.is) (c.go_to_watching.ensures.through yes)
