@@ -130,12 +130,7 @@ module _ {K : Type 0} (takes : K → List ℕ → K → Type 0) (rules : List Ru
             answers = s.past.answers;
           };
         });
-        waits = [];
-        many = r.sent;
-        core = sym (front-nothing h y);
-        writes = r.writes;
-        wrote = r.wrote;
-        parts = append-nil (concat r.writes) ∙ r.parts;
+        written = record { waits = []; many = r.sent; core = sym (front-nothing h y); writes = r.writes; wrote = r.wrote; parts = append-nil (concat r.writes) ∙ r.parts };
       }
 
   -- nothing is refused but out of memory

@@ -25,10 +25,9 @@ use Rattle.ca_model.specs.ServerSteps as did
 use Rattle.ca_model.specs.Speech.{Stored}
 use Rattle.ca_server_circuit.proofs.Cleared.{is-same, same-is}
 use Rattle.ca_server_circuit.proofs.Tables.{changed-own}
-use Rattle.ca_server_core.specs.Noting.{HandlesAndFinishes, Notes, Tries}
+use Rattle.ca_server_core.specs.Noting.{HandlesAndFinishes, Notes, Tries, action_at, wrote_busy}
 use Rattle.ca_server_core.proofs.Each.{each-back, each-ext, each-fuse, each-one-more, under-each}
 use Rattle.ca_server_core.proofs.Finished.{one-changes}
-use Rattle.ca_answer.specs.Engines.{HandlesFirst}
 use Rattle.ca_answer.specs.Fronting.{fronted, fronted_at, fronting, with_front}
 use Rattle.ca_answer.specs.Serving.{Leaving}
 use Rattle.ca_answer.proofs.Ends.{acts-link, changed-twice, end-there, one-end, records-circuits}
@@ -375,24 +374,37 @@ module _ (h : Handle) (b : List ℕ) where
 
   -- ---- a message, and its finish
 
-  pub front-one : (y : Server) (e : ServerEnd) (new : Server) → HasEnd y h e → HandlesAndFinishes (fronting h b y) h new → (x : Server) × HandlesFirst y h x × (new ≡ fronting h b x)
-  front-one y e new has d =
-      let step = subst (λ (o : Option ServerCircuit). StepsAt (fronting h b y) h o did.Handled d.stepped) (has-front y e has) d.steps in
+  front-step : (y : Server) (e : ServerEnd) (mid : Server) → HasEnd y h e → (step : StepsAt (fronting h b y) h (Some (Open (with_front b e))) did.Handled mid)
+      → (x : Server) × (mine : StepsAt y h (Some (Open e)) did.Handled x) × (step.0.action ≡ mine.0.action) × (mid ≡ fronting h b x)
+  front-step y e mid has step =
       let next = step.0 in
       let e' : ServerEnd = record e { link = with_rest next.rest e.link } in
       let handled = front-handles y (Open e) e' next.m next.replies next.action next.after has next.handles in
-      let reaches : Reaches next.action step.1 (fronting h b handled.0) d.stepped = subst (λ (z : Server). Reaches next.action step.1 z d.stepped) handled.2 step.3 in
-      let reached = front-reaches next.action step.1 handled.0 d.stepped reaches in
-      let tries : Tries (fronting h b reached.0) d.put new = subst (λ (z : Server). Tries z d.put new) reached.2 d.tries in
-      let tried = front-tries d.put reached.0 new tries in
+      let reaches : Reaches next.action step.1 (fronting h b handled.0) mid = subst (λ (z : Server). Reaches next.action step.1 z mid) handled.2 step.3 in
+      let reached = front-reaches next.action step.1 handled.0 mid reaches in
       let room : length e.link.output < output_limit = (let full = next.room in let long = length-append b e.link.output in omega (arith, full, long)) in
-      let mine : did.Next y h e = record { room = room; m = next.m; rest = next.rest; takes = next.takes; replies = next.replies; action = next.action; after = handled.0; handles = handled.1 } in (
+      let mine : did.Next y h e = record { room = room; m = next.m; rest = next.rest; takes = next.takes; replies = next.replies; action = next.action; after = handled.0; handles = handled.1 } in
+      (reached.0, (mine, step.1, step.2, reached.1), refl, reached.2)
+
+  -- what it wrote to at once is noted, by what is under the handle
+  abbrev Owns : (y mid : Server) → Option (List ℕ) → Option ServerCircuit → Type 0
+  Owns y mid put o = (d : StepsAt y h o did.Handled mid) × (put ≡ wrote_busy (action_at y h mid o d) mid.records)
+
+  pub front-one : (y : Server) (e : ServerEnd) (new : Server) → HasEnd y h e → HandlesAndFinishes (fronting h b y) h new → (x : Server) × HandlesAndFinishes y h x × (new ≡ fronting h b x)
+  front-one y e new has d =
+      let owns : Owns (fronting h b y) d.stepped d.put (Some (Open (with_front b e))) = subst (Owns (fronting h b y) d.stepped d.put) (has-front y e has) (d.steps, d.own) in
+      let one = front-step y e d.stepped has owns.0 in
+      let own : d.put ≡ wrote_busy one.1.0.action one.0.records =
+      owns.1 ∙ ap (λ (a : Action). wrote_busy a d.stepped.records) one.2 ∙ ap (λ (z : Server). wrote_busy one.1.0.action z.records) one.3 in
+      let mine : Owns y one.0 d.put (under y.circuits h) = subst (Owns y one.0 d.put) (sym has) (one.1, own) in
+      let tried = front-tries d.put one.0 new (subst (λ (z : Server). Tries z d.put new) one.3 d.tries) in (
         tried.0,
         record {
           put = d.put;
-          stepped = reached.0;
-          steps = subst (λ (o : Option ServerCircuit). StepsAt y h o did.Handled reached.0) (sym has) (mine, step.1, step.2, reached.1);
-          notes = subst (λ (z : Server). Notes y.records z.records d.put) reached.2 d.notes;
+          stepped = one.0;
+          steps = mine.0;
+          own = mine.1;
+          notes = subst (λ (z : Server). Notes y.records z.records d.put) one.3 d.notes;
           tries = tried.1;
         },
         tried.2,

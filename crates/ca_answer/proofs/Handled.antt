@@ -14,10 +14,10 @@ use Rattle.ca_model.specs.Answer.{Answers, Serves, Writes}
 use Rattle.ca_model.specs.Due.{Action, Applies, KnownChannel}
 use Rattle.ca_model.specs.Due as action
 use Rattle.ca_model.specs.Server.{Open, Server, ServerCircuit, ServerEnd}
-use Rattle.ca_model.specs.ServerSteps.{Handles, HasEnd, Records, Sends, Stepped, Steps, StepsAt, StepsOpen, knows, known_channel, output_of, with_end}
+use Rattle.ca_model.specs.ServerSteps.{Handles, HasEnd, Pumps, Records, Sends, Stepped, Steps, StepsAt, StepsOpen, Update, knows, known_channel, output_of, with_end}
 use Rattle.ca_model.specs.ServerSteps as did
+use Rattle.ca_server_core.specs.Noting.{HandlesAndFinishes}
 use Rattle.ca_server_core.proofs.Moves.{changed-nothing}
-use Rattle.ca_answer.specs.Engines.{HandlesOne}
 use Rattle.ca_answer.specs.Serving.{AreFree, Over, Served}
 use Rattle.ca_answer.proofs.Doing.{Busies, due-busies}
 use Rattle.ca_answer.proofs.Ends.{changed-twice, end-there, handles-has, pumped-stays, reaches-has, records-circuits, tried-stays}
@@ -117,8 +117,8 @@ module _ (rules : List Rule) (states : List RecordState) (bytes : List ℕ) (h :
       (x : ServerEnd) × HasEnd y h x
       × ((new : Server) → new ≡ with_end h (record x { link = with_handed (length x.link.output) x.link }) y → Served rules states bytes h new (text ++ x.link.output))
 
-  pub served-handled : (y : Server) (text : List ℕ) (new : Server) → Served rules states bytes h y text → HandlesOne y h new → Told new text ⊎ Over rules states bytes h new text
-  served-handled y text new s d =
+  pub served-handled : (y : Server) (text : List ℕ) (finished : Server) (us : List Update) (new : Server) → Served rules states bytes h y text → HandlesAndFinishes y h finished → Pumps finished h us new → Told new text ⊎ Over rules states bytes h new text
+  served-handled y text finished us new s d pumps =
       let e : ServerEnd = record s.e { link = s.link } in
       let has : HasEnd y h e = served-has y text s in
       let step = steps-there y h e did.Handled d.stepped has d.steps in
@@ -133,15 +133,15 @@ module _ (rules : List Rule) (states : List RecordState) (bytes : List ℕ) (h :
       let reached = reached-free next.action (busied next.action) step.1 next.after d.stepped step.3 freed in
       let was : AreFree y.records = subst (λ (z : Server). AreFree z.records) (sym s.is) s.free in
       let noted = noted-free (busied next.action) d.put y.records d.stepped.records was reached d.notes in
-      let tried = tried-free noted.0 d.put d.stepped d.finished noted.2 noted.1 d.tries in
+      let tried = tried-free noted.0 d.put d.stepped finished noted.2 noted.1 d.tries in
       let first = handles-has s.now h (Open s.e) e' next.m next.replies next.action next.after s.has handles.0 in
       let second = reaches-has next.action step.1 next.after h first.0 d.stepped step.3 step.2 first.1 in
-      let third = tried-stays d.put d.stepped d.finished h rest d.tries (inl (second.0, second.1, second.2 ∙ first.2)) in
+      let third = tried-stays d.put d.stepped finished h rest d.tries (inl (second.0, second.1, second.2 ∙ first.2)) in
       let begins : Begins bytes (s.past.ms ++ next.m ∷ []) rest = begins-more s.past.ms bytes s.link.input.bytes next.takes.0 rest next.m s.past.begins next.takes.2 next.takes.1 in
-      elim (pumped-stays d.finished h d.updates new rest d.pumps third) [
+      elim (pumped-stays finished h us new rest pumps third) [
         | inr over ↦ inr (record { now = s.now; rest = s.link.input.bytes; past = s.past; left = over.0; ended = over.1 })
         | inl x ↦
-            let free = pumped-free d.finished h d.updates new d.pumps tried.0 in
+            let free = pumped-free finished h us new pumps tried.0 in
             let serves : Serves h s.now next.m new = record {
               e = s.e;
               has = s.has;
@@ -156,11 +156,11 @@ module _ (rules : List Rule) (states : List RecordState) (bytes : List ℕ) (h :
               reached = d.stepped;
               reaches = step.3;
               names = tried.1.0;
-              idle = d.finished;
+              idle = finished;
               finishes = tried.1.1;
               all = λ r there. (tried.0 r there).0;
-              updates = d.updates;
-              pumps = d.pumps;
+              updates = us;
+              pumps = pumps;
               stays = (x.0, x.1);
             } in
             inl (

@@ -21,9 +21,9 @@ use Rattle.ca_model.specs.ServerSteps.{HasEnd, Pumps, Sends, Stepped, Steps, Ste
 use Rattle.ca_model.specs.ServerSteps as did
 use Rattle.ca_server_core.specs.Noting.{HandlesAndFinishes}
 use Rattle.ca_answer.specs.Answering.{Written}
-use Rattle.ca_answer.specs.Engines.{EngineState, HandlesFirst, HandlesOne, HasSent, refusal_for, what_waits}
+use Rattle.ca_answer.specs.Engines.{EngineState, HasSent, refusal_for, what_waits}
 use Rattle.ca_answer.specs.Fronting.{fronting, with_front}
-use Rattle.ca_answer.specs.Serving.{BreaksAt, Comes, Drains, EndsBad, EndsRested, Filled, Goes, Hands, LeadsOn, MakesRoom, MetBad, Over, Partly, Past, Pumped, Rested, Served, Serving, ServesOn, Stepping}
+use Rattle.ca_answer.specs.Serving.{BreaksAt, Comes, Drains, EndsBad, EndsRested, Filled, Goes, Hands, IsWritten, LeadsOn, MakesRoom, MetBad, Over, Partly, Past, Pumped, Rested, Served, Serving, ServesOn, Stepping}
 use Rattle.ca_answer.proofs.Ends.{end-there}
 use Rattle.ca_answer.proofs.Fronted.{ended-front, front-leaving, front-more, front-nothing, front-one, front-out, front-pumps, front-sent, has-front, pumps-on, take-front}
 use Rattle.ca_answer.proofs.Handled.{served-handled, served-has}
@@ -47,18 +47,6 @@ device-error (Err e) h = ap (λ (x : Refusal). Err x) h
 pub same-error : {A : Type 0} (r : Result A Refusal) (e : Refusal) → IsErrAnd r (λ x. x ≡ e) → r ≡ Err e
 same-error (Ok x) e h = absurd h
 same-error (Err x) e h = ap (λ (y : Refusal). Err y) h
-
-pumped-one : (old mid new : Server) (h : Handle) (us : List Update) → HandlesFirst old h mid → Pumps mid h us new → HandlesOne old h new
-pumped-one old mid new h us d p = record {
-  put = d.put;
-  stepped = d.stepped;
-  steps = d.steps;
-  notes = d.notes;
-  finished = mid;
-  tries = d.tries;
-  updates = us;
-  pumps = p;
-}
 
 -- an end that is open handles no other cause than its own
 never-handled : {w : Why} {left : List ℕ} → did.Handled ≡ did.Closed w left → ⊥
@@ -104,11 +92,11 @@ module _ {K : Type 0} (takes : K → List ℕ → K → Type 0) (faults : K → 
     pub wrote : Moves takes k0 writes k
     pub parts : concat writes ++ waits ≡ text
 
-  serving-waits : (k0 k : K) (bytes : List ℕ) (x : EngineState) (s : Serving takes rules states k0 bytes k x) → Waits k0 bytes k s.waits
-  serving-waits k0 k bytes x s = record { h = x.circuit; now = s.now; text = s.text; stands = s.stands; writes = s.writes; wrote = s.wrote; parts = s.parts }
+  serving-waits : (k0 k : K) (bytes : List ℕ) (x : EngineState) (s : Serving takes rules states k0 bytes k x) → Waits k0 bytes k s.written.waits
+  serving-waits k0 k bytes x s = record { h = x.circuit; now = s.now; text = s.text; stands = s.stands; writes = s.written.writes; wrote = s.written.wrote; parts = s.written.parts }
 
-  filled-waits : (k0 k : K) (bytes : List ℕ) (x : EngineState) (s : Filled takes rules states k0 bytes k x) → Waits k0 bytes k s.waits
-  filled-waits k0 k bytes x s = record { h = x.circuit; now = s.old; text = s.text; stands = inl s.served; writes = s.writes; wrote = s.wrote; parts = s.parts }
+  filled-waits : (k0 k : K) (bytes : List ℕ) (x : EngineState) (s : Filled takes rules states k0 bytes k x) → Waits k0 bytes k s.written.waits
+  filled-waits k0 k bytes x s = record { h = x.circuit; now = s.old; text = s.text; stands = inl s.served; writes = s.written.writes; wrote = s.written.wrote; parts = s.written.parts }
 
   partly-waits : (k0 k : K) (bytes waits : List ℕ) → Waits k0 bytes k waits → Partly takes rules states k0 bytes k
   partly-waits k0 k bytes waits w = partly-text k0 k bytes w.h w.now w.text waits w.writes w.stands w.wrote w.parts
@@ -163,21 +151,29 @@ module _ {K : Type 0} (takes : K → List ℕ → K → Type 0) (faults : K → 
       let there : HasEnd x.core x.circuit (with_front b e) = ap (λ (z : Server). under z.circuits x.circuit) core ∙ has-front x.circuit b now e (served-has rules states bytes x.circuit now text s) in
       subst (λ (z : Option ServerCircuit). StepsAt x.core x.circuit z d new) there step
 
+  -- the circuit went on in the server
+  moved-on : (k0 k : K) (x : EngineState) (now : Server) (text : List ℕ) (y next : Server) → (w : IsWritten takes k0 k x now text) → y ≡ fronting x.circuit w.waits next → IsWritten takes k0 k (record x { core = y }) next text
+  moved-on k0 k x now text y next w core = record { waits = w.waits; many = w.many; core = core; writes = w.writes; wrote = w.wrote; parts = w.parts }
+
+  -- all of the text was written
+  all-written : (k0 k : K) (h : Handle) (now : Server) (text : List ℕ) (w : List (List ℕ)) → Moves takes k0 w k → concat w ≡ text → IsWritten takes k0 k (record { core = now; circuit = h; waiting = 0 }) now text
+  all-written k0 k h now text w wrote parts = record { waits = []; many = refl; core = sym (front-nothing h now); writes = w; wrote = wrote; parts = append-nil (concat w) ∙ parts }
+
   -- a message was handled, and its finish came
   serving-stepped : (k0 k : K) (bytes : List ℕ) (x : EngineState) (y : Server) → Serving takes rules states k0 bytes k x → HandlesAndFinishes x.core x.circuit y → Stepping takes rules states k0 bytes k (record x { core = y })
   serving-stepped k0 k bytes x y s d = go s.stands
     where
       go : Served rules states bytes x.circuit s.now s.text ⊎ Over rules states bytes x.circuit s.now s.text → Stepping takes rules states k0 bytes k (record x { core = y })
       go (inl a) =
-          let one = front-one x.circuit s.waits s.now (record a.e { link = a.link }) y (served-has rules states bytes x.circuit s.now s.text a) (subst (λ (z : Server). HandlesAndFinishes z x.circuit y) s.core d) in
-          record { text = s.text; old = s.now; served = a; finished = one.0; one = one.1; waits = s.waits; many = s.many; core = one.2; writes = s.writes; wrote = s.wrote; parts = s.parts }
-      go (inr o) = absurd (never-handled (over-reports bytes x s.now s.text s.waits did.Handled d.stepped s.core o d.steps))
+          let one = front-one x.circuit s.written.waits s.now (record a.e { link = a.link }) y (served-has rules states bytes x.circuit s.now s.text a) (subst (λ (z : Server). HandlesAndFinishes z x.circuit y) s.written.core d) in
+          record { text = s.text; old = s.now; served = a; finished = one.0; one = one.1; written = moved-on k0 k x s.now s.text y one.0 s.written one.2 }
+      go (inr o) = absurd (never-handled (over-reports bytes x s.now s.text s.written.waits did.Handled d.stepped s.written.core o d.steps))
 
   -- its updates were pumped, and what waited before is in front
-  handled-serving : (k0 k : K) (bytes : List ℕ) (y : EngineState) (old now : Server) (text b : List ℕ) (writes : List (List ℕ)) → Served rules states bytes y.circuit old text → HandlesOne old y.circuit now → y.core ≡ fronting y.circuit b now
+  handled-serving : (k0 k : K) (bytes : List ℕ) (y : EngineState) (old finished : Server) (us : List Update) (now : Server) (text b : List ℕ) (writes : List (List ℕ)) → Served rules states bytes y.circuit old text → HandlesAndFinishes old y.circuit finished → Pumps finished y.circuit us now → y.core ≡ fronting y.circuit b now
       → y.waiting ≡ length b + length (output_of (under now.circuits y.circuit)) → Moves takes k0 writes k → concat writes ++ b ≡ text → Serving takes rules states k0 bytes k y
-  handled-serving k0 k bytes y old now text b writes served d core many wrote parts =
-      elim (served-handled rules states bytes y.circuit old text now served d) [
+  handled-serving k0 k bytes y old finished us now text b writes served d pumps core many wrote parts =
+      elim (served-handled rules states bytes y.circuit old text finished us now served d pumps) [
         | inl t ↦
             let o : List ℕ = t.0.link.output in
             let last : Server = with_end y.circuit (record t.0 { link = with_handed (length t.0.link.output) t.0.link }) now in
@@ -186,16 +182,18 @@ module _ {K : Type 0} (takes : K → List ℕ → K → Type 0) (faults : K → 
               text = text ++ o;
               now = last;
               stands = inl (t.2 last refl);
-              waits = b ++ o;
-              many = omega (arith, many, out, length-append b o);
-              core = core ∙ front-more y.circuit b now t.0 t.1;
-              writes = writes;
-              wrote = wrote;
-              parts = sym (append_assoc (concat writes) b o) ∙ ap (λ (w : List ℕ). w ++ o) parts;
+              written = record {
+                waits = b ++ o;
+                many = omega (arith, many, out, length-append b o);
+                core = core ∙ front-more y.circuit b now t.0 t.1;
+                writes = writes;
+                wrote = wrote;
+                parts = sym (append_assoc (concat writes) b o) ∙ ap (λ (w : List ℕ). w ++ o) parts;
+              };
             }
         | inr v ↦
             let none : length (output_of (under now.circuits y.circuit)) ≡ 0 = ap (λ (z : Option ServerCircuit). length (output_of z)) v.ended in
-            record { text = text; now = now; stands = inr v; waits = b; many = omega (arith, many, none); core = core; writes = writes; wrote = wrote; parts = parts }
+            record { text = text; now = now; stands = inr v; written = record { waits = b; many = omega (arith, many, none); core = core; writes = writes; wrote = wrote; parts = parts } }
       ]
 
   -- so little waits after the pump that it did not stop for that
@@ -203,27 +201,27 @@ module _ {K : Type 0} (takes : K → List ℕ → K → Type 0) (faults : K → 
       → Serving takes rules states k0 bytes k (record x { core = y; waiting = m })
   stepping-pumped k0 k bytes x us y n m s pumps counted few larger =
       let h : Handle = x.circuit in
-      let p = front-pumps h s.waits s.finished us y (subst (λ (z : Server). Pumps z h us y) s.core pumps) (subst (λ (j : ℕ). j < output_limit) counted few) in
+      let p = front-pumps h s.written.waits s.finished us y (subst (λ (z : Server). Pumps z h us y) s.written.core pumps) (subst (λ (j : ℕ). j < output_limit) counted few) in
       let now : Server = p.0 in
-      let there : n ≡ length (output_of (under (fronting h s.waits now).circuits h)) = counted ∙ ap (λ (z : Server). length (output_of (under z.circuits h))) p.2 in
-      let before : x.waiting ≡ length s.waits = s.many in
-      let all : m ≡ length s.waits + length (output_of (under now.circuits h)) = elim (front-out h s.waits now) [
+      let there : n ≡ length (output_of (under (fronting h s.written.waits now).circuits h)) = counted ∙ ap (λ (z : Server). length (output_of (under z.circuits h))) p.2 in
+      let before : x.waiting ≡ length s.written.waits = s.written.many in
+      let all : m ≡ length s.written.waits + length (output_of (under now.circuits h)) = elim (front-out h s.written.waits now) [
         | inl stays ↦
-            let k : n ≡ length (s.waits ++ output_of (under now.circuits h)) = there ∙ ap (λ (o : List ℕ). length o) stays in
-            omega (arith, larger, before, k, length-append s.waits (output_of (under now.circuits h)))
+            let k : n ≡ length (s.written.waits ++ output_of (under now.circuits h)) = there ∙ ap (λ (o : List ℕ). length o) stays in
+            omega (arith, larger, before, k, length-append s.written.waits (output_of (under now.circuits h)))
         | inr gone ↦
             let k : n ≡ 0 = there ∙ ap (λ (o : List ℕ). length o) gone.0 in
             let j : length (output_of (under now.circuits h)) ≡ 0 = ap (λ (o : List ℕ). length o) gone.1 in
             omega (arith, larger, before, k, j)
       ] in
-      handled-serving k0 k bytes (record x { core = y; waiting = m }) s.old now s.text s.waits s.writes s.served (pumped-one s.old s.finished now h us s.one p.1) p.2 all s.wrote s.parts
+      handled-serving k0 k bytes (record x { core = y; waiting = m }) s.old s.finished us now s.text s.written.waits s.written.writes s.served s.one p.1 p.2 all s.written.wrote s.written.parts
 
   -- so much waits that it may have stopped for that
   stepping-filled : (k0 k : K) (bytes : List ℕ) (x : EngineState) (us : List Update) (y : Server) (n : ℕ) → Stepping takes rules states k0 bytes k x → Pumps x.core x.circuit us y → n ≡ length (output_of (under y.circuits x.circuit)) → output_limit ≤ n
       → Filled takes rules states k0 bytes k (record x { core = y })
   stepping-filled k0 k bytes x us y n s pumps counted full =
       let h : Handle = x.circuit in
-      let p = front-leaving h s.waits s.finished us y (subst (λ (z : Server). Pumps z h us y) s.core pumps) (subst (λ (j : ℕ). output_limit ≤ j) counted full) in
+      let p = front-leaving h s.written.waits s.finished us y (subst (λ (z : Server). Pumps z h us y) s.written.core pumps) (subst (λ (j : ℕ). output_limit ≤ j) counted full) in
       record {
         text = s.text;
         old = s.old;
@@ -233,12 +231,7 @@ module _ {K : Type 0} (takes : K → List ℕ → K → Type 0) (faults : K → 
         updates = us;
         now = p.0;
         leaving = p.1;
-        waits = s.waits;
-        many = s.many;
-        core = p.2;
-        writes = s.writes;
-        wrote = s.wrote;
-        parts = s.parts;
+        written = moved-on k0 k x s.finished s.text y p.0 s.written p.2;
       }
 
   -- the circuit is open then
@@ -247,11 +240,12 @@ module _ {K : Type 0} (takes : K → List ℕ → K → Type 0) (faults : K → 
       ap (λ (z : Server). under z.circuits x.circuit) f.leaving.2.2 ∙ end-there f.finished x.circuit (Open f.leaving.0) f.leaving.2.0 f.leaving.1
 
   -- what waited before the message was handed over
-  filled-sent : (k0 k k' : K) (bytes : List ℕ) (x x' : EngineState) → Filled takes rules states k0 bytes k x → Goes takes k (what_waits x) k' → HasSent x x' → (f : Filled takes rules states k0 bytes k' x') × (f.waits ≡ [])
+  filled-sent : (k0 k k' : K) (bytes : List ℕ) (x x' : EngineState) → Filled takes rules states k0 bytes k x → Goes takes k (what_waits x) k' → HasSent x x' → (f : Filled takes rules states k0 bytes k' x') × (f.written.waits ≡ [])
+  unfolding all-written
   filled-sent k0 k k' bytes x x' f goes sent =
       let e : ServerEnd = f.leaving.2.0 in
       let has = filled-has k0 k bytes x f in
-      let gone = all-gone k0 k k' f.waits f.text f.writes f.wrote f.parts (subst (λ (w : List ℕ). Goes takes k w k') (front-waits x f.waits f.now e f.core f.many has) goes) in
+      let gone = all-gone k0 k k' f.written.waits f.text f.written.writes f.written.wrote f.written.parts (subst (λ (w : List ℕ). Goes takes k w k') (front-waits x f.written.waits f.now e f.written.core f.written.many has) goes) in
       let y : EngineState = record { core = f.now; circuit = x.circuit; waiting = 0 } in
       let g : Filled takes rules states k0 bytes k' y = record {
         text = f.text;
@@ -262,24 +256,19 @@ module _ {K : Type 0} (takes : K → List ℕ → K → Type 0) (faults : K → 
         updates = f.updates;
         now = f.now;
         leaving = f.leaving;
-        waits = [];
-        many = refl;
-        core = sym (front-nothing x.circuit f.now);
-        writes = gone.0;
-        wrote = gone.1;
-        parts = append-nil (concat gone.0) ∙ gone.2;
+        written = all-written k0 k' x.circuit f.now f.text gone.0 gone.1 gone.2;
       } in
-      subst (λ (z : EngineState). (f : Filled takes rules states k0 bytes k' z) × (f.waits ≡ [])) (sym (waits-sent x x' f.waits f.now e f.core f.many has sent)) (g, refl)
+      subst (λ (z : EngineState). (f : Filled takes rules states k0 bytes k' z) × (f.written.waits ≡ [])) (sym (waits-sent x x' f.written.waits f.now e f.written.core f.written.many has sent)) (g, refl)
 
   -- and the pump went on
-  filled-pumped : (k0 k : K) (bytes : List ℕ) (x : EngineState) (us : List Update) (y : Server) (n : ℕ) → (f : Filled takes rules states k0 bytes k x) → f.waits ≡ [] → Pumps x.core x.circuit us y → n ≡ length (output_of (under y.circuits x.circuit))
+  filled-pumped : (k0 k : K) (bytes : List ℕ) (x : EngineState) (us : List Update) (y : Server) (n : ℕ) → (f : Filled takes rules states k0 bytes k x) → f.written.waits ≡ [] → Pumps x.core x.circuit us y → n ≡ length (output_of (under y.circuits x.circuit))
       → Serving takes rules states k0 bytes k (record x { core = y; waiting = n })
   filled-pumped k0 k bytes x us y n f none pumps counted =
       let h : Handle = x.circuit in
-      let core : x.core ≡ f.now = f.core ∙ ap (λ (b : List ℕ). fronting h b f.now) none ∙ front-nothing h f.now in
+      let core : x.core ≡ f.now = f.written.core ∙ ap (λ (b : List ℕ). fronting h b f.now) none ∙ front-nothing h f.now in
       let all = pumps-on f.finished h f.updates us f.now y f.leaving (subst (λ (z : Server). Pumps z h us y) core pumps) in
-      handled-serving k0 k bytes (record x { core = y; waiting = n }) f.old y f.text [] f.writes f.served (pumped-one f.old f.finished y h _ f.one all) (sym (front-nothing h y)) (omega (arith, counted)) f.wrote
-      (ap (λ (b : List ℕ). concat f.writes ++ b) (sym none) ∙ f.parts)
+      handled-serving k0 k bytes (record x { core = y; waiting = n }) f.old f.finished _ y f.text [] f.written.writes f.served f.one all (sym (front-nothing h y)) (omega (arith, counted)) f.written.wrote
+      (ap (λ (b : List ℕ). concat f.written.writes ++ b) (sym none) ∙ f.written.parts)
 
   -- all that waits on an open circuit was handed over
   served-sent : (k0 k k' : K) (bytes : List ℕ) (x x' : EngineState) (s : Serving takes rules states k0 bytes k x) → Served rules states bytes x.circuit s.now s.text → Goes takes k (what_waits x) k' → HasSent x x'
@@ -287,8 +276,8 @@ module _ {K : Type 0} (takes : K → List ℕ → K → Type 0) (faults : K → 
   served-sent k0 k k' bytes x x' s a goes sent =
       let e : ServerEnd = record a.e { link = a.link } in
       let has = served-has rules states bytes x.circuit s.now s.text a in (
-        waits-sent x x' s.waits s.now e s.core s.many has sent,
-        all-gone k0 k k' s.waits s.text s.writes s.wrote s.parts (subst (λ (w : List ℕ). Goes takes k w k') (front-waits x s.waits s.now e s.core s.many has) goes),
+        waits-sent x x' s.written.waits s.now e s.written.core s.written.many has sent,
+        all-gone k0 k k' s.written.waits s.text s.written.writes s.written.wrote s.written.parts (subst (λ (w : List ℕ). Goes takes k w k') (front-waits x s.written.waits s.now e s.written.core s.written.many has) goes),
       )
 
   pub serving-sent : (k0 k k' : K) (bytes : List ℕ) (x x' : EngineState) → Serving takes rules states k0 bytes k x → 0 < length (output_of (under x.core.circuits x.circuit)) → Goes takes k (what_waits x) k' → HasSent x x' → Serving takes rules states k0 bytes k' x'
@@ -302,16 +291,11 @@ module _ {K : Type 0} (takes : K → List ℕ → K → Type 0) (faults : K → 
             text = s.text;
             now = s.now;
             stands = inl a;
-            waits = [];
-            many = refl;
-            core = sym (front-nothing x.circuit s.now);
-            writes = w.1.0;
-            wrote = w.1.1;
-            parts = append-nil (concat w.1.0) ∙ w.1.2;
+            written = all-written k0 k' x.circuit s.now s.text w.1.0 w.1.1 w.1.2;
           } in
           subst (λ (z : EngineState). Serving takes rules states k0 bytes k' z) (sym w.0) served
       go (inr o) =
-          let none : length (output_of (under x.core.circuits x.circuit)) ≡ 0 = ap (λ (z : Option ServerCircuit). length (output_of z)) (over-there bytes x s.now s.text s.waits s.core o) in
+          let none : length (output_of (under x.core.circuits x.circuit)) ≡ 0 = ap (λ (z : Option ServerCircuit). length (output_of z)) (over-there bytes x s.now s.text s.written.waits s.written.core o) in
           absurd (omega (arith, none, full))
 
   -- ---- no message
@@ -322,13 +306,13 @@ module _ {K : Type 0} (takes : K → List ℕ → K → Type 0) (faults : K → 
     where
       go : Served rules states bytes x.circuit s.now s.text ⊎ Over rules states bytes x.circuit s.now s.text → Rested takes rules states k0 bytes k' x'
       go (inl a) =
-          let r = open-steps bytes x s.now s.text s.waits did.NeedBytes y s.core a step in
+          let r = open-steps bytes x s.now s.text s.written.waits did.NeedBytes y s.written.core a step in
           let same : mid ≡ x = is ∙ ap (λ (z : Server). record x { core = z }) r.3 in
           let w = served-sent k0 k k' bytes x x' s a (subst (λ (z : EngineState). Goes takes k (what_waits z) k') same goes) (subst (λ (z : EngineState). HasSent z x') same sent) in
           let y : EngineState = record { core = s.now; circuit = x.circuit; waiting = 0 } in
           let rested : Rested takes rules states k0 bytes k' y = record { text = s.text; served = a; sent = refl; writes = w.1.0; wrote = w.1.1; parts = w.1.2; whole = r.1; good = r.2 } in
           subst (λ (z : EngineState). Rested takes rules states k0 bytes k' z) (sym w.0) rested
-      go (inr o) = absurd (never-rests (over-reports bytes x s.now s.text s.waits did.NeedBytes y s.core o step))
+      go (inr o) = absurd (never-rests (over-reports bytes x s.now s.text s.written.waits did.NeedBytes y s.written.core o step))
 
   -- so little waits on the circuit that its next message is handled
   no-room : (k0 k : K) (bytes : List ℕ) (x : EngineState) (y : Server) → x.waiting < output_limit → Serving takes rules states k0 bytes k x → Steps x.core x.circuit did.OutputFull y → ⊥
@@ -336,12 +320,12 @@ module _ {K : Type 0} (takes : K → List ℕ → K → Type 0) (faults : K → 
     where
       go : Served rules states bytes x.circuit s.now s.text ⊎ Over rules states bytes x.circuit s.now s.text → ⊥
       go (inl a) =
-          let r = open-steps bytes x s.now s.text s.waits did.OutputFull y s.core a step in
-          let full : output_limit ≤ length (s.waits ++ a.link.output) = r.0 in
+          let r = open-steps bytes x s.now s.text s.written.waits did.OutputFull y s.written.core a step in
+          let full : output_limit ≤ length (s.written.waits ++ a.link.output) = r.0 in
           let none : length a.link.output ≡ 0 = ap (λ (l : List ℕ). length l) a.quiet in
-          let many : x.waiting ≡ length s.waits = s.many in
-          omega (arith, full, none, many, few, length-append s.waits a.link.output)
-      go (inr o) = never-full (over-reports bytes x s.now s.text s.waits did.OutputFull y s.core o step)
+          let many : x.waiting ≡ length s.written.waits = s.written.many in
+          omega (arith, full, none, many, few, length-append s.written.waits a.link.output)
+      go (inr o) = never-full (over-reports bytes x s.now s.text s.written.waits did.OutputFull y s.written.core o step)
 
   -- ---- the end of a circuit
 
@@ -378,23 +362,23 @@ module _ {K : Type 0} (takes : K → List ℕ → K → Type 0) (faults : K → 
   closes-left y h e why.Asked left new s = s.2
   closes-left y h e why.Cut left new s = s.2
 
-  left-waits : (k0 k : K) (bytes : List ℕ) (x : EngineState) (y : Server) (w : Why) (left : List ℕ) → (s : Serving takes rules states k0 bytes k x) → Steps x.core x.circuit (did.Closed w left) y → take x.waiting left ≡ s.waits
-  left-waits k0 k bytes x y w left s step = ap (λ (n : ℕ). take n left) s.many ∙ go s.stands
+  left-waits : (k0 k : K) (bytes : List ℕ) (x : EngineState) (y : Server) (w : Why) (left : List ℕ) → (s : Serving takes rules states k0 bytes k x) → Steps x.core x.circuit (did.Closed w left) y → take x.waiting left ≡ s.written.waits
+  left-waits k0 k bytes x y w left s step = ap (λ (n : ℕ). take n left) s.written.many ∙ go s.stands
     where
-      first : (o : List ℕ) → left ≡ s.waits ++ o → take (length s.waits) left ≡ s.waits
-      first o is = ap (λ (l : List ℕ). take (length s.waits) l) is ∙ take-front s.waits o
+      first : (o : List ℕ) → left ≡ s.written.waits ++ o → take (length s.written.waits) left ≡ s.written.waits
+      first o is = ap (λ (l : List ℕ). take (length s.written.waits) l) is ∙ take-front s.written.waits o
 
-      go : Served rules states bytes x.circuit s.now s.text ⊎ Over rules states bytes x.circuit s.now s.text → take (length s.waits) left ≡ s.waits
+      go : Served rules states bytes x.circuit s.now s.text ⊎ Over rules states bytes x.circuit s.now s.text → take (length s.written.waits) left ≡ s.written.waits
       go (inl a) =
-          let e : ServerEnd = with_front s.waits (record a.e { link = a.link }) in
-          first a.link.output (closes-left x.core x.circuit e w left y (open-steps bytes x s.now s.text s.waits (did.Closed w left) y s.core a step))
+          let e : ServerEnd = with_front s.written.waits (record a.e { link = a.link }) in
+          first a.link.output (closes-left x.core x.circuit e w left y (open-steps bytes x s.now s.text s.written.waits (did.Closed w left) y s.written.core a step))
       go (inr o) =
-          first o.left (same-left w why.OutOfMemory left (s.waits ++ o.left) (over-reports bytes x s.now s.text s.waits (did.Closed w left) y s.core o step)).1
+          first o.left (same-left w why.OutOfMemory left (s.written.waits ++ o.left) (over-reports bytes x s.now s.text s.written.waits (did.Closed w left) y s.written.core o step)).1
 
   module _ (k k' : K) (x x' : EngineState) (y : Server) (left : List ℕ) (goes : Goes takes k (take x.waiting left) k') where
     left-gone : (k0 : K) (bytes : List ℕ) (w : Why) (s : Serving takes rules states k0 bytes k x) → Steps x.core x.circuit (did.Closed w left) y → (ws : List (List ℕ)) × Moves takes k0 ws k' × (concat ws ≡ s.text)
     left-gone k0 bytes w s step =
-        all-gone k0 k k' s.waits s.text s.writes s.wrote s.parts (subst (λ (l : List ℕ). Goes takes k l k') (left-waits k0 k bytes x y w left s step) goes)
+        all-gone k0 k k' s.written.waits s.text s.written.writes s.written.wrote s.written.parts (subst (λ (l : List ℕ). Goes takes k l k') (left-waits k0 k bytes x y w left s step) goes)
 
     -- out of memory, or for another cause that tells of nothing that came
     closes-breaks : (w : Why) → Steps x.core x.circuit (did.Closed w left) y → BreaksAt takes rules states k x k'
@@ -408,7 +392,7 @@ module _ {K : Type 0} (takes : K → List ℕ → K → Type 0) (faults : K → 
       where
         go : Served rules states bytes x.circuit s.now s.text ⊎ Over rules states bytes x.circuit s.now s.text → MetBad takes rules states k0 bytes k' e
         go (inl a) =
-            elim (closes-open x.core x.circuit (with_front s.waits (record a.e { link = a.link })) w left y (open-steps bytes x s.now s.text s.waits (did.Closed w left) y s.core a step)) [
+            elim (closes-open x.core x.circuit (with_front s.written.waits (record a.e { link = a.link })) w left y (open-steps bytes x s.now s.text s.written.waits (did.Closed w left) y s.written.core a step)) [
               | inl out ↦ absurd (other out)
               | inr b ↦
                   let written = left-gone k0 bytes w s step in
@@ -419,7 +403,7 @@ module _ {K : Type 0} (takes : K → List ℕ → K → Type 0) (faults : K → 
                     bad = subst (λ (z : Refusal). BadAt a.link.input.bytes z) r b.1;
                   }
             ]
-        go (inr o) = absurd (other (same-left w why.OutOfMemory left (s.waits ++ o.left) (over-reports bytes x s.now s.text s.waits (did.Closed w left) y s.core o step)).0)
+        go (inr o) = absurd (other (same-left w why.OutOfMemory left (s.written.waits ++ o.left) (over-reports bytes x s.now s.text s.written.waits (did.Closed w left) y s.written.core o step)).0)
 
     pub closes-comes : (w : Why) (turns : ℕ) → faults k' ≡ faults k → Steps x.core x.circuit (did.Closed w left) y → Comes takes faults rules states k k' x x' turns (Err (refusal_for w))
     closes-comes why.OutOfMemory turns counted step = (counted, closes-breaks why.OutOfMemory step)
@@ -480,7 +464,7 @@ module _ {K : Type 0} (takes : K → List ℕ → K → Type 0) (faults : K → 
   pub room-stopped : (k k' : K) (x x' : EngineState) (turns : ℕ) (r : Refusal) → Hands takes faults k (what_waits x) k' turns (Err r) → MakesRoom takes faults rules states k k' x x' turns (Err r)
   room-stopped k k' x x' turns r hands =
       leads-stopped (λ k0 bytes. Filled takes rules states k0 bytes k x) k k' x' (what_waits x) turns r hands
-      (λ k0 bytes f. subst (λ (w : List ℕ). Waits k0 bytes k w) (sym (front-waits x f.waits f.now f.leaving.2.0 f.core f.many (filled-has k0 k bytes x f))) (filled-waits k0 k bytes x f))
+      (λ k0 bytes f. subst (λ (w : List ℕ). Waits k0 bytes k w) (sym (front-waits x f.written.waits f.now f.leaving.2.0 f.written.core f.written.many (filled-has k0 k bytes x f))) (filled-waits k0 k bytes x f))
 
   -- it was, and the pump went on
   room-pumped : (k k' : K) (x mid new : EngineState) (us : List Update) (n : ℕ) → Goes takes k (what_waits x) k' → HasSent x mid → Pumps mid.core mid.circuit us new.core → n ≡ length (output_of (under new.core.circuits mid.circuit)) → new ≡ record mid { core = new.core; waiting = n }
@@ -513,9 +497,9 @@ module _ {K : Type 0} (takes : K → List ℕ → K → Type 0) (faults : K → 
     where
       open-waits : (k0 : K) (bytes : List ℕ) (s : Serving takes rules states k0 bytes l new) → Served rules states bytes new.circuit s.now s.text ⊎ Over rules states bytes new.circuit s.now s.text → Waits k0 bytes l (what_waits new)
       open-waits k0 bytes s (inl a) =
-          subst (λ (w : List ℕ). Waits k0 bytes l w) (sym (front-waits new s.waits s.now (record a.e { link = a.link }) s.core s.many (served-has rules states bytes new.circuit s.now s.text a))) (serving-waits k0 l bytes new s)
+          subst (λ (w : List ℕ). Waits k0 bytes l w) (sym (front-waits new s.written.waits s.now (record a.e { link = a.link }) s.written.core s.written.many (served-has rules states bytes new.circuit s.now s.text a))) (serving-waits k0 l bytes new s)
       open-waits k0 bytes s (inr o) =
-          let none : length (output_of (under new.core.circuits new.circuit)) ≡ 0 = ap (λ (z : Option ServerCircuit). length (output_of z)) (over-there bytes new s.now s.text s.waits s.core o) in
+          let none : length (output_of (under new.core.circuits new.circuit)) ≡ 0 = ap (λ (z : Option ServerCircuit). length (output_of z)) (over-there bytes new s.now s.text s.written.waits s.written.core o) in
           let there : length (output_of (under new.core.circuits new.circuit)) ≡ n = ap (λ (h : Handle). length (output_of (under new.core.circuits h))) (ap (λ (z : EngineState). z.circuit) is) ∙ sym counted in
           absurd (omega (arith, none, there, full))
 
@@ -544,11 +528,11 @@ module _ {K : Type 0} (takes : K → List ℕ → K → Type 0) (faults : K → 
     where
       waits : (k0 : K) (bytes : List ℕ) (s : Serving takes rules states k0 bytes k x) → Served rules states bytes x.circuit s.now s.text ⊎ Over rules states bytes x.circuit s.now s.text → Waits k0 bytes k (what_waits mid)
       waits k0 bytes s (inl a) =
-          let r = open-steps bytes x s.now s.text s.waits did.NeedBytes y s.core a step in
+          let r = open-steps bytes x s.now s.text s.written.waits did.NeedBytes y s.written.core a step in
           let same : mid ≡ x = is ∙ ap (λ (z : Server). record x { core = z }) r.3 in
-          let whole : what_waits mid ≡ s.waits = ap what_waits same ∙ front-waits x s.waits s.now (record a.e { link = a.link }) s.core s.many (served-has rules states bytes x.circuit s.now s.text a) in
+          let whole : what_waits mid ≡ s.written.waits = ap what_waits same ∙ front-waits x s.written.waits s.now (record a.e { link = a.link }) s.written.core s.written.many (served-has rules states bytes x.circuit s.now s.text a) in
           subst (λ (w : List ℕ). Waits k0 bytes k w) (sym whole) (serving-waits k0 k bytes x s)
-      waits k0 bytes s (inr o) = absurd (never-rests (over-reports bytes x s.now s.text s.waits did.NeedBytes y s.core o step))
+      waits k0 bytes s (inr o) = absurd (never-rests (over-reports bytes x s.now s.text s.written.waits did.NeedBytes y s.written.core o step))
 
   -- so little waits on the circuit that this does not come
   pub comes-full : (k : K) (x mid : EngineState) (turns : ℕ) → x.waiting < output_limit → Steps x.core x.circuit did.OutputFull mid.core → Comes takes faults rules states k k x mid turns (Ok false)

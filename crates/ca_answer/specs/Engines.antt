@@ -10,8 +10,7 @@ use Rattle.ca_text.specs.Limits.{server_port}
 use Rattle.ca_model.specs.Ends.{Why}
 use Rattle.ca_model.specs.Ends as why
 use Rattle.ca_model.specs.Server.{Open, Server, ServerCircuit, new_server}
-use Rattle.ca_model.specs.ServerSteps.{Accepts, Handled, Pumps, Sends, Steps, Update, output_of}
-use Rattle.ca_server_core.specs.Noting.{Notes, Tries}
+use Rattle.ca_model.specs.ServerSteps.{Accepts, Sends, output_of}
 
 -- A server, its circuit, and how many bytes wait there to be handed to the sink.
 pub record EngineState : Type 0 where
@@ -22,25 +21,6 @@ pub record EngineState : Type 0 where
 -- an engine of these rules and records on whose circuit no byte came
 abbrev pub IsNew : List Rule → List RecordState → EngineState → Type 0
 IsNew rules states x = Accepts (new_server server_port 0 rules states) (Ok x.circuit) x.core × (x.waiting ≡ 0)
-
--- A message was handled, and the record that it made busy was finished.
-pub record HandlesFirst (old : Server) (h : Handle) (new : Server) : Type 0 where
-  pub put : Option (List ℕ)
-  pub stepped : Server
-  pub steps : Steps old h Handled stepped
-  pub notes : Notes old.records stepped.records put
-  pub tries : Tries stepped put new
-
--- The same, and updates were pumped.
-pub record HandlesOne (old : Server) (h : Handle) (new : Server) : Type 0 where
-  pub put : Option (List ℕ)
-  pub stepped : Server
-  pub steps : Steps old h Handled stepped
-  pub notes : Notes old.records stepped.records put
-  pub finished : Server
-  pub tries : Tries stepped put finished
-  pub updates : List Update
-  pub pumps : Pumps finished h updates new
 
 -- the bytes that wait to be handed to the sink
 abbrev pub what_waits : EngineState → List ℕ

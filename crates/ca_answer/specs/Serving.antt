@@ -18,8 +18,9 @@ use Rattle.ca_model.specs.Ends as why
 use Rattle.ca_model.specs.Server.{Ended, Server, ServerEnd, new_server}
 use Rattle.ca_model.specs.ServerSteps.{Accepts, HasEnd, Leaves, Update, with_end}
 use Rattle.ca_model.specs.Speech.{In}
+use Rattle.ca_server_core.specs.Noting.{HandlesAndFinishes}
 use Rattle.ca_answer.specs.Answering.{Written}
-use Rattle.ca_answer.specs.Engines.{EngineState, HandlesFirst}
+use Rattle.ca_answer.specs.Engines.{EngineState}
 use Rattle.ca_answer.specs.Fronting.{fronting}
 
 -- no record is busy, and no put waits
@@ -54,17 +55,21 @@ pub record Over (rules : List Rule) (states : List RecordState) (bytes : List �
   pub left : List ℕ
   pub ended : under y.circuits h ≡ Some (Ended why.OutOfMemory left)
 
--- All that was answered was written, but for what waits on the circuit. The circuit stands as it would without that.
-pub record Serving {K : Type 0} (takes : K → List ℕ → K → Type 0) (rules : List Rule) (states : List RecordState) (k0 : K) (bytes : List ℕ) (k : K) (x : EngineState) : Type 0 where
-  pub text : List ℕ
-  pub now : Server
-  pub stands : Served rules states bytes x.circuit now text ⊎ Over rules states bytes x.circuit now text
+-- This text was written, but for what waits on the circuit, which stands in this server as it would without that.
+pub record IsWritten {K : Type 0} (takes : K → List ℕ → K → Type 0) (k0 k : K) (x : EngineState) (now : Server) (text : List ℕ) : Type 0 where
   pub waits : List ℕ
   pub many : x.waiting ≡ length waits
   pub core : x.core ≡ fronting x.circuit waits now
   pub writes : List (List ℕ)
   pub wrote : Moves takes k0 writes k
   pub parts : concat writes ++ waits ≡ text
+
+-- All that was answered was written, but for what waits on the circuit.
+pub record Serving {K : Type 0} (takes : K → List ℕ → K → Type 0) (rules : List Rule) (states : List RecordState) (k0 : K) (bytes : List ℕ) (k : K) (x : EngineState) : Type 0 where
+  pub text : List ℕ
+  pub now : Server
+  pub stands : Served rules states bytes x.circuit now text ⊎ Over rules states bytes x.circuit now text
+  pub written : IsWritten takes k0 k x now text
 
 -- The circuit is open, no whole message is left to be read, and all that was answered was written.
 pub record Rested {K : Type 0} (takes : K → List ℕ → K → Type 0) (rules : List Rule) (states : List RecordState) (k0 : K) (bytes : List ℕ) (k : K) (x : EngineState) : Type 0 where
@@ -83,13 +88,8 @@ pub record Stepping {K : Type 0} (takes : K → List ℕ → K → Type 0) (rule
   pub old : Server
   pub served : Served rules states bytes x.circuit old text
   pub finished : Server
-  pub one : HandlesFirst old x.circuit finished
-  pub waits : List ℕ
-  pub many : x.waiting ≡ length waits
-  pub core : x.core ≡ fronting x.circuit waits finished
-  pub writes : List (List ℕ)
-  pub wrote : Moves takes k0 writes k
-  pub parts : concat writes ++ waits ≡ text
+  pub one : HandlesAndFinishes old x.circuit finished
+  pub written : IsWritten takes k0 k x finished text
 
 -- updates left the queues of an open end, and more may leave
 abbrev pub Leaving : Server → Handle → List Update → Server → Type 0
@@ -101,16 +101,11 @@ pub record Filled {K : Type 0} (takes : K → List ℕ → K → Type 0) (rules 
   pub old : Server
   pub served : Served rules states bytes x.circuit old text
   pub finished : Server
-  pub one : HandlesFirst old x.circuit finished
+  pub one : HandlesAndFinishes old x.circuit finished
   pub updates : List Update
   pub now : Server
   pub leaving : Leaving finished x.circuit updates now
-  pub waits : List ℕ
-  pub many : x.waiting ≡ length waits
-  pub core : x.core ≡ fronting x.circuit waits now
-  pub writes : List (List ℕ)
-  pub wrote : Moves takes k0 writes k
-  pub parts : concat writes ++ waits ≡ text
+  pub written : IsWritten takes k0 k x now text
 
 -- what was served is served on
 abbrev pub ServesOn : {K : Type 0} → (K → List ℕ → K → Type 0) → List Rule → List RecordState → K → EngineState → K → EngineState → Type 0

@@ -66,8 +66,8 @@ impl Engine {
         requires calls { K.call_count sink.old < 2 ^ 63 + turns.old }
         requires faults { K.fault_count sink.old < 2 ^ 63 }
         ensures drains { (rules : List Rule) (states : List RecordState)
-            → Drains K.takes K.fault_count rules states sink.old sink.new self.old self.new turns.new
-            result }
+            → Drains K.takes K.fault_count rules states sink.old sink.new self.old self.new
+            turns.new result }
         ensures rises { turns.old ≤ turns.new }
         ensures within { turns.new ≤ engine_turns }
         ensures calls { K.call_count sink.new + turns.old ≡ K.call_count sink.old + turns.new }
@@ -183,8 +183,8 @@ impl Engine {
         requires within { turns.old ≤ engine_turns }
         requires calls { K.call_count sink.old < 2 ^ 63 + turns.old }
         requires faults { K.fault_count sink.old < 2 ^ 63 }
-        ensures hands { Hands K.takes K.fault_count sink.old (take self.now.waiting left.now) sink.new
-            turns.new result }
+        ensures hands { Hands K.takes K.fault_count sink.old (take self.now.waiting left.now)
+            sink.new turns.new result }
         ensures rises { turns.old ≤ turns.new }
         ensures within { turns.new ≤ engine_turns }
         ensures calls { K.call_count sink.new + turns.old ≡ K.call_count sink.old + turns.new }

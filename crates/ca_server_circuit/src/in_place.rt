@@ -23,7 +23,7 @@ use ca_wire::{Head, Header, Ioid, One, Sid, Wanted, read_one};
 
 impl End {
     /// Handles the next message of this circuit: where it came, if it is a write, else as a message of its own.
-    #[inline(never)]
+    #[inline(always)]
     pub(crate) fn step_by_place(
         &mut self,
         port: u16,

@@ -22,3 +22,4 @@ pub mod Ordered
 pub mod Served
 pub mod Idle
 pub mod Listed
+pub mod GoneThrough

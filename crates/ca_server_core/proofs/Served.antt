@@ -37,7 +37,7 @@ changed-there : (t : Circuits) (h : Handle) (c d : ServerCircuit) → under t h 
 changed-there t h c d is =
     ap (λ (o : Option ServerCircuit). let p : Place ServerCircuit = record { generation = h.generation; value = option_map (λ (x : ServerCircuit). d) o } in cond (is_some o) (slice_set t h.index p) t) is
 
-changed-twice : (t : Circuits) (h : Handle) (c d u : ServerCircuit) → under t h ≡ Some c
+pub changed-twice : (t : Circuits) (h : Handle) (c d u : ServerCircuit) → under t h ≡ Some c
     → with_changed (λ (x : ServerCircuit). u) h (with_changed (λ (x : ServerCircuit). d) h t) ≡ with_changed (λ (x : ServerCircuit). u) h t
 changed-twice t h c d u is =
     let p : Place ServerCircuit = record { generation = h.generation; value = Some d } in

@@ -14,3 +14,4 @@ pub mod Removing
 pub mod NextPut
 pub mod Noting
 pub mod ForHistories
+pub mod Through

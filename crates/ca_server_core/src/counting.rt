@@ -80,30 +80,8 @@ fn is_handled(did: Option<EndStep>) -> bool
     }
 }
 
-/// Pumps the end of a circuit, if it is open, and counts what waits on it. If it is known to be idle, so many bytes wait, and it is not
-/// looked up.
-#[inline(always)]
-pub(crate) fn pump_unless_idle(
-    circuits: &mut HeldTable<Circuit>,
-    records: &mut ServedRecords,
-    circuit: Handle,
-    idle: bool,
-    waiting: usize,
-) -> usize
-    requires sound { IsSound (records_of records.old) circuits.old }
-    requires rests { idle ≡ true → IsIdleIn circuits.old circuit }
-    requires counted { idle ≡ true → waiting ≡ length (output_of (under circuits.old circuit)) }
-    ensures pumps { PumpsIn circuits.old circuit records.old circuits.new records.new }
-    ensures counts { result ≡ length (output_of (under circuits.new circuit)) }
-{
-    if idle {
-        return waiting;
-    }
-    pump_counting_on(circuits, records, circuit)
-}
-
 /// Pumps the end of a circuit, if it is open, and counts what waits on it.
-fn pump_counting_on(
+pub(crate) fn pump_counting_on(
     circuits: &mut HeldTable<Circuit>,
     records: &mut ServedRecords,
     circuit: Handle,

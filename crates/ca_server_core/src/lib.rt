@@ -22,6 +22,7 @@ mod removing;
 mod server;
 mod serving;
 mod stepping;
+mod through;
 
 pub use ca_server_circuit::Cause;
 pub use server::ServerCore;

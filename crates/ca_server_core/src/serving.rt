@@ -1,15 +1,16 @@
-ghost use Rattle.std.specs.Prelude.{◌≡◌, false, true};
+ghost use Rattle.std.specs.Prelude.{◌≡◌, false};
 ghost use Rattle.ca_records.specs.Store.{IsThere, records_of};
 ghost use Rattle.ca_server_core.specs.Covering.{AreListed, Covers};
 ghost use Rattle.ca_server_core.specs.Noting.{EndsPutAt, LeadsTo, ServesAndPumps, TriesAt, was_handled};
 ghost use Rattle.ca_server_core.specs.Serving.{stepped};
 ghost use Rattle.ca_server_core.specs.Sound.{IsSound};
 
-use crate::counting::{pump_unless_idle, step_counting_on};
+use crate::counting::{pump_counting_on, step_counting_on};
 use crate::finishing::{effect_of, reply_on};
 use crate::following::follow;
 use crate::server::ServerCore;
 use crate::stepping::{Step, is_open, is_quiet, more_applied, over, report};
+use crate::through::go_through;
 use ca_arena::Handle;
 use ca_ids::HeldTable;
 use ca_records::ServedRecords;
@@ -27,13 +28,16 @@ impl ServerCore {
         ensures serves { ServesAndPumps self.old circuit (stepped result) waiting.new self.new }
         ensures stays { was_handled (stepped result) ≡ false → waiting.new ≡ waiting.old }
     {
+        let circuits = &mut self.circuits;
+        let records = &mut self.records;
+        let watchers = &mut self.watchers;
         let mut waited = 0;
         let mut left = 0;
         let mut idle = false;
         let effect = match step_counting_on(
             self.port,
-            &mut self.circuits,
-            &mut self.records,
+            circuits,
+            records,
             circuit,
             &mut waited,
             &mut left,
@@ -42,64 +46,38 @@ impl ServerCore {
             Some(EndStep::Handled(effect)) => effect,
             Some(EndStep::NeedBytes) => return Step::NeedBytes,
             Some(EndStep::OutputFull) => return Step::OutputFull,
-            Some(EndStep::Breaks(_)) => return report(self.alloc, &mut self.circuits, circuit),
-            None => return report(self.alloc, &mut self.circuits, circuit),
+            Some(EndStep::Breaks(_)) => return report(self.alloc, circuits, circuit),
+            None => return report(self.alloc, circuits, circuit),
         };
         if is_quiet(effect) {
             *waiting = left;
             return Step::Handled;
         }
         self.applied = more_applied(self.applied, effect.is_write());
-        let may_have_ended = follow(
-            &mut self.circuits,
-            &mut self.records,
-            &mut self.watchers,
-            circuit,
-            effect,
-        );
-        if may_have_ended && !is_open(&self.circuits, circuit) {
-            return over(self.alloc, &mut self.circuits, circuit, waited);
+        if go_through(
+            circuits, records, watchers, circuit, effect, idle, &mut left,
+        ) {
+            *waiting = left;
+            return Step::Handled;
         }
-        let finished = finish_busy(
-            &mut self.applied,
-            &mut self.circuits,
-            &mut self.records,
-            &mut self.watchers,
-            effect,
-        );
-        *waiting = pump_unless_idle(
-            &mut self.circuits,
-            &mut self.records,
-            circuit,
-            is_idle_still(idle, may_have_ended, finished),
-            left,
-        );
+        let may_have_ended = follow(circuits, records, watchers, circuit, effect);
+        if may_have_ended && !is_open(circuits, circuit) {
+            return over(self.alloc, circuits, circuit, waited);
+        }
+        finish_busy(&mut self.applied, circuits, records, watchers, effect);
+        *waiting = pump_counting_on(circuits, records, circuit);
         Step::Handled
     }
 }
 
-/// Whether an end that was idle is so still: nothing was posted to it, and nothing was finished.
-#[inline(always)]
-fn is_idle_still(idle: bool, posted: bool, finished: bool) -> bool
-    ensures { result ≡ true → (idle ≡ true) × (posted ≡ false) × (finished ≡ false) }
-{
-    if posted {
-        return false;
-    }
-    if finished {
-        return false;
-    }
-    idle
-}
-
-/// Finishes the put of the record to which a message wrote, if it is busy. It says whether it was.
+/// Finishes the put of the record to which a message wrote, if it is busy.
 fn finish_busy(
     applied: &mut u64,
     circuits: &mut HeldTable<Circuit>,
     records: &mut ServedRecords,
     watchers: &mut Watchers,
     effect: Effect,
-) -> bool
+)
     requires leads { LeadsTo effect records.old }
     requires sound { IsSound (records_of records.old) circuits.old }
     requires covered { Covers watchers.old circuits.old }
@@ -109,16 +87,14 @@ fn finish_busy(
     ensures sound { IsSound (records_of records.new) circuits.new }
     ensures covered { Covers watchers.new circuits.new }
     ensures listed { AreListed (records_of records.new) watchers.new }
-    ensures none { result ≡ false → circuits.new ≡ circuits.old }
 {
     let Effect::Wrote(place) = effect else {
-        return false;
+        return;
     };
     if !records.at(place).is_busy() {
-        return false;
+        return;
     }
     finish_here(applied, circuits, records, watchers, place);
-    true
 }
 
 /// Finishes the busy put of the record at this place.

@@ -32,9 +32,9 @@ use std::marker::Model;
 /// The subscriptions of an end, in the order of their EVENT_ADDs, and the queues of their updates.
 #[derive(Drop)]
 pub struct Subscriptions {
-    standing: IndexMap<SubKey, Standing>,
     // Where the subscription is that was posted to last, if it is the only one on its record: then no line need be looked at.
     sole: Option<usize>,
+    standing: IndexMap<SubKey, Standing>,
     queues: Waiting,
     // The place after the subscription whose update was taken last: the next update is mostly of the one there. The key decides.
     next: usize,
@@ -65,8 +65,8 @@ impl Subscriptions {
         ensures { result ≡ none_yet }
     {
         Subscriptions {
-            standing: IndexMap::new(alloc),
             sole: None,
+            standing: IndexMap::new(alloc),
             queues: Waiting::new(alloc),
             next: 0,
             by_record: ByRecord::new(alloc),

@@ -45,7 +45,22 @@ impl Watchers {
     }
 
     /// The last of the circuits that watch the record of this name, and how many come before it.
+    #[inline(always)]
     pub fn last(&mut self, name: &[u8], before: &mut usize) -> Option<Handle>
+        ensures last { result ≡ slice_get (watching self.old name.now) before.new }
+        ensures before { before.new ≡ length (watching self.old name.now) - 1 }
+        ensures apart { AreApart (watching self.old name.now) }
+        ensures stays { self.new ≡ self.old }
+    {
+        match self.recent_line(name) {
+            Some(line) => line.last(before),
+            None => self.hashed_last(name, before),
+        }
+    }
+
+    // The same by the hash of the name.
+    #[inline(never)]
+    fn hashed_last(&mut self, name: &[u8], before: &mut usize) -> Option<Handle>
         ensures last { result ≡ slice_get (watching self.old name.now) before.new }
         ensures before { before.new ≡ length (watching self.old name.now) - 1 }
         ensures apart { AreApart (watching self.old name.now) }
@@ -55,9 +70,6 @@ impl Watchers {
         if self.lines.is_empty() {
             *before = 0;
             return None;
-        }
-        if let Some(line) = self.recent_line(name) {
-            return line.last(before);
         }
         match self.lines.get_full(name) {
             Some((place, _, line)) => {

@@ -13,8 +13,10 @@ use Rattle.ca_server_core.proofs.Stepped.{broke-sound, full-same, handled-settle
 use Rattle.ca_server_core.proofs.Thinned.{thins-pumped}
 use Rattle.ca_server_circuit.specs.declared.step.Effect.TheVariants.{Quiet}
 use Rattle.ca_server_core.specs.Covering.{AreListed, Covers}
-use Rattle.ca_server_core.specs.Following.{Settles}
+use Rattle.ca_server_core.specs.Following.{CoversFor, Follows, Settles}
 use Rattle.ca_server_core.specs.Pumping.{IsIdleIn}
+use Rattle.ca_server_core.specs.Sound.{IsSound}
+use Rattle.ca_server_watchers.specs.Watching.{Watched}
 use Rattle.ca_server_core.specs.Serving.{stepped}
 use Rattle.ca_server_core.specs.declared.stepping.Step.TheVariants as own
 use Rattle.ca_server_core.proofs.server.ServerCore.serve_and_pump.Goals.{else-may_have_ended-via-then-may_have_ended+else-not-is_open, else-may_have_ended-via-else-may_have_ended}
@@ -67,27 +69,80 @@ returns-then-is_quiet-clause-serves c =
       (pumps-at (server_of i.port did.1 i.moment did.0 i.beacons i.applied) i.port i.moment i.applied i.beacons did.1 u.records did.0 u.circuits c.args.circuit refl did.3, (rw c.in-Some-Handled.field-0-is at c.in-Some-Handled.ensures.left) refl),
     )
 
+pub go_through-requires-clause-sound : goal.go_through-requires-clause-sound
+go_through-requires-clause-sound c =
+    let i = c.self.inside in
+    let did = (rw c.in-Some-Handled.field-0-is at c.in-Some-Handled.ensures.steps) (sym c.is_quiet.ensures ∙ c.if-is_quiet.false) in
+    step-sound i.port i.records c.step_counting_on.new.records i.circuits c.step_counting_on.new.circuits c.args.circuit c.in-Some-Handled.effect did c.self.invariant.sound
+
+pub go_through-requires-clause-covered : goal.go_through-requires-clause-covered
+go_through-requires-clause-covered c =
+    let i = c.self.inside in
+    let did = (rw c.in-Some-Handled.field-0-is at c.in-Some-Handled.ensures.steps) (sym c.is_quiet.ensures ∙ c.if-is_quiet.false) in
+    step-covers i.port i.watchers i.records c.step_counting_on.new.records i.circuits c.step_counting_on.new.circuits c.args.circuit c.in-Some-Handled.effect did c.self.invariant.covered
+
 pub follow-may_have_ended-requires-clause-sound : goal.follow-may_have_ended-requires-clause-sound
 follow-may_have_ended-requires-clause-sound c =
     let i = c.self.inside in
     let did = (rw c.in-Some-Handled.field-0-is at c.in-Some-Handled.ensures.steps) (sym c.is_quiet.ensures ∙ c.if-is_quiet.false) in
-    step-sound i.port i.records c.step_counting_on.new.records i.circuits c.step_counting_on.new.circuits c.args.circuit c.in-Some-Handled.effect did c.self.invariant.sound
+    subst (λ (t : Table ServerCircuit). IsSound (records_of c.step_counting_on.new.records) t) (sym (c.go_through.ensures.stays c.if-go_through.false).0)
+    (step-sound i.port i.records c.step_counting_on.new.records i.circuits c.step_counting_on.new.circuits c.args.circuit c.in-Some-Handled.effect did c.self.invariant.sound)
 
 pub follow-may_have_ended-requires-clause-covered : goal.follow-may_have_ended-requires-clause-covered
 follow-may_have_ended-requires-clause-covered c =
     let i = c.self.inside in
     let did = (rw c.in-Some-Handled.field-0-is at c.in-Some-Handled.ensures.steps) (sym c.is_quiet.ensures ∙ c.if-is_quiet.false) in
-    step-covers i.port i.watchers i.records c.step_counting_on.new.records i.circuits c.step_counting_on.new.circuits c.args.circuit c.in-Some-Handled.effect did c.self.invariant.covered
+    let effect = c.in-Some-Handled.effect in
+    let s = c.step_counting_on.new.records in
+    subst (λ (t : Table ServerCircuit). CoversFor effect c.args.circuit s c.go_through.new.watchers t) (sym (c.go_through.ensures.stays c.if-go_through.false).0)
+    (subst (λ (w : Watched). CoversFor effect c.args.circuit s w c.step_counting_on.new.circuits) (sym c.go_through.ensures.watchers)
+    (step-covers i.port i.watchers i.records s i.circuits c.step_counting_on.new.circuits c.args.circuit effect did c.self.invariant.covered))
 
 pub follow-may_have_ended-requires-clause-listed : goal.follow-may_have_ended-requires-clause-listed
 follow-may_have_ended-requires-clause-listed c =
     let i = c.self.inside in
     let did = (rw c.in-Some-Handled.field-0-is at c.in-Some-Handled.ensures.steps) (sym c.is_quiet.ensures ∙ c.if-is_quiet.false) in
-    listed-step i.port i.records c.step_counting_on.new.records i.circuits c.step_counting_on.new.circuits c.args.circuit c.in-Some-Handled.effect i.watchers did c.self.invariant.listed
+    subst (λ (w : Watched). AreListed (records_of c.step_counting_on.new.records) w) (sym c.go_through.ensures.watchers)
+    (listed-step i.port i.records c.step_counting_on.new.records i.circuits c.step_counting_on.new.circuits c.args.circuit c.in-Some-Handled.effect i.watchers did c.self.invariant.listed)
 
-pub finish_busy-finished-requires-clause-leads : goal.finish_busy-finished-requires-clause-leads
-finish_busy-finished-requires-clause-leads c =
-    leads-after c.in-Some-Handled.effect c.args.circuit c.step_counting_on.new.circuits c.follow-may_have_ended.new.circuits c.step_counting_on.new.records c.follow-may_have_ended.new.records c.follow-may_have_ended.ensures.follows
+pub go_through-requires-clause-rests : goal.go_through-requires-clause-rests
+go_through-requires-clause-rests c = λ yes. c.in-Some-Handled.ensures.idle yes
+
+pub go_through-requires-clause-counted : goal.go_through-requires-clause-counted
+go_through-requires-clause-counted c = (rw c.in-Some-Handled.field-0-is at c.in-Some-Handled.ensures.left) refl
+
+pub invariant_of-self-then-go_through : goal.invariant_of-self-then-go_through
+invariant_of-self-then-go_through c =
+    let i = c.self.inside in
+    let u = c.step_counting_on.new in
+    let new = c.go_through.new.circuits in
+    let did = (rw c.in-Some-Handled.field-0-is at c.in-Some-Handled.ensures.steps) (sym c.is_quiet.ensures ∙ c.if-is_quiet.false) in
+    let g = c.go_through.ensures.through c.if-go_through.true in
+    record {
+      sound = sound-pumped u.records u.records g.mid new c.args.circuit g.pumps g.sound;
+      covered = subst (λ (w : Watched). Covers w new) (sym c.go_through.ensures.watchers) (covers-thinned i.watchers g.mid new (thins-pumped u.records u.records g.mid new c.args.circuit g.pumps) g.covered);
+      listed = subst (λ (w : Watched). AreListed (records_of u.records) w) (sym c.go_through.ensures.watchers) (listed-step i.port i.records u.records i.circuits u.circuits c.args.circuit c.in-Some-Handled.effect i.watchers did c.self.invariant.listed);
+    }
+
+pub returns-then-go_through-clause-serves : goal.returns-then-go_through-clause-serves
+returns-then-go_through-clause-serves c =
+    let i = c.self.inside in
+    let u = c.step_counting_on.new in
+    let k = c.more_applied-self-inside.result in
+    let effect = c.in-Some-Handled.effect in
+    let did = (rw c.in-Some-Handled.field-0-is at c.in-Some-Handled.ensures.steps) (sym c.is_quiet.ensures ∙ c.if-is_quiet.false) in
+    let g = c.go_through.ensures.through c.if-go_through.true in
+    let long = c.in-Some-Handled.ensures.waited ∙ ap (λ (z : Server). length (output_of (under z.circuits c.args.circuit))) c.self.view_is in
+    let settles = g.settles u.waited (handled-settles i.port i.records u.records i.circuits u.circuits c.args.circuit effect u.waited did) in
+    let made = made-followed-by c.args.self.now i.port i.moment i.applied k _ i.beacons i.records u.records u.records i.circuits u.circuits g.mid g.mid c.args.circuit effect c.is_write.result own.Handled c.self.view_is c.is_write.ensures c.more_applied-self-inside.ensures long did g.follows g.sound settles in (
+      server_of i.port u.records i.moment g.mid i.beacons k,
+      viewed-served c.args.self.now i.port i.moment i.applied k k i.beacons i.records u.records u.records u.records i.circuits u.circuits g.mid g.mid g.mid c.args.circuit effect c.self.view_is did g.follows made (g.tries k),
+      (pumps-at _ i.port i.moment k i.beacons u.records u.records g.mid c.go_through.new.circuits c.args.circuit refl g.pumps, c.go_through.ensures.counts c.if-go_through.true),
+    )
+
+pub finish_busy-requires-clause-leads : goal.finish_busy-requires-clause-leads
+finish_busy-requires-clause-leads c =
+    leads-after c.in-Some-Handled.effect c.args.circuit c.go_through.new.circuits c.follow-may_have_ended.new.circuits c.step_counting_on.new.records c.follow-may_have_ended.new.records c.follow-may_have_ended.ensures.follows
 
 pub invariant_of-self-then-not-is_open : goal.invariant_of-self-then-not-is_open
 invariant_of-self-then-not-is_open c =
@@ -121,16 +176,20 @@ invariant_of-self-in-None c =
 pub returns-then-not-is_open-clause-serves : goal.returns-then-not-is_open-clause-serves
 returns-then-not-is_open-clause-serves c =
     let i = c.self.inside in
+    let same = (c.go_through.ensures.stays c.if-go_through.false).0 in
+    let follows = subst (λ (t : Table ServerCircuit). Follows c.in-Some-Handled.effect c.args.circuit t c.step_counting_on.new.records c.follow-may_have_ended.new.circuits c.follow-may_have_ended.new.records) same c.follow-may_have_ended.ensures.follows in
     let did = (rw c.in-Some-Handled.field-0-is at c.in-Some-Handled.ensures.steps) (sym c.is_quiet.ensures ∙ c.if-is_quiet.false) in
     let f = c.follow-may_have_ended.new in
     let long = c.in-Some-Handled.ensures.waited ∙ ap (λ (z : Server). length (output_of (under z.circuits c.args.circuit))) c.self.view_is in
-    let made = made-followed c.args.self.now i.port i.moment i.applied c.more_applied-self-inside.result _ i.beacons i.records c.step_counting_on.new.records f.records i.circuits c.step_counting_on.new.circuits f.circuits c.over.new.circuits c.args.circuit c.in-Some-Handled.effect c.is_write.result c.over.result c.self.view_is c.is_write.ensures c.more_applied-self-inside.ensures long did c.follow-may_have_ended.ensures.follows c.follow-may_have_ended.ensures.sound c.over.ensures.settles in
+    let made = made-followed c.args.self.now i.port i.moment i.applied c.more_applied-self-inside.result _ i.beacons i.records c.step_counting_on.new.records f.records i.circuits c.step_counting_on.new.circuits f.circuits c.over.new.circuits c.args.circuit c.in-Some-Handled.effect c.is_write.result c.over.result c.self.view_is c.is_write.ensures c.more_applied-self-inside.ensures long did follows c.follow-may_have_ended.ensures.sound c.over.ensures.settles in
     noting-none c.args.self.now c.args.circuit (stepped c.over.result) c.args.waiting.now (server_of i.port f.records i.moment c.over.new.circuits i.beacons c.more_applied-self-inside.result)
     (not-handled (stepped c.over.result) c.over.ensures.closed) made
 
 pub returns-clause-serves : goal.returns-clause-serves
 returns-clause-serves c =
     let i = c.self.inside in
+    let same = (c.go_through.ensures.stays c.if-go_through.false).0 in
+    let follows = subst (λ (t : Table ServerCircuit). Follows c.in-Some-Handled.effect c.args.circuit t c.step_counting_on.new.records c.follow-may_have_ended.new.circuits c.follow-may_have_ended.new.records) same c.follow-may_have_ended.ensures.follows in
     let did = (rw c.in-Some-Handled.field-0-is at c.in-Some-Handled.ensures.steps) (sym c.is_quiet.ensures ∙ c.if-is_quiet.false) in
     let f = c.follow-may_have_ended.new in
     let long = c.in-Some-Handled.ensures.waited ∙ ap (λ (z : Server). length (output_of (under z.circuits c.args.circuit))) c.self.view_is in
@@ -138,33 +197,21 @@ returns-clause-serves c =
     let settles : Settles f.circuits c.args.circuit waited own.Handled f.circuits = elim c.else-may_have_ended.branch [
       | else-may_have_ended-via-then-may_have_ended+else-not-is_open w ↦ open-settles f.circuits c.args.circuit waited (sym w.is_open.ensures ∙ w.if-not-is_open.false)
       | else-may_have_ended-via-else-may_have_ended w ↦
-          subst (λ (z : Table ServerCircuit). Settles z c.args.circuit waited own.Handled z) (sym (c.follow-may_have_ended.ensures.none w.if-may_have_ended.false))
+          subst (λ (z : Table ServerCircuit). Settles z c.args.circuit waited own.Handled z) (sym (c.follow-may_have_ended.ensures.none w.if-may_have_ended.false ∙ same))
           (handled-settles i.port i.records c.step_counting_on.new.records i.circuits c.step_counting_on.new.circuits c.args.circuit c.in-Some-Handled.effect waited did)
     ] in
-    let made = made-followed-by c.args.self.now i.port i.moment i.applied c.more_applied-self-inside.result _ i.beacons i.records c.step_counting_on.new.records f.records i.circuits c.step_counting_on.new.circuits f.circuits f.circuits c.args.circuit c.in-Some-Handled.effect c.is_write.result own.Handled c.self.view_is c.is_write.ensures c.more_applied-self-inside.ensures long did c.follow-may_have_ended.ensures.follows c.follow-may_have_ended.ensures.sound settles in
-    let fin = c.finish_busy-finished in
-    let pumped = c.pump_unless_idle in (
+    let made = made-followed-by c.args.self.now i.port i.moment i.applied c.more_applied-self-inside.result _ i.beacons i.records c.step_counting_on.new.records f.records i.circuits c.step_counting_on.new.circuits f.circuits f.circuits c.args.circuit c.in-Some-Handled.effect c.is_write.result own.Handled c.self.view_is c.is_write.ensures c.more_applied-self-inside.ensures long did follows c.follow-may_have_ended.ensures.sound settles in
+    let fin = c.finish_busy in
+    let pumped = c.pump_counting_on in (
       server_of i.port fin.new.records i.moment fin.new.circuits i.beacons fin.new.applied,
-      viewed-served c.args.self.now i.port i.moment i.applied c.more_applied-self-inside.result fin.new.applied i.beacons i.records c.step_counting_on.new.records f.records fin.new.records i.circuits c.step_counting_on.new.circuits f.circuits f.circuits fin.new.circuits c.args.circuit c.in-Some-Handled.effect c.self.view_is did c.follow-may_have_ended.ensures.follows made fin.ensures.tries,
+      viewed-served c.args.self.now i.port i.moment i.applied c.more_applied-self-inside.result fin.new.applied i.beacons i.records c.step_counting_on.new.records f.records fin.new.records i.circuits c.step_counting_on.new.circuits f.circuits f.circuits fin.new.circuits c.args.circuit c.in-Some-Handled.effect c.self.view_is did follows made fin.ensures.tries,
       (pumps-at _ i.port i.moment fin.new.applied i.beacons fin.new.records pumped.new.records fin.new.circuits pumped.new.circuits c.args.circuit refl pumped.ensures.pumps, pumped.ensures.counts),
     )
 
-pub pump_unless_idle-requires-clause-rests : goal.pump_unless_idle-requires-clause-rests
-pump_unless_idle-requires-clause-rests c = λ yes.
-    let all = c.is_idle_still.ensures yes in
-    let same = c.finish_busy-finished.ensures.none all.2 ∙ c.follow-may_have_ended.ensures.none all.1 in
-    subst (λ (t : Table ServerCircuit). IsIdleIn t c.args.circuit) (sym same) (c.in-Some-Handled.ensures.idle all.0)
-
-pub pump_unless_idle-requires-clause-counted : goal.pump_unless_idle-requires-clause-counted
-pump_unless_idle-requires-clause-counted c = λ yes.
-    let all = c.is_idle_still.ensures yes in
-    let same = c.finish_busy-finished.ensures.none all.2 ∙ c.follow-may_have_ended.ensures.none all.1 in
-    (rw c.in-Some-Handled.field-0-is at c.in-Some-Handled.ensures.left) refl ∙ ap (λ (t : Table ServerCircuit). length (output_of (under t c.args.circuit))) (sym same)
-
 pub invariant_of-self-2 : goal.invariant_of-self-2
 invariant_of-self-2 c =
-    let fin = c.finish_busy-finished in
-    let pumped = c.pump_unless_idle in
+    let fin = c.finish_busy in
+    let pumped = c.pump_counting_on in
     record {
       sound = sound-pumped fin.new.records pumped.new.records fin.new.circuits pumped.new.circuits c.args.circuit pumped.ensures.pumps fin.ensures.sound;
       covered = covers-thinned fin.new.watchers fin.new.circuits pumped.new.circuits (thins-pumped fin.new.records pumped.new.records fin.new.circuits pumped.new.circuits c.args.circuit pumped.ensures.pumps) fin.ensures.covered;

@@ -4,17 +4,6 @@ use Rattle.ca_server_watchers.specs.Watching.{AreApart, Watched, watching}
 use Rattle.ca_server_watchers.proofs.Lines.{none-apart, unlisted, unwatched, watched}
 use Rattle.ca_server_watchers.proofs.watchers.Watchers.last.Goals as goal
 
-pub returns-then-is_empty : goal.returns-then-is_empty
-returns-then-is_empty c =
-    let name = c.args.name.now in
-    let none = sym (unlisted (λ k. k.items) name c.self.inside.lines.entries (c.is_empty.ensures.0 c.if-is_empty.true)) ∙ ap (λ (w : Watched). watching w name) c.self.view_is in
-    record {
-      last = ap (λ (hs : List Handle). slice_get hs 0) none;
-      before = ap (λ (hs : List Handle). length hs - 1) none;
-      apart = subst (λ (hs : List Handle). AreApart hs) none none-apart;
-      stays = refl;
-    }
-
 pub returns-in-Some : goal.returns-in-Some
 returns-in-Some c =
     let here = c.in-Some.ensures in
@@ -22,27 +11,5 @@ returns-in-Some c =
       last = c.last.ensures.last ∙ ap (λ (hs : List Handle). slice_get hs c.last.new.before) here;
       before = c.last.ensures.before ∙ ap (λ (hs : List Handle). length hs - 1) here;
       apart = subst (λ (hs : List Handle). AreApart hs) here c.last.ensures.apart;
-      stays = refl;
-    }
-
-pub returns-in-Some-get_full : goal.returns-in-Some-get_full
-returns-in-Some-get_full c =
-    let name = c.args.name.now in
-    let here = sym (watched (λ k. k.items) name c.self.inside.lines.entries c.in-Some-get_full.line.now (sym c.in-Some-get_full.ensures.value)) ∙ ap (λ (w : Watched). watching w name) c.self.view_is in
-    record {
-      last = c.last-last.ensures.last ∙ ap (λ (hs : List Handle). slice_get hs c.last-last.new.before) here;
-      before = c.last-last.ensures.before ∙ ap (λ (hs : List Handle). length hs - 1) here;
-      apart = subst (λ (hs : List Handle). AreApart hs) here c.last-last.ensures.apart;
-      stays = c.self.view_is;
-    }
-
-pub returns-in-None : goal.returns-in-None
-returns-in-None c =
-    let name = c.args.name.now in
-    let none = sym (unwatched (λ k. k.items) name c.self.inside.lines.entries (sym c.in-None.ensures.value)) ∙ ap (λ (w : Watched). watching w name) c.self.view_is in
-    record {
-      last = ap (λ (hs : List Handle). slice_get hs 0) none;
-      before = ap (λ (hs : List Handle). length hs - 1) none;
-      apart = subst (λ (hs : List Handle). AreApart hs) none none-apart;
       stays = refl;
     }

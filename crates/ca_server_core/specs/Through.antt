@@ -1,0 +1,36 @@
+-- Working: what a write of a circuit leaves to do, where nobody else watches its record.
+use Rattle.std.specs.Prelude.{ℕ, ◌≡◌, Bool, true, false, is_some}
+use Rattle.ca_arena.specs.declared.handle.Handle.{Handle}
+use Rattle.ca_ids.specs.Table.{Table, under}
+use Rattle.ca_records.specs.Store.{Store, records_of}
+use Rattle.ca_server_watchers.specs.Watching.{Watched}
+use Rattle.ca_model.specs.Server.{ServerCircuit}
+use Rattle.ca_model.specs.ServerSteps.{write_mask}
+use Rattle.ca_server_circuit.specs.declared.step.Effect.{Effect}
+use Rattle.ca_server_circuit.specs.Circuits.{is_open}
+use Rattle.ca_server_core.specs.declared.stepping.Step.TheVariants.{Handled}
+use Rattle.ca_server_core.specs.Covering.{Covers}
+use Rattle.ca_server_core.specs.Following.{Follows, Settles}
+use Rattle.ca_server_core.specs.Noting.{TriesAt}
+use Rattle.ca_server_core.specs.Pumping.{PumpsIn}
+use Rattle.ca_server_core.specs.Reaching.{PostsIn, WatchesIn}
+use Rattle.ca_server_core.specs.Sound.{IsSound}
+
+-- The circuit of a handle had its post for a write to the record at a place, which it watches; its end is open then, and was pumped.
+pub record ShowsIn (place : ℕ) (h : Handle) (t : Table ServerCircuit) (s : Store) (after : Table ServerCircuit) : Type 0 where
+  pub mid : Table ServerCircuit
+  pub watches : WatchesIn t h place s true
+  pub posts : PostsIn t h place write_mask s mid s
+  pub opens : is_open (under mid h) ≡ true
+  pub pumps : PumpsIn mid h s after s
+
+-- What a message leaves to do was done, as `follow` does it, and no put is to be finished then. The step is answered as it was before, and the
+-- circuit was pumped.
+pub record GoesThrough (did : Effect) (h : Handle) (w : Watched) (t : Table ServerCircuit) (s : Store) (after : Table ServerCircuit) : Type 0 where
+  pub mid : Table ServerCircuit
+  pub follows : Follows did h t s mid s
+  pub sound : IsSound (records_of s) mid
+  pub covered : Covers w mid
+  pub settles : (waited : ℕ) → Settles t h waited Handled t → Settles mid h waited Handled mid
+  pub tries : (n : ℕ) → TriesAt did n mid s n mid s
+  pub pumps : PumpsIn mid h s after s
