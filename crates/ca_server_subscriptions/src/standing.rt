@@ -15,9 +15,9 @@ use std::marker::Model;
 pub(crate) struct Standing {
     wanted: Wanted,
     // The name of its record.
-    name: Vec<u8>,
     mask: u16,
-    queue: usize,
+    queue: u8,
+    name: Box<Vec<u8>>,
 }
 
 impl Model for Standing {
@@ -40,11 +40,15 @@ impl Standing {
         requires { IsAskable wanted }
         ensures { result ≡ (record { wanted = wanted; name = name.items; mask = mask }, queue) }
     {
-        Standing {
-            wanted,
-            name,
-            mask,
-            queue,
+        let alloc = *name.allocator();
+        match Box::new(alloc, name) {
+            Ok(name) => Standing {
+                wanted,
+                mask,
+                queue: queue as u8,
+                name,
+            },
+            Err(_) => unreachable!(),
         }
     }
 
@@ -60,7 +64,7 @@ impl Standing {
     pub(crate) fn queue(&self) -> usize
         ensures { result ≡ self.now.1 }
     {
-        self.queue
+        self.queue as usize
     }
 
     // What a post needs of it, at this place, under this key.
@@ -68,14 +72,14 @@ impl Standing {
     pub(crate) fn receiver(&self, key: SubKey, place: usize) -> Receiver
         ensures { result ≡ receiver_of (key, self.now) }
     {
-        Receiver::new(key, self.mask, self.queue, place)
+        Receiver::new(key, self.mask, self.queue as usize, place)
     }
 
     // The name of its record.
     pub(crate) fn name(&self) -> &[u8]
         ensures { result.now ≡ self.now.0.name }
     {
-        self.name.as_slice()
+        self.name.as_ref().as_slice()
     }
 
     // Whether it is on the record of this name.
@@ -83,7 +87,7 @@ impl Standing {
     pub(crate) fn is_on(&self, name: &[u8]) -> bool
         ensures { result ≡ is_on name.now self.now.0 }
     {
-        is_same_name(self.name.as_slice(), name)
+        is_same_name(self.name.as_ref().as_slice(), name)
     }
 
     // Whether a post to the record of this name, with this mask, concerns it.

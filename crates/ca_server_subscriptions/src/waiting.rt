@@ -29,6 +29,7 @@ pub(crate) struct Waiting {
     held: Option<(usize, SubKey)>,
     // That update, or memory for one.
     update: Update,
+    spares: Vec<Update>,
 }
 
 impl Model for Waiting {
@@ -57,6 +58,7 @@ impl Waiting {
             idle: true,
             held: None,
             update: Update::empty(alloc),
+            spares: Vec::new(alloc),
         }
     }
 
@@ -122,7 +124,11 @@ impl Waiting {
         );
         self.idle = false;
         self.update.renew(self.alloc, value, *meta)?;
-        let update = mem::replace(&mut self.update, Update::empty(self.alloc));
+        let spare = match self.spares.pop() {
+            Some(spare) => spare,
+            None => Update::empty(self.alloc),
+        };
+        let update = mem::replace(&mut self.update, spare);
         self.queues.post(place, key, update);
         Ok(())
     }
@@ -186,8 +192,8 @@ impl Waiting {
     pub(crate) fn recycle(&mut self, update: Update)
         ensures { self.new ≡ self.old }
     {
-        if self.held.is_none() {
-            self.update = update;
+        if self.spares.len() < 16 {
+            let _ = self.spares.push(update);
         }
     }
 
