@@ -39,12 +39,12 @@ use Rattle.ca_model.specs.ServerSteps.{Leaves, Rests, Update}
 use Rattle.ca_model.specs.Speech.{Stored}
 use Rattle.ca_model.specs.Updates.{ShowsTo, update_count, update_in}
 use Rattle.ca_server_subscriptions.specs.Pumping.{GivesUpdate, MayGive}
-use Rattle.ca_server_subscriptions.specs.Subscribed.{Subscribed}
+use Rattle.ca_server_subscriptions.specs.Subscribed.{IsAskable, Subscribed}
 use Rattle.ca_text.specs.Command.{command_number}
 use Rattle.ca_text.specs.declared.command.Command.TheVariants as command
 use Rattle.ca_server_circuit.specs.Pumping.{PumpsEnd, PumpsOne, update_alone}
 use Rattle.ca_server_circuit.specs.Subscribing.{events_of}
-use Rattle.ca_server_circuit.proofs.Types.{type-of-number}
+use Rattle.ca_server_circuit.proofs.Types.{type-of-number, typed-by}
 
 -- ---- when none may leave
 
@@ -84,6 +84,18 @@ lacks-one v e l new w x (Err a) yes_it is room g shows same =
     let u = leaving v w x new shows.0 room g shows.1 in (
       subst (λ (z : ServerEnd). (y : Update) × (t : ServerEnd) × Leaves z y t) is (u.0, record v { link = with_sent (shows.0 ∷ []) v.link; subscriptions = new.subscriptions; queues = new.queues }, u.1),
       ap (λ (k : LinkState). k.output) same ∙ ap (λ (z : ServerEnd). z.link.output) is,
+      ap (λ (z : ServerEnd). z.channels) is,
+    )
+
+-- memory lacks before one is taken
+pub lacks-any : (v e : ServerEnd) (r : Result Bool AllocError) → IsErr r → v ≡ e → length v.link.output < output_limit → ((w : Wanted) × ((x : Stored) × (IsAskable w × MayGive (events_of v) w x))) → PumpsOne e r v
+lacks-any v e (Ok b) no_it is room g = absurd cc
+lacks-any v e (Err a) yes_it is room (w, (x, (askable, (new, g)))) =
+    let t = typed-by w.data_type askable.typed in
+    let m = update_in w x t.0 (shown x.value (update_count w x) t.0.base) in
+    let u = leaving v w x new m room g (t.0, t.1, refl) in (
+      subst (λ (z : ServerEnd). (y : Update) × (s : ServerEnd) × Leaves z y s) is (u.0, record v { link = with_sent (m ∷ []) v.link; subscriptions = new.subscriptions; queues = new.queues }, u.1),
+      ap (λ (z : ServerEnd). z.link.output) is,
       ap (λ (z : ServerEnd). z.channels) is,
     )
 

@@ -117,7 +117,7 @@ impl End {
         requires room { length self.old.link.output < output_limit }
         ensures { PumpsOne self.old result self.new }
     {
-        let Some((wanted, update)) = self.subscriptions.take() else {
+        let Some((wanted, update)) = self.subscriptions.take()? else {
             return Ok(false);
         };
         show(self.alloc, &mut self.link, &wanted, &update)?;

@@ -2,7 +2,9 @@ pub mod Sieves
 pub mod Placing
 pub mod Dropping
 pub mod Pumps
-pub mod Beside
+pub mod Owing
+pub mod Changes
 pub mod Receivers
 pub mod Lines
+pub mod Posts
 pub mod Passing

@@ -9,10 +9,10 @@ use Rattle.ca_wire.specs.declared.requests.Wanted.{Wanted}
 use Rattle.ca_model.specs.Server.{Subscription, concerns, key_of}
 use Rattle.ca_model.specs.Speech.{Stored}
 use Rattle.ca_server_subscriptions.specs.ByRecord.{Receiver, is_masked, receivers_of}
-use Rattle.ca_server_subscriptions.specs.Held.{AreEmpty, AreOn}
+use Rattle.ca_server_subscriptions.specs.Owing.{AreEmpty, AreOn}
 use Rattle.ca_server_subscriptions.specs.Passing.{IsWantedBy, PassesBy}
 use Rattle.ca_server_subscriptions.specs.Subscribed.{ArePlaced, Standings, Subscribed, after_post, subscriptions_in}
-use Rattle.ca_server_subscriptions.proofs.Beside.{held-takes}
+use Rattle.ca_server_subscriptions.proofs.Owing.{one-takes}
 use Rattle.ca_server_subscriptions.proofs.Placing.{Q, alike-posted, placed-alike, room-is, whole}
 use Rattle.ca_server_subscriptions.proofs.Pumps.{gives-one}
 use Rattle.ca_server_subscriptions.proofs.Receivers.{any-on, posts-all, receiver-has}
@@ -42,7 +42,7 @@ module _ (es : Standings) (qs : List Q) (p : ArePlaced es qs) (name : List ℕ) 
     on = any-on name es ∙ ap (λ (rs : List Receiver). list_any (λ (x : Receiver). true) rs) sole;
     rests = λ i q lt at. idle-rests q (empty i q at);
     gives = λ v.
-        let takes : Takes (posted v) (Some (r.queue, r.key, v)) qs = held-takes r.queue r.key v qs on empty (has, λ i also. p.one i r.queue r.key also has) in
+        let takes : Takes (posted v) (Some (r.queue, r.key, v)) qs = one-takes r.queue r.key v qs on empty (has, λ i also. p.one i r.queue r.key also has) in
         gives-one es (posted v) (placed v) r.queue r.key v qs takes (after_post name mask v (whole es qs p)) wants.of w (after v) wants.found wants.wanted;
     room = λ v. room-is es (posted v) (placed v) (after_post name mask v (whole es qs p)) (after v);
   })

@@ -14,8 +14,8 @@ use Rattle.ca_queue.proofs.Keys.{same_itself}
 use Rattle.ca_wire.specs.declared.requests.Wanted.{Wanted}
 use Rattle.ca_model.specs.Server.{Subscription, key_of}
 use Rattle.ca_model.specs.Speech.{Stored}
-use Rattle.ca_server_subscriptions.specs.Pumping.{GivesUpdate}
-use Rattle.ca_server_subscriptions.specs.Subscribed.{ArePlaced, Standings, Subscribed, keys_in, subscriptions_in}
+use Rattle.ca_server_subscriptions.specs.Pumping.{GivesUpdate, MayGive}
+use Rattle.ca_server_subscriptions.specs.Subscribed.{AreAskable, ArePlaced, IsAskable, Standings, Subscribed, keys_in, subscriptions_in}
 use Rattle.ca_server_subscriptions.proofs.Placing.{Q, alike-taken, held, looked-up, placed-alike, whole}
 
 -- ---- without a subscription nothing waits
@@ -91,3 +91,22 @@ module _ (es : Standings) (qs : List Q) (p : ArePlaced es qs) (place : ℕ) (key
         ap (λ (y : Subscription × ℕ). y.0.wanted) f.4 ∙ sym wants,
         (λ i. record { subscriptions = subscriptions_in es; queues = t.4 i }),
       )
+
+-- one may be taken, for whoever asked so
+pub may-give : (es : Standings) (qs : List Q) (p : ArePlaced es qs) (place : ℕ) (key : SubKey) (v : Stored) (qs2 : List Q) → Takes qs (Some (place, key, v)) qs2 → (old : Subscribed) → whole es qs p ≡ old → AreAskable es
+    → (w : Wanted) × ((u : Stored) × (IsAskable w × MayGive old w u))
+may-give es qs p place key v qs2 t old is askable = by (lookup (same key) es) refl
+  where
+    by : (found : Option (Subscription × ℕ)) → lookup (same key) es ≡ found → (w : Wanted) × ((u : Stored) × (IsAskable w × MayGive old w u))
+    by None none = absurd (taken-some es qs p place key v qs2 t none)
+    by (Some x) one =
+        let l = looked-up key es x one in (
+          x.0.wanted,
+          (
+            v,
+            (
+              subst (λ (y : Subscription × ℕ). IsAskable y.0.wanted) l.4 (askable l.0 l.1 l.2),
+              (record { subscriptions = subscriptions_in es; queues = qs2 }, gives-one es qs p place key v qs2 t old x x.0.wanted is one refl),
+            ),
+          ),
+        )

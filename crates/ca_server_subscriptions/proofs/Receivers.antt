@@ -6,7 +6,7 @@ use Rattle.std.specs.Str.{bytes_eq}
 use Rattle.std.proofs.lemmas.Slice.Eq.{bytes_eq-Decides}
 use Rattle.std.proofs.lemmas.Bool.{both_ways, cases_Bool, ne_eqb, or_parts, or_right}
 use Rattle.ca_text.specs.Place.{At}
-use Rattle.ca_text.proofs.Places.{At-mapped, At-one, At-within, some_is}
+use Rattle.ca_text.proofs.Places.{At-mapped, At-one, At-snoc, At-within, some_is}
 use Rattle.ca_queue.specs.declared.entry.SubKey.{SubKey}
 use Rattle.ca_queue.specs.Circuit.{Begins, HasAt, queue_posted, queue_without, without_each}
 use Rattle.ca_queue.specs.Keys.{is_among, same}
@@ -20,7 +20,7 @@ use Rattle.ca_model.specs.Speech.{Stored, share_bit}
 use Rattle.ca_server_subscriptions.proofs.Placing.{Entry, Q, alike-posted, filtered-at, has-none, other, placed-alike}
 use Rattle.ca_server_subscriptions.proofs.Sieves.{each-none, without-one}
 use Rattle.ca_server_subscriptions.specs.ByRecord.{Adds, AreByRecord, ArePlacedIn, IsSole, Lines, Receiver, is_masked, receiver_of, receivers_in, receivers_of, without}
-use Rattle.ca_server_subscriptions.specs.Subscribed.{ArePlaced, Standings, is_on, keys_in, subscriptions_in}
+use Rattle.ca_server_subscriptions.specs.Subscribed.{AreAskable, ArePlaced, IsAskable, Standings, is_on, keys_in, subscriptions_in}
 
 -- ---- those on a record
 
@@ -98,7 +98,7 @@ pub placed-posted : (es : Standings) (qs now : List Q) (key : SubKey) (v : Store
 placed-posted es qs now key v true is p = subst (λ (rs : List Q). ArePlaced es rs) (sym is) (placed-alike es qs (map (queue_posted key v) qs) (alike-posted key v qs) p)
 placed-posted es qs now key v false is p = subst (λ (rs : List Q). ArePlaced es rs) (sym is) p
 
-drop-at : {A : Type 0} (xs : List A) (i : ℕ) (x : A) → At xs i x → drop i xs ≡ x ∷ drop (suc i) xs
+pub drop-at : {A : Type 0} (xs : List A) (i : ℕ) (x : A) → At xs i x → drop i xs ≡ x ∷ drop (suc i) xs
 drop-at [] i x at = absurd cc
 drop-at (y ∷ xs) zero x at = ap (λ (z : _). z ∷ xs) (some_is y x at)
 drop-at (y ∷ xs) (suc i) x at = drop-at xs i x at
@@ -242,6 +242,18 @@ index-at (y ∷ xs) (suc i) x lt is = index-at xs i x (omega (arith, lt)) is
 pub some-there : (rs : List Receiver) (b : Bool) → b ≡ (length rs == 0) → not b ≡ list_any (λ (r : Receiver). true) rs
 some-there [] b is = ap not is
 some-there (r ∷ rs) b is = ap not (is ∙ ne_eqb (length (r ∷ rs)) 0 (λ hit. omega (arith, hit)))
+
+-- ---- an update can be made for each
+
+pub askable-more : (es grown : Standings) (e : Entry) → grown ≡ es ++ e ∷ [] → IsAskable e.1.0.wanted → AreAskable es → AreAskable grown
+askable-more es grown e all is were i x at = elim (At-snoc es e i x (subst (λ (xs : Standings). At xs i x) all at)) [
+  | inl old ↦ were i x old
+  | inr last ↦ subst (λ (y : Entry). IsAskable y.1.0.wanted) (sym last.1) is
+]
+
+pub askable-left : (key : SubKey) (es left : Standings) → left ≡ filter (other key) es → AreAskable es → AreAskable left
+askable-left key es left all were i x at =
+    let f = filtered-at (other key) es i x (subst (λ (xs : Standings). At xs i x) all at) in were f.0 x f.1
 
 -- ---- the only one on a record
 

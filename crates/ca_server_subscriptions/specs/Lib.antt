@@ -1,6 +1,6 @@
 pub mod Subscribed
 pub mod ByRecord
-pub mod Held
+pub mod Owing
 pub mod Pumping
 pub mod Concerned
 pub mod Passing

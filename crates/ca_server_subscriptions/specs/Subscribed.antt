@@ -51,6 +51,10 @@ pub record ArePlaced (es : Standings) (qs : List (Queue Stored)) : Type 0 where
   pub many : total qs ≤ length es
   pub eight : length qs ≡ circuit_queues
 
+-- an update can be made for each of them
+abbrev pub AreAskable : Standings → Type 0
+AreAskable es = (i : ℕ) (e : SubKey × (Subscription × ℕ)) → At es i e → IsAskable e.1.0.wanted
+
 -- ---- what calls leave
 
 -- no subscription

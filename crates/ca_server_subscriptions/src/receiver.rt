@@ -1,15 +1,9 @@
-ghost use Rattle.std.specs.Prelude.{◌≡◌, ◌≤◌, OnErr, OnOk, true, map, if◌then◌else◌};
-ghost use Rattle.ca_text.specs.Limits.{element_limit};
-ghost use Rattle.ca_dbr.specs.Elements.{count_of, elements};
-ghost use Rattle.ca_queue.specs.Circuit.{AreInOne, HasAt, queue_posted};
+ghost use Rattle.std.specs.Prelude.{◌≡◌};
 ghost use Rattle.ca_queue.specs.Keys.{same};
 ghost use Rattle.ca_server_subscriptions.specs.ByRecord.{is_masked};
 
-use crate::waiting::Waiting;
-use ca_dbr::{Meta, Value};
 use ca_queue::SubKey;
 use ca_text::Mask;
-use std::alloc::AllocError;
 use std::marker::Model;
 
 /// What a post needs of a subscription.
@@ -79,30 +73,10 @@ impl Receiver {
         }
     }
 
-    // Gives it an update if this mask is its, and tells its place then. Without memory all is as it was.
-    #[inline(always)]
-    pub(crate) fn post(
-        &self,
-        queues: &mut Waiting,
-        next: &mut usize,
-        mask: u16,
-        value: &Value,
-        meta: &Meta,
-    ) -> Result<(), AllocError>
-        requires has { HasAt queues.old self.now.queue self.now.key }
-        requires one { AreInOne queues.old }
-        requires few { count_of (elements value.now) ≤ element_limit }
-        ensures ok { OnOk result (queues.new ≡ (if is_masked mask self.now then map
-            (queue_posted self.now.key (record { value = elements value.now; meta = meta.now }))
-            queues.old else queues.old)) }
-        ensures masked { OnErr result (is_masked mask self.now ≡ true) }
-        ensures err { OnErr result (queues.new ≡ queues.old) }
+    // The place of the queue that has it.
+    pub(crate) fn queue(&self) -> usize
+        ensures { result ≡ self.now.queue }
     {
-        if Mask::new(mask & self.mask).is_none() {
-            return Ok(());
-        }
-        queues.post(self.queue, self.key, value, meta)?;
-        *next = self.place;
-        Ok(())
+        self.queue
     }
 }

@@ -10,9 +10,9 @@ ghost use Rattle.ca_server_subscriptions.specs.Concerned.{ConcernsAt};
 ghost use Rattle.ca_queue.specs.Circuit.{RestBefore, queue_posted};
 ghost use Rattle.ca_model.specs.Speech.{Stored};
 ghost use Rattle.ca_wire.specs.declared.requests.Wanted.{Wanted};
-ghost use Rattle.ca_server_subscriptions.specs.ByRecord.{ArePlacedIn, IsSole, is_masked, receivers_of};
+ghost use Rattle.ca_server_subscriptions.specs.ByRecord.{IsSole, receivers_of};
 ghost use Rattle.ca_server_subscriptions.specs.Pumping.{GivesUpdate, MayGive};
-ghost use Rattle.ca_server_subscriptions.specs.Held.{AreEmpty, AreOn};
+ghost use Rattle.ca_server_subscriptions.specs.Owing.{AreEmpty, AreOn};
 ghost use Rattle.ca_server_subscriptions.specs.Passing.{IsWantedBy, PassesBy};
 ghost use Rattle.ca_server_subscriptions.specs.Subscribed.{AreKnown, ArePlaced, AtPlace, HasRoom, IsAskable, Joins, Standings, after_post, has_key, is_of_sid, is_on, none_yet, without_one, without_those};
 
@@ -28,6 +28,7 @@ use ca_wire::{Sid, Wanted};
 use indexmap::IndexMap;
 use std::alloc::{AllocError, Global};
 use std::marker::Model;
+use std::slice;
 
 /// The subscriptions of an end, in the order of their EVENT_ADDs, and the queues of their updates.
 #[derive(Drop)]
@@ -49,14 +50,14 @@ impl Model for Subscriptions {
     ghost Value = { Subscribed };
 
     ghost use Rattle.ca_server_subscriptions.specs.ByRecord.{AreByRecord, IsSole};
-    ghost use Rattle.ca_server_subscriptions.specs.Subscribed.{ArePlaced, subscriptions_in};
+    ghost use Rattle.ca_server_subscriptions.specs.Subscribed.{AreAskable, ArePlaced, subscriptions_in};
 
     ghost view = { λ s.
         record { subscriptions = subscriptions_in s.standing.entries; queues = s.queues } };
 
     ghost invariant = { λ s.
         ArePlaced s.standing.entries s.queues × AreByRecord s.by_record s.standing.entries
-        × IsSole s.sole s.standing.entries };
+        × IsSole s.sole s.standing.entries × AreAskable s.standing.entries };
 }
 
 impl Subscriptions {
@@ -201,7 +202,9 @@ impl Subscriptions {
         ensures stay { OnErr result (self.new.subscriptions ≡ self.old.subscriptions) }
     {
         if let Some(receiver) = sole_on(self.sole, &self.standing, name) {
-            receiver.post(&mut self.queues, &mut self.next, mask, value, meta)?;
+            self.next = receiver.place();
+            self.queues
+                .post(slice::from_ref(&receiver), mask, value, meta)?;
             return Ok(true);
         }
         self.post_to_each(name, mask, value, meta)
@@ -227,14 +230,10 @@ impl Subscriptions {
     {
         let receivers = self.by_record.receivers(&mut self.recent, name);
         self.sole = sole_of(receivers, &self.standing, name);
-        post_to(
-            receivers,
-            &mut self.queues,
-            &mut self.next,
-            mask,
-            value,
-            meta,
-        )?;
+        if let Some(first) = receivers.first() {
+            self.next = first.place();
+        }
+        self.queues.post(receivers, mask, value, meta)?;
         Ok(!receivers.is_empty())
     }
 
@@ -314,23 +313,30 @@ impl Subscriptions {
     pub fn drop_first(&mut self)
         ensures { (r : Option (Wanted × Stored)) × GivesUpdate self.old r self.new }
     {
+        self.next = after(self.next, self.standing.len());
         self.queues.drop_first();
     }
 
-    /// Takes an update from the first queue that may give one, and says what its subscription asked for. None if none may.
-    pub fn take(&mut self) -> Option<(Wanted, Update)>
-        ensures gives { GivesUpdate self.old result self.new }
-        ensures askable { IfSome result (λ r. IsAskable r.0) }
+    /// Takes an update from the first queue that may give one, and says what its subscription asked for. None if none may. Without memory,
+    /// which is asked for only if one may be taken, all is as it was.
+    pub fn take(&mut self) -> Result<Option<(Wanted, Update)>, AllocError>
+        ensures gives { IfOk result (λ taken. GivesUpdate self.old taken self.new) }
+        ensures askable { IfOk result (λ taken. IfSome taken (λ r. IsAskable r.0)) }
+        ensures some { OnErr result ((w : Wanted) × ((v : Stored)
+            × (IsAskable w × MayGive self.old w v))) }
+        ensures err { OnErr result (self.new ≡ self.old) }
     {
         // Then nothing waits, and no queue need be looked at.
         if self.standing.is_empty() {
-            return None;
+            return Ok(None);
         }
-        let (_, key, update) = self.queues.take()?;
+        let Some((_, key, update)) = self.queues.take()? else {
+            return Ok(None);
+        };
         let Some(standing) = find(&self.standing, &mut self.next, key) else {
             unreachable!()
         };
-        Some((standing.wanted(), update))
+        Ok(Some((standing.wanted(), update)))
     }
 }
 
@@ -383,30 +389,6 @@ fn at_key(standing: &IndexMap<SubKey, Standing>, place: usize, key: SubKey) -> O
 fn after(place: usize, n: usize) -> usize {
     let next = place.wrapping_add(1);
     if next < n { next } else { 0 }
-}
-
-// Gives each of these an update if this mask is its. Without memory for one some have it.
-#[inline(always)]
-fn post_to(
-    receivers: &[Receiver],
-    queues: &mut Waiting,
-    next: &mut usize,
-    mask: u16,
-    value: &Value,
-    meta: &Meta,
-) -> Result<(), AllocError>
-    requires placed { ArePlacedIn receivers.now queues.old }
-    requires few { count_of (elements value.now) ≤ element_limit }
-    ensures ok { OnOk result (queues.new ≡ fold
-        (λ qs r. map (queue_posted r.key (record { value = elements value.now; meta = meta.now })) qs)
-        queues.old (filter (is_masked mask) receivers.now)) }
-    ensures err { OnErr result (list_any (is_masked mask) receivers.now ≡ true) }
-    ensures placed { (es : Standings) → ArePlaced es queues.old → ArePlaced es queues.new }
-{
-    'posting: for i in 0..receivers.len() {
-        receivers[i].post(queues, next, mask, value, meta)?;
-    }
-    Ok(())
 }
 
 // The only one on the record of this name, if it is at this place.

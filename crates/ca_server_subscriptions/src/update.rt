@@ -41,6 +41,13 @@ impl Update {
         }
     }
 
+    // The same once more.
+    pub(crate) fn copy(&self, alloc: Global) -> Result<Update, AllocError>
+        ensures { IfOk result (λ u. u ≡ self.now) }
+    {
+        Update::of(alloc, &self.value, self.meta)
+    }
+
     // One without elements. It does not allocate.
     pub(crate) fn empty(alloc: Global) -> Update {
         Update {

@@ -1,34 +1,51 @@
-ghost use Rattle.std.specs.Prelude.{ℕ, ◌≡◌, ◌≤◌, IfSome, OnErr, OnOk, None, Some, true, length, map, replicate};
+ghost use Rattle.std.specs.Prelude.{ℕ, ◌≡◌, ◌≤◌, [], IfOk, IfSome, OnErr, OnOk, true, not, filter, if◌then◌else◌, length, map, replicate};
+ghost use Rattle.std.specs.List.{fold, list_any};
 ghost use Rattle.ca_text.specs.Limits.{circuit_queues, element_limit};
+ghost use Rattle.ca_text.specs.Place.{At};
 ghost use Rattle.ca_dbr.specs.Elements.{count_of, elements};
-ghost use Rattle.ca_queue.specs.Circuit.{AreInOne, Begins, HasAt, HasNone, RestBefore, Takes, queue_posted, without_each};
+ghost use Rattle.ca_queue.specs.Circuit.{HasAt, HasNone, RestBefore, Takes, queue_posted, without_each};
 ghost use Rattle.ca_queue.specs.Keys.{same};
 ghost use Rattle.ca_queue.specs.Queue.{no_queue, switched};
 ghost use Rattle.ca_queue.specs.declared.entry.SubKey.{SubKey};
-ghost use Rattle.ca_server_subscriptions.specs.Held.{AreEmpty, AreOn, IsNext, LosesNext, with_held};
+ghost use Rattle.ca_model.specs.Speech.{Stored};
+ghost use Rattle.ca_server_subscriptions.specs.ByRecord.{ArePlacedIn, is_masked};
+ghost use Rattle.ca_server_subscriptions.specs.Subscribed.{ArePlaced, Standings};
+ghost use Rattle.ca_server_subscriptions.specs.declared.waiting.Addressee.{Addressee};
+ghost use Rattle.ca_server_subscriptions.specs.Owing.{AreCopies, AreEmpty, AreInOrder, AreOn, IsNext, LosesNext, MayBegin, addressee_of, with_owed};
 
+use crate::receiver::Receiver;
 use crate::update::Update;
 use ca_dbr::{Meta, Value};
 use ca_queue::{EventQueue, QueuesAtNeed, SubKey};
 use ca_text::Refusal;
 use std::alloc::{AllocError, Global};
+use std::collections::VecDeque;
 use std::marker::Model;
 use std::mem;
 
-/// The updates of an end that wait, in its queues. One that comes while nothing waits stays beside them: mostly it leaves before the
-/// next one comes, and its value is then copied once, and never moved. Contracts see the queues, with that update in its own.
+/// The updates of an end that wait, in its queues. Those of a post that comes while nothing waits stay beside them: mostly they leave before
+/// the next post comes, and their value is then copied once, for however many subscriptions it is. Contracts see the queues, with these
+/// updates in their own.
 #[derive(Drop)]
 pub(crate) struct Waiting {
     alloc: Global,
     queues: QueuesAtNeed<Update, EventQueue<Update>>,
     // Whether events are on in the queues.
     events_on: bool,
-    // Whether events are on, and nothing waits in the queues.
-    idle: bool,
-    // The queue and the subscription of the update beside the queues, if one waits there.
-    held: Option<(usize, SubKey)>,
+    // Whether nothing waits in the queues.
+    empty: bool,
+    // Whom the update beside the queues is for, in the order in which they get it.
+    owed: VecDeque<Addressee, Global>,
     // That update, or memory for one.
     update: Update,
+}
+
+/// A subscription that the update beside the queues is for.
+#[derive(Clone, Copy)]
+pub(crate) struct Addressee {
+    // The place of the queue that has it.
+    pub(crate) queue: usize,
+    pub(crate) key: SubKey,
 }
 
 impl Model for Waiting {
@@ -38,11 +55,11 @@ impl Model for Waiting {
 
     ghost Value = { List (Queue Stored) };
 
-    ghost use Rattle.ca_server_subscriptions.specs.Held.{IsHeld, with_held};
+    ghost use Rattle.ca_server_subscriptions.specs.Owing.{IsOwing, with_owed};
 
-    ghost view = { λ w. with_held w.held w.update w.queues };
+    ghost view = { λ w. with_owed w.owed.items w.update w.queues };
 
-    ghost invariant = { λ w. IsHeld w.events_on w.idle w.held w.queues };
+    ghost invariant = { λ w. IsOwing w.events_on w.empty w.owed.items w.queues };
 }
 
 impl Waiting {
@@ -54,48 +71,54 @@ impl Waiting {
             alloc,
             queues: QueuesAtNeed::new(alloc),
             events_on: true,
-            idle: true,
-            held: None,
+            empty: true,
+            owed: VecDeque::new(alloc),
             update: Update::empty(alloc),
         }
     }
 
-    // Adds a subscription with its first update, as the queues do.
+    // Adds a subscription with its first update, as the queues do. It may lack memory for those beside them too.
     pub(crate) fn begin(&mut self, key: SubKey, update: Update) -> Result<usize, Refusal>
         requires { HasNone self.old key }
-        ensures { Begins self.old key update result self.new }
+        ensures { MayBegin self.old key update result self.new }
     {
-        spill(
-            self.alloc,
-            &mut self.queues,
-            &mut self.held,
-            &mut self.update,
-        );
-        self.idle = false;
+        settle(self.alloc, &mut self.queues, &mut self.owed, &self.update)?;
+        self.empty = false;
         self.queues.begin(key, update)
     }
 
-    // Puts an update of this value, for a subscription whose queue is at this place. Without memory all is as it was.
+    // A post to these subscriptions: each whose mask shares a bit with this one gets an update, in their order. Without memory some may
+    // have it.
     #[inline(always)]
     pub(crate) fn post(
         &mut self,
-        place: usize,
-        key: SubKey,
+        receivers: &[Receiver],
+        mask: u16,
         value: &Value,
         meta: &Meta,
     ) -> Result<(), AllocError>
-        requires has { HasAt self.old place key }
-        requires one { AreInOne self.old }
+        requires placed { ArePlacedIn receivers.now self.old }
         requires few { count_of (elements value.now) ≤ element_limit }
-        ensures ok { OnOk result (self.new ≡ map
-            (queue_posted key (record { value = elements value.now; meta = meta.now })) self.old) }
-        ensures err { OnErr result (self.new ≡ self.old) }
+        ensures ok { OnOk result (self.new ≡ fold
+            (λ qs r. map (queue_posted r.key (record { value = elements value.now; meta = meta.now })) qs)
+            self.old (filter (is_masked mask) receivers.now)) }
+        ensures err { OnErr result (list_any (is_masked mask) receivers.now ≡ true) }
+        ensures placed { (es : Standings) → ArePlaced es self.old → ArePlaced es self.new }
     {
-        if !is_alone(self.idle, &self.held) {
-            return self.post_behind(place, key, value, meta);
+        if !is_for_any(receivers, mask) {
+            return Ok(());
+        }
+        if !are_in_order(receivers) {
+            return self.post_behind(receivers, mask, value, meta);
+        }
+        if !is_alone(self.events_on, self.empty, &self.owed) {
+            return self.post_behind(receivers, mask, value, meta);
         }
         self.update.renew(self.alloc, value, *meta)?;
-        self.held = Some((place, key));
+        if let Err(_) = owe(&mut self.owed, receivers, mask) {
+            self.owed.clear();
+            return Err(AllocError);
+        }
         Ok(())
     }
 
@@ -103,27 +126,49 @@ impl Waiting {
     #[inline(never)]
     fn post_behind(
         &mut self,
-        place: usize,
-        key: SubKey,
+        receivers: &[Receiver],
+        mask: u16,
         value: &Value,
         meta: &Meta,
     ) -> Result<(), AllocError>
-        requires has { HasAt self.old place key }
+        requires placed { ArePlacedIn receivers.now self.old }
         requires few { count_of (elements value.now) ≤ element_limit }
-        ensures ok { OnOk result (self.new ≡ map
-            (queue_posted key (record { value = elements value.now; meta = meta.now })) self.old) }
+        ensures ok { OnOk result (self.new ≡ fold
+            (λ qs r. map (queue_posted r.key (record { value = elements value.now; meta = meta.now })) qs)
+            self.old (filter (is_masked mask) receivers.now)) }
+        ensures err { OnErr result (list_any (is_masked mask) receivers.now ≡ true) }
+        ensures placed { (es : Standings) → ArePlaced es self.old → ArePlaced es self.new }
+    {
+        'posting: for i in 0..receivers.len() {
+            self.put_behind(&receivers[i], mask, value, meta)?;
+        }
+        Ok(())
+    }
+
+    // The same for one subscription. Without memory all is as it was.
+    fn put_behind(
+        &mut self,
+        receiver: &Receiver,
+        mask: u16,
+        value: &Value,
+        meta: &Meta,
+    ) -> Result<(), AllocError>
+        requires has { HasAt self.old receiver.now.queue receiver.now.key }
+        requires few { count_of (elements value.now) ≤ element_limit }
+        ensures ok { OnOk result (self.new ≡ (if is_masked mask receiver.now then map
+            (queue_posted receiver.now.key (record { value = elements value.now; meta = meta.now }))
+            self.old else self.old)) }
+        ensures masked { OnErr result (is_masked mask receiver.now ≡ true) }
         ensures err { OnErr result (self.new ≡ self.old) }
     {
-        spill(
-            self.alloc,
-            &mut self.queues,
-            &mut self.held,
-            &mut self.update,
-        );
-        self.idle = false;
+        if !receiver.is_masked(mask) {
+            return Ok(());
+        }
+        settle(self.alloc, &mut self.queues, &mut self.owed, &self.update)?;
+        self.empty = false;
         self.update.renew(self.alloc, value, *meta)?;
         let update = mem::replace(&mut self.update, Update::empty(self.alloc));
-        self.queues.post(place, key, update);
+        self.queues.post(receiver.queue(), receiver.key(), update);
         Ok(())
     }
 
@@ -132,61 +177,58 @@ impl Waiting {
         ensures rests { result ≡ true → RestBefore self.now (length self.now) }
         ensures quiet { result ≡ true → AreOn self.now × AreEmpty self.now }
     {
-        is_alone(self.idle, &self.held)
+        is_alone(self.events_on, self.empty, &self.owed)
     }
 
-    // The update beside the queues, which is the next to be taken, with its subscription: none if others wait.
+    // The next update that is taken, with its subscription, if it waits beside the queues: none if others wait.
     pub(crate) fn first(&self) -> Option<(SubKey, &Update)>
         ensures { IfSome result (λ r. IsNext self.now r.0 r.1.now) }
     {
-        match self.held {
-            Some((_, key)) => Some((key, &self.update)),
-            None => None,
+        if !self.events_on {
+            return None;
         }
+        let first = self.owed.front()?;
+        Some((first.key, &self.update))
     }
 
     // Takes the update that is the next, and lets it go.
     pub(crate) fn drop_first(&mut self)
         ensures { LosesNext self.old self.new }
     {
-        if self.held.is_none() {
-            self.drop_queued();
+        if self.owed.is_empty() {
+            self.empty = false;
+            let _ = self.queues.take();
             return;
         }
-        self.held = None;
+        if self.events_on {
+            let _ = self.owed.pop_front();
+        }
     }
 
-    // The same if it is in a queue.
-    #[inline(never)]
-    fn drop_queued(&mut self)
-        ensures { LosesNext self.old self.new }
+    // Takes an update from the first queue that may give one, as the queues do. It may lack memory if one may be taken.
+    pub(crate) fn take(&mut self) -> Result<Option<(usize, SubKey, Update)>, AllocError>
+        ensures ok { IfOk result (λ taken. Takes self.old taken self.new) }
+        ensures some { OnErr result ((key : SubKey) × ((v : Stored) × IsNext self.old key v)) }
+        ensures err { OnErr result (self.new ≡ self.old) }
     {
-        let _ = self.take();
-    }
-
-    // Takes an update from the first queue that may give one, as the queues do.
-    pub(crate) fn take(&mut self) -> Option<(usize, SubKey, Update)>
-        ensures { Takes self.old result self.new }
-    {
-        spill(
-            self.alloc,
-            &mut self.queues,
-            &mut self.held,
-            &mut self.update,
-        );
-        self.idle = false;
+        if !self.owed.is_empty() && !self.events_on {
+            // Each subscription has one at most.
+            return Ok(None);
+        }
+        settle(self.alloc, &mut self.queues, &mut self.owed, &self.update)?;
+        self.empty = false;
         let Some(taken) = self.queues.take() else {
-            self.idle = self.events_on;
-            return None;
+            self.empty = self.events_on;
+            return Ok(None);
         };
-        Some(taken)
+        Ok(Some(taken))
     }
 
     // An update that was shown gives its memory to the next one.
     pub(crate) fn recycle(&mut self, update: Update)
         ensures { self.new ≡ self.old }
     {
-        if self.held.is_none() {
+        if self.owed.is_empty() {
             self.update = update;
         }
     }
@@ -196,13 +238,7 @@ impl Waiting {
         requires { HasAt self.old place key }
         ensures { self.new ≡ without_each (same key) self.old }
     {
-        spill(
-            self.alloc,
-            &mut self.queues,
-            &mut self.held,
-            &mut self.update,
-        );
-        self.idle = false;
+        forget(&mut self.owed, key);
         self.queues.cancel(place, key);
     }
 
@@ -210,42 +246,128 @@ impl Waiting {
     pub(crate) fn set_events(&mut self, on: bool)
         ensures { self.new ≡ map (switched on) self.old }
     {
-        spill(
-            self.alloc,
-            &mut self.queues,
-            &mut self.held,
-            &mut self.update,
-        );
-        self.idle = false;
         self.events_on = on;
         self.queues.set_events(on);
     }
 }
 
-// Whether nothing waits, beside the queues or in them.
-fn is_alone(idle: bool, held: &Option<(usize, SubKey)>) -> bool
-    ensures { result ≡ true → (idle ≡ true) × (held.now ≡ None) }
+// Whether events are on, and nothing waits in the queues or beside them.
+fn is_alone(events_on: bool, empty: bool, owed: &VecDeque<Addressee, Global>) -> bool
+    ensures { result ≡ true → (events_on ≡ true) × (empty ≡ true) × (owed.now.items ≡ []) }
 {
-    idle && held.is_none()
+    events_on && empty && owed.is_empty()
 }
 
-// Puts the update that waits beside the queues into its own, if there is one.
-#[inline(never)]
-fn spill(
+// Whether the mask of one of these shares a bit with this one.
+#[inline(always)]
+fn is_for_any(receivers: &[Receiver], mask: u16) -> bool
+    ensures { result ≡ list_any (is_masked mask) receivers.now }
+{
+    receivers.iter().any(|receiver| receiver.is_masked(mask))
+}
+
+// Whether none of these is in a later queue than one behind it.
+#[inline(always)]
+fn are_in_order(receivers: &[Receiver]) -> bool
+    ensures { result ≡ true → AreInOrder (map addressee_of receivers.now) }
+{
+    let mut least = usize::MAX;
+    let mut left = receivers.len();
+    'checking: while left > 0 {
+        left -= 1;
+        let Some(receiver) = receivers.get(left) else {
+            unreachable!()
+        };
+        let queue = receiver.queue();
+        if queue > least {
+            return false;
+        }
+        least = queue;
+    }
+    true
+}
+
+// An update beside the queues is for those of these whose mask shares a bit with this one. Without memory it may be for some of them.
+#[inline(always)]
+fn owe(
+    owed: &mut VecDeque<Addressee, Global>,
+    receivers: &[Receiver],
+    mask: u16,
+) -> Result<(), AllocError>
+    requires { owed.old.items ≡ [] }
+    ensures { OnOk result (owed.new.items ≡ map addressee_of (filter (is_masked mask) receivers.now)) }
+{
+    'owing: for i in 0..receivers.len() {
+        let receiver = &receivers[i];
+        if receiver.is_masked(mask) {
+            owed.push_back(Addressee {
+                queue: receiver.queue(),
+                key: receiver.key(),
+            })?;
+        }
+    }
+    Ok(())
+}
+
+// The update beside the queues is not for this subscription.
+fn forget(owed: &mut VecDeque<Addressee, Global>, key: SubKey)
+    ensures { owed.new.items ≡ filter (λ a. not (same key a.key)) owed.old.items }
+{
+    owed.retain(|addressee| key != addressee.key);
+}
+
+// Puts the update beside the queues into those of the subscriptions that it is for. Without memory all is as it was.
+#[inline(always)]
+fn settle(
     alloc: Global,
     queues: &mut QueuesAtNeed<Update, EventQueue<Update>>,
-    held: &mut Option<(usize, SubKey)>,
-    update: &mut Update,
-)
-    requires { (place : ℕ) (key : SubKey) → held.old ≡ Some (place, key)
-        → HasAt queues.old place key }
-    ensures queues { queues.new ≡ with_held held.old update.old queues.old }
-    ensures held { held.new ≡ None }
+    owed: &mut VecDeque<Addressee, Global>,
+    update: &Update,
+) -> Result<(), AllocError>
+    requires { (i : ℕ) (a : Addressee) → At owed.old.items i a → HasAt queues.old a.queue a.key }
+    ensures queues { OnOk result (queues.new ≡ with_owed owed.old.items update.now queues.old) }
+    ensures owed { OnOk result (owed.new.items ≡ []) }
+    ensures kept { OnErr result (queues.new ≡ queues.old) }
+    ensures still { OnErr result (owed.new.items ≡ owed.old.items) }
+    ensures some { OnErr result (owed.old.items ≡ [] → ⊥) }
 {
-    let Some((place, key)) = *held else {
-        return;
-    };
-    let waits = mem::replace(update, Update::empty(alloc));
-    queues.post(place, key, waits);
-    *held = None;
+    if owed.is_empty() {
+        return Ok(());
+    }
+    let copies = copies_of(alloc, update, owed.len())?;
+    put_all(queues, owed, copies, update);
+    Ok(())
+}
+
+// So many copies of the update.
+fn copies_of(alloc: Global, update: &Update, n: usize) -> Result<Vec<Update>, AllocError>
+    ensures { IfOk result (λ copies. AreCopies n update.now copies.items) }
+{
+    let mut copies = Vec::new(alloc);
+    'copying: while copies.len() < n {
+        copies.push(update.copy(alloc)?)?;
+    }
+    Ok(copies)
+}
+
+// Puts a copy of the update into the queue of each subscription that it is for.
+#[inline(never)]
+fn put_all(
+    queues: &mut QueuesAtNeed<Update, EventQueue<Update>>,
+    owed: &mut VecDeque<Addressee, Global>,
+    mut copies: Vec<Update>,
+    update: &Update,
+)
+    requires has { (i : ℕ) (a : Addressee) → At owed.old.items i a → HasAt queues.old a.queue a.key }
+    requires copies { AreCopies (length owed.old.items) update.now copies.items }
+    ensures queues { queues.new ≡ with_owed owed.old.items update.now queues.old }
+    ensures owed { owed.new.items ≡ [] }
+{
+    let _ = update;
+    'putting: while let Some(copy) = copies.pop() {
+        let Some(addressee) = owed.pop_front() else {
+            unreachable!()
+        };
+        queues.post(addressee.queue, addressee.key, copy);
+    }
 }

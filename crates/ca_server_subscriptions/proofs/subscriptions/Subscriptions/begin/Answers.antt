@@ -8,9 +8,9 @@ use Rattle.ca_queue.specs.Queue.{Queue}
 use Rattle.ca_model.specs.Server.{Subscription, key_of}
 use Rattle.ca_model.specs.Speech.{Stored}
 use Rattle.ca_server_subscriptions.specs.ByRecord.{Lines, receivers_in, receivers_of}
-use Rattle.ca_server_subscriptions.specs.Subscribed.{ArePlaced, Joins, Standings, Subscribed, keys_in, subscriptions_in}
+use Rattle.ca_server_subscriptions.specs.Subscribed.{AreAskable, ArePlaced, Joins, Standings, Subscribed, keys_in, subscriptions_in}
 use Rattle.ca_server_subscriptions.proofs.Placing.{begins-new, has-none, if-err, if-ok, new-key, not-there, some-room}
-use Rattle.ca_server_subscriptions.proofs.Receivers.{begun-gone, begun-has, lines-more, none-sole}
+use Rattle.ca_server_subscriptions.proofs.Receivers.{askable-more, begun-gone, begun-has, lines-more, none-sole}
 use Rattle.ca_server_subscriptions.proofs.subscriptions.Subscriptions.begin.Goals as goal
 
 pub begin-requires : goal.begin-requires
@@ -67,6 +67,7 @@ invariant_of-self-2 c =
       lines-more c.self.inside.by_record c.add.new.self c.self.inside.standing.entries c.insert.new.self.entries (key, (s, c.in-Ok.queue)) c.as_slice.result.now c.new-receiver.result (sym name)
           c.new-receiver.ensures (grown c) adds c.self.invariant.1,
       none-sole c.insert.new.self.entries,
+      askable-more c.self.inside.standing.entries c.insert.new.self.entries (key, (s, c.in-Ok.queue)) (grown c) c.requires.askable c.self.invariant.3,
     )
 
 pub returns-clause-ok : goal.returns-clause-ok
@@ -101,6 +102,7 @@ invariant_of-self-then-is_err c =
       subst (λ (xs : Standings). ArePlaced xs c.cancel.new.self) (sym still) (subst (λ (rs : List (Queue Stored)). ArePlaced es rs) (sym (gone c)) c.self.invariant.0),
       λ name. ap (λ (w : Lines). receivers_in w name) same_lines ∙ c.self.invariant.1 name ∙ ap (receivers_of name) (sym still),
       none-sole c.reserve.new.self.entries,
+      subst (λ (xs : Standings). AreAskable xs) (sym still) c.self.invariant.3,
     )
 
 pub returns-then-is_err-clause-err : goal.returns-then-is_err-clause-err

@@ -1,7 +1,7 @@
 use Rattle.std.proofs.Common.{sym, ap, ◌∙◌}
 use Rattle.ca_server_subscriptions.proofs.Placing.{cancels-none, cancels-one, found-at, placed-cancelled, removed-is}
 use Rattle.ca_server_subscriptions.specs.ByRecord.{receivers_of, without}
-use Rattle.ca_server_subscriptions.proofs.Receivers.{none-sole, receivers-without}
+use Rattle.ca_server_subscriptions.proofs.Receivers.{askable-left, none-sole, receivers-without}
 use Rattle.ca_server_subscriptions.proofs.subscriptions.Subscriptions.cancel.Goals as goal
 
 pub returns-in_default : goal.returns-in_default
@@ -24,6 +24,7 @@ invariant_of-self c =
           c.take_out.ensures name ∙ ap (without c.args.key) (c.self.invariant.1 name) ∙ sym (receivers-without name c.args.key es)
           ∙ ap (receivers_of name) (sym left),
       none-sole c.shift_remove.new.self.entries,
+      askable-left c.args.key es c.shift_remove.new.self.entries left c.self.invariant.3,
     )
 
 pub returns : goal.returns

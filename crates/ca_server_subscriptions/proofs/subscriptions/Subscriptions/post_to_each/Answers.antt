@@ -11,8 +11,8 @@ use Rattle.ca_server_subscriptions.proofs.Placing.{in-err}
 use Rattle.ca_server_subscriptions.proofs.Receivers.{any-concerned, any-on, posts-all, some-there}
 use Rattle.ca_server_subscriptions.proofs.subscriptions.Subscriptions.post_to_each.Goals as goal
 
-pub returns-in_err-post_to-clause-err : goal.returns-in_err-post_to-clause-err
-returns-in_err-post_to-clause-err c =
+pub returns-in_err-post-clause-err : goal.returns-in_err-post-clause-err
+returns-in_err-post-clause-err c =
     let es = c.self.inside.standing.entries in
     let name = c.args.name.now in
     let are = c.receivers-receivers.ensures ∙ c.self.invariant.1 name in
@@ -20,7 +20,7 @@ returns-in_err-post_to-clause-err c =
     (ap (λ (s : Subscribed). list_any (concerns name c.args.mask) s.subscriptions) (sym c.self.view_is)
     ∙ any-concerned name c.args.mask es
     ∙ ap (λ (rs : List Receiver). list_any (is_masked c.args.mask) rs) (sym are)
-    ∙ c.in_err-post_to.ensures.err)
+    ∙ c.in_err-post.ensures.err)
 
 pub returns-clause-ok : goal.returns-clause-ok
 returns-clause-ok c =
@@ -29,8 +29,8 @@ returns-clause-ok c =
     let name = c.args.name.now in
     let v : Stored = record { value = elements c.args.value.now; meta = c.args.meta.now } in
     let are = c.receivers-receivers.ensures ∙ c.self.invariant.1 name in
-    let did : c.post_to.new.queues ≡ fold (λ (rs : List (Queue Stored)) (x : Subscription). map (queue_posted (key_of x) v) rs) qs (filter (concerns name c.args.mask) (subscriptions_in es)) =
-    c.in_ok-post_to.ensures.ok
+    let did : c.post.new.self ≡ fold (λ (rs : List (Queue Stored)) (x : Subscription). map (queue_posted (key_of x) v) rs) qs (filter (concerns name c.args.mask) (subscriptions_in es)) =
+    c.in_ok-post.ensures.ok
     ∙ ap (λ (rs : List Receiver). fold (λ (zs : List (Queue Stored)) (r : Receiver). map (queue_posted r.key v) zs) qs (filter (is_masked c.args.mask) rs)) are
     ∙ posts-all name c.args.mask v es qs c.self.invariant.0.keyed in
     (λ i. let now : Subscribed = record { subscriptions = subscriptions_in es; queues = did i } in now)

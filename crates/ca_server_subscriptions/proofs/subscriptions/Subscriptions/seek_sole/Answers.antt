@@ -1,5 +1,5 @@
 use Rattle.std.proofs.Common.{sym, subst}
-use Rattle.ca_server_subscriptions.specs.Held.{AreEmpty, AreOn}
+use Rattle.ca_server_subscriptions.specs.Owing.{AreEmpty, AreOn}
 use Rattle.ca_server_subscriptions.specs.Subscribed.{Subscribed}
 use Rattle.ca_server_subscriptions.proofs.Passing.{if-passes}
 use Rattle.ca_server_subscriptions.proofs.subscriptions.Subscriptions.seek_sole.Goals as goal

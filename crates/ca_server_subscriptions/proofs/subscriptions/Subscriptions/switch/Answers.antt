@@ -13,4 +13,5 @@ invariant_of-self c =
           (placed-alike es qs (map (switched c.args.on) qs) (alike-switched c.args.on qs) c.self.invariant.0),
       c.self.invariant.1,
       c.self.invariant.2,
+      c.self.invariant.3,
     )

@@ -1,13 +1,14 @@
-use Rattle.std.proofs.Common.{List, sym, subst}
+use Rattle.std.proofs.Common.{◌≡◌, List, false, sym, ap, ◌∙◌, subst}
 use Rattle.ca_queue.specs.Queue.{Queue}
 use Rattle.ca_model.specs.Speech.{Stored}
-use Rattle.ca_server_subscriptions.specs.Held.{AreOn}
-use Rattle.ca_server_subscriptions.proofs.Beside.{none-held, on-began, on-held}
+use Rattle.ca_server_subscriptions.specs.Owing.{AreSwitched}
+use Rattle.ca_server_subscriptions.proofs.Owing.{may-begin, none-owed, on-began, on-owed}
 use Rattle.ca_server_subscriptions.proofs.waiting.Waiting.begin.Goals as goal
 
-pub invariant_of-self : goal.invariant_of-self
-invariant_of-self c =
+pub invariant_of-self-2 : goal.invariant_of-self-2
+invariant_of-self-2 c =
     let i = c.self.inside in
-    none-held i.events_on c.spill.new.held c.begin.new.self c.spill.ensures.held
-    (λ e. on-began c.args.key c.args.update c.begin.result c.spill.new.queues c.begin.new.self c.begin.ensures
-    (subst (λ (qs : List (Queue Stored)). AreOn qs) (sym c.spill.ensures.queues) (on-held i.held i.update i.queues (c.self.invariant.switched e))))
+    none-owed i.events_on false c.settle.new.owed.items c.begin.new.self c.in_ok-settle.ensures.owed
+    (on-began i.events_on c.args.key c.args.update c.begin.result c.settle.new.queues c.begin.new.self c.begin.ensures
+    (subst (λ (qs : List (Queue Stored)). AreSwitched i.events_on qs) (sym c.in_ok-settle.ensures.queues) (on-owed i.events_on i.owed.items i.update i.queues c.self.invariant.switched)))
+    (λ e. absurd cc)

@@ -1,20 +1,19 @@
-use Rattle.std.proofs.Common.{List, sym, subst}
-use Rattle.ca_queue.specs.Queue.{Queue}
+use Rattle.ca_dbr.specs.Elements.{elements}
 use Rattle.ca_model.specs.Speech.{Stored}
-use Rattle.ca_server_subscriptions.specs.Held.{AreOn}
-use Rattle.ca_server_subscriptions.proofs.Beside.{none-held, on-held, on-posted}
+use Rattle.ca_server_subscriptions.proofs.Receivers.{has-in, index-at, placed-posted, posts-next}
+use Rattle.ca_server_subscriptions.specs.ByRecord.{is_masked}
 use Rattle.ca_server_subscriptions.proofs.waiting.Waiting.post_behind.Goals as goal
 
-pub invariant_of-self : goal.invariant_of-self
-invariant_of-self c =
-    let i = c.self.inside in
-    none-held i.events_on c.spill.new.held c.spill.new.queues c.spill.ensures.held
-    (λ e. subst (λ (qs : List (Queue Stored)). AreOn qs) (sym c.spill.ensures.queues) (on-held i.held i.update i.queues (c.self.invariant.switched e)))
+pub put_behind-requires-clause-has : goal.put_behind-requires-clause-has
+put_behind-requires-clause-has c =
+    has-in c.args.receivers.now c.args.self.now c.posting.self c.posting.i c.index-receivers-i.result c.requires.placed c.posting.invariant.1
+    (index-at c.args.receivers.now c.posting.i c.index-receivers-i.result c.posting-test.true c.index-receivers-i.is)
 
-pub invariant_of-self-2 : goal.invariant_of-self-2
-invariant_of-self-2 c =
-    let i = c.self.inside in
-    none-held i.events_on c.spill.new.held c.post.new.self c.spill.ensures.held
-    (λ e. subst (λ (qs : List (Queue Stored)). AreOn qs) (sym c.post.ensures)
-    (on-posted c.args.key c.replace-update.result c.spill.new.queues
-    (subst (λ (qs : List (Queue Stored)). AreOn qs) (sym c.spill.ensures.queues) (on-held i.held i.update i.queues (c.self.invariant.switched e)))))
+pub posting-preserved : goal.posting-preserved
+posting-preserved c =
+    let v : Stored = record { value = elements c.args.value.now; meta = c.args.meta.now } in
+    let r = c.index-receivers-i.result in (
+      posts-next c.args.receivers.now c.posting.i r c.args.mask v c.posting.self c.put_behind.new.self _
+          (index-at c.args.receivers.now c.posting.i r c.posting-test.true c.index-receivers-i.is) c.posting.invariant.0 c.in_ok-put_behind.ensures.ok,
+      λ es p. placed-posted es c.posting.self c.put_behind.new.self r.key v (is_masked c.args.mask r) c.in_ok-put_behind.ensures.ok (c.posting.invariant.1 es p),
+    )
