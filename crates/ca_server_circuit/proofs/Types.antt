@@ -95,7 +95,7 @@ step k here below n lt = elim (less-or-same n k lt) [
 ]
   where
     less-or-same : (a b : ℕ) → a < b + 1 → (a < b) ⊎ (a ≡ b)
-    less-or-same a b le = elim (eq-or-lt_of_le a b (omega (arith, le))) [ inl e ↦ inr e | inr less ↦ inl less ]
+    less-or-same a b lt = (let le : a ≤ b = omega (arith, lt) in elim (eq-or-lt_of_le le) [ inl e ↦ inr e | inr less ↦ inl less ])
 
 pub typed-by : (n : ℕ) → n ≤ 20 → Typed n
 typed-by n le = (step 20 (type_at 20, refl) (step 19 (type_at 19, refl) (step 18 (type_at 18, refl) (step 17 (type_at 17, refl) (step 16 (type_at 16, refl) (step 15 (type_at 15, refl) (step 14 (type_at 14, refl) (step 13 (type_at 13, refl) (step 12 (type_at 12, refl) (step 11 (type_at 11, refl) (step 10 (type_at 10, refl) (step 9 (type_at 9, refl) (step 8 (type_at 8, refl) (step 7 (type_at 7, refl) (step 6 (type_at 6, refl) (step 5 (type_at 5, refl) (step 4 (type_at 4, refl) (step 3 (type_at 3, refl) (step 2 (type_at 2, refl) (step 1 (type_at 1, refl) (step 0 (type_at 0, refl) none-below))))))))))))))))))))) n (omega (arith, le))
