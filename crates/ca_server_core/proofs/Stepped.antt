@@ -76,7 +76,7 @@ module _ (port now n : ℕ) (b : Clock) where
   wrote-is Nothing did u is = ap is_wrote is
   wrote-is Greets did u is = ap is_wrote is
   wrote-is (Names p) did u is = ap is_wrote is
-  wrote-is (Opens c) did u is = ap is_wrote is
+  wrote-is (Opens c) did u is = ap is_wrote is.2
   wrote-is (Clears sid) did u is = ap is_wrote is
   wrote-is (Waits name value) did u is = ap is_wrote is
   wrote-is (Drops k) did u is = ap is_wrote is
