@@ -86,11 +86,13 @@ is-created port s e new m few unused did = record {
 
 -- the same, and nothing is left to do
 pub none-created : (port : ℕ) (s : Store) (e new : ServerEnd) (m : Fields) (did : Effect) → ((known port s e).record_of (text_in m.payload) ≡ None) ⊎ (CidTaken (known port s e) m.p1 ⊎ ((known port s e).full ≡ true)) → (did ≡ effect.Quiet) × (new ≡ replied (failed_reply m ∷ []) e) → CreatesBy port s e m did new
+unfolding not-created
 none-created port s e new m did why is = (not-created port s e new m why is.1, is.0)
 
 -- the same, and the circuit has a channel to the record of the name
-pub one-created : (port place : ℕ) (s : Store) (e new : ServerEnd) (m : Fields) (did : Effect) → Finds s (text_in m.payload) place → length e.channels ≤ arena_slots → (UsesCid e.channels m.p1 → ⊥) → (did ≡ effect.Opened place) × IsCreation s e m new → CreatesBy port s e m did new
-one-created port place s e new m did found few unused made = (is-created port s e new m few unused made.1, (place, found.r, made.0, found.at, found.named))
+pub one-created : (port spot : ℕ) (s : Store) (e new : ServerEnd) (m : Fields) (did : Effect) → Finds s (text_in m.payload) spot → length e.channels ≤ arena_slots → (UsesCid e.channels m.p1 → ⊥) → (did ≡ effect.Opened spot) × IsCreation s e m new → CreatesBy port s e m did new
+unfolding is-created
+one-created port spot s e new m did found few unused made = (is-created port s e new m few unused made.1, (spot, found.r, made.0, found.at, found.named))
 
 -- the other channels stay open as one is opened
 pub opened-stay : (t u v : Table OpenChannel) (h : Handle) (c : OpenChannel) → t ≡ v → MayGive t h × (u ≡ with_held h c t) → AllStay v u

@@ -59,8 +59,7 @@ covers-thinned w t u thin c h e s at i = (let x = thin h e at in c h x.0 s x.1 (
 pub thins-changed : (t : Circuits) (h : Handle) (e new : ServerEnd) → under t h ≡ Some (Open e) → ((s : Subscription) → In new.subscriptions s → In e.subscriptions s) → ((n : List ℕ) → HasTo new n → HasTo e n) → Thins t (with_changed (λ (c : ServerCircuit). Open new) h t)
 thins-changed t h e new there fewer less g x at = elim (changed-back (λ (c : ServerCircuit). Open new) t g h (Open x) at) [
   | inl own ↦
-      let same : new ≡ x = sym (open-is x new own.1.2) in
-      (
+      let same : new ≡ x = sym (open-is x new own.1.2) in (
         e,
         subst (λ (k : Handle). under t k ≡ Some (Open e)) (sym own.0) there,
         subst (λ (y : ServerEnd). (s : Subscription) → In y.subscriptions s → In e.subscriptions s) same fewer,

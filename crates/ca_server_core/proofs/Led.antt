@@ -1,10 +1,11 @@
 -- The lists of those that lead to records stay complete, as circuits and lists change.
-use Rattle.std.proofs.Common.{◌≡◌, ℕ, ◌⊎◌, inl, inr, Bool, true, false, cond, nat_eq, List, [], Option, Some, None, Result, Ok, Err, refl, sym, ap, ◌∙◌, subst}
+use Rattle.std.proofs.Common.{◌≡◌, ℕ, ◌⊎◌, inl, inr, Bool, true, false, cond, nat_eq, List, [], Option, Some, None, is_some, Result, Ok, Err, refl, sym, ap, ◌∙◌, subst}
 use Rattle.std.specs.Str.{bytes_eq}
 use Rattle.std.proofs.lemmas.Bool.{eq-eqb, eqb-true}
 use Rattle.std.proofs.lemmas.Slice.Eq.{bytes_eq-Decides}
 use Rattle.ca_arena.specs.declared.handle.Handle.{Handle}
 use Rattle.ca_ids.specs.Table.{MayGive, Table, under, with_changed, with_each, with_held}
+use Rattle.ca_records.specs.declared.puts.Finished.{Finished}
 use Rattle.ca_records.specs.Puts.{Record}
 use Rattle.ca_records.specs.Store.{Store, records_of}
 use Rattle.ca_text.specs.declared.refusal.Refusal.{Refusal}
@@ -22,6 +23,7 @@ use Rattle.ca_server_circuit.specs.Handling.{is_wrote}
 use Rattle.ca_server_core.specs.Circuits.{OpensIn}
 use Rattle.ca_server_core.specs.Covering.{AreLed, AreListed, Covers, HasTo, Leads}
 use Rattle.ca_server_core.specs.Ending.{EndsIn}
+use Rattle.ca_server_core.specs.Finishing.{effect_after}
 use Rattle.ca_server_core.specs.Following.{Begins, Follows, LeadsBut, LedFor}
 use Rattle.ca_server_core.specs.Reaching.{ReachesAll, ReachesFrom}
 use Rattle.ca_server_core.proofs.Closing.{not-ended}
@@ -179,3 +181,11 @@ led-followed (effect.Wrote place) h t s after u l is f led = led-reached place w
 led-followed effect.Quiet h t s after u l is f led = absurd cc
 led-followed (effect.Began place) h t s after u l is f led = absurd cc
 led-followed (effect.Opened place) h t s after u l is f led = absurd cc
+
+-- the end of a put leaves no channel to be entered
+pub led-finished : (f : Finished) (s : Store) (l : Watched) (t : Circuits) → AreLed (records_of s) l t → LedFor (effect_after f) f.ended.circuit s l t
+led-finished f s l t led = by (is_some f.applied)
+  where
+    by : (b : Bool) → LedFor (cond b (effect.Wrote f.place) effect.Quiet) f.ended.circuit s l t
+    by true = led
+    by false = led
