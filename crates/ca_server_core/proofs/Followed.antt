@@ -29,7 +29,7 @@ use Rattle.ca_server_core.specs.declared.stepping.Step.{Step}
 use Rattle.ca_server_core.specs.Covering.{AreLed, AreListed, Covers, HasTo, Leads}
 use Rattle.ca_server_circuit.specs.Ending.{EndsAt}
 use Rattle.ca_server_core.specs.Ending.{EndsIn}
-use Rattle.ca_server_core.specs.Following.{Begins, CoversFor, Follows, IsSettled, LedFor, Settles}
+use Rattle.ca_server_core.specs.Following.{CoversFor, Follows, IsSettled, LedFor, Settles}
 use Rattle.ca_server_circuit.specs.Circuits.{is_open}
 use Rattle.ca_server_circuit.specs.Handling.{Does, Fits, Recorded, Tells, is_wrote}
 use Rattle.ca_server_core.specs.Reaching.{ReachesAll}
@@ -390,7 +390,7 @@ module _ (port now n : ℕ) (b : Clock) (s u : Store) (t : Circuits) (h : Handle
               })
 
   -- a subscription that began, or a channel that was created
-  begins : (x : Store) (last : Circuits) (result : Step) (final : Circuits) → ((z : Server) → Reaches the-next.0.action (λ (g : Handle). false) z z) → NeedsMemory the-next.0.m the-next.0.replies the-next.0.action → records_of u ≡ records_of s → is_wrote did ≡ false → Begins h mid_table u last x → Settles last h (length e.link.output) result final
+  begins : (x : Store) (last : Circuits) (result : Step) (final : Circuits) → ((z : Server) → Reaches the-next.0.action (λ (g : Handle). false) z z) → NeedsMemory the-next.0.m the-next.0.replies the-next.0.action → records_of u ≡ records_of s → is_wrote did ≡ false → ((last ≡ mid_table) × (x ≡ u)) ⊎ EndsIn mid_table h u why.OutOfMemory last x → Settles last h (length e.link.output) result final
       → MakesBy P y h (stepped result) (server_of port x now final b k)
   begins x last result final reach lack rs-same quiet f settled = by f
     where

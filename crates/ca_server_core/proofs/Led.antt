@@ -141,13 +141,19 @@ pub led-begun : (h : Handle) (t : Circuits) (s : Store) (after : Circuits) (u : 
 led-begun h t s after u l did led = led-thinned (records_of s) (records_of u) l t after (thins-begun h t s after u did) (listed-begun h t s after u l did led.listed) led
 
 thins-reached : (place mask : ℕ) (t : Circuits) (s : Store) (after : Circuits) (u : Store) → ReachesFrom place mask t s after u → Thins t after
-thins-reached place mask t s after u (r, at, gone, all) h e there = by b.0 b.1 b.2
+thins-reached place mask t s after u did h e there = by b.0 b.1 b.2
   where
+    r : Record
+    r = did.0
+
+    gone : Handle → Bool
+    gone = did.2.0
+
     v : Stored
     v = record { value = r.state.value; meta = r.state.meta }
 
     b : (c : ServerCircuit) × (under t h ≡ Some c) × (Open e ≡ reached r.state.name mask v gone h c)
-    b = each-back (reached r.state.name mask v gone) t h (Open e) (subst (λ (z : Circuits). under z h ≡ Some (Open e)) all.circuits there)
+    b = each-back (reached r.state.name mask v gone) t h (Open e) (subst (λ (z : Circuits). under z h ≡ Some (Open e)) did.2.1.circuits there)
 
     by : (c : ServerCircuit) → under t h ≡ Some c → Open e ≡ reached r.state.name mask v gone h c → (x : ServerEnd) × (under t h ≡ Some (Open x)) × ((s : Subscription) → In e.subscriptions s → In x.subscriptions s) × ((n : List ℕ) → HasTo e n → HasTo x n)
     by (Ended w left) was is = absurd (not-ended e w left is)

@@ -44,7 +44,7 @@ use Rattle.ca_server_core.proofs.Listed.{found-withdrawn, listed-kept, none-foun
 use Rattle.ca_server_core.proofs.Servers.{became, same-parts, server_of, stayed}
 use Rattle.ca_server_circuit.proofs.Stays.{at-filtered, named-still, withdrawn-keeps}
 use Rattle.ca_server_core.proofs.Stepped.{each-same, none-gone}
-use Rattle.ca_server_circuit.proofs.Lost.{replied-nothing}
+use Rattle.ca_server_circuit.proofs.Taken.{replied-none}
 use Rattle.ca_server_circuit.proofs.Tables.{at-under, changed-back, listed-under, none-some, under-listed}
 use Rattle.ca_server_subscriptions.proofs.Sieves.{each-false, filter-all}
 
@@ -54,6 +54,9 @@ Circuits = Table ServerCircuit
 both : {A : Type 0} (b : Bool) → b ≡ true → b ≡ false → A
 both true p q = absurd cc
 both false p q = absurd cc
+
+open-is : (a b : ServerEnd) → Open a ≡ Open b → a ≡ b
+open-is a b e = cc
 
 not-true : (b : Bool) → not b ≡ true → b ≡ false
 not-true true e = absurd cc
@@ -179,7 +182,7 @@ module _ (name : List ℕ) (e : ServerEnd) (none : HasTo e name → ⊥) where
       ap (λ (cs : List (Handle × OpenChannel)). let x : ServerEnd = record e { link = with_sent (map (λ (c : Handle × OpenChannel). disconnect c.1.cid) cs) e.link; channels = with_each (retired name) e.channels } in without_subscriptions (is_on cs) x) no-channels
       ∙ without-none (let x : ServerEnd = record e { link = with_sent [] e.link; channels = with_each (retired name) e.channels } in x)
       ∙ ap (λ (t : Table OpenChannel). let x : ServerEnd = record e { link = with_sent [] e.link; channels = t } in x) still-retired
-      ∙ replied-nothing e
+      ∙ replied-none e
 
 -- ---- the circuits at the first places of a list
 
@@ -204,9 +207,6 @@ module _ (name : List ℕ) (hs : List Handle) where
 
   no-true : {A : Type 0} → false ≡ true → A
   no-true e = absurd cc
-
-  open-is : (a b : ServerEnd) → Open a ≡ Open b → a ≡ b
-  open-is a b z = cc
 
   not-ended : {A : Type 0} (y : ServerEnd) (w : Why) (o : List ℕ) → Open y ≡ Ended w o → A
   not-ended y w o z = absurd cc
@@ -288,7 +288,7 @@ module _ (name : List ℕ) (hs : List Handle) where
           (still-may (λ (p : Put). l.gone p.circuit) (records_of s) g c (may g c (fresh c at)))
 
       -- with it, one more has lost it
-      to_now : Handle → Bool
+      abbrev to_now : Handle → Bool
       to_now h = l.done h || same_handle h g
 
       own-now : to_now g ≡ true
@@ -528,9 +528,6 @@ module _ (name : List ℕ) (gone : Handle → Bool) (left : Handle → ℕ) (rs 
 
   abbrev done : Circuits
   done = with_each (circuit_without name gone left) t
-
-  open-is : (a b : ServerEnd) → Open a ≡ Open b → a ≡ b
-  open-is a b e = cc
 
   -- what is open then was open, and lost the record
   pub was-open : (h : Handle) (x : ServerEnd) → under done h ≡ Some (Open x) → (e : ServerEnd) × (under t h ≡ Some (Open e)) × (x ≡ end_without name e)

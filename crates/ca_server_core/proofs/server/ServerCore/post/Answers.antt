@@ -33,8 +33,8 @@ returns c =
     let i = c.self.inside in
     viewed-post c.args.self.now i.port i.moment i.applied c.args.mask i.beacons i.records c.post.new.self c.post_to_all.new.records i.circuits c.post_to_all.new.circuits c.args.name.now (elements c.args.value) c.args.meta c.in_ok-place.place c.self.view_is c.in_ok-place.ensures c.post_to_all.ensures.reaches
 
-pub invariant_of-self : goal.invariant_of-self
-invariant_of-self c =
+pub invariant_of-self-2 : goal.invariant_of-self-2
+invariant_of-self-2 c =
     let i = c.self.inside in
     let listed = listed-posted i.records c.post.new.self c.args.name.now (elements c.args.value) c.args.meta c.in_ok-place.place i.leading c.in_ok-place.ensures c.self.invariant.led.listed in
     record {
