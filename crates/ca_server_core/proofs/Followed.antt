@@ -306,7 +306,7 @@ module _ (port now n : ℕ) (b : Clock) (s u : Store) (t : Circuits) (h : Handle
   here : under (with_changed (λ (x : ServerCircuit). Open new) h t) h ≡ Some (Open new)
   here = changed-own (λ (x : ServerCircuit). Open new) t h (Open e) there
 
-  the-next : (next : Next y h e) × (next.after ≡ mid) × (next.action ≡ d.1.action)
+  the-next : (next : Next y h e) × (next.after ≡ mid) × (next.action ≡ d.1.action) × (next.m ≡ d.0.m)
   the-next = handled-next port now n b s u t (with_changed (λ (x : ServerCircuit). Open new) h t) h e new did d refl
 
   no-true : {A : Type 0} → false ≡ true → A
@@ -448,7 +448,7 @@ module _ (port now n : ℕ) (b : Clock) (s u : Store) (t : Circuits) (h : Handle
           let fits = subst (λ (a : Action). Fits (records_of s) (after_first d.0) d.0.m a) is d.1.fits in
           begins x last result final
           (λ z. subst (λ (a : Action). Reaches a (λ (g : Handle). false) z z) (sym action) ((λ g. refl), refl))
-          (lack-create the-next.0.m _ fits.2 the-next.0.replies the-next.0.action the-next.0.handles.due)
+          (lack-create the-next.0.m _ (ap (λ (z : Fields). z.command) the-next.3 ∙ fits.2) the-next.0.replies the-next.0.action the-next.0.handles.due)
           (subst (λ (a : Action). Recorded (records_of s) s.stamp h (after_first d.0) d.0.m a (records_of u)) is d.1.records)
           (ap is_wrote told.2)
           (subst (λ (z : Effect). Follows z h mid_table u last x) told.2 f) settled

@@ -30,8 +30,8 @@ lose_on_all-requires-clause-may c =
 pub invariant_of-self-2 : goal.invariant_of-self-2
 invariant_of-self-2 c =
     let i = c.self.inside in
-    server-removed c.args.name.now i.records c.remove.new.self c.lose_on_all.new.records i.watchers c.forget_all.new.self i.leading c.forget_all-self-inside-leading.new.self i.circuits c.lose_on_all.new.circuits c.self.invariant c.in_ok-remove.ensures.records c.lose_on_all.ensures.loses c.forget_all.ensures
-    (subst (λ (l : Watched). Clears c.args.name.now l c.forget_all-self-inside-leading.new.self) c.lose_on_all.ensures.stays c.forget_all-self-inside-leading.ensures)
+    server-removed c.args.name.now i.records c.remove.new.self c.lose_on_all.new.records i.watchers c.forget_all.new.self i.leading c.forget_all-2.new.self i.circuits c.lose_on_all.new.circuits c.self.invariant c.in_ok-remove.ensures.records c.lose_on_all.ensures.loses c.forget_all.ensures
+    (subst (λ (l : Watched). Clears c.args.name.now l c.forget_all-2.new.self) c.lose_on_all.ensures.stays c.forget_all-2.ensures)
 
 pub returns : goal.returns
 returns c =
