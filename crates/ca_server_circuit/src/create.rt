@@ -1,14 +1,16 @@
-ghost use Rattle.std.specs.Prelude.{ℕ, ◌≡◌, OnErr, OnOk, [], ◌∷◌, false};
+ghost use Rattle.std.specs.Prelude.{ℕ, ◌≡◌, IfOk, OnErr, [], ◌∷◌, false};
 ghost use Rattle.ca_ids.specs.Table.{is_full};
 ghost use Rattle.ca_link.specs.Calls.{IsOpen};
 ghost use Rattle.ca_records.specs.Store.{Finds};
 ghost use Rattle.ca_wire.specs.Messages.{failed_reply, text_in};
 ghost use Rattle.ca_server_circuit.specs.Cids.{UsesCid};
-ghost use Rattle.ca_server_circuit.specs.Creating.{Creation, IsCreation};
+ghost use Rattle.ca_server_circuit.specs.Creating.{CreatesBy, IsCreation};
+ghost use Rattle.ca_server_circuit.specs.declared.step.Effect.TheVariants.{Opened, Quiet};
 ghost use Rattle.ca_server_circuit.specs.Handling.{AllStay, replied};
 
 use crate::channel::Channel;
 use crate::end::{End, send};
+use crate::step::Effect;
 use ca_ids::WireId;
 use ca_records::ServedRecords;
 use ca_wire::{Message, Sid, created_reply, failed_reply, rights_reply};
@@ -21,10 +23,10 @@ impl End {
         &mut self,
         records: &ServedRecords,
         message: &Message,
-    ) -> Result<(), AllocError>
+    ) -> Result<Effect, AllocError>
         requires { IsOpen self.old.link }
-        ensures ok { OnOk result ((port : ℕ)
-            → Creation port records.now self.old message.now self.new) }
+        ensures ok { IfOk result (λ effect. (port : ℕ)
+            → CreatesBy port records.now self.old message.now effect self.new) }
         ensures output { OnErr result (self.new.link.output ≡ self.old.link.output) }
         ensures channels { OnErr result (AllStay self.old.channels self.new.channels) }
     {
@@ -41,15 +43,16 @@ impl End {
     }
 
     /// CREATE_CH_FAIL.
-    fn refuse_channel(&mut self, message: &Message) -> Result<(), AllocError>
+    fn refuse_channel(&mut self, message: &Message) -> Result<Effect, AllocError>
         requires { IsOpen self.old.link }
-        ensures ok { OnOk result (self.new ≡ replied (failed_reply message.now ∷ []) self.old) }
+        ensures ok { IfOk result (λ effect.
+            (effect ≡ Quiet) × (self.new ≡ replied (failed_reply message.now ∷ []) self.old)) }
         ensures output { OnErr result (self.new.link.output ≡ self.old.link.output) }
         ensures channels { OnErr result (self.new.channels ≡ self.old.channels) }
     {
         let reply = failed_reply(self.alloc, message);
         send(&mut self.link, &reply)?;
-        Ok(())
+        Ok(Effect::Quiet)
     }
 
     /// Opens a channel to the record at this place: ACCESS_RIGHTS goes before the reply, and is taken back if there is no memory for that.
@@ -58,12 +61,13 @@ impl End {
         records: &ServedRecords,
         place: usize,
         message: &Message,
-    ) -> Result<(), AllocError>
+    ) -> Result<Effect, AllocError>
         requires open { IsOpen self.old.link }
         requires found { Finds records.now (text_in message.now.payload) place }
         requires room { is_full self.old.channels ≡ false }
         requires new { UsesCid self.old.channels message.now.p1 → ⊥ }
-        ensures ok { OnOk result (IsCreation records.now self.old message.now self.new) }
+        ensures ok { IfOk result (λ effect.
+            (effect ≡ Opened place) × IsCreation records.now self.old message.now self.new) }
         ensures output { OnErr result (self.new.link.output ≡ self.old.link.output) }
         ensures channels { OnErr result (AllStay self.old.channels self.new.channels) }
     {
@@ -81,7 +85,7 @@ impl End {
         match send(&mut self.link, &reply) {
             Ok(()) => {
                 self.settled = true;
-                Ok(())
+                Ok(Effect::Opened(place))
             }
             Err(error) => {
                 self.link.truncate(waited);

@@ -43,6 +43,7 @@ impl End {
             Command::Write => self.write(records, message),
             Command::WriteNotify => self.write_notify(circuit, records, message),
             Command::EventAdd => self.subscribe(records, message),
+            Command::CreateChannel => self.create(records, message),
             _ => {
                 self.handle_quiet(port, circuit, records, command, message)?;
                 Ok(Effect::Quiet)
@@ -77,7 +78,6 @@ impl End {
             Command::HostName => self.host_name(message),
             Command::Echo => self.echo(),
             Command::Search => self.search(port, records, message),
-            Command::CreateChannel => self.create(records, message),
             Command::ClearChannel => self.clear(circuit, records, message),
             Command::ReadNotify => self.read(records, &message.wanted()),
             Command::EventCancel => self.cancel(message),

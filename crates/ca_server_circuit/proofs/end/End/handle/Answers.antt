@@ -1,13 +1,9 @@
-use Rattle.std.proofs.Common.{Result, Ok, Err, refl, sym, ap, ◌∙◌}
-use Rattle.std.specs.Prelude.{IfOk}
+use Rattle.std.proofs.Common.{refl, sym, ap, ◌∙◌}
 use Rattle.ca_text.specs.Command.{command_number}
 use Rattle.ca_text.specs.declared.command.Command.TheVariants as command
-use Rattle.ca_server_circuit.proofs.Handled.{does-for, does-nothing, not-a-command}
+use Rattle.ca_server_circuit.proofs.Handled.{does-create, does-for, does-nothing, not-a-command}
+use Rattle.ca_server_circuit.proofs.Replying.{if-then}
 use Rattle.ca_server_circuit.proofs.end.End.handle.Goals as goal
-
-if-then : {T E : Type 0} {P Q : T → Type 0} (r : Result T E) → ((x : T) → P x → Q x) → IfOk r P → IfOk r Q
-if-then (Ok x) f p = f x p
-if-then (Err e) f p = tt
 
 pub returns-in_default-clause-ok : goal.returns-in_default-clause-ok
 returns-in_default-clause-ok c =
@@ -20,6 +16,10 @@ returns-in-Write-clause-ok c =
 pub returns-in-WriteNotify-clause-ok : goal.returns-in-WriteNotify-clause-ok
 returns-in-WriteNotify-clause-ok c =
     if-then c.write_notify.result (λ writes d. does-for c.args.port c.args.records.now c.args.circuit c.args.self.now c.args.message.now writes c.write_notify.new.records c.write_notify.new.self command.WriteNotify (sym (ap command_number (sym c.in-WriteNotify.is) ∙ c.in-Some.ensures ∙ c.command.ensures)) refl refl (d c.args.port)) c.write_notify.ensures.ok
+
+pub returns-in-CreateChannel-clause-ok : goal.returns-in-CreateChannel-clause-ok
+returns-in-CreateChannel-clause-ok c =
+    if-then c.create.result (λ did d. does-create c.args.port c.args.records.now c.args.circuit c.args.self.now c.args.message.now c.create.new.self did (sym (ap command_number (sym c.in-CreateChannel.is) ∙ c.in-Some.ensures ∙ c.command.ensures)) (d c.args.port)) c.create.ensures.ok
 
 pub returns-in-EventAdd-clause-ok : goal.returns-in-EventAdd-clause-ok
 returns-in-EventAdd-clause-ok c =

@@ -2,7 +2,7 @@ use Rattle.std.proofs.Common.{refl, ap, ◌∙◌}
 use Rattle.ca_text.specs.Command.{command_number}
 use Rattle.ca_text.specs.declared.command.Command.TheVariants as command
 use Rattle.ca_server_circuit.specs.Handling.{known}
-use Rattle.ca_server_circuit.proofs.Handled.{does-cancel, does-clear, does-create, does-echo, does-host, does-nothing, does-off, does-on, does-reply, does-search, does-user, does-version, other-command}
+use Rattle.ca_server_circuit.proofs.Handled.{does-cancel, does-clear, does-echo, does-host, does-nothing, does-off, does-on, does-reply, does-search, does-user, does-version, other-command}
 use Rattle.ca_server_circuit.proofs.Replying.{ok-both, ok-then, read-of}
 use Rattle.ca_server_circuit.proofs.end.End.handle_quiet.Goals as goal
 
@@ -30,10 +30,6 @@ pub returns-in-EventCancel-clause-ok : goal.returns-in-EventCancel-clause-ok
 returns-in-EventCancel-clause-ok c =
     ok-then c.cancel.result (λ d. does-cancel c.args.port c.args.records.now c.args.circuit c.args.self.now c.args.message.now c.cancel.new.self (c.requires.quiet.is ∙ ap command_number c.in-EventCancel.is) d) c.cancel.ensures.ok
 
-pub returns-in-CreateChannel-clause-ok : goal.returns-in-CreateChannel-clause-ok
-returns-in-CreateChannel-clause-ok c =
-    ok-then c.create.result (λ d. does-create c.args.port c.args.records.now c.args.circuit c.args.self.now c.args.message.now c.create.new.self (c.requires.quiet.is ∙ ap command_number c.in-CreateChannel.is) (d c.args.port)) c.create.ensures.ok
-
 pub returns-in-ReadNotify-clause-ok : goal.returns-in-ReadNotify-clause-ok
 returns-in-ReadNotify-clause-ok c =
     ok-then c.read.result (λ d. does-reply c.args.port c.args.records.now c.args.circuit c.args.self.now c.args.message.now c.read.new.self command.ReadNotify (c.requires.quiet.is ∙ ap command_number c.in-ReadNotify.is) refl refl (read-of (known c.args.port c.args.records.now c.args.self.now) c.args.self.now c.read.new.self c.args.message.now c.wanted.result (c.requires.quiet.is ∙ ap command_number c.in-ReadNotify.is) c.wanted.ensures (d c.args.port))) c.read.ensures.ok
@@ -47,7 +43,7 @@ returns-in-EventsOn-clause-ok c = does-on c.args.port c.args.records.now c.args.
 pub returns-in_default-clause-ok : goal.returns-in_default-clause-ok
 returns-in_default-clause-ok c =
     let q = c.requires.quiet in
-    does-nothing c.args.port c.args.records.now c.args.circuit c.args.self.now c.args.message.now (other-command c.args.message.now.command c.args.command q.is c.in_default.not-Version q.no_event c.in_default.not-EventCancel q.no_write c.in_default.not-Search c.in_default.not-EventsOff c.in_default.not-EventsOn c.in_default.not-ClearChannel c.in_default.not-ReadNotify c.in_default.not-CreateChannel q.no_put c.in_default.not-ClientName c.in_default.not-HostName c.in_default.not-Echo)
+    does-nothing c.args.port c.args.records.now c.args.circuit c.args.self.now c.args.message.now (other-command c.args.message.now.command c.args.command q.is c.in_default.not-Version q.no_event c.in_default.not-EventCancel q.no_write c.in_default.not-Search c.in_default.not-EventsOff c.in_default.not-EventsOn c.in_default.not-ClearChannel c.in_default.not-ReadNotify q.no_creation q.no_put c.in_default.not-ClientName c.in_default.not-HostName c.in_default.not-Echo)
 
 pub returns-in-ClearChannel-clause-ok : goal.returns-in-ClearChannel-clause-ok
 returns-in-ClearChannel-clause-ok c =
