@@ -22,6 +22,7 @@ impl End {
     /// The message stays where it came.
     ///
     /// If there is no memory for it the records and what waits to be sent are as they were, and the end is to be closed.
+    #[inline(always)]
     pub(crate) fn handle(
         &mut self,
         port: u16,
@@ -58,6 +59,7 @@ impl End {
     }
 
     /// Handles a message of a command that leaves the server nothing to do.
+    #[inline(never)]
     fn handle_quiet(
         &mut self,
         port: u16,

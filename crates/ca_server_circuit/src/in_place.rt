@@ -47,6 +47,7 @@ impl End {
     }
 
     /// Handles the first message, which has this header, and drops it.
+    #[inline(always)]
     fn take(
         &mut self,
         port: u16,

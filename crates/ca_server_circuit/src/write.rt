@@ -22,7 +22,7 @@ use std::alloc::{AllocError, Global};
 
 impl End {
     /// WRITE: applied at once, with no reply; a refused one is answered by ERROR. Says where it was applied.
-    #[inline(never)]
+    #[inline(always)]
     pub(crate) fn write(
         &mut self,
         records: &mut ServedRecords,
@@ -51,6 +51,7 @@ impl End {
     }
 
     /// WRITE to the record of this channel.
+    #[inline(always)]
     fn write_on(
         &mut self,
         seat: Seat,

@@ -28,7 +28,7 @@ impl End {
     ///
     /// The reply of a quick one goes first, so that none is applied for whose reply there is no memory. It is taken back if the put is
     /// refused, or if there is no memory for the put itself.
-    #[inline(never)]
+    #[inline(always)]
     pub(crate) fn write_notify(
         &mut self,
         circuit: Handle,
@@ -58,6 +58,7 @@ impl End {
     }
 
     /// WRITE_NOTIFY to the record of this channel.
+    #[inline(always)]
     fn put_on(
         &mut self,
         seat: Seat,
