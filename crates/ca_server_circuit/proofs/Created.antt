@@ -8,7 +8,7 @@ use Rattle.ca_ids.specs.Table.{MayGive, Table, held, under, with_held}
 use Rattle.ca_ids.specs.Wire.{wire_of}
 use Rattle.ca_ids.proofs.Wires.{wire_of-index}
 use Rattle.ca_records.specs.Puts.{Record}
-use Rattle.ca_records.specs.Store.{Store}
+use Rattle.ca_records.specs.Store.{Finds, Store}
 use Rattle.ca_wire.specs.Fields.{Fields}
 use Rattle.ca_wire.specs.Messages.{failed_reply, text_in}
 use Rattle.ca_model.specs.Due.{CidTaken, KnownChannel, Nothing, Opens}
@@ -16,7 +16,9 @@ use Rattle.ca_model.specs.Server.{OpenChannel, ServerEnd}
 use Rattle.ca_model.specs.ServerSteps.{known_channel, known_record}
 use Rattle.ca_model.specs.Speech.{In}
 use Rattle.ca_server_circuit.specs.Cids.{UsesCid}
-use Rattle.ca_server_circuit.specs.Creating.{Creation, IsCreation, creation_replies, with_channel}
+use Rattle.ca_server_circuit.specs.Creating.{CreatesBy, Creation, IsCreation, creation_replies, with_channel}
+use Rattle.ca_server_circuit.specs.declared.step.Effect.{Effect}
+use Rattle.ca_server_circuit.specs.declared.step.Effect.TheVariants as effect
 use Rattle.ca_server_circuit.specs.Handling.{AllStay, known, replied}
 use Rattle.ca_server_circuit.proofs.Tables.{given-none, held-other, listed-under, place, under-at, under-listed}
 
@@ -57,8 +59,7 @@ not-created port s e new m why is = record {
   acted = e;
   acts = λ y. refl;
   quiet = λ h. refl;
-  tells = refl;
-  fits = tt;
+  fits = λ is. tt;
   leaves = is;
 }
 
@@ -79,10 +80,19 @@ is-created port s e new m few unused did = record {
   acted = with_channel did.h m e;
   acts = λ y. (did.h, did.may, refl, refl);
   quiet = λ h. refl;
-  tells = refl;
-  fits = (did.r, did.named);
+  fits = λ is. (did.r, did.named, is);
   leaves = did.leaves;
 }
+
+-- the same, and nothing is left to do
+pub none-created : (port : ℕ) (s : Store) (e new : ServerEnd) (m : Fields) (did : Effect) → ((known port s e).record_of (text_in m.payload) ≡ None) ⊎ (CidTaken (known port s e) m.p1 ⊎ ((known port s e).full ≡ true)) → (did ≡ effect.Quiet) × (new ≡ replied (failed_reply m ∷ []) e) → CreatesBy port s e m did new
+unfolding not-created
+none-created port s e new m did why is = (not-created port s e new m why is.1, is.0)
+
+-- the same, and the circuit has a channel to the record of the name
+pub one-created : (port spot : ℕ) (s : Store) (e new : ServerEnd) (m : Fields) (did : Effect) → Finds s (text_in m.payload) spot → length e.channels ≤ arena_slots → (UsesCid e.channels m.p1 → ⊥) → (did ≡ effect.Opened spot) × IsCreation s e m new → CreatesBy port s e m did new
+unfolding is-created
+one-created port spot s e new m did found few unused made = (is-created port s e new m few unused made.1, (spot, found.r, made.0, found.at, found.named))
 
 -- the other channels stay open as one is opened
 pub opened-stay : (t u v : Table OpenChannel) (h : Handle) (c : OpenChannel) → t ≡ v → MayGive t h × (u ≡ with_held h c t) → AllStay v u

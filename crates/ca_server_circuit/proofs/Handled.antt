@@ -19,7 +19,7 @@ use Rattle.ca_model.specs.ServerSteps.{without_channel}
 use Rattle.ca_server_circuit.specs.declared.step.Effect.{Effect}
 use Rattle.ca_server_circuit.specs.declared.step.Effect.TheVariants as effect
 use Rattle.ca_server_circuit.specs.Clearing.{Withdraws}
-use Rattle.ca_server_circuit.specs.Creating.{Creation}
+use Rattle.ca_server_circuit.specs.Creating.{CreatesBy}
 use Rattle.ca_server_circuit.specs.Handling.{Does, Replies, known, replied}
 use Rattle.ca_server_circuit.proofs.Dues.{IsDueFor, command_at, due-for, due-other}
 use Rattle.ca_server_circuit.proofs.Taken.{replied-none}
@@ -127,8 +127,8 @@ module _ (port : ℕ) (s : Store) (h : Handle) (e : ServerEnd) (m : Fields) wher
   does-search new is done =
       does-reply new command.Search is refl refl (record { replies = search_due (known port s e) m; due = (refl, refl); leaves = done })
 
-  pub does-create : (new : ServerEnd) → m.command ≡ command_number command.CreateChannel → Creation port s e m new → Does DueHere s h e m effect.Quiet s new
-  does-create new is c = record {
+  pub does-create : (new : ServerEnd) (did : Effect) → m.command ≡ command_number command.CreateChannel → CreatesBy port s e m did new → Does DueHere s h e m did s new
+  does-create new did is (c, told) = record {
     replies = c.replies;
     action = c.action;
     due = due-for (known port s e) m c.replies c.action command.CreateChannel is refl refl c.due;
@@ -137,8 +137,8 @@ module _ (port : ℕ) (s : Store) (h : Handle) (e : ServerEnd) (m : Fields) wher
     records = c.quiet h;
     rules = refl;
     stamp = refl;
-    tells = c.tells;
-    fits = c.fits;
+    tells = told;
+    fits = c.fits is;
     leaves = c.leaves;
   }
 

@@ -1,6 +1,6 @@
 -- What is due for a message on a channel, by what was found of its SID.
 use Rattle.std.proofs.Common.{◌≡◌, ℕ, inl, inr, List, [], ◌∷◌, Option, Some, None, Result, Ok, Err, refl, sym, ap, ◌∙◌, subst}
-use Rattle.std.specs.Prelude.{OnErr, OnOk, length, map, take}
+use Rattle.std.specs.Prelude.{IfOk, OnErr, OnOk, length, map, take}
 use Rattle.std.proofs.lemmas.List.{take_at}
 use Rattle.ca_text.proofs.Places.{At-one, some_is}
 use Rattle.ca_queue.specs.Keys.{is_among}
@@ -30,6 +30,11 @@ use Rattle.ca_server_circuit.proofs.Known.{serves, stray}
 pub ok-then : {T E P Q : Type 0} (r : Result T E) → (P → Q) → OnOk r P → OnOk r Q
 ok-then (Ok x) f p = f p
 ok-then (Err e) f p = tt
+
+-- the same of what was answered
+pub if-then : {T E : Type 0} {P Q : T → Type 0} (r : Result T E) → ((x : T) → P x → Q x) → IfOk r P → IfOk r Q
+if-then (Ok x) f p = f x p
+if-then (Err e) f p = tt
 
 -- the same for two facts
 pub ok-both : {T E P Q R : Type 0} (r : Result T E) → (P → Q → R) → OnOk r P → OnOk r Q → OnOk r R

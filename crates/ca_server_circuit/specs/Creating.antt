@@ -9,12 +9,14 @@ use Rattle.ca_records.specs.Puts.{Record, record_named}
 use Rattle.ca_records.specs.Record.{RecordState}
 use Rattle.ca_records.specs.Rules.{rights}
 use Rattle.ca_records.specs.Store.{Store, records_of}
+use Rattle.ca_text.specs.Command.{command_number}
+use Rattle.ca_text.specs.declared.command.Command.TheVariants as command
 use Rattle.ca_wire.specs.Fields.{Fields}
 use Rattle.ca_wire.specs.Messages.{created_reply, rights_reply, text_in}
 use Rattle.ca_model.specs.Due.{Action}
 use Rattle.ca_model.specs.Server.{Server, ServerEnd}
 use Rattle.ca_model.specs.ServerSteps.{Acts}
-use Rattle.ca_server_circuit.specs.declared.step.Effect.TheVariants as effect
+use Rattle.ca_server_circuit.specs.declared.step.Effect.{Effect}
 use Rattle.ca_server_circuit.specs.Handling.{Creates, Fits, Recorded, Tells, known, replied}
 
 -- the replies by which a channel to a record is created, under this SID
@@ -43,6 +45,9 @@ pub record Creation (port : ℕ) (s : Store) (e : ServerEnd) (m : Fields) (new :
   pub acted : ServerEnd
   pub acts : (y : Server) → Acts y e action acted
   pub quiet : (h : Handle) → Recorded (records_of s) s.stamp h e m action (records_of s)
-  pub tells : Tells action effect.Quiet s
-  pub fits : Fits (records_of s) e m action
+  pub fits : m.command ≡ command_number command.CreateChannel → Fits (records_of s) e m action
   pub leaves : new ≡ replied replies acted
+
+-- the same, with what it leaves the server to do
+abbrev pub CreatesBy : (port : ℕ) → Store → ServerEnd → Fields → Effect → ServerEnd → Type 0
+CreatesBy port s e m did new = (c : Creation port s e m new) × Tells c.action did s

@@ -63,9 +63,9 @@ Recorded rs s h e m (Waits name value) new =
 Recorded rs s h e m (Clears sid) new = new ≡ withdrawn (λ (p : Put). same_handle p.circuit h && wire_of p.channel == sid) rs
 Recorded rs s h e m action new = new ≡ rs
 
--- A channel is created to a record that is there; and a put waits on the record of its channel, and a subscription begins on that of its own.
+-- A channel is created by a CREATE_CHAN, to a record that is there; and a put waits on the record of its channel, and a subscription begins on that of its own.
 abbrev pub Fits : List Record → ServerEnd → Fields → Action → Type 0
-Fits rs e m (Opens c) = (r : Record) × (record_named rs c.name ≡ Some r)
+Fits rs e m (Opens c) = (r : Record) × (record_named rs c.name ≡ Some r) × (m.command ≡ command_number command.CreateChannel)
 Fits rs e m (Waits name value) = (c : Handle × OpenChannel) × (by_wire e.channels m.p1 ≡ Some c) × (c.1.name ≡ name) × (c.1.retired ≡ false)
 Fits rs e m (Adds x) =
     (c : Handle × OpenChannel) × (by_wire e.channels m.p1 ≡ Some c) × (c.1.name ≡ x.name) × (c.1.retired ≡ false) × (x.wanted.sid ≡ m.p1)
@@ -77,6 +77,7 @@ pub record IsQuiet (c : Command) (m : Fields) : Type 0 where
   pub no_write : c ≡ command.Write → ⊥
   pub no_put : c ≡ command.WriteNotify → ⊥
   pub no_event : c ≡ command.EventAdd → ⊥
+  pub no_creation : c ≡ command.CreateChannel → ⊥
 
 -- whether a write was applied
 abbrev pub is_wrote : Effect → Bool
@@ -84,12 +85,13 @@ is_wrote (effect.Wrote place) = true
 is_wrote _ = false
 
 -- What an action leaves the server to do, by the places of records: a write that was applied is to reach the subscriptions of its record,
--- which has its value and the stamp now; and a subscription began.
+-- which has its value and the stamp now; and a subscription began, or a channel was created.
 abbrev pub Tells : Action → Effect → Store → Type 0
 Tells (Applies name value busies) did t =
     (place : ℕ) × (r : Record) × (did ≡ effect.Wrote place) × HasAt t place r × (r.state.name ≡ name) × (r.state.value ≡ value)
     × (r.state.meta ≡ written_meta t.stamp)
 Tells (Adds x) did t = (place : ℕ) × (r : Record) × (did ≡ effect.Began place) × HasAt t place r × (r.state.name ≡ x.name)
+Tells (Opens c) did t = (place : ℕ) × (r : Record) × (did ≡ effect.Opened place) × HasAt t place r × (r.state.name ≡ c.name)
 Tells action did t = did ≡ effect.Quiet
 
 -- What is due by this relation was done: the replies wait, and so the records and the end are after it.

@@ -1,17 +1,19 @@
-ghost use Rattle.std.specs.Prelude.{ℕ, ◌≡◌, OnErr, OnOk, [], ◌∷◌, false};
+ghost use Rattle.std.specs.Prelude.{ℕ, ◌≡◌, IfOk, OnErr, [], ◌∷◌, false};
 ghost use Rattle.ca_ids.specs.Table.{is_full};
 ghost use Rattle.ca_link.specs.Calls.{IsOpen};
 ghost use Rattle.ca_records.specs.Store.{Finds};
 ghost use Rattle.ca_wire.specs.Messages.{failed_reply, text_in};
 ghost use Rattle.ca_wire.specs.Reading.{IsWhole};
 ghost use Rattle.ca_server_circuit.specs.Cids.{UsesCid};
-ghost use Rattle.ca_server_circuit.specs.Creating.{Creation, IsCreation};
+ghost use Rattle.ca_server_circuit.specs.Creating.{CreatesBy, IsCreation};
+ghost use Rattle.ca_server_circuit.specs.declared.step.Effect.TheVariants.{Opened, Quiet};
 ghost use Rattle.ca_server_circuit.specs.Handling.{AllStay, replied};
 ghost use Rattle.ca_server_circuit.specs.Stepping.{first_at, message_of};
 
 use crate::channel::Channel;
 use crate::end::{End, send};
 use crate::in_place::bare_of;
+use crate::step::Effect;
 use ca_ids::WireId;
 use ca_records::ServedRecords;
 use ca_wire::{Cid, Head, Header, Sid, created_reply, failed_reply, rights_reply};
@@ -20,12 +22,16 @@ use std::alloc::AllocError;
 impl End {
     /// CREATE_CHAN: a channel to the record of this name, unless the CID is in use or no SID may be given.
     #[inline(never)]
-    pub(crate) fn create(&mut self, records: &ServedRecords, head: &Head) -> Result<(), AllocError>
+    pub(crate) fn create(
+        &mut self,
+        records: &ServedRecords,
+        head: Head,
+    ) -> Result<Effect, AllocError>
         requires open { IsOpen self.old.link }
-        requires whole { IsWhole self.old.link.input.bytes head.now }
-        ensures ok { OnOk result ((port : ℕ)
-            → Creation port records.now self.old (first_at self.old.link.input.bytes head.now)
-            self.new) }
+        requires whole { IsWhole self.old.link.input.bytes head }
+        ensures ok { IfOk result (λ effect. (port : ℕ)
+            → CreatesBy port records.now self.old (first_at self.old.link.input.bytes head)
+            effect self.new) }
         ensures output { OnErr result (self.new.link.output ≡ self.old.link.output) }
         ensures channels { OnErr result (AllStay self.old.channels self.new.channels) }
     {
@@ -42,16 +48,17 @@ impl End {
     }
 
     /// CREATE_CH_FAIL.
-    fn refuse_channel(&mut self, header: &Header) -> Result<(), AllocError>
+    fn refuse_channel(&mut self, header: &Header) -> Result<Effect, AllocError>
         requires { IsOpen self.old.link }
-        ensures ok { OnOk result (self.new
-            ≡ replied (failed_reply (message_of header.now []) ∷ []) self.old) }
+        ensures ok { IfOk result (λ effect.
+            (effect ≡ Quiet)
+            × (self.new ≡ replied (failed_reply (message_of header.now []) ∷ []) self.old)) }
         ensures output { OnErr result (self.new.link.output ≡ self.old.link.output) }
         ensures channels { OnErr result (self.new.channels ≡ self.old.channels) }
     {
         let reply = failed_reply(self.alloc, &bare_of(self.alloc, header));
         send(&mut self.link, &reply)?;
-        Ok(())
+        Ok(Effect::Quiet)
     }
 
     /// Opens a channel to the record at this place: ACCESS_RIGHTS goes before the reply, and is taken back if there is no memory for that.
@@ -59,15 +66,17 @@ impl End {
         &mut self,
         records: &ServedRecords,
         place: usize,
-        head: &Head,
-    ) -> Result<(), AllocError>
+        head: Head,
+    ) -> Result<Effect, AllocError>
         requires open { IsOpen self.old.link }
         requires found { Finds records.now
-            (text_in (first_at self.old.link.input.bytes head.now).payload) place }
+            (text_in (first_at self.old.link.input.bytes head).payload) place }
         requires room { is_full self.old.channels ≡ false }
-        requires new { UsesCid self.old.channels head.now.header.p1 → ⊥ }
-        ensures ok { OnOk result (IsCreation records.now self.old
-            (first_at self.old.link.input.bytes head.now) self.new) }
+        requires new { UsesCid self.old.channels head.header.p1 → ⊥ }
+        ensures ok { IfOk result (λ effect.
+            (effect ≡ Opened place)
+            × IsCreation records.now self.old (first_at self.old.link.input.bytes head)
+            self.new) }
         ensures output { OnErr result (self.new.link.output ≡ self.old.link.output) }
         ensures channels { OnErr result (AllStay self.old.channels self.new.channels) }
     {
@@ -86,7 +95,7 @@ impl End {
         match send(&mut self.link, &reply) {
             Ok(()) => {
                 self.settled = true;
-                Ok(())
+                Ok(Effect::Opened(place))
             }
             Err(error) => {
                 self.link.truncate(waited);

@@ -28,21 +28,21 @@ impl End {
         port: u16,
         circuit: Handle,
         records: &mut ServedRecords,
-        head: &Head,
+        head: Head,
     ) -> Result<Effect, AllocError>
         requires open { IsOpen self.old.link }
         requires served { AreServed (records_of records.old) self.old.channels }
         requires puts { ArePuts circuit (records_of records.old) self.old.channels }
-        requires whole { IsWhole self.old.link.input.bytes head.now }
+        requires whole { IsWhole self.old.link.input.bytes head }
         ensures ok { IfOk result (λ effect.
             Does (Due (known port records.old self.old)
-            (first_at self.old.link.input.bytes head.now)) records.old circuit self.old
-            (first_at self.old.link.input.bytes head.now) effect records.new self.new) }
+            (first_at self.old.link.input.bytes head)) records.old circuit self.old
+            (first_at self.old.link.input.bytes head) effect records.new self.new) }
         ensures err { OnErr result (records.new ≡ records.old) }
         ensures output { OnErr result (self.new.link.output ≡ self.old.link.output) }
         ensures channels { OnErr result (AllStay self.old.channels self.new.channels) }
         ensures memory { OnErr result (MayLack (known port records.old self.old)
-            (first_at self.old.link.input.bytes head.now)) }
+            (first_at self.old.link.input.bytes head)) }
     {
         let Some(command) = Command::of(head.header.command) else {
             return Ok(Effect::Quiet);
@@ -51,6 +51,7 @@ impl End {
             Command::Write => self.write(records, head),
             Command::WriteNotify => self.write_notify(circuit, records, head),
             Command::EventAdd => self.subscribe(records, head),
+            Command::CreateChannel => self.create(records, head),
             _ => {
                 self.handle_quiet(port, circuit, records, command, head)?;
                 Ok(Effect::Quiet)
@@ -66,21 +67,21 @@ impl End {
         circuit: Handle,
         records: &mut ServedRecords,
         command: Command,
-        head: &Head,
+        head: Head,
     ) -> Result<(), AllocError>
         requires open { IsOpen self.old.link }
         requires served { AreServed (records_of records.old) self.old.channels }
         requires puts { ArePuts circuit (records_of records.old) self.old.channels }
-        requires whole { IsWhole self.old.link.input.bytes head.now }
-        requires quiet { IsQuiet command (first_at self.old.link.input.bytes head.now) }
+        requires whole { IsWhole self.old.link.input.bytes head }
+        requires quiet { IsQuiet command (first_at self.old.link.input.bytes head) }
         ensures ok { OnOk result (Does (Due (known port records.old self.old)
-            (first_at self.old.link.input.bytes head.now)) records.old circuit self.old
-            (first_at self.old.link.input.bytes head.now) Quiet records.new self.new) }
+            (first_at self.old.link.input.bytes head)) records.old circuit self.old
+            (first_at self.old.link.input.bytes head) Quiet records.new self.new) }
         ensures err { OnErr result (records.new ≡ records.old) }
         ensures output { OnErr result (self.new.link.output ≡ self.old.link.output) }
         ensures channels { OnErr result (AllStay self.old.channels self.new.channels) }
         ensures memory { OnErr result (MayLack (known port records.old self.old)
-            (first_at self.old.link.input.bytes head.now)) }
+            (first_at self.old.link.input.bytes head)) }
     {
         // What is rare stands out of line, so that a read or a write does not pay for its locals.
         match command {
@@ -89,7 +90,6 @@ impl End {
             Command::HostName => self.host_name(head),
             Command::Echo => self.echo(),
             Command::Search => self.search(port, records, head),
-            Command::CreateChannel => self.create(records, head),
             Command::ClearChannel => self.clear(circuit, records, &head.header),
             Command::ReadNotify => self.read(records, &named_by(&head.header)),
             Command::EventCancel => self.cancel(&head.header),

@@ -37,7 +37,7 @@ impl End {
     {
         know_bytes(self.link.in_bytes());
         match read_one(self.link.in_bytes()) {
-            One::Whole(head) => match self.take(port, circuit, records, &head) {
+            One::Whole(head) => match self.take(port, circuit, records, head) {
                 Ok(effect) => EndStep::Handled(effect),
                 Err(_) => EndStep::Breaks(Cause::OutOfMemory),
             },
@@ -53,22 +53,22 @@ impl End {
         port: u16,
         circuit: Handle,
         records: &mut ServedRecords,
-        head: &Head,
+        head: Head,
     ) -> Result<Effect, AllocError>
         requires open { IsOpen self.old.link }
         requires served { AreServed (records_of records.old) self.old.channels }
         requires puts { ArePuts circuit (records_of records.old) self.old.channels }
-        requires whole { IsWhole self.old.link.input.bytes head.now }
+        requires whole { IsWhole self.old.link.input.bytes head }
         ensures ok { IfOk result (λ effect.
-            Does (Due (known port records.old (after_head head.now self.old))
-            (first_at self.old.link.input.bytes head.now)) records.old circuit
-            (after_head head.now self.old) (first_at self.old.link.input.bytes head.now) effect
+            Does (Due (known port records.old (after_head head self.old))
+            (first_at self.old.link.input.bytes head)) records.old circuit
+            (after_head head self.old) (first_at self.old.link.input.bytes head) effect
             records.new self.new) }
         ensures err { OnErr result (records.new ≡ records.old) }
         ensures output { OnErr result (self.new.link.output ≡ self.old.link.output) }
         ensures channels { OnErr result (AllStay self.old.channels self.new.channels) }
         ensures memory { OnErr result (MayLack (known port records.old self.old)
-            (first_at self.old.link.input.bytes head.now)) }
+            (first_at self.old.link.input.bytes head)) }
     {
         let effect = self.handle(port, circuit, records, head)?;
         self.drop_first(head);
@@ -77,27 +77,27 @@ impl End {
 
     /// Drops the first message, which has this header.
     #[inline(always)]
-    fn drop_first(&mut self, head: &Head)
-        requires { IsWhole self.old.link.input.bytes head.now }
-        ensures { self.new ≡ after_head head.now self.old }
+    fn drop_first(&mut self, head: Head)
+        requires { IsWhole self.old.link.input.bytes head }
+        ensures { self.new ≡ after_head head self.old }
     {
         self.link.drop_front(head.start + head.header.size as usize);
     }
 
     /// The payload of the first message, which has this header.
     #[inline(always)]
-    pub(crate) fn payload(&self, head: &Head) -> &[u8]
-        requires { IsWhole self.now.link.input.bytes head.now }
-        ensures { result.now ≡ (first_at self.now.link.input.bytes head.now).payload }
+    pub(crate) fn payload(&self, head: Head) -> &[u8]
+        requires { IsWhole self.now.link.input.bytes head }
+        ensures { result.now ≡ (first_at self.now.link.input.bytes head).payload }
     {
         let end = head.start + head.header.size as usize;
         &self.link.in_bytes()[head.start..end]
     }
 
     /// The text in it, if it is a CLIENT_NAME, HOST_NAME, SEARCH or CREATE_CHAN: up to the first zero, or all of it.
-    pub(crate) fn text(&self, head: &Head) -> &[u8]
-        requires { IsWhole self.now.link.input.bytes head.now }
-        ensures { result.now ≡ text_in (first_at self.now.link.input.bytes head.now).payload }
+    pub(crate) fn text(&self, head: Head) -> &[u8]
+        requires { IsWhole self.now.link.input.bytes head }
+        ensures { result.now ≡ text_in (first_at self.now.link.input.bytes head).payload }
     {
         text_in(self.payload(head))
     }

@@ -21,6 +21,8 @@ pub enum Effect {
     Wrote(usize),
     /// A subscription to the record at this place began.
     Began(usize),
+    /// A channel to the record at this place was created.
+    Opened(usize),
 }
 
 /// What one step of an open end did.

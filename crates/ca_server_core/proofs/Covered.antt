@@ -13,9 +13,9 @@ use Rattle.ca_text.proofs.Places.{some_is}
 use Rattle.ca_server_subscriptions.specs.Subscribed.{is_on}
 use Rattle.ca_server_watchers.specs.Watching.{IsAmong, LeavesAt, Watched, Watches, line_of, watching}
 use Rattle.ca_model.specs.Ends.{Why}
-use Rattle.ca_model.specs.Server.{Ended, Open, ServerCircuit, ServerEnd, Subscription, new_end}
+use Rattle.ca_model.specs.Server.{Ended, Open, OpenChannel, ServerCircuit, ServerEnd, Subscription, new_end}
 use Rattle.ca_model.specs.Speech.{In}
-use Rattle.ca_server_core.specs.Covering.{Covers, watches_under}
+use Rattle.ca_server_core.specs.Covering.{Covers, HasTo, watches_under}
 use Rattle.ca_server_circuit.specs.Ending.{EndsAt}
 use Rattle.ca_server_core.specs.Ending.{EndsIn}
 use Rattle.ca_server_core.specs.Following.{CoversBut}
@@ -33,42 +33,59 @@ both : {A : Type 0} (b : Bool) → b ≡ true → b ≡ false → A
 both true p q = absurd cc
 both false p q = absurd cc
 
+-- the channels are the same
+pub to-same : (e x : ServerEnd) (n : List ℕ) → e.channels ≡ x.channels → HasTo e n → HasTo x n
+to-same e x n same to = (to.0, to.1, subst (λ (t : Table OpenChannel). under t to.0 ≡ Some to.1) same to.2, to.3, to.4)
+
 -- ---- circuits change
 
--- each end that is open was open, and had these subscriptions
+-- each end that is open was open, and had these subscriptions, and channels to these records
 abbrev pub Thins : Circuits → Circuits → Type 0
-Thins t u = (h : Handle) (e : ServerEnd) → under u h ≡ Some (Open e) → (x : ServerEnd) × (under t h ≡ Some (Open x)) × ((s : Subscription) → In e.subscriptions s → In x.subscriptions s)
+Thins t u = (h : Handle) (e : ServerEnd) → under u h ≡ Some (Open e) → (x : ServerEnd) × (under t h ≡ Some (Open x)) × ((s : Subscription) → In e.subscriptions s → In x.subscriptions s) × ((n : List ℕ) → HasTo e n → HasTo x n)
 
 pub thins-same : (t : Circuits) → Thins t t
-thins-same t h e at = (e, at, (λ s i. i))
+thins-same t h e at = (e, at, (λ s i. i), (λ n c. c))
 
 pub thins-both : (t u v : Circuits) → Thins t u → Thins u v → Thins t v
 thins-both t u v a b h e at =
     let y = b h e at in
     let x = a h y.0 y.1 in
-    (x.0, x.1, (λ s i. x.2 s (y.2 s i)))
+    (x.0, x.1, (λ s i. x.2 s (y.2 s i)), (λ n c. x.3 n (y.3 n c)))
 
 pub covers-thinned : (w : Watched) (t u : Circuits) → Thins t u → Covers w t → Covers w u
 covers-thinned w t u thin c h e s at i = (let x = thin h e at in c h x.0 s x.1 (x.2 s i))
 
--- an open end became another with no more subscriptions
-pub thins-changed : (t : Circuits) (h : Handle) (e new : ServerEnd) → under t h ≡ Some (Open e) → ((s : Subscription) → In new.subscriptions s → In e.subscriptions s) → Thins t (with_changed (λ (c : ServerCircuit). Open new) h t)
-thins-changed t h e new there fewer g x at = elim (changed-back (λ (c : ServerCircuit). Open new) t g h (Open x) at) [
+-- an open end became another with no more subscriptions, and channels to no more records
+pub thins-changed : (t : Circuits) (h : Handle) (e new : ServerEnd) → under t h ≡ Some (Open e) → ((s : Subscription) → In new.subscriptions s → In e.subscriptions s) → ((n : List ℕ) → HasTo new n → HasTo e n) → Thins t (with_changed (λ (c : ServerCircuit). Open new) h t)
+thins-changed t h e new there fewer less g x at = elim (changed-back (λ (c : ServerCircuit). Open new) t g h (Open x) at) [
   | inl own ↦
-      let same : new ≡ x = sym (open-is x new own.1.2) in
-      (e, subst (λ (k : Handle). under t k ≡ Some (Open e)) (sym own.0) there, subst (λ (y : ServerEnd). (s : Subscription) → In y.subscriptions s → In e.subscriptions s) same fewer)
-  | inr old ↦ (x, old.1, (λ s i. i))
+      let same : new ≡ x = sym (open-is x new own.1.2) in (
+        e,
+        subst (λ (k : Handle). under t k ≡ Some (Open e)) (sym own.0) there,
+        subst (λ (y : ServerEnd). (s : Subscription) → In y.subscriptions s → In e.subscriptions s) same fewer,
+        subst (λ (y : ServerEnd). (n : List ℕ) → HasTo y n → HasTo e n) same less,
+      )
+  | inr old ↦ (x, old.1, (λ s i. i), (λ n c. c))
+]
+
+-- the same, whatever its channels are
+pub covers-changed : (w : Watched) (t : Circuits) (h : Handle) (e new : ServerEnd) → under t h ≡ Some (Open e) → ((s : Subscription) → In new.subscriptions s → In e.subscriptions s) → Covers w t → Covers w (with_changed (λ (c : ServerCircuit). Open new) h t)
+covers-changed w t h e new there fewer c g x s at i = elim (changed-back (λ (c : ServerCircuit). Open new) t g h (Open x) at) [
+  | inl own ↦
+      let j = fewer s (subst (λ (y : ServerEnd). In y.subscriptions s) (open-is x new own.1.2) i) in
+      subst (λ (k : Handle). IsAmong (watching w s.name) k) (sym own.0) (c h e s there j)
+  | inr old ↦ c g x s old.1 i
 ]
 
 -- it ended
 pub thins-ended : (t : Circuits) (h : Handle) (w : Why) (left : List ℕ) → Thins t (with_changed (λ (c : ServerCircuit). Ended w left) h t)
 thins-ended t h w left g x at = elim (changed-back (λ (c : ServerCircuit). Ended w left) t g h (Open x) at) [
   | inl own ↦ absurd (not-ended x w left own.1.2)
-  | inr old ↦ (x, old.1, (λ s i. i))
+  | inr old ↦ (x, old.1, (λ s i. i), (λ n c. c))
 ]
 
 pub thins-freed : (t : Circuits) (h : Handle) → Thins t (with_freed h t)
-thins-freed t h g x at = (let b = freed-back t g h (Open x) at in (x, b.1, (λ s i. i)))
+thins-freed t h g x at = (let b = freed-back t g h (Open x) at in (x, b.1, (λ s i. i), (λ n c. c)))
 
 -- a circuit was accepted
 pub covers-accepted : (w : Watched) (t : Circuits) (h : Handle) (now : ℕ) → MayGive t h → Covers w t → Covers w (with_held h (Open (new_end now)) t)
@@ -166,7 +183,7 @@ ended-others t after h s u w (inl g) f x at = by g.0 g.1 g.2 g.3 g.4
         ((λ same. not-ended x v left (some_is (Open x) (Ended v left) (sym here ∙ ap (λ (k : Handle). under t k) same ∙ there))), here)
 
 pub thins-out : (t after : Circuits) (h : Handle) (s u : Store) (w : Why) → EndsIn t h s w after u → Thins t after
-thins-out t after h s u w did g x at = (x, (ended-others t after h s u w did g x at).1, (λ y i. i))
+thins-out t after h s u w did g x at = (x, (ended-others t after h s u w did g x at).1, (λ y i. i), (λ n c. c))
 
 pub covers-out : (w : Watched) (t after : Circuits) (h : Handle) (name : List ℕ) (s u : Store) (y : Why) → EndsIn t h s y after u → CoversBut h name w t → Covers w after
 covers-out w t after h name s u y did but g e x there i =

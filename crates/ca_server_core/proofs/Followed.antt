@@ -1,8 +1,9 @@
 -- A step of a server that handled a message, with what followed from it.
 use Rattle.std.proofs.Common.{◌≡◌, ℕ, ◌⊎◌, inl, inr, Bool, true, false, cond, eqb, filter, not, List, [], ◌∷◌, ◌++◌, length, take, Option, Some, None, refl, sym, ap, ◌∙◌, subst}
+use Rattle.std.specs.Prelude.{option_map, unwrap_or}
 use Rattle.ca_arena.specs.declared.handle.Handle.{Handle}
 use Rattle.ca_beacon.specs.Clock.{Clock}
-use Rattle.ca_ids.specs.Table.{Table, same_handle, under, with_changed, with_freed}
+use Rattle.ca_ids.specs.Table.{Table, by_wire, same_handle, under, with_changed, with_freed}
 use Rattle.ca_link.specs.Link.{LinkState}
 use Rattle.ca_dbr.specs.Elements.{Elements}
 use Rattle.ca_queue.specs.Keys.{same}
@@ -14,9 +15,9 @@ use Rattle.ca_text.proofs.Places.{At-snoc, some_is}
 use Rattle.ca_wire.specs.Fields.{Fields}
 use Rattle.ca_wire.specs.Message.{spelled}
 use Rattle.ca_server_watchers.specs.Watching.{IsAmong, Watched, watching}
-use Rattle.ca_model.specs.Due.{Action, Adds, Applies, Clears, Drops, Greets, Names, Nothing, Opens, Switches, Waits}
+use Rattle.ca_model.specs.Due.{Action, Adds, Applies, Clears, Drops, Greets, KnownChannel, Names, Nothing, Opens, Switches, Waits}
 use Rattle.ca_model.specs.Ends as why
-use Rattle.ca_model.specs.Server.{Ended, Open, Server, ServerCircuit, ServerEnd, Subscription, key_of, with_post}
+use Rattle.ca_model.specs.Server.{Ended, Open, OpenChannel, Server, ServerCircuit, ServerEnd, Subscription, key_of, with_post}
 use Rattle.ca_model.specs.ServerSteps.{Acts, MayEnd, NeedsMemory, Next, Reaches, Stepped, Steps, StepsAt, after_post, closed, is_write, output_of, reached, stored_now, write_mask}
 use Rattle.ca_model.specs.ServerSteps as steps
 use Rattle.ca_model.specs.Speech.{In, Stored}
@@ -25,12 +26,12 @@ use Rattle.ca_server_circuit.specs.declared.step.Effect.{Effect}
 use Rattle.ca_server_circuit.specs.declared.step.Effect.TheVariants as effect
 use Rattle.ca_server_circuit.specs.declared.step.EndStep.TheVariants as step
 use Rattle.ca_server_core.specs.declared.stepping.Step.{Step}
-use Rattle.ca_server_core.specs.Covering.{Covers}
+use Rattle.ca_server_core.specs.Covering.{AreLed, AreListed, Covers, HasTo, Leads}
 use Rattle.ca_server_circuit.specs.Ending.{EndsAt}
 use Rattle.ca_server_core.specs.Ending.{EndsIn}
-use Rattle.ca_server_core.specs.Following.{CoversFor, Follows, IsSettled, Settles}
+use Rattle.ca_server_core.specs.Following.{CoversFor, Follows, IsSettled, LedFor, Settles}
 use Rattle.ca_server_circuit.specs.Circuits.{is_open}
-use Rattle.ca_server_circuit.specs.Handling.{Does, Recorded, Tells, is_wrote}
+use Rattle.ca_server_circuit.specs.Handling.{Does, Fits, Recorded, Tells, is_wrote}
 use Rattle.ca_server_core.specs.Reaching.{ReachesAll}
 use Rattle.ca_server_circuit.specs.Serving.{CircuitSteps}
 use Rattle.ca_server_core.specs.Noting.{action_at, action_of}
@@ -38,13 +39,15 @@ use Rattle.ca_server_core.specs.Serving.{Closes, ClosesAt, LacksItself, Reports,
 use Rattle.ca_server_core.specs.Sound.{IsSound}
 use Rattle.ca_server_circuit.specs.Stepping.{EndSteps, after_first, why_is}
 use Rattle.ca_server_core.proofs.Closing.{none-waits, not-ended, sound-freed}
-use Rattle.ca_server_core.proofs.Covered.{Thins, covers-thinned, thins-both, thins-changed, thins-ended, thins-freed, thins-same}
+use Rattle.ca_server_core.proofs.Covered.{Thins, covers-changed, thins-both, thins-ended, thins-freed, thins-same, to-same}
 use Rattle.ca_server_core.proofs.Each.{under-each}
+use Rattle.ca_server_core.proofs.Led.{leads-changed}
 use Rattle.ca_server_core.proofs.Reached.{there-is}
 use Rattle.ca_server_core.proofs.Servers.{became, freed-changed, freed-nothing, same-parts, server_of, stayed}
 use Rattle.ca_server_circuit.proofs.Stays.{at-filtered, link-kept}
 use Rattle.ca_server_core.proofs.Stepped.{Makes, handled-next, none-wrote, not-some, step-at}
-use Rattle.ca_server_circuit.proofs.Tables.{changed-back, changed-own}
+use Rattle.ca_server_circuit.proofs.Dues.{lack-create}
+use Rattle.ca_server_circuit.proofs.Tables.{changed-back, changed-own, freed-back, held-back}
 
 abbrev Circuits : Type 0
 Circuits = Table ServerCircuit
@@ -89,25 +92,56 @@ joined-by y e (Adds x) new s is i =
 joined-by y e (Drops k) new s is i = fewer-in e new s (λ (x : Subscription). not (same k (key_of x))) (ap (λ (x : ServerEnd). x.subscriptions) is) i
 joined-by y e (Switches on) new s is i = same-in e new s (ap (λ (x : ServerEnd). x.subscriptions) is) i
 
+-- ---- the channels of the end
+
+-- there was a channel to the record, or one is created
+abbrev Led : Action → ServerEnd → List ℕ → Type 0
+Led (Opens c) e n = HasTo e n ⊎ (n ≡ c.name)
+Led a e n = HasTo e n
+
+led-by : (y : Server) (e : ServerEnd) (a : Action) (new : ServerEnd) (n : List ℕ) → Acts y e a new → HasTo new n → Led a e n
+led-by y e Nothing new n is to = to-same new e n (ap (λ (x : ServerEnd). x.channels) is) to
+led-by y e Greets new n is to = to-same new e n (ap (λ (x : ServerEnd). x.channels) is) to
+led-by y e (Names p) new n is to = to-same new e n (ap (λ (x : ServerEnd). x.channels) is) to
+led-by y e (Opens c) new n is to =
+    let made : OpenChannel = record { cid = c.cid; name = c.name; retired = false } in
+    let after = ap (λ (x : ServerEnd). x.channels) is.3 in
+    elim (held-back e.channels to.0 is.0 made to.1 (subst (λ (t : Table OpenChannel). under t to.0 ≡ Some to.1) after to.2)) [
+      | inl own ↦ inr (sym to.4 ∙ ap (λ (x : OpenChannel). x.name) own.1)
+      | inr old ↦ inl (to.0, to.1, old, to.3, to.4)
+    ]
+led-by y e (Clears sid) new n is to =
+    (to.0, to.1, by (by_wire e.channels sid) (subst (λ (t : Table OpenChannel). under t to.0 ≡ Some to.1) (ap (λ (x : ServerEnd). x.channels) is) to.2), to.3, to.4)
+  where
+    by : (found : Option (Handle × OpenChannel)) → under (unwrap_or (option_map (λ (c : Handle × OpenChannel). with_freed c.0 e.channels) found) e.channels) to.0 ≡ Some to.1 → under e.channels to.0 ≡ Some to.1
+    by None at = at
+    by (Some f) at = (freed-back e.channels to.0 f.0 to.1 at).1
+led-by y e (Applies m v b) new n is to = to-same new e n (ap (λ (x : ServerEnd). x.channels) is) to
+led-by y e (Waits m v) new n is to = to-same new e n (ap (λ (x : ServerEnd). x.channels) is) to
+led-by y e (Adds s) new n is to = to-same new e n (ap (λ (x : ServerEnd). x.channels) is.2.leaves) to
+led-by y e (Drops k) new n is to = to-same new e n (ap (λ (x : ServerEnd). x.channels) is) to
+led-by y e (Switches on) new n is to = to-same new e n (ap (λ (x : ServerEnd). x.channels) is) to
+
 -- ---- what a message was
 
--- a write was applied, a subscription began, or neither
+-- a write was applied, a subscription began, a channel was created, or none of these
 pub data Kind (a : Action) (did : Effect) (u : Store) : Type 0 where
   Writes : (name : List ℕ) → (value : Elements) → (busies : Bool) → a ≡ Applies name value busies → Tells (Applies name value busies) did u → Kind a did u
   Begins : (x : Subscription) → a ≡ Adds x → Tells (Adds x) did u → Kind a did u
-  Rests : did ≡ effect.Quiet → ((y : Server) → Reaches a (λ (h : Handle). false) y y) → ((e : ServerEnd) (s : Subscription) → Joined a e s → In e.subscriptions s) → Kind a did u
+  Creates : (c : KnownChannel) → a ≡ Opens c → Tells (Opens c) did u → Kind a did u
+  Rests : did ≡ effect.Quiet → ((y : Server) → Reaches a (λ (h : Handle). false) y y) → ((e : ServerEnd) (s : Subscription) → Joined a e s → In e.subscriptions s) → ((e : ServerEnd) (n : List ℕ) → Led a e n → HasTo e n) → Kind a did u
 
 kind-of : (a : Action) (did : Effect) (u : Store) → Tells a did u → Kind a did u
 kind-of (Applies name value busies) did u is = Writes name value busies refl is
 kind-of (Adds x) did u is = Begins x refl is
-kind-of Nothing did u is = Rests is (λ y. ((λ h. refl), refl)) (λ e s i. i)
-kind-of Greets did u is = Rests is (λ y. ((λ h. refl), refl)) (λ e s i. i)
-kind-of (Names p) did u is = Rests is (λ y. ((λ h. refl), refl)) (λ e s i. i)
-kind-of (Opens c) did u is = Rests is (λ y. ((λ h. refl), refl)) (λ e s i. i)
-kind-of (Clears sid) did u is = Rests is (λ y. ((λ h. refl), refl)) (λ e s i. i)
-kind-of (Waits name value) did u is = Rests is (λ y. ((λ h. refl), refl)) (λ e s i. i)
-kind-of (Drops k) did u is = Rests is (λ y. ((λ h. refl), refl)) (λ e s i. i)
-kind-of (Switches on) did u is = Rests is (λ y. ((λ h. refl), refl)) (λ e s i. i)
+kind-of Nothing did u is = Rests is (λ y. ((λ h. refl), refl)) (λ e s i. i) (λ e n i. i)
+kind-of Greets did u is = Rests is (λ y. ((λ h. refl), refl)) (λ e s i. i) (λ e n i. i)
+kind-of (Names p) did u is = Rests is (λ y. ((λ h. refl), refl)) (λ e s i. i) (λ e n i. i)
+kind-of (Opens c) did u is = Creates c refl is
+kind-of (Clears sid) did u is = Rests is (λ y. ((λ h. refl), refl)) (λ e s i. i) (λ e n i. i)
+kind-of (Waits name value) did u is = Rests is (λ y. ((λ h. refl), refl)) (λ e s i. i) (λ e n i. i)
+kind-of (Drops k) did u is = Rests is (λ y. ((λ h. refl), refl)) (λ e s i. i) (λ e n i. i)
+kind-of (Switches on) did u is = Rests is (λ y. ((λ h. refl), refl)) (λ e s i. i) (λ e n i. i)
 
 -- ---- who watches then
 
@@ -124,10 +158,13 @@ covers-handled w y s u t h was e new m did D same subs there d covers = by (kind
     old-in x i = subst (λ (ss : List Subscription). In ss x) subs i
 
     thinner : ((x : Subscription) → Joined d.action e x → In e.subscriptions x) → Covers w after
-    thinner none = covers-thinned w t after (thins-changed t h was new there (λ x i. old-in x (none x (joined x i)))) covers
+    thinner none = covers-changed w t h was new there (λ x i. old-in x (none x (joined x i))) covers
 
     by : Kind d.action did u → CoversFor did h u w after
-    by (Rests quiet reach none) = subst (λ (k : Effect). CoversFor k h u w after) (sym quiet) (thinner (λ x j. none e x j))
+    by (Rests quiet reach none less) = subst (λ (k : Effect). CoversFor k h u w after) (sym quiet) (thinner (λ x j. none e x j))
+    by (Creates c is told) =
+        subst (λ (k : Effect). CoversFor k h u w after) (sym told.2)
+        (thinner (λ x j. subst (λ (a : Action). Joined a e x → In e.subscriptions x) (sym is) (λ i. i) j))
     by (Writes name value busies is told) =
         subst (λ (k : Effect). CoversFor k h u w after) (sym told.2)
         ((told.1, told.3), thinner (λ x j. subst (λ (a : Action). Joined a e x → In e.subscriptions x) (sym is) (λ i. i) j))
@@ -158,6 +195,61 @@ step-covers port w s u t after h did (inl g) covers = by g.0 g.1 g.2 g.3 g.4
     by (Open e) new there d changed =
         subst (λ (z : Circuits). CoversFor did h u w z) (sym (became t after h new (Open d.0) changed d.4))
         (covers-handled w y s u t h e (after_first d.1.0) d.0 d.1.0.m did _ refl refl there d.1.1 covers)
+    by (Ended v left) new there d changed = not-some (step.Handled did) d.0
+
+-- ---- who leads to records then
+
+led-handled : (l : Watched) (y : Server) (s u : Store) (t : Circuits) (h : Handle) (was e new : ServerEnd) (m : Fields) (did : Effect) (D : List Fields → Action → Type 0) → y.records ≡ records_of s → e.channels ≡ was.channels → under t h ≡ Some (Open was) → Does D s h e m did u new → Leads l t → AreListed (records_of u) l → LedFor did h u l (with_changed (λ (c : ServerCircuit). Open new) h t)
+led-handled l y s u t h was e new m did D same chans there d leads listed = by (kind-of d.action did u d.tells)
+  where
+    after : Circuits
+    after = with_changed (λ (c : ServerCircuit). Open new) h t
+
+    led : (n : List ℕ) → HasTo new n → Led d.action e n
+    led n to = led-by y e d.action d.acted n (d.acts y same) (to-same new d.acted n (ap (λ (z : ServerEnd). z.channels) d.leaves) to)
+
+    old-to : (n : List ℕ) → HasTo e n → HasTo was n
+    old-to n to = to-same e was n chans to
+
+    fewer : ((n : List ℕ) → Led d.action e n → HasTo e n) → AreLed (records_of u) l after
+    fewer none = record { leads = leads-changed l t h was new there (λ n to. old-to n (none n (led n to))) leads; listed = listed }
+
+    by : Kind d.action did u → LedFor did h u l after
+    by (Rests quiet reach none less) = subst (λ (k : Effect). LedFor k h u l after) (sym quiet) (fewer (λ n to. less e n to))
+    by (Writes name value busies is told) =
+        subst (λ (k : Effect). LedFor k h u l after) (sym told.2)
+        (fewer (λ n to. subst (λ (a : Action). Led a e n → HasTo e n) (sym is) (λ i. i) to))
+    by (Begins x is told) =
+        subst (λ (k : Effect). LedFor k h u l after) (sym told.2)
+        (fewer (λ n to. subst (λ (a : Action). Led a e n → HasTo e n) (sym is) (λ i. i) to))
+    by (Creates c is told) =
+        subst (λ (k : Effect). LedFor k h u l after) (sym told.2) (
+          told.1,
+          told.3,
+          (Open new, changed-own (λ (c : ServerCircuit). Open new) t h (Open was) there),
+          (λ g z n at to. elim (changed-back (λ (c : ServerCircuit). Open new) t g h (Open z) at) [
+            | inl own ↦
+                let to_new = subst (λ (v : ServerEnd). HasTo v n) (open-is z new own.1.2) to in
+                elim (subst (λ (a : Action). Led a e n) is (led n to_new)) [
+                  | inl old ↦ inl (subst (λ (k : Handle). IsAmong (watching l n) k) (sym own.0) (leads h was n there (old-to n old)))
+                  | inr new_one ↦ inr (own.0, new_one ∙ sym told.4)
+                ]
+            | inr old ↦ inl (leads g z n old.1 to)
+          ]),
+          listed,
+        )
+
+pub step-led : (port : ℕ) (l : Watched) (s u : Store) (t after : Circuits) (h : Handle) (did : Effect) → StepsIn port t h s (Some (step.Handled did)) after u → AreListed (records_of u) l → AreLed (records_of s) l t → LedFor did h u l after
+step-led port l s u t after h did (inr none) listed led = not-some (step.Handled did) none.1
+step-led port l s u t after h did (inl g) listed led = by g.0 g.1 g.2 g.3 g.4
+  where
+    y : Server
+    y = server_of port s 0 t (record { number = 0; wait = 0; due = 0 }) 0
+
+    by : (c new : ServerCircuit) → under t h ≡ Some c → CircuitSteps port h c s (Some (step.Handled did)) new u → after ≡ with_changed (λ (x : ServerCircuit). new) h t → LedFor did h u l after
+    by (Open e) new there d changed =
+        subst (λ (z : Circuits). LedFor did h u l z) (sym (became t after h new (Open d.0) changed d.4))
+        (led-handled l y s u t h e (after_first d.1.0) d.0 d.1.0.m did _ refl refl there d.1.1 led.leads listed)
     by (Ended v left) new there d changed = not-some (step.Handled did) d.0
 
 -- ---- the step
@@ -214,7 +306,7 @@ module _ (port now n : ℕ) (b : Clock) (s u : Store) (t : Circuits) (h : Handle
   here : under (with_changed (λ (x : ServerCircuit). Open new) h t) h ≡ Some (Open new)
   here = changed-own (λ (x : ServerCircuit). Open new) t h (Open e) there
 
-  the-next : (next : Next y h e) × (next.after ≡ mid) × (next.action ≡ d.1.action)
+  the-next : (next : Next y h e) × (next.after ≡ mid) × (next.action ≡ d.1.action) × (next.m ≡ d.0.m)
   the-next = handled-next port now n b s u t (with_changed (λ (x : ServerCircuit). Open new) h t) h e new did d refl
 
   no-true : {A : Type 0} → false ≡ true → A
@@ -297,28 +389,25 @@ module _ (port now n : ℕ) (b : Clock) (s u : Store) (t : Circuits) (h : Handle
                 itself = λ g wrote. subst (λ (f : Handle → Bool). f h ≡ true) (some_is gone g wrote) out;
               })
 
-  -- a subscription that began
-  begins : (x : Store) (last : Circuits) (result : Step) (final : Circuits) (q : Subscription) → the-next.0.action ≡ Adds q → d.1.action ≡ Adds q → Tells (Adds q) did u → Follows did h mid_table u last x → Settles last h (length e.link.output) result final
+  -- a subscription that began, or a channel that was created
+  begins : (x : Store) (last : Circuits) (result : Step) (final : Circuits) → ((z : Server) → Reaches the-next.0.action (λ (g : Handle). false) z z) → NeedsMemory the-next.0.m the-next.0.replies the-next.0.action → records_of u ≡ records_of s → is_wrote did ≡ false → ((last ≡ mid_table) × (x ≡ u)) ⊎ EndsIn mid_table h u why.OutOfMemory last x → Settles last h (length e.link.output) result final
       → MakesBy P y h (stepped result) (server_of port x now final b k)
-  begins x last result final q is its told f settled = by (subst (λ (z : Effect). Follows z h mid_table u last x) told.2 f)
+  begins x last result final reach lack rs-same quiet f settled = by f
     where
       count-is : k ≡ n
-      count-is = ap (λ (z : Effect). more_applied (is_wrote z) n) told.2
+      count-is = ap (λ (z : Bool). more_applied z n) quiet
 
       by : ((last ≡ mid_table) × (x ≡ u)) ⊎ EndsIn mid_table h u why.OutOfMemory last x → MakesBy P y h (stepped result) (server_of port x now final b k)
       by (inl same) =
           let whole : server_of port x now last b k ≡ the-next.0.after = ap (λ (z : Store). server_of port z now last b k) same.1 ∙ ap (λ (z : Circuits). server_of port u now z b k) same.0 ∙ sym the-next.1 in
           stays-open x last result final new (λ (g : Handle). false) refl (ap (λ (z : Circuits). under z h) same.0 ∙ here) settled
-          (subst (λ (z : Server). Reaches the-next.0.action (λ (g : Handle). false) the-next.0.after z) (sym whole) (subst (λ (a : Action). Reaches a (λ (g : Handle). false) the-next.0.after the-next.0.after) (sym is) ((λ g. refl), refl)))
+          (subst (λ (z : Server). Reaches the-next.0.action (λ (g : Handle). false) the-next.0.after z) (sym whole) (reach the-next.0.after))
       by (inr (inr none)) = nothing (sym none.0 ∙ here)
         where
           nothing : {A : Type 0} → (let none : Option ServerCircuit = None in none ≡ Some (Open new)) → A
           nothing z = absurd cc
       by (inr (inl g)) = on g.0 g.1 (some_is (Open new) g.0 (sym here ∙ g.2)) g.3 g.4
         where
-          rs-same : records_of u ≡ records_of s
-          rs-same = subst (λ (a : Action). Recorded (records_of s) s.stamp h (after_first d.0) d.0.m a (records_of u)) its d.1.records
-
           on : (c ended : ServerCircuit) → Open new ≡ c → EndsAt h c u why.OutOfMemory ended x → last ≡ with_changed (λ (z : ServerCircuit). ended) h mid_table → MakesBy P y h (stepped result) (server_of port x now final b k)
           on (Ended v l) ended same did_end changed = absurd (not-ended new v l same)
           on (Open z) ended same did_end changed =
@@ -330,7 +419,7 @@ module _ (port now n : ℕ) (b : Clock) (s u : Store) (t : Circuits) (h : Handle
               ended-after x last result final new.link.output at left-is settled (record {
                 lacks = record {
                   next = the-next.0;
-                  needs = subst (λ (a : Action). NeedsMemory the-next.0.m the-next.0.replies a) (sym is) tt;
+                  needs = lack;
                   written = None;
                   mid = y;
                   left_is = refl;
@@ -343,10 +432,26 @@ module _ (port now n : ℕ) (b : Clock) (s u : Store) (t : Circuits) (h : Handle
   handled-all x last result final f sound settled = by (kind-of d.1.action did u d.1.tells)
     where
       by : Kind d.1.action did u → MakesBy P y h (stepped result) (server_of port x now final b k)
-      by (Rests quiet reach none) =
+      by (Rests quiet reach none less) =
           rests x last result final quiet (λ z. subst (λ (a : Action). Reaches a (λ (g : Handle). false) z z) (sym the-next.2) (reach z)) f settled
       by (Writes name value busies is told) = writes x last result final name value busies (the-next.2 ∙ is) told f sound settled
-      by (Begins q is told) = begins x last result final q (the-next.2 ∙ is) is told f settled
+      by (Begins q is told) =
+          let action = the-next.2 ∙ is in
+          begins x last result final
+          (λ z. subst (λ (a : Action). Reaches a (λ (g : Handle). false) z z) (sym action) ((λ g. refl), refl))
+          (subst (λ (a : Action). NeedsMemory the-next.0.m the-next.0.replies a) (sym action) tt)
+          (subst (λ (a : Action). Recorded (records_of s) s.stamp h (after_first d.0) d.0.m a (records_of u)) is d.1.records)
+          (ap is_wrote told.2)
+          (subst (λ (z : Effect). Follows z h mid_table u last x) told.2 f) settled
+      by (Creates c is told) =
+          let action = the-next.2 ∙ is in
+          let fits = subst (λ (a : Action). Fits (records_of s) (after_first d.0) d.0.m a) is d.1.fits in
+          begins x last result final
+          (λ z. subst (λ (a : Action). Reaches a (λ (g : Handle). false) z z) (sym action) ((λ g. refl), refl))
+          (lack-create the-next.0.m _ (ap (λ (z : Fields). z.command) the-next.3 ∙ fits.2) the-next.0.replies the-next.0.action the-next.0.handles.due)
+          (subst (λ (a : Action). Recorded (records_of s) s.stamp h (after_first d.0) d.0.m a (records_of u)) is d.1.records)
+          (ap is_wrote told.2)
+          (subst (λ (z : Effect). Follows z h mid_table u last x) told.2 f) settled
 
 -- ---- the same along the view of the fields
 

@@ -49,6 +49,7 @@ pub goes-idle : (place : ℕ) (h : Handle) (w : Watched) (t : Circuits) (s : Sto
 goes-idle place h w t s r at found free apart none sound covered idle =
     let k = length (watching w r.state.name) in
     record {
+      writes = refl;
       mid = t;
       follows = walk-ends place write_mask w t s k w t s none covered (walk-begins place write_mask k w t s r at apart refl sound covered);
       sound = sound;
@@ -66,6 +67,7 @@ goes-shown place h w t after s r at found free apart one last sound covered show
     let reaches = reaches-on w t shows.mid h place write_mask 0 s s true refl (r, at, last) shows.watches shows.posts in
     let walk : Walk place write_mask w t s 0 w shows.mid s = walk-next place write_mask w t s k w t s (walk-begins place write_mask k w t s r at apart refl sound covered) 0 (sym one) w shows.mid s reaches in
     record {
+      writes = refl;
       mid = shows.mid;
       follows = walk-ends place write_mask w t s 0 w shows.mid s refl covered walk;
       sound = walk.sound;

@@ -22,4 +22,5 @@ pub mod Ordered
 pub mod Served
 pub mod Idle
 pub mod Listed
+pub mod Led
 pub mod GoneThrough

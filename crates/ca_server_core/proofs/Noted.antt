@@ -34,7 +34,7 @@ use Rattle.ca_server_circuit.specs.Serving.{CircuitSteps}
 use Rattle.ca_server_circuit.specs.Stepping.{after_first, why_is}
 use Rattle.ca_server_circuit.proofs.Tables.{changed-own, find-at, none-some}
 use Rattle.ca_server_core.specs.Ending.{EndsIn}
-use Rattle.ca_server_core.specs.Following.{Follows, IsSettled, Settles}
+use Rattle.ca_server_core.specs.Following.{Begins, Follows, IsSettled, Settles}
 use Rattle.ca_server_core.specs.Noting.{BusyBut, EndsPutAt, IsBusy, LeadsTo, Notes, NotesAt, HandlesAndFinishes, ServesAndPumps, Tries, TriesAt, busy_name, was_handled, wrote_busy}
 use Rattle.ca_server_core.specs.Finishing.{RepliesIn, effect_after}
 use Rattle.ca_server_core.specs.Serving.{IsReport, Reports, StepsIn, more_applied, stepped}
@@ -126,11 +126,8 @@ module _ (name : List ℕ) (f : Record → Record) (rs : List Record) (n : (q : 
 
 -- ---- what follows from a message
 
-followed-busy : (did : Effect) (h : Handle) (t last : Circuits) (u x : Store) (noted : Option (List ℕ)) → Follows did h t u last x → BusyBut (records_of u) (records_of x) noted
-followed-busy effect.Quiet h t last u x noted f = subst (λ (z : Store). BusyBut (records_of u) (records_of z) noted) (sym f.1) (busy-same (records_of u) noted)
-followed-busy (effect.Wrote place) h t last u x noted f =
-    busy-withdrawn (λ (p : Put). f.2.0 p.circuit) (records_of u) (records_of x) noted f.2.1.records
-followed-busy (effect.Began place) h t last u x noted f = by f
+begun-busy : (h : Handle) (t last : Circuits) (u x : Store) (noted : Option (List ℕ)) → Begins h t u last x → BusyBut (records_of u) (records_of x) noted
+begun-busy h t last u x noted f = by f
   where
     same : x ≡ u → BusyBut (records_of u) (records_of x) noted
     same is = subst (λ (z : Store). BusyBut (records_of u) (records_of z) noted) (sym is) (busy-same (records_of u) noted)
@@ -144,10 +141,18 @@ followed-busy (effect.Began place) h t last u x noted f = by f
     by (inr (inl g)) = on g.0 g.1 g.3
     by (inr (inr none)) = same none.2
 
+followed-busy : (did : Effect) (h : Handle) (t last : Circuits) (u x : Store) (noted : Option (List ℕ)) → Follows did h t u last x → BusyBut (records_of u) (records_of x) noted
+followed-busy effect.Quiet h t last u x noted f = subst (λ (z : Store). BusyBut (records_of u) (records_of z) noted) (sym f.1) (busy-same (records_of u) noted)
+followed-busy (effect.Wrote place) h t last u x noted f =
+    busy-withdrawn (λ (p : Put). f.2.0 p.circuit) (records_of u) (records_of x) noted f.2.1.records
+followed-busy (effect.Began place) h t last u x noted f = begun-busy h t last u x noted f
+followed-busy (effect.Opened place) h t last u x noted f = begun-busy h t last u x noted f
+
 -- what is noted is busy
 noted-busy : (did : Effect) (x : Store) (noted : Option (List ℕ)) → NotesAt did x noted → IsBusy (records_of x) noted
 noted-busy effect.Quiet x noted n name is = absurd (none-some name (sym n ∙ is))
 noted-busy (effect.Began place) x noted n name is = absurd (none-some name (sym n ∙ is))
+noted-busy (effect.Opened place) x noted n name is = absurd (none-some name (sym n ∙ is))
 noted-busy (effect.Wrote place) x noted n name is = by (is_some n.0.busy) refl (sym n.3 ∙ is)
   where
     by : (b : Bool) → is_some n.0.busy ≡ b → cond b (Some n.0.state.name) None ≡ Some name → (r : Record) × (record_named (records_of x) name ≡ Some r) × (is_some r.busy ≡ true)
@@ -218,7 +223,7 @@ own-noted did h u x t last noted f n (Clears sid) told = subst (λ (d : Effect).
 own-noted did h u x t last noted f n Nothing told = subst (λ (d : Effect). NotesAt d x noted) told n
 own-noted did h u x t last noted f n Greets told = subst (λ (d : Effect). NotesAt d x noted) told n
 own-noted did h u x t last noted f n (Names p) told = subst (λ (d : Effect). NotesAt d x noted) told n
-own-noted did h u x t last noted f n (Opens c) told = subst (λ (d : Effect). NotesAt d x noted) told n
+own-noted did h u x t last noted f n (Opens c) told = subst (λ (d : Effect). NotesAt d x noted) told.2 n
 own-noted did h u x t last noted f n (Drops k) told = subst (λ (d : Effect). NotesAt d x noted) told n
 own-noted did h u x t last noted f n (Switches on) told = subst (λ (d : Effect). NotesAt d x noted) told n
 
@@ -344,6 +349,7 @@ same-server port now n k b s x t last a c e =
 tried-at : (did : Effect) (port now : ℕ) (b : Clock) (n k : ℕ) (t last : Circuits) (s x : Store) → TriesAt did n t s k last x → (noted : Option (List ℕ)) × NotesAt did s noted × Tries (server_of port s now t b n) noted (server_of port x now last b k)
 tried-at effect.Quiet port now b n k t last s x is = (None, refl, same-server port now n k b s x t last is.0 is.1 is.2)
 tried-at (effect.Began place) port now b n k t last s x is = (None, refl, same-server port now n k b s x t last is.0 is.1 is.2)
+tried-at (effect.Opened place) port now b n k t last s x is = (None, refl, same-server port now n k b s x t last is.0 is.1 is.2)
 tried-at (effect.Wrote place) port now b n k t last s x (r, at, found, inl (busy, e)) =
     let g = viewed-finish (server_of port s now t b n) port now n k b s e.left e.after x t e.mid last r.state.name e.f (effect_after e.f) (is_wrote (effect_after e.f)) refl refl refl e.counts e.finishes e.replies e.follows in
     (Some r.state.name, (r, at, found, ap (λ (c : Bool). cond c (Some r.state.name) None) (sym busy)), (g.0, Ok tt, g.1))
@@ -379,3 +385,4 @@ pub leads-after : (did : Effect) (h : Handle) (t last : Circuits) (u x : Store) 
 leads-after effect.Quiet h t last u x f = tt
 leads-after (effect.Wrote place) h t last u x f = (let kept = f.2.1.places place f.0 f.1 in (kept.0, kept.1))
 leads-after (effect.Began place) h t last u x f = tt
+leads-after (effect.Opened place) h t last u x f = tt

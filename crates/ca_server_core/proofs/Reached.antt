@@ -455,7 +455,7 @@ module _ (place mask : ℕ) (w0 : Watched) (t0 : Circuits) (s0 : Store) (k : ℕ
             with-more v after u a.gone (subst (λ (x : Store). (q : Record) × HasAt x place q × (q.state ≡ a.r.state)) (sym p.2) a.here) still
             (walked-on name mask (stored a.r) a.ds a.gone t0 s0 t s a.walked h new_one after u e there became_it p.2)
             (subst (λ (x : Circuits). IsSound (records_of u) x) (sym became_it) (subst (λ (x : Store). IsSound (records_of x) (with_changed (λ (c : ServerCircuit). Open (with_post name mask (stored a.r) e)) h t)) (sym p.2) (sound-changed (records_of s) t h e (with_post name mask (stored a.r) e) a.sound there end_sound)))
-            (subst (λ (x : Watched). Covers x after) (sym vw) (subst (λ (x : Circuits). Covers w x) (sym became_it) (covers-thinned w t _ (thins-changed t h e (with_post name mask (stored a.r) e) there (λ x i. i)) a.covered)))
+            (subst (λ (x : Watched). Covers x after) (sym vw) (subst (λ (x : Circuits). Covers w x) (sym became_it) (covers-thinned w t _ (thins-changed t h e (with_post name mask (stored a.r) e) there (λ x i. i) (λ n c. c)) a.covered)))
             (same-lines v vw)
         by (Open e) new there (q, at, inr p) changed =
             let st = state-of q at in

@@ -1,11 +1,13 @@
 -- A record is removed, and one circuit after another loses it.
 use Rattle.std.proofs.Common.{◌≡◌, ℕ, zero, suc, ◌+◌, ◌<◌, ◌≤◌, ◌==◌, ◌&&◌, ◌||◌, ◌⊎◌, inl, inr, Bool, true, false, not, cond, nat_lt, nat_eq, List, [], ◌∷◌, ◌++◌, length, filter, take, Option, Some, None, is_some, Ok, Err, refl, sym, ap, ◌∙◌, subst, arith}
 use Rattle.std.specs.Str.{bytes_eq}
-use Rattle.std.proofs.lemmas.Bool.{eq-eqb, eqb-true, le-ltb, lt-ltb, ltb-false, ltb-true}
+use Rattle.std.specs.Prelude.{map, option_map, slice_get}
+use Rattle.std.proofs.lemmas.Bool.{eq-eqb, ltb-false, ltb-true}
 use Rattle.std.proofs.lemmas.Slice.Eq.{bytes_eq-Decides}
 use Rattle.ca_arena.specs.declared.handle.Handle.{Handle}
+use Rattle.ca_arena.specs.Arena.{Place}
 use Rattle.ca_beacon.specs.Clock.{Clock}
-use Rattle.ca_ids.specs.Table.{Table, held, same_handle, under, with_changed, with_each}
+use Rattle.ca_ids.specs.Table.{Table, held, same_handle, under, with_changed, with_each, with_each_from}
 use Rattle.ca_ids.specs.Wire.{wire_of}
 use Rattle.ca_records.specs.declared.puts.Put.{Put}
 use Rattle.ca_records.specs.Puts.{Record, WaitingPut, record_named, removed, withdrawn, without_puts}
@@ -15,16 +17,21 @@ use Rattle.ca_text.specs.declared.refusal.Refusal.{Refusal}
 use Rattle.ca_text.specs.declared.refusal.Refusal.TheVariants as refusal
 use Rattle.ca_text.specs.Place.{At}
 use Rattle.ca_text.proofs.Places.{At-within, some_is}
-use Rattle.ca_server_watchers.specs.Watching.{Clears, IsAmong, Watched, line_of}
+use Rattle.ca_link.specs.Link.{with_sent}
+use Rattle.ca_queue.specs.declared.entry.SubKey.{SubKey}
+use Rattle.ca_queue.specs.Circuit.{without_each}
+use Rattle.ca_server_watchers.specs.Watching.{AreApart, Clears, IsAmong, Watched, line_of, watching}
+use Rattle.ca_wire.specs.Messages.{disconnect}
 use Rattle.ca_wire.specs.Message.{spelled}
+use Rattle.ca_model.specs.Ends.{Why}
 use Rattle.ca_model.specs.Ends as why
-use Rattle.ca_model.specs.Server.{Ended, Open, OpenChannel, Server, ServerCircuit, ServerEnd, Subscription, key_of}
+use Rattle.ca_model.specs.Server.{Ended, Open, OpenChannel, Server, ServerCircuit, ServerEnd, Subscription, key_of, without_subscriptions}
 use Rattle.ca_model.specs.ServerCalls.{Removes, channels_of, circuit_without, disconnects, end_without, is_on, retired}
 use Rattle.ca_model.specs.Speech.{In}
 use Rattle.ca_server_circuit.specs.Clearing.{ArePuts}
-use Rattle.ca_server_core.specs.Covering.{AreListed, Covers, IsServer}
+use Rattle.ca_server_core.specs.Covering.{AreLed, AreListed, Covers, HasTo, IsServer, Leads}
 use Rattle.ca_server_circuit.specs.Ending.{WithdrawsAll}
-use Rattle.ca_server_core.specs.Removing.{LosesAll, LosesIn, MayAllLose, MayLoseIn}
+use Rattle.ca_server_core.specs.Removing.{HaveRoom, LosesAll, LosesIn, MayAllLose, MayLoseIn}
 use Rattle.ca_server_circuit.specs.Removing.{LosesAt, MayLose, leads_to}
 use Rattle.ca_server_circuit.specs.Sound.{EndIsSound}
 use Rattle.ca_server_core.specs.Sound.{IsSound}
@@ -32,12 +39,14 @@ use Rattle.ca_server_circuit.specs.Subscribing.{AreOnChannels, events_of}
 use Rattle.ca_server_subscriptions.specs.Subscribed.{HasRoom}
 use Rattle.ca_server_circuit.proofs.Cleared.{is-same, same-is}
 use Rattle.ca_server_core.proofs.Covered.{same-watch}
-use Rattle.ca_server_core.proofs.Each.{at-index, each-back, each-ext, each-length, each-one-more, index-at, under-each, withdrawn-both}
+use Rattle.ca_server_core.proofs.Each.{each-back, each-ext, each-length, each-one-more, under-each, withdrawn-both}
 use Rattle.ca_server_core.proofs.Listed.{found-withdrawn, listed-kept, none-found}
 use Rattle.ca_server_core.proofs.Servers.{became, same-parts, server_of, stayed}
 use Rattle.ca_server_circuit.proofs.Stays.{at-filtered, named-still, withdrawn-keeps}
 use Rattle.ca_server_core.proofs.Stepped.{each-same, none-gone}
-use Rattle.ca_server_circuit.proofs.Tables.{none-some, one-at-index, place, under-at, under-listed}
+use Rattle.ca_server_circuit.proofs.Taken.{replied-none}
+use Rattle.ca_server_circuit.proofs.Tables.{at-under, changed-back, listed-under, none-some, under-listed}
+use Rattle.ca_server_subscriptions.proofs.Sieves.{each-false, filter-all}
 
 abbrev Circuits : Type 0
 Circuits = Table ServerCircuit
@@ -45,6 +54,9 @@ Circuits = Table ServerCircuit
 both : {A : Type 0} (b : Bool) → b ≡ true → b ≡ false → A
 both true p q = absurd cc
 both false p q = absurd cc
+
+open-is : (a b : ServerEnd) → Open a ≡ Open b → a ≡ b
+open-is a b e = cc
 
 not-true : (b : Bool) → not b ≡ true → b ≡ false
 not-true true e = absurd cc
@@ -114,325 +126,376 @@ still-may : (test : Put → Bool) (rs : List Record) (h : Handle) (c : ServerCir
 still-may test rs h (Open e) may = (may.0, puts-left test h rs e.channels may.1)
 still-may test rs h (Ended w left) may = tt
 
--- ---- the circuits of the first indices
+-- ---- an end with no channel to the record
 
-module _ (name : List ℕ) where
-  abbrev passed : ℕ → (Handle → Bool) → (Handle → ℕ) → Handle → ServerCircuit → ServerCircuit
-  passed n gone left h c = cond (nat_lt h.index n) (circuit_without name gone left h c) c
+-- all is kept that no test takes out
+none-kept : {A : Type 0} (test : A → Bool) (xs : List A) → ((i : ℕ) (x : A) → At xs i x → test x ≡ false) → filter test xs ≡ []
+none-kept test [] fails = refl
+none-kept test (x ∷ xs) fails =
+    ap (λ (b : Bool). cond b (x ∷ filter test xs) (filter test xs)) (fails 0 x refl) ∙ none-kept test xs (λ i y at. fails (suc i) y at)
 
-  -- The circuits of the first n indices have lost the record, but for those that ended.
+each-stays : (f : Handle → OpenChannel → OpenChannel) (n : ℕ) (t : Table OpenChannel) → ((i : ℕ) (p : Place OpenChannel) (c : OpenChannel) → At t i p → p.value ≡ Some c → (h : Handle) → f h c ≡ c) → with_each_from n f t ≡ t
+each-stays f n [] same = refl
+each-stays f n (p ∷ t) same =
+    ap (λ (o : Option OpenChannel). let q : Place OpenChannel = record { generation = p.generation; value = o } in q ∷ with_each_from (n + 1) f t) (by p.value (λ c is. same 0 p c refl is (record { index = n; generation = p.generation })))
+    ∙ ap (λ (u : Table OpenChannel). p ∷ u) (each-stays f (n + 1) t (λ i q c at is h. same (suc i) q c at is h))
+  where
+    by : (o : Option OpenChannel) → ((c : OpenChannel) → o ≡ Some c → f (record { index = n; generation = p.generation }) c ≡ c) → option_map (f (record { index = n; generation = p.generation })) o ≡ o
+    by None h = refl
+    by (Some c) h = ap (λ (x : OpenChannel). Some x) (h c refl)
+
+without-none : (e : ServerEnd) → without_subscriptions (λ (k : SubKey). false) e ≡ e
+without-none e =
+    let subs : filter (λ (x : Subscription). not false) e.subscriptions ≡ e.subscriptions = filter-all (λ (x : Subscription). not false) e.subscriptions (λ i x at. refl) in
+    let queues : without_each (λ (k : SubKey). false) e.queues ≡ e.queues = each-false (λ (k : SubKey). false) e.queues (λ i q k at some. refl) in
+    λ i. (let new : ServerEnd = record e { subscriptions = subs i; queues = queues i } in new)
+
+module _ (name : List ℕ) (e : ServerEnd) (none : HasTo e name → ⊥) where
+  -- a channel leads elsewhere, or was retired before
+  elsewhere : (k : Handle) (c : OpenChannel) → under e.channels k ≡ Some c → leads_to name (k, c) ≡ false
+  elsewhere k c at = by (bytes_eq c.name name) c.retired refl refl
+    where
+      by : (a b : Bool) → bytes_eq c.name name ≡ a → c.retired ≡ b → leads_to name (k, c) ≡ false
+      by true false p q = absurd (none (k, c, at, q, (bytes_eq-Decides c.name name).0 p))
+      by true true p q = ap (λ (x : Bool). x && not c.retired) p ∙ ap (λ (x : Bool). not x) q
+      by false b p q = ap (λ (x : Bool). x && not c.retired) p
+
+  no-channels : channels_of name e ≡ []
+  no-channels = none-kept (leads_to name) (held e.channels) (λ i x at. elsewhere x.0 x.1 (listed-under e.channels i x.0 x.1 at))
+
+  still-retired : with_each (retired name) e.channels ≡ e.channels
+  still-retired =
+      each-stays (retired name) 0 e.channels
+      (λ i p c at is h.
+      let k : Handle = record { index = i; generation = p.generation } in
+      let there : under e.channels k ≡ Some c = at-under e.channels k c (at ∙ ap (λ (o : Option OpenChannel). let q : Place OpenChannel = record { generation = p.generation; value = o } in Some q) is) in
+      ap (λ (b : Bool). let x : OpenChannel = record c { retired = b } in x) (or-same c.retired (bytes_eq c.name name) (elsewhere k c there)))
+    where
+      or-same : (r b : Bool) → (b && not r) ≡ false → (r || b) ≡ r
+      or-same true b is = refl
+      or-same false true is = absurd cc
+      or-same false false is = refl
+
+  -- it is as it was
+  without-unled : end_without name e ≡ e
+  without-unled =
+      ap (λ (cs : List (Handle × OpenChannel)). let x : ServerEnd = record e { link = with_sent (map (λ (c : Handle × OpenChannel). disconnect c.1.cid) cs) e.link; channels = with_each (retired name) e.channels } in without_subscriptions (is_on cs) x) no-channels
+      ∙ without-none (let x : ServerEnd = record e { link = with_sent [] e.link; channels = with_each (retired name) e.channels } in x)
+      ∙ ap (λ (t : Table OpenChannel). let x : ServerEnd = record e { link = with_sent [] e.link; channels = t } in x) still-retired
+      ∙ replied-none e
+
+-- ---- the circuits at the first places of a list
+
+module _ (name : List ℕ) (hs : List Handle) where
+  abbrev passed : (Handle → Bool) → (Handle → Bool) → (Handle → ℕ) → Handle → ServerCircuit → ServerCircuit
+  passed done gone left h c = cond (done h) (circuit_without name gone left h c) c
+
+  -- The circuits at the first n places of the list have lost the record, but for those that ended. It is said of each which circuit that is.
   pub record Losing (n : ℕ) (t : Circuits) (s : Store) (after : Circuits) (u : Store) : Type 0 where
+    pub done : Handle → Bool
     pub gone : Handle → Bool
     pub left : Handle → ℕ
     pub may : (h : Handle) → gone h ≡ true → (e : ServerEnd) × (under t h ≡ Some (Open e)) × (left h < length (channels_of name e))
-    pub only : (h : Handle) → gone h ≡ true → h.index < n
-    pub circuits : after ≡ with_each (passed n gone left) t
+    pub only : (h : Handle) → gone h ≡ true → done h ≡ true
+    pub among : (h : Handle) → done h ≡ true → (i : ℕ) × (i < n) × At hs i h
+    pub all : (i : ℕ) (h : Handle) (e : ServerEnd) → i < n → At hs i h → under t h ≡ Some (Open e) → done h ≡ true
+    pub circuits : after ≡ with_each (passed done gone left) t
     pub records : records_of u ≡ withdrawn (λ (p : Put). gone p.circuit) (records_of s)
     pub rules : u.rules ≡ s.rules
     pub stamp : u.stamp ≡ s.stamp
-    pub rooms : (h : Handle) (e : ServerEnd) → under after h ≡ Some (Open e) → h.index < n → HasRoom (events_of e)
+    pub rooms : HaveRoom after
 
   no-true : {A : Type 0} → false ≡ true → A
   no-true e = absurd cc
 
-  pub losing-none : (t : Circuits) (s : Store) → Losing 0 t s t s
-  losing-none t s = record {
+  not-ended : {A : Type 0} (y : ServerEnd) (w : Why) (o : List ℕ) → Open y ≡ Ended w o → A
+  not-ended y w o z = absurd cc
+
+  split : (i n : ℕ) → i < n + 1 → (i < n) ⊎ (i ≡ n)
+  split i n lt = by (nat_lt i n) refl
+    where
+      by : (b : Bool) → nat_lt i n ≡ b → (i < n) ⊎ (i ≡ n)
+      by true is = inl (ltb-true i n is)
+      by false is = (let le = ltb-false i n is in inr (omega (arith, le, lt)))
+
+  pub losing-none : (t : Circuits) (s : Store) → HaveRoom t → Losing 0 t s t s
+  losing-none t s room = record {
+    done = λ h. false;
     gone = λ h. false;
     left = λ h. 0;
     may = λ h e. no-true e;
     only = λ h e. no-true e;
-    circuits = sym (each-same (passed 0 (λ (h : Handle). false) (λ (h : Handle). 0)) 0 t (λ i p c at is h. ap (λ (b : Bool). cond b (circuit_without name (λ (g : Handle). false) (λ (g : Handle). 0) h c) c) (le-ltb h.index 0 (omega arith))));
+    among = λ h e. no-true e;
+    all = λ i h e lt at there. absurd (omega (arith, lt));
+    circuits = sym (each-same (passed (λ (h : Handle). false) (λ (h : Handle). false) (λ (h : Handle). 0)) 0 t (λ i p c at is h. refl));
     records = sym (none-gone (records_of s));
     rules = refl;
     stamp = refl;
-    rooms = λ h e at lt. absurd (omega (arith, lt));
+    rooms = room;
   }
 
-  pub losing-long : (n : ℕ) (t : Circuits) (s : Store) (after : Circuits) (u : Store) → Losing n t s after u → length after ≡ length t
-  losing-long n t s after u l = ap (λ (x : Circuits). length x) l.circuits ∙ each-length (passed n l.gone l.left) t
-
   module _ (n : ℕ) (t : Circuits) (s : Store) (after : Circuits) (u : Store) (l : Losing n t s after u) where
-    -- what is at the next index was there at the beginning
-    fresh : (h : Handle) (c : ServerCircuit) → h.index ≡ n → under after h ≡ Some c → under t h ≡ Some c
-    fresh h c is at =
-        let b = each-back (passed n l.gone l.left) t h c (sym (ap (λ (x : Circuits). under x h) l.circuits) ∙ at) in
-        let same : c ≡ b.0 = b.2 ∙ ap (λ (x : Bool). cond x (circuit_without name l.gone l.left h b.0) b.0) (le-ltb h.index n (omega (arith, is))) in
-        b.1 ∙ ap (λ (x : ServerCircuit). Some x) (sym same)
-
-    stays : (h : Handle) → h.index ≡ n → l.gone h ≡ false
-    stays h is = by (l.gone h) refl
-      where
-        by : (b : Bool) → l.gone h ≡ b → l.gone h ≡ false
-        by true gone = (let lt = l.only h gone in absurd (omega (arith, lt, is)))
-        by false gone = gone
-
-    pub losing-may : MayAllLose (records_of s) t → MayLoseIn (records_of u) n after
-    losing-may may h c at =
-        let there = index-at after n h c at in
-        subst (λ (rs : List Record). MayLose rs h c) (sym l.records)
-        (still-may (λ (p : Put). l.gone p.circuit) (records_of s) h c (may h c (fresh h c there.1 there.0)))
-
-    -- the tests of indices
-    within-own : (h : Handle) → h.index ≡ n → nat_lt h.index (n + 1) ≡ true
-    within-own h is = lt-ltb h.index (n + 1) (omega (arith, is))
-
-    within-other : (k : ℕ) → (k ≡ n → ⊥) → nat_lt k n ≡ nat_lt k (n + 1)
-    within-other k other = by (nat_lt k n) refl
-      where
-        apart : (k n : ℕ) → n ≤ k → (k ≡ n → ⊥) → n + 1 ≤ k
-        apart zero zero le ne = absurd (ne refl)
-        apart zero (suc n) le ne = absurd (omega (arith, le))
-        apart (suc k) zero le ne = omega arith
-        apart (suc k) (suc n) le ne = (let r : n + 1 ≤ k = apart k n (omega (arith, le)) (λ e. ne (ap (λ (x : ℕ). suc x) e)) in omega (arith, r))
-
-        by : (b : Bool) → nat_lt k n ≡ b → nat_lt k n ≡ nat_lt k (n + 1)
-        by true is = (let lt = ltb-true k n is in is ∙ sym (lt-ltb k (n + 1) (omega (arith, lt))))
-        by false is = is ∙ sym (le-ltb k (n + 1) (apart k n (ltb-false k n is) other))
-
-    own-of : (h : Handle) (c : ServerCircuit) (gone : Handle → Bool) (left : Handle → ℕ) → h.index ≡ n → passed (n + 1) gone left h c ≡ circuit_without name gone left h c
-    own-of h c gone left is = ap (λ (b : Bool). cond b (circuit_without name gone left h c) c) (within-own h is)
-
-    other-of : (k : Handle) (c : ServerCircuit) (gone : Handle → Bool) (left : Handle → ℕ) → (k.index ≡ n → ⊥) → passed n gone left k c ≡ passed (n + 1) gone left k c
-    other-of k c gone left other = ap (λ (b : Bool). cond b (circuit_without name gone left k c) c) (within-other k.index other)
-
-    sooner : (k : ℕ) → k < n + 1 → (k ≡ n → ⊥) → k < n
-    sooner k lt other = by (nat_lt k n) refl
-      where
-        by : (b : Bool) → nat_lt k n ≡ b → k < n
-        by true is = ltb-true k n is
-        by false is = both (nat_lt k (n + 1)) (lt-ltb k (n + 1) lt) (sym (within-other k other) ∙ is)
-
-    -- no circuit is at the next index
-    losing-past : (last : Circuits) (x : Store) → last ≡ after → x ≡ u → ((h : Handle) (c : ServerCircuit) → under t h ≡ Some c → h.index ≡ n → circuit_without name l.gone l.left h c ≡ c) → ((h : Handle) (e : ServerEnd) → under t h ≡ Some (Open e) → h.index ≡ n → ⊥) → Losing (n + 1) t s last x
-    losing-past last x same is none shut =
+    -- no circuit that is open is at the next place
+    losing-past : (last : Circuits) (x : Store) → last ≡ after → x ≡ u → ((h : Handle) (e : ServerEnd) → At hs n h → under t h ≡ Some (Open e) → ⊥) → Losing (n + 1) t s last x
+    losing-past last x same is shut =
         subst (λ (y : Circuits). Losing (n + 1) t s y x) (sym same) (subst (λ (y : Store). Losing (n + 1) t s after y) (sym is) (record {
+          done = l.done;
           gone = l.gone;
           left = l.left;
           may = l.may;
-          only = λ h e. (let lt = l.only h e in omega (arith, lt));
-          circuits = l.circuits ∙ each-ext (passed n l.gone l.left) (passed (n + 1) l.gone l.left) t (λ h c at. by h c at (nat_eq h.index n) refl);
+          only = l.only;
+          among = λ h e. (let a = l.among h e in let lt = a.1 in (a.0, omega (arith, lt), a.2));
+          all = λ i h e lt at there. elim (split i n lt) [
+            | inl sooner ↦ l.all i h e sooner at there
+            | inr now ↦ absurd (shut h e (subst (λ (j : ℕ). At hs j h) now at) there)
+          ];
+          circuits = l.circuits;
           records = l.records;
           rules = l.rules;
           stamp = l.stamp;
-          rooms = λ h e at lt. room h e at lt (nat_eq h.index n) refl;
+          rooms = l.rooms;
         }))
-      where
-        by : (h : Handle) (c : ServerCircuit) → under t h ≡ Some c → (b : Bool) → nat_eq h.index n ≡ b → passed n l.gone l.left h c ≡ passed (n + 1) l.gone l.left h c
-        by h c at true hit =
-            let here : h.index ≡ n = eqb-true h.index n hit in
-            ap (λ (b : Bool). cond b (circuit_without name l.gone l.left h c) c) (le-ltb h.index n (omega (arith, here)))
-            ∙ sym (own-of h c l.gone l.left here ∙ none h c at here)
-        by h c at false miss = other-of h c l.gone l.left (λ e. both (nat_eq h.index n) (eq-eqb h.index n e) miss)
 
-        room : (h : Handle) (e : ServerEnd) → under after h ≡ Some (Open e) → h.index < n + 1 → (b : Bool) → nat_eq h.index n ≡ b → HasRoom (events_of e)
-        room h e at lt true hit = (let here = eqb-true h.index n hit in absurd (shut h e (fresh h (Open e) here at) here))
-        room h e at lt false miss = l.rooms h e at (sooner h.index lt (λ z. both (nat_eq h.index n) (eq-eqb h.index n z) miss))
+    module _ (apart : AreApart hs) (g : Handle) (here : At hs n g) where
+      -- the circuit at the next place has not lost it yet
+      undone : l.done g ≡ false
+      undone = by (l.done g) refl
+        where
+          by : (b : Bool) → l.done g ≡ b → l.done g ≡ false
+          by false is = is
+          by true is =
+              let a = l.among g is in
+              let same : a.0 ≡ n = apart a.0 n g g a.2 here refl in
+              let lt = a.1 in
+              absurd (omega (arith, same, lt))
 
-    module _ (h : Handle) (is : h.index ≡ n) where
-      -- another one is not at this index
-      apart : (k : Handle) (c d : ServerCircuit) → under t h ≡ Some c → under t k ≡ Some d → (k ≡ h → ⊥) → k.index ≡ n → ⊥
-      apart k c d here there other same = other (one-at-index t k h d c there here (same ∙ sym is))
+      stays : l.gone g ≡ false
+      stays = by (l.gone g) refl
+        where
+          by : (b : Bool) → l.gone g ≡ b → l.gone g ≡ false
+          by false is = is
+          by true is = both (l.done g) (l.only g is) undone
+
+      fresh : (c : ServerCircuit) → under after g ≡ Some c → under t g ≡ Some c
+      fresh c at =
+          let b = each-back (passed l.done l.gone l.left) t g c (sym (ap (λ (x : Circuits). under x g) l.circuits) ∙ at) in
+          let same : c ≡ b.0 = b.2 ∙ ap (λ (x : Bool). cond x (circuit_without name l.gone l.left g b.0) b.0) undone in
+          b.1 ∙ ap (λ (x : ServerCircuit). Some x) (sym same)
+
+      pub losing-may : MayAllLose (records_of s) t → MayLoseIn (records_of u) g after
+      losing-may may c at =
+          subst (λ (rs : List Record). MayLose rs g c) (sym l.records)
+          (still-may (λ (p : Put). l.gone p.circuit) (records_of s) g c (may g c (fresh c at)))
+
+      -- with it, one more has lost it
+      abbrev to_now : Handle → Bool
+      to_now h = l.done h || same_handle h g
+
+      own-now : to_now g ≡ true
+      own-now = or-right (l.done g) (same_handle g g) (is-same g g refl)
+
+      not-it : (h : Handle) → (h ≡ g → ⊥) → same_handle h g ≡ false
+      not-it h other = by (same_handle h g) refl
+        where
+          by : (b : Bool) → same_handle h g ≡ b → same_handle h g ≡ false
+          by true hit = absurd (other (same-is h g hit))
+          by false miss = miss
+
+      other-now : (h : Handle) → (h ≡ g → ⊥) → to_now h ≡ l.done h
+      other-now h other = or-none (l.done h) (same_handle h g) (not-it h other)
+
+      or-left : (a b : Bool) → a ≡ true → (a || b) ≡ true
+      or-left true b is = refl
+      or-left false b is = absurd cc
+
+      among-now : (h : Handle) → to_now h ≡ true → (i : ℕ) × (i < n + 1) × At hs i h
+      among-now h is = elim (or-true (l.done h) (same_handle h g) is) [
+        | inl old ↦ (let a = l.among h old in let lt = a.1 in (a.0, omega (arith, lt), a.2))
+        | inr own ↦ (n, omega arith, subst (λ (k : Handle). At hs n k) (sym (same-is h g own)) here)
+      ]
+
+      all-now : (i : ℕ) (h : Handle) (e : ServerEnd) → i < n + 1 → At hs i h → under t h ≡ Some (Open e) → to_now h ≡ true
+      all-now i h e lt at there = elim (split i n lt) [
+        | inl sooner ↦ or-left (l.done h) (same_handle h g) (l.all i h e sooner at there)
+        | inr now ↦ or-right (l.done h) (same_handle h g) (is-same h g (some_is h g (sym (subst (λ (j : ℕ). At hs j h) now at) ∙ here)))
+      ]
 
       -- it lost the record
-      losing-on : (last : Circuits) (x : Store) (e : ServerEnd) → under after h ≡ Some (Open e) → last ≡ with_changed (λ (c : ServerCircuit). Open (end_without name e)) h after → HasRoom (events_of (end_without name e)) → x ≡ u → Losing (n + 1) t s last x
+      losing-on : (last : Circuits) (x : Store) (e : ServerEnd) → under after g ≡ Some (Open e) → last ≡ with_changed (λ (c : ServerCircuit). Open (end_without name e)) g after → HasRoom (events_of (end_without name e)) → x ≡ u → Losing (n + 1) t s last x
       losing-on last x e there changed full same =
           subst (λ (y : Store). Losing (n + 1) t s last y) (sym same) (record {
+            done = to_now;
             gone = l.gone;
             left = l.left;
             may = l.may;
-            only = λ g z. (let lt = l.only g z in omega (arith, lt));
-            circuits = all;
+            only = λ h z. or-left (l.done h) (same_handle h g) (l.only h z);
+            among = among-now;
+            all = all-now;
+            circuits =
+                changed
+                ∙ ap (λ (y : Circuits). with_changed (λ (c : ServerCircuit). Open (end_without name e)) g y) l.circuits
+                ∙ each-one-more (passed l.done l.gone l.left) (passed to_now l.gone l.left) t g (Open e) (Open (end_without name e)) (fresh (Open e) there) own others;
             records = l.records;
             rules = l.rules;
             stamp = l.stamp;
-            rooms = λ g y at lt. room g y (subst (λ (z : Circuits). under z g ≡ Some (Open y)) all at) lt (nat_eq g.index n) refl;
+            rooms = λ h y at. room h y (subst (λ (z : Circuits). under z h ≡ Some (Open y)) changed at);
           })
         where
-          first : under t h ≡ Some (Open e)
-          first = fresh h (Open e) is there
+          own : passed to_now l.gone l.left g (Open e) ≡ Open (end_without name e)
+          own =
+              ap (λ (b : Bool). cond b (circuit_without name l.gone l.left g (Open e)) (Open e)) own-now
+              ∙ ap (λ (b : Bool). cond b (Ended why.OutOfMemory (e.link.output ++ spelled (take (l.left g) (disconnects name e)))) (Open (end_without name e))) stays
 
-          own : circuit_without name l.gone l.left h (Open e) ≡ Open (end_without name e)
-          own = ap (λ (b : Bool). cond b (Ended why.OutOfMemory (e.link.output ++ spelled (take (l.left h) (disconnects name e)))) (Open (end_without name e))) (stays h is)
+          others : (k : Handle) (c : ServerCircuit) → under t k ≡ Some c → (k ≡ g → ⊥) → passed l.done l.gone l.left k c ≡ passed to_now l.gone l.left k c
+          others k c at other = ap (λ (b : Bool). cond b (circuit_without name l.gone l.left k c) c) (sym (other-now k other))
 
-          all : last ≡ with_each (passed (n + 1) l.gone l.left) t
-          all =
-              changed
-              ∙ ap (λ (y : Circuits). with_changed (λ (c : ServerCircuit). Open (end_without name e)) h y) l.circuits
-              ∙ each-one-more (passed n l.gone l.left) (passed (n + 1) l.gone l.left) t h (Open e) (Open (end_without name e)) first
-              (own-of h (Open e) l.gone l.left is ∙ own) (λ k c at other. other-of k c l.gone l.left (apart k (Open e) c first at other))
-
-          open-is : (a b : ServerEnd) → Open a ≡ Open b → a ≡ b
-          open-is a b z = cc
-
-          room : (g : Handle) (y : ServerEnd) → under (with_each (passed (n + 1) l.gone l.left) t) g ≡ Some (Open y) → g.index < n + 1 → (b : Bool) → nat_eq g.index n ≡ b → HasRoom (events_of y)
-          room g y at lt false miss =
-              let other : g.index ≡ n → ⊥ = λ z. both (nat_eq g.index n) (eq-eqb g.index n z) miss in
-              let b = each-back (passed (n + 1) l.gone l.left) t g (Open y) at in
-              let was : under after g ≡ Some (Open y) =
-              ap (λ (z : Circuits). under z g) l.circuits ∙ under-each (passed n l.gone l.left) t g b.0 b.1 ∙ ap (λ (z : ServerCircuit). Some z) (other-of g b.0 l.gone l.left other ∙ sym b.2) in
-              l.rooms g y was (sooner g.index lt other)
-          room g y at lt true hit =
-              let here : g.index ≡ n = eqb-true g.index n hit in
-              let b = each-back (passed (n + 1) l.gone l.left) t g (Open y) at in
-              let same : g ≡ h = one-at-index t g h b.0 (Open e) b.1 first (here ∙ sym is) in
-              let value : b.0 ≡ Open e = some_is b.0 (Open e) (sym b.1 ∙ ap (λ (z : Handle). under t z) same ∙ first) in
-              let is_y : Open y ≡ Open (end_without name e) =
-              b.2 ∙ ap (λ (z : ServerCircuit). passed (n + 1) l.gone l.left g z) value ∙ ap (λ (z : Handle). passed (n + 1) l.gone l.left z (Open e)) same ∙ own-of h (Open e) l.gone l.left is ∙ own in
-              subst (λ (z : ServerEnd). HasRoom (events_of z)) (sym (open-is y (end_without name e) is_y)) full
+          room : (h : Handle) (y : ServerEnd) → under (with_changed (λ (c : ServerCircuit). Open (end_without name e)) g after) h ≡ Some (Open y) → HasRoom (events_of y)
+          room h y at = elim (changed-back (λ (c : ServerCircuit). Open (end_without name e)) after h g (Open y) at) [
+            | inl own_one ↦ subst (λ (z : ServerEnd). HasRoom (events_of z)) (sym (open-is y (end_without name e) own_one.1.2)) full
+            | inr old ↦ l.rooms h y old.1
+          ]
 
       -- it ended out of memory
-      losing-out : (last : Circuits) (x : Store) (e : ServerEnd) (k : ℕ) → under after h ≡ Some (Open e) → k < length (channels_of name e) → last ≡ with_changed (λ (c : ServerCircuit). Ended why.OutOfMemory (e.link.output ++ spelled (take k (disconnects name e)))) h after → WithdrawsAll h u x → Losing (n + 1) t s last x
+      losing-out : (last : Circuits) (x : Store) (e : ServerEnd) (k : ℕ) → under after g ≡ Some (Open e) → k < length (channels_of name e) → last ≡ with_changed (λ (c : ServerCircuit). Ended why.OutOfMemory (e.link.output ++ spelled (take k (disconnects name e)))) g after → WithdrawsAll g u x → Losing (n + 1) t s last x
       losing-out last x e k there few changed taken = record {
+        done = to_now;
         gone = to;
         left = long;
-        may = λ g z. elim (or-true (l.gone g) (same_handle g h) z) [
-          | inl old ↦ may-old g old
-          | inr own ↦ may-own g own
+        may = λ h z. elim (or-true (l.gone h) (same_handle h g) z) [
+          | inl old ↦ may-old h old
+          | inr own ↦ may-own h own
         ];
-        only = λ g z. elim (or-true (l.gone g) (same_handle g h) z) [
-          | inl old ↦ (let lt = l.only g old in omega (arith, lt))
-          | inr own ↦ (let same = ap (λ (y : Handle). y.index) (same-is g h own) in omega (arith, same, is))
+        only = λ h z. elim (or-true (l.gone h) (same_handle h g) z) [
+          | inl old ↦ or-left (l.done h) (same_handle h g) (l.only h old)
+          | inr own ↦ or-right (l.done h) (same_handle h g) own
         ];
-        circuits = all;
-        records = taken.records ∙ ap (λ (rs : List Record). withdrawn (λ (p : Put). same_handle p.circuit h) rs) l.records ∙ withdrawn-both (λ (p : Put). same_handle p.circuit h) (λ (p : Put). l.gone p.circuit) (records_of s);
+        among = among-now;
+        all = all-now;
+        circuits =
+            changed
+            ∙ ap (λ (y : Circuits). with_changed (λ (c : ServerCircuit). Ended why.OutOfMemory (e.link.output ++ spelled (take k (disconnects name e)))) g y) l.circuits
+            ∙ each-one-more (passed l.done l.gone l.left) (passed to_now to long) t g (Open e) (Ended why.OutOfMemory (e.link.output ++ spelled (take k (disconnects name e)))) first mine others;
+        records = taken.records ∙ ap (λ (rs : List Record). withdrawn (λ (p : Put). same_handle p.circuit g) rs) l.records ∙ withdrawn-both (λ (p : Put). same_handle p.circuit g) (λ (p : Put). l.gone p.circuit) (records_of s);
         rules = taken.rules ∙ l.rules;
         stamp = taken.stamp ∙ l.stamp;
-        rooms = λ g y at lt. room g y (subst (λ (z : Circuits). under z g ≡ Some (Open y)) all at) lt (nat_eq g.index n) refl;
+        rooms = λ h y at. room h y (subst (λ (z : Circuits). under z h ≡ Some (Open y)) changed at);
       }
         where
           to : Handle → Bool
-          to g = l.gone g || same_handle g h
+          to h = l.gone h || same_handle h g
 
           long : Handle → ℕ
-          long g = cond (same_handle g h) k (l.left g)
+          long h = cond (same_handle h g) k (l.left h)
 
-          first : under t h ≡ Some (Open e)
-          first = fresh h (Open e) is there
+          first : under t g ≡ Some (Open e)
+          first = fresh (Open e) there
 
-          own-long : (g : Handle) → same_handle g h ≡ true → long g ≡ k
-          own-long g hit = ap (λ (b : Bool). cond b k (l.left g)) hit
+          own-long : (h : Handle) → same_handle h g ≡ true → long h ≡ k
+          own-long h hit = ap (λ (b : Bool). cond b k (l.left h)) hit
 
-          other-long : (g : Handle) → same_handle g h ≡ false → long g ≡ l.left g
-          other-long g miss = ap (λ (b : Bool). cond b k (l.left g)) miss
+          other-long : (h : Handle) → same_handle h g ≡ false → long h ≡ l.left h
+          other-long h miss = ap (λ (b : Bool). cond b k (l.left h)) miss
 
-          not-it : (g : Handle) → (g ≡ h → ⊥) → (b : Bool) → same_handle g h ≡ b → same_handle g h ≡ false
-          not-it g other true hit = absurd (other (same-is g h hit))
-          not-it g other false miss = miss
-
-          may-own : (g : Handle) → same_handle g h ≡ true → (y : ServerEnd) × (under t g ≡ Some (Open y)) × (long g < length (channels_of name y))
-          may-own g own = (
+          may-own : (h : Handle) → same_handle h g ≡ true → (y : ServerEnd) × (under t h ≡ Some (Open y)) × (long h < length (channels_of name y))
+          may-own h own = (
             e,
-            subst (λ (y : Handle). under t y ≡ Some (Open e)) (sym (same-is g h own)) first,
-            subst (λ (m : ℕ). m < length (channels_of name e)) (sym (own-long g own)) few,
+            subst (λ (y : Handle). under t y ≡ Some (Open e)) (sym (same-is h g own)) first,
+            subst (λ (m : ℕ). m < length (channels_of name e)) (sym (own-long h own)) few,
           )
 
-          may-old : (g : Handle) → l.gone g ≡ true → (y : ServerEnd) × (under t g ≡ Some (Open y)) × (long g < length (channels_of name y))
-          may-old g old =
-              let m = l.may g old in
-              let miss : same_handle g h ≡ false = by (same_handle g h) refl in
-              (m.0, m.1, subst (λ (j : ℕ). j < length (channels_of name m.0)) (sym (other-long g miss)) m.2)
-            where
-              by : (b : Bool) → same_handle g h ≡ b → same_handle g h ≡ false
-              by false miss = miss
-              by true hit = both (l.gone h) (subst (λ (y : Handle). l.gone y ≡ true) (same-is g h hit) old) (stays h is)
+          may-old : (h : Handle) → l.gone h ≡ true → (y : ServerEnd) × (under t h ≡ Some (Open y)) × (long h < length (channels_of name y))
+          may-old h old =
+              let m = l.may h old in
+              let miss : same_handle h g ≡ false = not-it h (λ same. both (l.gone g) (subst (λ (y : Handle). l.gone y ≡ true) same old) stays) in
+              (m.0, m.1, subst (λ (j : ℕ). j < length (channels_of name m.0)) (sym (other-long h miss)) m.2)
 
-          without-ext : (g : Handle) (c : ServerCircuit) → to g ≡ l.gone g → long g ≡ l.left g → circuit_without name l.gone l.left g c ≡ circuit_without name to long g c
-          without-ext g (Open z) p q =
-              ap (λ (b : Bool). cond b (Ended why.OutOfMemory (z.link.output ++ spelled (take (l.left g) (disconnects name z)))) (Open (end_without name z))) (sym p)
-              ∙ ap (λ (j : ℕ). cond (to g) (Ended why.OutOfMemory (z.link.output ++ spelled (take j (disconnects name z)))) (Open (end_without name z))) (sym q)
-          without-ext g (Ended y left) p q = refl
+          without-ext : (h : Handle) (c : ServerCircuit) → to h ≡ l.gone h → long h ≡ l.left h → circuit_without name l.gone l.left h c ≡ circuit_without name to long h c
+          without-ext h (Open z) p q =
+              ap (λ (b : Bool). cond b (Ended why.OutOfMemory (z.link.output ++ spelled (take (l.left h) (disconnects name z)))) (Open (end_without name z))) (sym p)
+              ∙ ap (λ (j : ℕ). cond (to h) (Ended why.OutOfMemory (z.link.output ++ spelled (take j (disconnects name z)))) (Open (end_without name z))) (sym q)
+          without-ext h (Ended y left) p q = refl
 
-          others : (g : Handle) (c : ServerCircuit) → under t g ≡ Some c → (g ≡ h → ⊥) → passed n l.gone l.left g c ≡ passed (n + 1) to long g c
-          others g c at other =
-              let miss = not-it g other (same_handle g h) refl in
-              other-of g c l.gone l.left (apart g (Open e) c first at other)
-              ∙ ap (λ (z : ServerCircuit). cond (nat_lt g.index (n + 1)) z c) (without-ext g c (or-none (l.gone g) (same_handle g h) miss) (other-long g miss))
+          others : (h : Handle) (c : ServerCircuit) → under t h ≡ Some c → (h ≡ g → ⊥) → passed l.done l.gone l.left h c ≡ passed to_now to long h c
+          others h c at other =
+              let miss = not-it h other in
+              ap (λ (b : Bool). cond b (circuit_without name l.gone l.left h c) c) (sym (other-now h other))
+              ∙ ap (λ (z : ServerCircuit). cond (to_now h) z c) (without-ext h c (or-none (l.gone h) (same_handle h g) miss) (other-long h miss))
 
-          mine : circuit_without name to long h (Open e) ≡ Ended why.OutOfMemory (e.link.output ++ spelled (take k (disconnects name e)))
+          mine : passed to_now to long g (Open e) ≡ Ended why.OutOfMemory (e.link.output ++ spelled (take k (disconnects name e)))
           mine =
-              ap (λ (b : Bool). cond b (Ended why.OutOfMemory (e.link.output ++ spelled (take (long h) (disconnects name e)))) (Open (end_without name e))) (or-right (l.gone h) (same_handle h h) (is-same h h refl))
-              ∙ ap (λ (j : ℕ). Ended why.OutOfMemory (e.link.output ++ spelled (take j (disconnects name e)))) (own-long h (is-same h h refl))
+              ap (λ (b : Bool). cond b (circuit_without name to long g (Open e)) (Open e)) own-now
+              ∙ ap (λ (b : Bool). cond b (Ended why.OutOfMemory (e.link.output ++ spelled (take (long g) (disconnects name e)))) (Open (end_without name e))) (or-right (l.gone g) (same_handle g g) (is-same g g refl))
+              ∙ ap (λ (j : ℕ). Ended why.OutOfMemory (e.link.output ++ spelled (take j (disconnects name e)))) (own-long g (is-same g g refl))
 
-          all : last ≡ with_each (passed (n + 1) to long) t
-          all =
-              changed
-              ∙ ap (λ (y : Circuits). with_changed (λ (c : ServerCircuit). Ended why.OutOfMemory (e.link.output ++ spelled (take k (disconnects name e)))) h y) l.circuits
-              ∙ each-one-more (passed n l.gone l.left) (passed (n + 1) to long) t h (Open e) (Ended why.OutOfMemory (e.link.output ++ spelled (take k (disconnects name e)))) first
-              (own-of h (Open e) to long is ∙ mine) others
+          room : (h : Handle) (y : ServerEnd) → under (with_changed (λ (c : ServerCircuit). Ended why.OutOfMemory (e.link.output ++ spelled (take k (disconnects name e)))) g after) h ≡ Some (Open y) → HasRoom (events_of y)
+          room h y at = elim (changed-back (λ (c : ServerCircuit). Ended why.OutOfMemory (e.link.output ++ spelled (take k (disconnects name e)))) after h g (Open y) at) [
+            | inl own ↦ not-ended y why.OutOfMemory (e.link.output ++ spelled (take k (disconnects name e))) own.1.2
+            | inr old ↦ l.rooms h y old.1
+          ]
 
-          not-ended : {A : Type 0} (y : ServerEnd) (w : _) (o : List ℕ) → Open y ≡ Ended w o → A
-          not-ended y w o z = absurd cc
+      losing-one : (last : Circuits) (x : Store) → LosesIn after g name u last x → Losing (n + 1) t s last x
+      losing-one last x (inr none) = losing-past last x none.1 none.2 (λ h e at there. nobody h e (some_is h g (sym at ∙ here)) there)
+        where
+          nobody : (h : Handle) (e : ServerEnd) → h ≡ g → under t h ≡ Some (Open e) → ⊥
+          nobody h e same there =
+              let was : under t g ≡ Some (Open e) = subst (λ (k : Handle). under t k ≡ Some (Open e)) same there in
+              let now = ap (λ (z : Circuits). under z g) l.circuits ∙ under-each (passed l.done l.gone l.left) t g (Open e) was in
+              none-some (passed l.done l.gone l.left g (Open e)) (sym none.0 ∙ now)
+      losing-one last x (inl o) = by o.0 o.1 o.2 o.3 o.4
+        where
+          by : (c new : ServerCircuit) → under after g ≡ Some c → LosesAt g name c u new x → last ≡ with_changed (λ (y : ServerCircuit). new) g after → Losing (n + 1) t s last x
+          by (Open e) new there (inl p) changed = losing-on last x e there (became after last g new (Open (end_without name e)) changed p.0) p.1 p.2
+          by (Open e) new there (inr p) changed =
+              losing-out last x e p.0 there p.1 (became after last g new (Ended why.OutOfMemory (e.link.output ++ spelled (take p.0 (disconnects name e)))) changed p.2) p.3
+          by (Ended w left) new there p changed =
+              losing-past last x (stayed after last g new (Ended w left) there changed p.0) p.1
+              (λ h e at open_there.
+              let same : h ≡ g = some_is h g (sym at ∙ here) in
+              not-ended e w left (some_is (Open e) (Ended w left) (sym open_there ∙ ap (λ (k : Handle). under t k) same ∙ fresh (Ended w left) there)))
 
-          room : (g : Handle) (y : ServerEnd) → under (with_each (passed (n + 1) to long) t) g ≡ Some (Open y) → g.index < n + 1 → (b : Bool) → nat_eq g.index n ≡ b → HasRoom (events_of y)
-          room g y at lt false miss =
-              let other : g.index ≡ n → ⊥ = λ z. both (nat_eq g.index n) (eq-eqb g.index n z) miss in
-              let b = each-back (passed (n + 1) to long) t g (Open y) at in
-              let was : under after g ≡ Some (Open y) =
-              ap (λ (z : Circuits). under z g) l.circuits ∙ under-each (passed n l.gone l.left) t g b.0 b.1 ∙ ap (λ (z : ServerCircuit). Some z) (others g b.0 b.1 (λ z. other (ap (λ (q : Handle). q.index) z ∙ is)) ∙ sym b.2) in
-              l.rooms g y was (sooner g.index lt other)
-          room g y at lt true hit =
-              let here : g.index ≡ n = eqb-true g.index n hit in
-              let b = each-back (passed (n + 1) to long) t g (Open y) at in
-              let same : g ≡ h = one-at-index t g h b.0 (Open e) b.1 first (here ∙ sym is) in
-              let value : b.0 ≡ Open e = some_is b.0 (Open e) (sym b.1 ∙ ap (λ (z : Handle). under t z) same ∙ first) in
-              not-ended y why.OutOfMemory (e.link.output ++ spelled (take k (disconnects name e)))
-              (b.2 ∙ ap (λ (z : ServerCircuit). passed (n + 1) to long g z) value ∙ ap (λ (z : Handle). passed (n + 1) to long z (Open e)) same ∙ own-of h (Open e) to long is ∙ mine)
+    pub losing-next : AreApart hs → (last : Circuits) (x : Store) → ((h : Handle) × At hs n h × LosesIn after h name u last x) ⊎ ((slice_get hs n ≡ None) × (last ≡ after) × (x ≡ u)) → Losing (n + 1) t s last x
+    losing-next apart last x (inl o) = losing-one apart o.0 o.1 last x o.2
+    losing-next apart last x (inr none) = losing-past last x none.1 none.2 (λ h e at there. none-some h (sym none.0 ∙ at))
 
-    pub losing-next : (last : Circuits) (x : Store) → LosesIn after n name u last x → Losing (n + 1) t s last x
-    losing-next last x (inr none) =
-        losing-past last x none.1 none.2 (λ h c at here. nobody h c at here) (λ h e at here. nobody h (Open e) at here)
-      where
-        nobody : {A : Type 0} (h : Handle) (c : ServerCircuit) → under t h ≡ Some c → h.index ≡ n → A
-        nobody h c at here =
-            let now : under after h ≡ Some (passed n l.gone l.left h c) = ap (λ (z : Circuits). under z h) l.circuits ∙ under-each (passed n l.gone l.left) t h c at in
-            absurd (none-some (h, passed n l.gone l.left h c) (sym none.0 ∙ at-index after n h (passed n l.gone l.left h c) now here))
-    losing-next last x (inl g) = by g.1 g.2 (index-at after n g.0 g.1 g.3) g.4 g.5
-      where
-        h : Handle
-        h = g.0
-
-        by : (c new : ServerCircuit) → (under after h ≡ Some c) × (h.index ≡ n) → LosesAt h name c u new x → last ≡ with_changed (λ (y : ServerCircuit). new) h after → Losing (n + 1) t s last x
-        by (Open e) new there (inl p) changed = losing-on h there.1 last x e there.0 (became after last h new (Open (end_without name e)) changed p.0) p.1 p.2
-        by (Open e) new there (inr p) changed =
-            losing-out h there.1 last x e p.0 there.0 p.1 (became after last h new (Ended why.OutOfMemory (e.link.output ++ spelled (take p.0 (disconnects name e)))) changed p.2) p.3
-        by (Ended w left) new there p changed =
-            losing-past last x (stayed after last h new (Ended w left) there.0 changed p.0) p.1
-            (λ k c at here. ended k c at here (one k c at here))
-            (λ k e at here. open-not e (some_is (Open e) (Ended w left) (sym at ∙ ap (λ (z : Handle). under t z) (one k (Open e) at here) ∙ first)))
-          where
-            first : under t h ≡ Some (Ended w left)
-            first = fresh h (Ended w left) there.1 there.0
-
-            one : (k : Handle) (c : ServerCircuit) → under t k ≡ Some c → k.index ≡ n → k ≡ h
-            one k c at here = one-at-index t k h c (Ended w left) at first (here ∙ sym there.1)
-
-            open-not : (e : ServerEnd) → Open e ≡ Ended w left → ⊥
-            open-not e z = cc
-
-            ended : (k : Handle) (c : ServerCircuit) → under t k ≡ Some c → k.index ≡ n → k ≡ h → circuit_without name l.gone l.left k c ≡ c
-            ended k c at here same =
-                let value : c ≡ Ended w left = some_is c (Ended w left) (sym at ∙ ap (λ (z : Handle). under t z) same ∙ first) in
-                subst (λ (z : ServerCircuit). circuit_without name l.gone l.left k z ≡ z) (sym value) refl
-
-    -- all have lost it
-    pub losing-all : length t ≤ n → LosesAll name t s after u
-    losing-all past = (
+    -- all have lost it that lead there, and no other has a channel to it
+    pub losing-all : length hs ≤ n → ((h : Handle) (e : ServerEnd) → under t h ≡ Some (Open e) → HasTo e name → IsAmong hs h) → LosesAll name t s after u
+    losing-all past leads = (
       l.gone,
       (
         l.left,
         record {
           may = l.may;
-          circuits = l.circuits ∙ each-ext (passed n l.gone l.left) (circuit_without name l.gone l.left) t (λ h c at. ap (λ (b : Bool). cond b (circuit_without name l.gone l.left h c) c) (lt-ltb h.index n (below h c at)));
+          circuits = l.circuits ∙ each-ext (passed l.done l.gone l.left) (circuit_without name l.gone l.left) t (λ h c at. by h c at (l.done h) refl);
           records = l.records;
           rules = l.rules;
           stamp = l.stamp;
-          rooms = λ h e at. (let b = each-back (passed n l.gone l.left) t h (Open e) (sym (ap (λ (z : Circuits). under z h) l.circuits) ∙ at) in l.rooms h e at (below h b.0 b.1));
+          rooms = l.rooms;
         },
       ),
     )
       where
-        below : (h : Handle) (c : ServerCircuit) → under t h ≡ Some c → h.index < n
-        below h c at = (let lt = At-within t h.index (place h c) (under-at t h c at) in omega (arith, lt, past))
+        unled : (h : Handle) (e : ServerEnd) → under t h ≡ Some (Open e) → l.done h ≡ false → HasTo e name → ⊥
+        unled h e at miss to =
+            let a = leads h e at to in
+            let lt = At-within hs a.0 h a.1 in
+            both (l.done h) (l.all a.0 h e (omega (arith, lt, past)) a.1 at) miss
+
+        open-gone : (h : Handle) → l.done h ≡ false → l.gone h ≡ false
+        open-gone h miss = go (l.gone h) refl
+          where
+            go : (b : Bool) → l.gone h ≡ b → l.gone h ≡ false
+            go false is = is
+            go true is = both (l.done h) (l.only h is) miss
+
+        still : (h : Handle) (c : ServerCircuit) → under t h ≡ Some c → l.done h ≡ false → circuit_without name l.gone l.left h c ≡ c
+        still h (Ended w left) at miss = refl
+        still h (Open e) at miss =
+            ap (λ (b : Bool). cond b (Ended why.OutOfMemory (e.link.output ++ spelled (take (l.left h) (disconnects name e)))) (Open (end_without name e))) (open-gone h miss)
+            ∙ ap (λ (x : ServerEnd). Open x) (without-unled name e (unled h e at miss))
+
+        by : (h : Handle) (c : ServerCircuit) → under t h ≡ Some c → (b : Bool) → l.done h ≡ b → passed l.done l.gone l.left h c ≡ circuit_without name l.gone l.left h c
+        by h c at true is = ap (λ (b : Bool). cond b (circuit_without name l.gone l.left h c) c) is
+        by h c at false is = ap (λ (b : Bool). cond b (circuit_without name l.gone l.left h c) c) is ∙ sym (still h c at is)
 
 -- ---- what holds of a server then
 
@@ -465,9 +528,6 @@ module _ (name : List ℕ) (gone : Handle → Bool) (left : Handle → ℕ) (rs 
 
   abbrev done : Circuits
   done = with_each (circuit_without name gone left) t
-
-  open-is : (a b : ServerEnd) → Open a ≡ Open b → a ≡ b
-  open-is a b e = cc
 
   -- what is open then was open, and lost the record
   pub was-open : (h : Handle) (x : ServerEnd) → under done h ≡ Some (Open x) → (e : ServerEnd) × (under t h ≡ Some (Open e)) × (x ≡ end_without name e)
@@ -567,6 +627,17 @@ covers-removed w v name gone left rs t sound clears covers h x s at i =
     ap (λ (n : List ℕ). bytes_eq n name) (sym c.4) ∙ unlisted name b.0.channels c.0 c.1 s c.2 c.3 c.5 (not-true (is_on (channels_of name b.0) (key_of s)) f.2) in
     subst (λ (hs : List Handle). IsAmong hs h) (sym (same-watch w v s.name (clears.stay s.name other))) (covers h b.0 s b.1 (f.0, f.1))
 
+-- nobody leads to the record: whose channels did so has retired them
+leads-removed : (l v : Watched) (name : List ℕ) (gone : Handle → Bool) (left : Handle → ℕ) (rs : List Record) (t : Circuits) → Clears name l v → Leads l t → Leads v (done name gone left rs t)
+leads-removed l v name gone left rs t clears leads h x n at to =
+    let b = was-open name gone left rs t h x at in
+    let has = subst (λ (y : ServerEnd). HasTo y n) b.2 to in
+    let was = each-back (retired name) b.0.channels has.0 has.1 has.2 in
+    let parts = or-false was.0.retired (bytes_eq was.0.name name) (sym (ap (λ (y : OpenChannel). y.retired) was.2) ∙ has.3) in
+    let named : was.0.name ≡ n = ap (λ (y : OpenChannel). y.name) (sym was.2) ∙ has.4 in
+    let other : bytes_eq n name ≡ false = ap (λ (m : List ℕ). bytes_eq m name) (sym named) ∙ parts.1 in
+    subst (λ (hs : List Handle). IsAmong hs h) (sym (same-watch l v n (clears.stay n other))) (leads h b.0 n b.1 (has.0, was.0, was.1, parts.0, named))
+
 -- a record goes, and its line
 listed-removed : (name : List ℕ) (test : Put → Bool) (rs qs : List Record) (w v : Watched) → qs ≡ withdrawn test (removed name rs) → Clears name w v → AreListed rs w → AreListed qs v
 listed-removed name test rs qs w v are clears listed = listed-kept (removed name rs) qs v (found-withdrawn test (removed name rs) qs are) (λ other none. by other none (bytes_eq other name) refl)
@@ -580,18 +651,22 @@ listed-removed name test rs qs w v are clears listed = listed-kept (removed name
         was (Some r) is = none-found (record_named (removed name rs) other) r none (named-left name other rs r miss is)
 
 -- all of it
-pub server-removed : (name : List ℕ) (s u x : Store) (w v : Watched) (t last : Circuits) → IsServer (records_of s) w t → records_of u ≡ removed name (records_of s) → LosesAll name t u last x → Clears name w v → IsServer (records_of x) v last
-server-removed name s u x w v t last i left lost clears =
-    let l = lost.1.1 in
+pub server-removed : (name : List ℕ) (s u x : Store) (w v l m : Watched) (t last : Circuits) → IsServer (records_of s) w l t → records_of u ≡ removed name (records_of s) → LosesAll name t u last x → Clears name w v → Clears name l m → IsServer (records_of x) v m last
+server-removed name s u x w v l m t last i left lost clears clears_led =
+    let f = lost.1.1 in
     let gone = lost.0 in
     let long = lost.1.0 in
-    let are : records_of x ≡ qs name gone long (records_of s) t = l.records ∙ ap (λ (rs : List Record). withdrawn (λ (p : Put). gone p.circuit) rs) left in
+    let are : records_of x ≡ qs name gone long (records_of s) t = f.records ∙ ap (λ (rs : List Record). withdrawn (λ (p : Put). gone p.circuit) rs) left in
     record {
       sound = subst (λ (rs : List Record). IsSound rs last) (sym are)
-          (subst (λ (y : Circuits). IsSound (qs name gone long (records_of s) t) y) (sym l.circuits)
-          (sound-removed name gone long (records_of s) t i.sound (subst (λ (y : Circuits). (h : Handle) (e : ServerEnd) → under y h ≡ Some (Open e) → HasRoom (events_of e)) l.circuits l.rooms)));
-      covered = subst (λ (y : Circuits). Covers v y) (sym l.circuits) (covers-removed w v name gone long (records_of s) t i.sound clears i.covered);
+          (subst (λ (y : Circuits). IsSound (qs name gone long (records_of s) t) y) (sym f.circuits)
+          (sound-removed name gone long (records_of s) t i.sound (subst (λ (y : Circuits). (h : Handle) (e : ServerEnd) → under y h ≡ Some (Open e) → HasRoom (events_of e)) f.circuits f.rooms)));
+      covered = subst (λ (y : Circuits). Covers v y) (sym f.circuits) (covers-removed w v name gone long (records_of s) t i.sound clears i.covered);
       listed = listed-removed name (λ (p : Put). gone p.circuit) (records_of s) (records_of x) w v are clears i.listed;
+      led = record {
+        leads = subst (λ (y : Circuits). Leads m y) (sym f.circuits) (leads-removed l m name gone long (records_of s) t clears_led i.led.leads);
+        listed = listed-removed name (λ (p : Put). gone p.circuit) (records_of s) (records_of x) l m are clears_led i.led.listed;
+      };
     }
 
 -- ---- the call

@@ -53,6 +53,7 @@ pub quiet-is : (did : Effect) → is_quiet did ≡ true → did ≡ effect.Quiet
 quiet-is effect.Quiet is = refl
 quiet-is (effect.Wrote place) is = absurd cc
 quiet-is (effect.Began place) is = absurd cc
+quiet-is (effect.Opened place) is = absurd cc
 
 pub still-is : (did : Option EndStep) → is_still did ≡ true → did ≡ Some (step.Handled effect.Quiet)
 still-is None is = absurd cc

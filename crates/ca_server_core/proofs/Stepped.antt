@@ -76,7 +76,7 @@ module _ (port now n : ℕ) (b : Clock) where
   wrote-is Nothing did u is = ap is_wrote is
   wrote-is Greets did u is = ap is_wrote is
   wrote-is (Names p) did u is = ap is_wrote is
-  wrote-is (Opens c) did u is = ap is_wrote is
+  wrote-is (Opens c) did u is = ap is_wrote is.2
   wrote-is (Clears sid) did u is = ap is_wrote is
   wrote-is (Waits name value) did u is = ap is_wrote is
   wrote-is (Drops k) did u is = ap is_wrote is
@@ -134,7 +134,7 @@ module _ (port now n : ℕ) (b : Clock) where
 
   -- the next message, whose write has not reached the subscriptions yet
   pub handled-next : (s u : Store) (t after : Table ServerCircuit) (h : Handle) (e new : ServerEnd) (did : Effect) (d : EndSteps port h e s (step.Handled did) new u) → after ≡ with_changed (λ (x : ServerCircuit). Open new) h t
-      → (next : Next (server_of port s now t b n) h e) × (next.after ≡ server_of port u now after b (more_applied (is_wrote did) n)) × (next.action ≡ d.1.action)
+      → (next : Next (server_of port s now t b n) h e) × (next.after ≡ server_of port u now after b (more_applied (is_wrote did) n)) × (next.action ≡ d.1.action) × (next.m ≡ d.0.m)
   handled-next s u t after h e new did (x, d) changed = (
     record {
       room = x.room;
@@ -146,6 +146,7 @@ module _ (port now n : ℕ) (b : Clock) where
       after = server_of port u now after b (more_applied (is_wrote did) n);
       handles = handles-of s u t after h (after_first x) x.m did new d changed;
     },
+    refl,
     refl,
     refl,
   )

@@ -3,7 +3,7 @@ use Rattle.std.specs.Prelude.{ℕ, ◌≡◌, ◌⊎◌, Option, Some, None, Lis
 use Rattle.ca_arena.specs.declared.handle.Handle.{Handle}
 use Rattle.ca_ids.specs.Table.{Table, under, with_freed}
 use Rattle.ca_records.specs.Puts.{Record}
-use Rattle.ca_records.specs.Store.{HasAt, IsThere, Store}
+use Rattle.ca_records.specs.Store.{HasAt, IsThere, Store, records_of}
 use Rattle.ca_server_watchers.specs.Watching.{IsAmong, Watched, watching}
 use Rattle.ca_model.specs.Ends as why
 use Rattle.ca_model.specs.Server.{ServerCircuit, ServerEnd, Subscription}
@@ -14,7 +14,7 @@ use Rattle.ca_model.specs.Speech.{In}
 use Rattle.ca_server_circuit.specs.declared.step.Effect.{Effect}
 use Rattle.ca_server_circuit.specs.declared.step.Effect.TheVariants as effect
 use Rattle.ca_server_core.specs.declared.stepping.Step.{Step}
-use Rattle.ca_server_core.specs.Covering.{Covers}
+use Rattle.ca_server_core.specs.Covering.{AreLed, AreListed, Covers, HasTo}
 use Rattle.ca_server_core.specs.Ending.{EndsIn}
 use Rattle.ca_server_core.specs.Reaching.{ReachesFrom}
 use Rattle.ca_server_core.specs.Serving.{stepped}
@@ -36,10 +36,26 @@ abbrev pub CoversFor : Effect → Handle → Store → Watched → Table ServerC
 CoversFor effect.Quiet h s w t = Covers w t
 CoversFor (effect.Wrote place) h s w t = IsThere s place × Covers w t
 CoversFor (effect.Began place) h s w t = CoversAt place h s w t
+CoversFor (effect.Opened place) h s w t = Covers w t
+
+-- each open end but this one, for its channels to the record of this name, is among those that lead there
+abbrev pub LeadsBut : Handle → List ℕ → Watched → Table ServerCircuit → Type 0
+LeadsBut h name l t =
+    (g : Handle) (e : ServerEnd) (n : List ℕ) → under t g ≡ Some (server.Open e) → HasTo e n → (IsAmong (watching l n) g) ⊎ ((g ≡ h) × (n ≡ name))
+
+-- the same for the record at a place
+abbrev pub LedAt : (place : ℕ) → Handle → Store → Watched → Table ServerCircuit → Type 0
+LedAt place h s l t =
+    (r : Record) × HasAt s place r × ((c : ServerCircuit) × (under t h ≡ Some c)) × LeadsBut h r.state.name l t × AreListed (records_of s) l
+
+-- who leads to records, as a message leaves it
+abbrev pub LedFor : Effect → Handle → Store → Watched → Table ServerCircuit → Type 0
+LedFor (effect.Opened place) h s l t = LedAt place h s l t
+LedFor did h s l t = AreLed (records_of s) l t
 
 -- ---- after
 
--- the circuit watches a record, or its end has ended out of memory
+-- the circuit watches a record, or leads to it; or its end has ended out of memory
 abbrev pub Begins : Handle → Table ServerCircuit → Store → Table ServerCircuit → Store → Type 0
 Begins h t s after u = ((after ≡ t) × (u ≡ s)) ⊎ EndsIn t h s why.OutOfMemory after u
 
@@ -48,6 +64,7 @@ abbrev pub Follows : Effect → Handle → Table ServerCircuit → Store → Tab
 Follows effect.Quiet h t s after u = (after ≡ t) × (u ≡ s)
 Follows (effect.Wrote place) h t s after u = ReachesFrom place write_mask t s after u
 Follows (effect.Began place) h t s after u = Begins h t s after u
+Follows (effect.Opened place) h t s after u = Begins h t s after u
 
 -- ---- the answer of the step
 

@@ -8,6 +8,7 @@ use Rattle.ca_model.specs.Server.{ServerCircuit}
 use Rattle.ca_model.specs.ServerSteps.{write_mask}
 use Rattle.ca_server_circuit.specs.declared.step.Effect.{Effect}
 use Rattle.ca_server_circuit.specs.Circuits.{is_open}
+use Rattle.ca_server_circuit.specs.Handling.{is_wrote}
 use Rattle.ca_server_core.specs.declared.stepping.Step.TheVariants.{Handled}
 use Rattle.ca_server_core.specs.Covering.{Covers}
 use Rattle.ca_server_core.specs.Following.{Follows, Settles}
@@ -27,6 +28,7 @@ pub record ShowsIn (place : ℕ) (h : Handle) (t : Table ServerCircuit) (s : Sto
 -- What a message leaves to do was done, as `follow` does it, and no put is to be finished then. The step is answered as it was before, and the
 -- circuit was pumped.
 pub record GoesThrough (did : Effect) (h : Handle) (w : Watched) (t : Table ServerCircuit) (s : Store) (after : Table ServerCircuit) : Type 0 where
+  pub writes : is_wrote did ≡ true
   pub mid : Table ServerCircuit
   pub follows : Follows did h t s mid s
   pub sound : IsSound (records_of s) mid

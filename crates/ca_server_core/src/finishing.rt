@@ -32,6 +32,7 @@ impl ServerCore {
             &mut self.circuits,
             &mut self.records,
             &mut self.watchers,
+            &mut self.leading,
             finished.ended.circuit,
             effect,
         );

@@ -1,13 +1,16 @@
-ghost use Rattle.std.specs.Prelude.{ℕ, ◌<◌, Bool, length};
+ghost use Rattle.std.specs.Prelude.{ℕ, ◌≡◌, Bool};
 ghost use Rattle.ca_arena.specs.declared.handle.Handle.{Handle};
 ghost use Rattle.ca_model.specs.ServerCalls.{Removes};
 ghost use Rattle.ca_records.specs.Store.{records_of};
-ghost use Rattle.ca_server_core.specs.Removing.{LosesAll, LosesIn, MayAllLose, MayLoseIn};
+ghost use Rattle.ca_server_core.specs.Covering.{Leads};
+ghost use Rattle.ca_server_core.specs.Removing.{HaveRoom, LosesAll, LosesIn, LosesNext, MayAllLose, MayLoseIn, MayLoseNext};
 
 use crate::server::ServerCore;
+use ca_arena::Handle;
 use ca_ids::HeldTable;
 use ca_records::ServedRecords;
 use ca_server_circuit::Circuit;
+use ca_server_watchers::Watchers;
 use ca_text::Refusal;
 
 impl ServerCore {
@@ -21,36 +24,64 @@ impl ServerCore {
             × Removes self.old name.now gone left result self.new) }
     {
         self.records.remove(name)?;
-        lose_on_all(&mut self.circuits, &mut self.records, name);
+        lose_on_all(
+            &mut self.circuits,
+            &mut self.records,
+            &mut self.leading,
+            name,
+        );
         self.watchers.forget_all(name);
+        self.leading.forget_all(name);
         Ok(())
     }
 }
 
-/// The record of this name was removed, and all circuits lose it. An end without memory for a SERVER_DISCONN has ended.
-fn lose_on_all(circuits: &mut HeldTable<Circuit>, records: &mut ServedRecords, name: &[u8])
-    requires { MayAllLose (records_of records.old) circuits.old }
-    ensures { LosesAll name.now circuits.old records.old circuits.new records.new }
+/// The record of this name was removed, and all circuits lose it. An end without memory for a SERVER_DISCONN has ended. Those that lead to the
+/// record are visited, and no other.
+fn lose_on_all(
+    circuits: &mut HeldTable<Circuit>,
+    records: &mut ServedRecords,
+    leading: &mut Watchers,
+    name: &[u8],
+)
+    requires may { MayAllLose (records_of records.old) circuits.old }
+    requires room { HaveRoom circuits.old }
+    requires leads { Leads leading.old circuits.old }
+    ensures loses { LosesAll name.now circuits.old records.old circuits.new records.new }
+    ensures stays { leading.new ≡ leading.old }
 {
-    for index in 0..circuits.places() {
-        lose_on(circuits, records, index, name);
+    for place in 0..leading.count(name) {
+        lose_on_next(circuits, records, leading, place, name);
     }
 }
 
-/// The same for the circuit of this index, if there is one.
+/// The same for the circuit at this place of the list of those that lead to the record.
+fn lose_on_next(
+    circuits: &mut HeldTable<Circuit>,
+    records: &mut ServedRecords,
+    leading: &Watchers,
+    place: usize,
+    name: &[u8],
+)
+    requires { MayLoseNext (records_of records.old) name.now place leading.now circuits.old }
+    ensures { LosesNext name.now place leading.now circuits.old records.old circuits.new records.new }
+{
+    let Some(circuit) = leading.at(name, place) else {
+        return;
+    };
+    lose_on(circuits, records, circuit, name);
+}
+
+/// The same for this circuit, if it is there.
 fn lose_on(
     circuits: &mut HeldTable<Circuit>,
     records: &mut ServedRecords,
-    index: usize,
+    circuit: Handle,
     name: &[u8],
 )
-    requires within { index < length circuits.old }
-    requires may { MayLoseIn (records_of records.old) index circuits.old }
-    ensures { LosesIn circuits.old index name.now records.old circuits.new records.new }
+    requires { MayLoseIn (records_of records.old) circuit circuits.old }
+    ensures { LosesIn circuits.old circuit name.now records.old circuits.new records.new }
 {
-    let Some((circuit, _)) = circuits.at(index) else {
-        return;
-    };
     let Some(found) = circuits.by_handle_mut(circuit) else {
         return;
     };

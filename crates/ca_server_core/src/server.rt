@@ -30,6 +30,8 @@ pub struct ServerCore {
     pub(crate) spares: Spares,
     // The circuits with subscriptions on each record.
     pub(crate) watchers: Watchers,
+    // The circuits with channels to each record.
+    pub(crate) leading: Watchers,
     pub(crate) beacons: BeaconClock,
     // How many writes were applied.
     pub(crate) applied: u64,
@@ -55,7 +57,7 @@ impl Model for ServerCore {
           applied = s.applied;
         } };
 
-    ghost invariant = { λ s. IsServer (records_of s.records) s.watchers s.circuits };
+    ghost invariant = { λ s. IsServer (records_of s.records) s.watchers s.leading s.circuits };
 }
 
 impl ServerCore {
@@ -81,6 +83,7 @@ impl ServerCore {
             circuits: HeldTable::new(alloc),
             spares: Spares::new(alloc),
             watchers: Watchers::new(alloc),
+            leading: Watchers::new(alloc),
             beacons: BeaconClock::new(now),
             applied: 0,
         })

@@ -1,6 +1,6 @@
 ghost use Rattle.std.specs.Prelude.{◌≡◌, false};
 ghost use Rattle.ca_records.specs.Store.{IsThere, records_of};
-ghost use Rattle.ca_server_core.specs.Covering.{AreListed, Covers};
+ghost use Rattle.ca_server_core.specs.Covering.{AreLed, AreListed, Covers};
 ghost use Rattle.ca_server_core.specs.Noting.{EndsPutAt, LeadsTo, ServesAndPumps, TriesAt, was_handled};
 ghost use Rattle.ca_server_core.specs.Serving.{stepped};
 ghost use Rattle.ca_server_core.specs.Sound.{IsSound};
@@ -31,6 +31,7 @@ impl ServerCore {
         let circuits = &mut self.circuits;
         let records = &mut self.records;
         let watchers = &mut self.watchers;
+        let leading = &mut self.leading;
         let mut waited = 0;
         let mut left = 0;
         let mut idle = false;
@@ -60,11 +61,18 @@ impl ServerCore {
             *waiting = left;
             return Step::Handled;
         }
-        let may_have_ended = follow(circuits, records, watchers, circuit, effect);
+        let may_have_ended = follow(circuits, records, watchers, leading, circuit, effect);
         if may_have_ended && !is_open(circuits, circuit) {
             return over(self.alloc, circuits, circuit, waited);
         }
-        finish_busy(&mut self.applied, circuits, records, watchers, effect);
+        finish_busy(
+            &mut self.applied,
+            circuits,
+            records,
+            watchers,
+            leading,
+            effect,
+        );
         *waiting = pump_counting_on(circuits, records, circuit);
         Step::Handled
     }
@@ -76,17 +84,20 @@ fn finish_busy(
     circuits: &mut HeldTable<Circuit>,
     records: &mut ServedRecords,
     watchers: &mut Watchers,
+    leading: &mut Watchers,
     effect: Effect,
 )
     requires leads { LeadsTo effect records.old }
     requires sound { IsSound (records_of records.old) circuits.old }
     requires covered { Covers watchers.old circuits.old }
     requires listed { AreListed (records_of records.old) watchers.old }
+    requires led { AreLed (records_of records.old) leading.old circuits.old }
     ensures tries { TriesAt effect applied.old circuits.old records.old applied.new circuits.new
         records.new }
     ensures sound { IsSound (records_of records.new) circuits.new }
     ensures covered { Covers watchers.new circuits.new }
     ensures listed { AreListed (records_of records.new) watchers.new }
+    ensures led { AreLed (records_of records.new) leading.new circuits.new }
 {
     let Effect::Wrote(place) = effect else {
         return;
@@ -94,7 +105,7 @@ fn finish_busy(
     if !records.at(place).is_busy() {
         return;
     }
-    finish_here(applied, circuits, records, watchers, place);
+    finish_here(applied, circuits, records, watchers, leading, place);
 }
 
 /// Finishes the busy put of the record at this place.
@@ -104,17 +115,20 @@ fn finish_here(
     circuits: &mut HeldTable<Circuit>,
     records: &mut ServedRecords,
     watchers: &mut Watchers,
+    leading: &mut Watchers,
     place: usize,
 )
     requires there { IsThere records.old place }
     requires sound { IsSound (records_of records.old) circuits.old }
     requires covered { Covers watchers.old circuits.old }
     requires listed { AreListed (records_of records.old) watchers.old }
+    requires led { AreLed (records_of records.old) leading.old circuits.old }
     ensures finishes { EndsPutAt place applied.old circuits.old records.old applied.new circuits.new
         records.new }
     ensures sound { IsSound (records_of records.new) circuits.new }
     ensures covered { Covers watchers.new circuits.new }
     ensures listed { AreListed (records_of records.new) watchers.new }
+    ensures led { AreLed (records_of records.new) leading.new circuits.new }
 {
     let Some(finished) = records.finish_at(place) else {
         return;
@@ -122,5 +136,12 @@ fn finish_here(
     reply_on(circuits, records, finished.ended);
     let effect = effect_of(&finished);
     *applied = more_applied(*applied, effect.is_write());
-    follow(circuits, records, watchers, finished.ended.circuit, effect);
+    follow(
+        circuits,
+        records,
+        watchers,
+        leading,
+        finished.ended.circuit,
+        effect,
+    );
 }

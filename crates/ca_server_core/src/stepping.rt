@@ -60,6 +60,7 @@ impl ServerCore {
                     &mut self.circuits,
                     &mut self.records,
                     &mut self.watchers,
+                    &mut self.leading,
                     circuit,
                     effect,
                 );

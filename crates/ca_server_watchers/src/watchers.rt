@@ -8,7 +8,7 @@ use indexmap::IndexMap;
 use std::alloc::{AllocError, Global};
 use std::marker::Model;
 
-/// For each record that is watched, the circuits that watch it.
+/// For each record that is watched, the circuits that watch it. A server has one for its subscriptions, and one for its channels.
 #[derive(Drop)]
 pub struct Watchers {
     lines: IndexMap<Vec<u8>, Line>,
@@ -42,6 +42,26 @@ impl Watchers {
         ensures { (result ≡ true) ↔ (self.now ≡ []) }
     {
         self.lines.is_empty()
+    }
+
+    /// How many circuits watch the record of this name.
+    pub fn count(&mut self, name: &[u8]) -> usize
+        ensures count { result ≡ length (watching self.old name.now) }
+        ensures apart { AreApart (watching self.old name.now) }
+        ensures stays { self.new ≡ self.old }
+    {
+        // Then no name need be hashed.
+        if self.lines.is_empty() {
+            return 0;
+        }
+        match self.lines.get_full(name) {
+            Some((place, _, line)) => {
+                let count = line.len();
+                self.recent = place;
+                count
+            }
+            None => 0,
+        }
     }
 
     /// The last of the circuits that watch the record of this name, and how many come before it.

@@ -1,26 +1,37 @@
-use Rattle.std.proofs.Common.{arith}
-use Rattle.ca_server_core.proofs.Removed.{losing-all, losing-long, losing-may, losing-next, losing-none}
+use Rattle.std.proofs.Common.{ℕ, ◌≡◌, ◌≤◌, List, length, sym, ap, ◌∙◌, subst, arith}
+use Rattle.ca_arena.specs.declared.handle.Handle.{Handle}
+use Rattle.ca_records.specs.Store.{records_of}
+use Rattle.ca_text.specs.Place.{At}
+use Rattle.ca_server_core.specs.Removing.{LosesNext, MayLoseNext}
+use Rattle.ca_server_watchers.specs.Watching.{Watched, watching}
+use Rattle.ca_server_core.proofs.Removed.{losing-all, losing-may, losing-next, losing-none}
 use Rattle.ca_server_core.proofs.removing.lose_on_all.Goals as goal
 
-pub loop-index-init : goal.loop-index-init
-loop-index-init c = losing-none c.args.name.now c.args.circuits.now c.args.records.now
+pub loop-place-init : goal.loop-place-init
+loop-place-init c = losing-none c.args.name.now (watching c.args.leading.now c.args.name.now) c.args.circuits.now c.args.records.now c.requires.room
 
-pub lose_on-requires-clause-within : goal.lose_on-requires-clause-within
-lose_on-requires-clause-within c =
-    let same = losing-long c.args.name.now c.loop-index.index c.args.circuits.now c.args.records.now c.loop-index.circuits c.loop-index.records c.loop-index.invariant in
-    let lt = c.loop-index-test.true in
-    omega (arith, same, c.places-index-end.ensures, lt)
+pub lose_on_next-requires : goal.lose_on_next-requires
+lose_on_next-requires c =
+    let l = c.args.leading.now in
+    let name = c.args.name.now in
+    subst (λ (w : Watched). MayLoseNext (records_of c.loop-place.records) name c.loop-place.place w c.loop-place.circuits) (sym c.count-place-end.ensures.stays)
+    (λ (h : Handle) at.
+    losing-may name (watching l name) c.loop-place.place c.args.circuits.now c.args.records.now c.loop-place.circuits c.loop-place.records c.loop-place.invariant
+    c.count-place-end.ensures.apart h at c.requires.may)
 
-pub lose_on-requires-clause-may : goal.lose_on-requires-clause-may
-lose_on-requires-clause-may c =
-    losing-may c.args.name.now c.loop-index.index c.args.circuits.now c.args.records.now c.loop-index.circuits c.loop-index.records c.loop-index.invariant c.requires
+pub loop-place-preserved : goal.loop-place-preserved
+loop-place-preserved c =
+    let l = c.args.leading.now in
+    let name = c.args.name.now in
+    let new = c.lose_on_next.new in
+    losing-next name (watching l name) c.loop-place.place c.args.circuits.now c.args.records.now c.loop-place.circuits c.loop-place.records c.loop-place.invariant
+    c.count-place-end.ensures.apart new.circuits new.records
+    (subst (λ (w : Watched). LosesNext name c.loop-place.place w c.loop-place.circuits c.loop-place.records new.circuits new.records) c.count-place-end.ensures.stays c.lose_on_next.ensures)
 
-pub loop-index-preserved : goal.loop-index-preserved
-loop-index-preserved c =
-    losing-next c.args.name.now c.loop-index.index c.args.circuits.now c.args.records.now c.loop-index.circuits c.loop-index.records c.loop-index.invariant
-    c.lose_on.new.circuits c.lose_on.new.records c.lose_on.ensures
-
-pub returns : goal.returns
-returns c =
-    losing-all c.args.name.now c.loop-index.index c.args.circuits.now c.args.records.now c.loop-index.circuits c.loop-index.records c.loop-index.invariant
-    (omega (arith, c.places-index-end.ensures, c.loop-index-test.false))
+pub returns-clause-loses : goal.returns-clause-loses
+returns-clause-loses c =
+    let l = c.args.leading.now in
+    let name = c.args.name.now in
+    losing-all name (watching l name) c.loop-place.place c.args.circuits.now c.args.records.now c.loop-place.circuits c.loop-place.records c.loop-place.invariant
+    (omega (arith, c.count-place-end.ensures.count, c.loop-place-test.false))
+    (λ h e at to. c.requires.leads h e name at to)

@@ -1,8 +1,9 @@
 use Rattle.std.proofs.Common.{sym, subst}
 use Rattle.ca_records.specs.Store.{Store, records_of}
 use Rattle.ca_server_circuit.specs.declared.step.Effect.{Effect}
-use Rattle.ca_server_core.specs.Covering.{AreListed}
-use Rattle.ca_server_core.specs.Following.{CoversFor}
+use Rattle.ca_server_core.specs.Covering.{AreLed, AreListed}
+use Rattle.ca_server_core.specs.Following.{CoversFor, LedFor}
+use Rattle.ca_server_core.proofs.Led.{led-finished, led-thinned}
 use Rattle.ca_server_core.specs.Sound.{IsSound}
 use Rattle.ca_server_core.proofs.Covered.{covers-thinned}
 use Rattle.ca_server_core.proofs.Finished.{finished-sound, replied-sound}
@@ -34,6 +35,19 @@ follow-requires-clause-listed c =
     let d = c.in-Some.ensures in
     let f = c.in-Some.finished in
     listed-finished c.args.records.now c.finish_at.new.self c.reply_on.new.records c.args.circuits.now c.reply_on.new.circuits d.0 f c.args.watchers.now d.2 c.reply_on.ensures c.requires.listed
+
+pub follow-requires-clause-led : goal.follow-requires-clause-led
+follow-requires-clause-led c =
+    let d = c.in-Some.ensures in
+    let f = c.in-Some.finished in
+    let listed = listed-finished c.args.records.now c.finish_at.new.self c.reply_on.new.records c.args.circuits.now c.reply_on.new.circuits d.0 f c.args.leading.now d.2 c.reply_on.ensures c.requires.led.listed in
+    subst (λ (e : Effect). LedFor e f.ended.circuit c.reply_on.new.records c.args.leading.now c.reply_on.new.circuits) (sym c.effect_of-effect.ensures)
+    (led-finished f c.reply_on.new.records c.args.leading.now c.reply_on.new.circuits
+    (led-thinned (records_of c.args.records.now) (records_of c.reply_on.new.records) c.args.leading.now c.args.circuits.now c.reply_on.new.circuits (thins-replied c.finish_at.new.self c.reply_on.new.records c.args.circuits.now c.reply_on.new.circuits f.ended c.reply_on.ensures) listed c.requires.led))
+
+pub returns-in_default-clause-led : goal.returns-in_default-clause-led
+returns-in_default-clause-led c =
+    subst (λ (s : Store). AreLed (records_of s) c.args.leading.now c.args.circuits.now) (sym c.in_default.ensures.2.1) c.requires.led
 
 pub returns-in_default-clause-finishes : goal.returns-in_default-clause-finishes
 returns-in_default-clause-finishes c =

@@ -7,6 +7,10 @@ invariant_of-self-2 c = record {
   sound = sound-added c.self.inside.records c.add.new.self _ c.in_ok-add.field-0 c.in_ok-add.ensures c.self.inside.circuits c.self.invariant.sound;
   covered = c.self.invariant.covered;
   listed = listed-added c.self.inside.records c.add.new.self _ c.in_ok-add.field-0 c.self.inside.watchers c.in_ok-add.ensures c.self.invariant.listed;
+  led = record {
+    leads = c.self.invariant.led.leads;
+    listed = listed-added c.self.inside.records c.add.new.self _ c.in_ok-add.field-0 c.self.inside.leading c.in_ok-add.ensures c.self.invariant.led.listed;
+  };
 }
 
 pub returns : goal.returns

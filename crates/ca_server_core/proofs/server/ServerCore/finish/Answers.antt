@@ -1,6 +1,8 @@
 use Rattle.std.proofs.Common.{sym, subst}
 use Rattle.ca_server_circuit.specs.declared.step.Effect.{Effect}
-use Rattle.ca_server_core.specs.Following.{CoversFor}
+use Rattle.ca_records.specs.Store.{records_of}
+use Rattle.ca_server_core.specs.Following.{CoversFor, LedFor}
+use Rattle.ca_server_core.proofs.Led.{led-finished, led-thinned}
 use Rattle.ca_server_core.proofs.Covered.{covers-thinned}
 use Rattle.ca_server_core.proofs.Finished.{finished-sound, replied-sound}
 use Rattle.ca_server_core.proofs.Listed.{listed-finished}
@@ -30,6 +32,15 @@ follow-requires-clause-listed c =
     let i = c.self.inside in
     let f = c.in_ok-finished.finished in
     listed-finished i.records c.finish.new.self c.reply_on.new.records i.circuits c.reply_on.new.circuits c.args.name.now f i.watchers c.in_ok-finished.ensures c.reply_on.ensures c.self.invariant.listed
+
+pub follow-requires-clause-led : goal.follow-requires-clause-led
+follow-requires-clause-led c =
+    let i = c.self.inside in
+    let f = c.in_ok-finished.finished in
+    let listed = listed-finished i.records c.finish.new.self c.reply_on.new.records i.circuits c.reply_on.new.circuits c.args.name.now f i.leading c.in_ok-finished.ensures c.reply_on.ensures c.self.invariant.led.listed in
+    subst (λ (d : Effect). LedFor d f.ended.circuit c.reply_on.new.records i.leading c.reply_on.new.circuits) (sym c.effect_of-effect.ensures)
+    (led-finished f c.reply_on.new.records i.leading c.reply_on.new.circuits
+    (led-thinned (records_of i.records) (records_of c.reply_on.new.records) i.leading i.circuits c.reply_on.new.circuits (thins-replied c.finish.new.self c.reply_on.new.records i.circuits c.reply_on.new.circuits f.ended c.reply_on.ensures) listed c.self.invariant.led))
 
 pub returns : goal.returns
 returns c =

@@ -4,6 +4,7 @@ use Rattle.ca_dbr.specs.Elements.{elements}
 use Rattle.ca_text.specs.declared.refusal.Refusal.{Refusal}
 use Rattle.std.proofs.Common.{Bool}
 use Rattle.ca_model.specs.ServerCalls.{Posts}
+use Rattle.ca_server_core.proofs.Led.{led-reached}
 use Rattle.ca_server_core.proofs.Listed.{listed-posted}
 use Rattle.ca_server_core.proofs.Posted.{posted-sound, same-error, viewed-post, viewed-refused}
 use Rattle.ca_server_core.proofs.Servers.{server_of}
@@ -31,3 +32,14 @@ pub returns : goal.returns
 returns c =
     let i = c.self.inside in
     viewed-post c.args.self.now i.port i.moment i.applied c.args.mask i.beacons i.records c.post.new.self c.post_to_all.new.records i.circuits c.post_to_all.new.circuits c.args.name.now (elements c.args.value) c.args.meta c.in_ok-place.place c.self.view_is c.in_ok-place.ensures c.post_to_all.ensures.reaches
+
+pub invariant_of-self-2 : goal.invariant_of-self-2
+invariant_of-self-2 c =
+    let i = c.self.inside in
+    let listed = listed-posted i.records c.post.new.self c.args.name.now (elements c.args.value) c.args.meta c.in_ok-place.place i.leading c.in_ok-place.ensures c.self.invariant.led.listed in
+    record {
+      sound = c.post_to_all.ensures.sound;
+      covered = c.post_to_all.ensures.covered;
+      listed = c.post_to_all.ensures.listed;
+      led = led-reached c.in_ok-place.place c.args.mask i.circuits c.post.new.self c.post_to_all.new.circuits c.post_to_all.new.records i.leading c.post_to_all.ensures.reaches (record { leads = c.self.invariant.led.leads; listed = listed });
+    }

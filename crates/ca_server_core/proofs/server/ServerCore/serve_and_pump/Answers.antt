@@ -4,7 +4,8 @@ use Rattle.ca_model.specs.Server.{Server, ServerCircuit}
 use Rattle.ca_model.specs.ServerSteps.{output_of}
 use Rattle.ca_records.specs.Store.{Store, records_of}
 use Rattle.ca_server_core.proofs.Covered.{covers-thinned}
-use Rattle.ca_server_core.proofs.Followed.{broke-thins, made-followed, made-followed-by, none-thins, settled-sound, settled-thins, step-covers}
+use Rattle.ca_server_core.proofs.Followed.{broke-thins, made-followed, made-followed-by, none-thins, settled-sound, settled-thins, step-covers, step-led}
+use Rattle.ca_server_core.proofs.Led.{led-followed, led-thinned}
 use Rattle.ca_server_core.proofs.Listed.{listed-broke, listed-none, listed-pumped, listed-step}
 use Rattle.ca_server_core.proofs.Noted.{broke-closes, leads-after, none-closes, not-handled, noting-none, open-settles, viewed-quiet, viewed-served}
 use Rattle.ca_server_core.proofs.Pumped.{pumps-at, sound-pumped}
@@ -12,8 +13,8 @@ use Rattle.ca_server_core.proofs.Servers.{server_of}
 use Rattle.ca_server_core.proofs.Stepped.{broke-sound, full-same, handled-settles, idle-same, made-broke, made-none, none-sound, step-sound, still-sound}
 use Rattle.ca_server_core.proofs.Thinned.{thins-pumped}
 use Rattle.ca_server_circuit.specs.declared.step.Effect.TheVariants.{Quiet}
-use Rattle.ca_server_core.specs.Covering.{AreListed, Covers}
-use Rattle.ca_server_core.specs.Following.{CoversFor, Follows, Settles}
+use Rattle.ca_server_core.specs.Covering.{AreLed, AreListed, Covers}
+use Rattle.ca_server_core.specs.Following.{CoversFor, Follows, LedFor, Settles}
 use Rattle.ca_server_core.specs.Pumping.{IsIdleIn}
 use Rattle.ca_server_core.specs.Sound.{IsSound}
 use Rattle.ca_server_watchers.specs.Watching.{Watched}
@@ -31,6 +32,7 @@ invariant_of-self c =
       sound = still-sound i.records u.records i.circuits u.circuits same c.self.invariant.sound;
       covered = subst (λ (t : Table ServerCircuit). Covers i.watchers t) (sym same.1) c.self.invariant.covered;
       listed = subst (λ (s : Store). AreListed (records_of s) i.watchers) (sym same.0) c.self.invariant.listed;
+      led = subst (λ (t : Table ServerCircuit). AreLed (records_of u.records) i.leading t) (sym same.1) (subst (λ (s : Store). AreLed (records_of s) i.leading i.circuits) (sym same.0) c.self.invariant.led);
     }
 
 pub invariant_of-self-in-Some-OutputFull : goal.invariant_of-self-in-Some-OutputFull
@@ -42,6 +44,7 @@ invariant_of-self-in-Some-OutputFull c =
       sound = still-sound i.records u.records i.circuits u.circuits same c.self.invariant.sound;
       covered = subst (λ (t : Table ServerCircuit). Covers i.watchers t) (sym same.1) c.self.invariant.covered;
       listed = subst (λ (s : Store). AreListed (records_of s) i.watchers) (sym same.0) c.self.invariant.listed;
+      led = subst (λ (t : Table ServerCircuit). AreLed (records_of u.records) i.leading t) (sym same.1) (subst (λ (s : Store). AreLed (records_of s) i.leading i.circuits) (sym same.0) c.self.invariant.led);
     }
 
 pub invariant_of-self-then-is_quiet : goal.invariant_of-self-then-is_quiet
@@ -53,6 +56,10 @@ invariant_of-self-then-is_quiet c =
       sound = sound-pumped did.1 u.records did.0 u.circuits c.args.circuit did.3 (step-sound i.port i.records did.1 i.circuits did.0 c.args.circuit Quiet did.2 c.self.invariant.sound);
       covered = covers-thinned i.watchers did.0 u.circuits (thins-pumped did.1 u.records did.0 u.circuits c.args.circuit did.3) (step-covers i.port i.watchers i.records did.1 i.circuits did.0 c.args.circuit Quiet did.2 c.self.invariant.covered);
       listed = listed-pumped did.1 u.records did.0 u.circuits c.args.circuit i.watchers did.3 (listed-step i.port i.records did.1 i.circuits did.0 c.args.circuit Quiet i.watchers did.2 c.self.invariant.listed);
+      led = (
+          let listed = listed-step i.port i.records did.1 i.circuits did.0 c.args.circuit Quiet i.leading did.2 c.self.invariant.led.listed in
+          led-thinned (records_of did.1) (records_of u.records) i.leading did.0 u.circuits (thins-pumped did.1 u.records did.0 u.circuits c.args.circuit did.3) (listed-pumped did.1 u.records did.0 u.circuits c.args.circuit i.leading did.3 listed) (step-led i.port i.leading i.records did.1 i.circuits did.0 c.args.circuit Quiet did.2 listed c.self.invariant.led)
+          );
     }
 
 pub returns-then-is_quiet-clause-serves : goal.returns-then-is_quiet-clause-serves
@@ -105,6 +112,16 @@ follow-may_have_ended-requires-clause-listed c =
     subst (λ (w : Watched). AreListed (records_of c.step_counting_on.new.records) w) (sym c.go_through.ensures.watchers)
     (listed-step i.port i.records c.step_counting_on.new.records i.circuits c.step_counting_on.new.circuits c.args.circuit c.in-Some-Handled.effect i.watchers did c.self.invariant.listed)
 
+pub follow-may_have_ended-requires-clause-led : goal.follow-may_have_ended-requires-clause-led
+follow-may_have_ended-requires-clause-led c =
+    let i = c.self.inside in
+    let did = (rw c.in-Some-Handled.field-0-is at c.in-Some-Handled.ensures.steps) (sym c.is_quiet.ensures ∙ c.if-is_quiet.false) in
+    let effect = c.in-Some-Handled.effect in
+    let s = c.step_counting_on.new.records in
+    subst (λ (t : Table ServerCircuit). LedFor effect c.args.circuit s i.leading t) (sym (c.go_through.ensures.stays c.if-go_through.false).0)
+    (step-led i.port i.leading i.records s i.circuits c.step_counting_on.new.circuits c.args.circuit effect did
+    (listed-step i.port i.records s i.circuits c.step_counting_on.new.circuits c.args.circuit effect i.leading did c.self.invariant.led.listed) c.self.invariant.led)
+
 pub go_through-requires-clause-rests : goal.go_through-requires-clause-rests
 go_through-requires-clause-rests c = λ yes. c.in-Some-Handled.ensures.idle yes
 
@@ -122,6 +139,12 @@ invariant_of-self-then-go_through c =
       sound = sound-pumped u.records u.records g.mid new c.args.circuit g.pumps g.sound;
       covered = subst (λ (w : Watched). Covers w new) (sym c.go_through.ensures.watchers) (covers-thinned i.watchers g.mid new (thins-pumped u.records u.records g.mid new c.args.circuit g.pumps) g.covered);
       listed = subst (λ (w : Watched). AreListed (records_of u.records) w) (sym c.go_through.ensures.watchers) (listed-step i.port i.records u.records i.circuits u.circuits c.args.circuit c.in-Some-Handled.effect i.watchers did c.self.invariant.listed);
+      led = (
+          let listed = listed-step i.port i.records u.records i.circuits u.circuits c.args.circuit c.in-Some-Handled.effect i.leading did c.self.invariant.led.listed in
+          let led = step-led i.port i.leading i.records u.records i.circuits u.circuits c.args.circuit c.in-Some-Handled.effect did listed c.self.invariant.led in
+          led-thinned (records_of u.records) (records_of u.records) i.leading g.mid new (thins-pumped u.records u.records g.mid new c.args.circuit g.pumps) listed
+          (led-followed c.in-Some-Handled.effect c.args.circuit u.circuits u.records g.mid u.records i.leading g.writes g.follows led)
+          );
     }
 
 pub returns-then-go_through-clause-serves : goal.returns-then-go_through-clause-serves
@@ -152,6 +175,7 @@ invariant_of-self-then-not-is_open c =
       sound = settled-sound (records_of f.records) f.circuits c.over.new.circuits c.args.circuit _ c.over.result settles c.follow-may_have_ended.ensures.sound;
       covered = covers-thinned f.watchers f.circuits c.over.new.circuits (settled-thins f.circuits c.over.new.circuits c.args.circuit _ c.over.result settles) c.follow-may_have_ended.ensures.covered;
       listed = c.follow-may_have_ended.ensures.listed;
+      led = led-thinned (records_of f.records) (records_of f.records) f.leading f.circuits c.over.new.circuits (settled-thins f.circuits c.over.new.circuits c.args.circuit _ c.over.result settles) c.follow-may_have_ended.ensures.led.listed c.follow-may_have_ended.ensures.led;
     }
 
 pub invariant_of-self-in-Some-Breaks : goal.invariant_of-self-in-Some-Breaks
@@ -162,6 +186,7 @@ invariant_of-self-in-Some-Breaks c =
       sound = broke-sound i.port i.records c.step_counting_on.new.records i.circuits c.step_counting_on.new.circuits c.report.new.circuits c.args.circuit c.in-Some-Breaks.field-0-0 c.report.result did c.report.ensures c.self.invariant.sound;
       covered = covers-thinned i.watchers i.circuits c.report.new.circuits (broke-thins i.port i.records c.step_counting_on.new.records i.circuits c.step_counting_on.new.circuits c.report.new.circuits c.args.circuit c.in-Some-Breaks.field-0-0 c.report.result did c.report.ensures) c.self.invariant.covered;
       listed = listed-broke i.port i.records c.step_counting_on.new.records i.circuits c.step_counting_on.new.circuits c.args.circuit c.in-Some-Breaks.field-0-0 i.watchers did c.self.invariant.listed;
+      led = led-thinned (records_of i.records) (records_of c.step_counting_on.new.records) i.leading i.circuits c.report.new.circuits (broke-thins i.port i.records c.step_counting_on.new.records i.circuits c.step_counting_on.new.circuits c.report.new.circuits c.args.circuit c.in-Some-Breaks.field-0-0 c.report.result did c.report.ensures) (listed-broke i.port i.records c.step_counting_on.new.records i.circuits c.step_counting_on.new.circuits c.args.circuit c.in-Some-Breaks.field-0-0 i.leading did c.self.invariant.led.listed) c.self.invariant.led;
     }
 
 pub invariant_of-self-in-None : goal.invariant_of-self-in-None
@@ -171,6 +196,7 @@ invariant_of-self-in-None c =
       sound = none-sound i.port i.records c.step_counting_on.new.records i.circuits c.step_counting_on.new.circuits c.report-in-None.new.circuits c.args.circuit c.report-in-None.result (c.in-None.ensures.steps refl) c.report-in-None.ensures c.self.invariant.sound;
       covered = covers-thinned i.watchers i.circuits c.report-in-None.new.circuits (none-thins i.port i.records c.step_counting_on.new.records i.circuits c.step_counting_on.new.circuits c.report-in-None.new.circuits c.args.circuit c.report-in-None.result (c.in-None.ensures.steps refl) c.report-in-None.ensures) c.self.invariant.covered;
       listed = listed-none i.port i.records c.step_counting_on.new.records i.circuits c.step_counting_on.new.circuits c.args.circuit i.watchers (c.in-None.ensures.steps refl) c.self.invariant.listed;
+      led = led-thinned (records_of i.records) (records_of c.step_counting_on.new.records) i.leading i.circuits c.report-in-None.new.circuits (none-thins i.port i.records c.step_counting_on.new.records i.circuits c.step_counting_on.new.circuits c.report-in-None.new.circuits c.args.circuit c.report-in-None.result (c.in-None.ensures.steps refl) c.report-in-None.ensures) (listed-none i.port i.records c.step_counting_on.new.records i.circuits c.step_counting_on.new.circuits c.args.circuit i.leading (c.in-None.ensures.steps refl) c.self.invariant.led.listed) c.self.invariant.led;
     }
 
 pub returns-then-not-is_open-clause-serves : goal.returns-then-not-is_open-clause-serves
@@ -216,6 +242,7 @@ invariant_of-self-2 c =
       sound = sound-pumped fin.new.records pumped.new.records fin.new.circuits pumped.new.circuits c.args.circuit pumped.ensures.pumps fin.ensures.sound;
       covered = covers-thinned fin.new.watchers fin.new.circuits pumped.new.circuits (thins-pumped fin.new.records pumped.new.records fin.new.circuits pumped.new.circuits c.args.circuit pumped.ensures.pumps) fin.ensures.covered;
       listed = listed-pumped fin.new.records pumped.new.records fin.new.circuits pumped.new.circuits c.args.circuit fin.new.watchers pumped.ensures.pumps fin.ensures.listed;
+      led = led-thinned (records_of fin.new.records) (records_of pumped.new.records) fin.new.leading fin.new.circuits pumped.new.circuits (thins-pumped fin.new.records pumped.new.records fin.new.circuits pumped.new.circuits c.args.circuit pumped.ensures.pumps) (listed-pumped fin.new.records pumped.new.records fin.new.circuits pumped.new.circuits c.args.circuit fin.new.leading pumped.ensures.pumps fin.ensures.led.listed) fin.ensures.led;
     }
 
 pub returns-in-Some-Breaks-clause-serves : goal.returns-in-Some-Breaks-clause-serves

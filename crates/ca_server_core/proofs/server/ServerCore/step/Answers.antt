@@ -4,7 +4,8 @@ use Rattle.ca_model.specs.Server.{Server}
 use Rattle.ca_model.specs.ServerSteps.{output_of}
 use Rattle.ca_records.specs.Store.{records_of}
 use Rattle.ca_server_core.proofs.Covered.{covers-thinned}
-use Rattle.ca_server_core.proofs.Followed.{broke-thins, made-followed, none-thins, settled-sound, settled-thins, step-covers, viewed-followed}
+use Rattle.ca_server_core.proofs.Followed.{broke-thins, made-followed, none-thins, settled-sound, settled-thins, step-covers, step-led, viewed-followed}
+use Rattle.ca_server_core.proofs.Led.{led-thinned}
 use Rattle.ca_server_core.proofs.Listed.{listed-broke, listed-none, listed-step}
 use Rattle.ca_server_core.proofs.Served.{quiet-is}
 use Rattle.ca_server_core.proofs.Stepped.{broke-sound, handled-settles, made-broke, made-none, none-sound, step-sound, viewed-broke, viewed-none}
@@ -21,6 +22,7 @@ invariant_of-self c =
       sound = step-sound i.port i.records c.step_on.new.records i.circuits c.step_on.new.circuits c.args.circuit Quiet did c.self.invariant.sound;
       covered = step-covers i.port i.watchers i.records c.step_on.new.records i.circuits c.step_on.new.circuits c.args.circuit Quiet did c.self.invariant.covered;
       listed = listed-step i.port i.records c.step_on.new.records i.circuits c.step_on.new.circuits c.args.circuit Quiet i.watchers did c.self.invariant.listed;
+      led = step-led i.port i.leading i.records c.step_on.new.records i.circuits c.step_on.new.circuits c.args.circuit Quiet did (listed-step i.port i.records c.step_on.new.records i.circuits c.step_on.new.circuits c.args.circuit Quiet i.leading did c.self.invariant.led.listed) c.self.invariant.led;
     }
 
 pub returns-then-is_quiet-clause-steps : goal.returns-then-is_quiet-clause-steps
@@ -63,6 +65,13 @@ follow-requires-clause-listed c =
     let did = rw c.in-Some-Handled.field-0-is at c.in-Some-Handled.ensures.steps in
     listed-step i.port i.records c.step_on.new.records i.circuits c.step_on.new.circuits c.args.circuit c.in-Some-Handled.effect i.watchers did c.self.invariant.listed
 
+pub follow-requires-clause-led : goal.follow-requires-clause-led
+follow-requires-clause-led c =
+    let i = c.self.inside in
+    let did = rw c.in-Some-Handled.field-0-is at c.in-Some-Handled.ensures.steps in
+    step-led i.port i.leading i.records c.step_on.new.records i.circuits c.step_on.new.circuits c.args.circuit c.in-Some-Handled.effect did
+    (listed-step i.port i.records c.step_on.new.records i.circuits c.step_on.new.circuits c.args.circuit c.in-Some-Handled.effect i.leading did c.self.invariant.led.listed) c.self.invariant.led
+
 pub invariant_of-self-in-Some-Handled : goal.invariant_of-self-in-Some-Handled
 invariant_of-self-in-Some-Handled c =
     let f = c.follow.new in
@@ -70,6 +79,7 @@ invariant_of-self-in-Some-Handled c =
       sound = settled-sound (records_of f.records) f.circuits c.settle.new.circuits c.args.circuit _ c.settle.result c.settle.ensures c.follow.ensures.sound;
       covered = covers-thinned f.watchers f.circuits c.settle.new.circuits (settled-thins f.circuits c.settle.new.circuits c.args.circuit _ c.settle.result c.settle.ensures) c.follow.ensures.covered;
       listed = c.follow.ensures.listed;
+      led = led-thinned (records_of f.records) (records_of f.records) f.leading f.circuits c.settle.new.circuits (settled-thins f.circuits c.settle.new.circuits c.args.circuit _ c.settle.result c.settle.ensures) c.follow.ensures.led.listed c.follow.ensures.led;
     }
 
 pub invariant_of-self-in-Some-Breaks : goal.invariant_of-self-in-Some-Breaks
@@ -80,6 +90,7 @@ invariant_of-self-in-Some-Breaks c =
       sound = broke-sound i.port i.records c.step_on.new.records i.circuits c.step_on.new.circuits c.report.new.circuits c.args.circuit c.in-Some-Breaks.field-0-0 c.report.result did c.report.ensures c.self.invariant.sound;
       covered = covers-thinned i.watchers i.circuits c.report.new.circuits (broke-thins i.port i.records c.step_on.new.records i.circuits c.step_on.new.circuits c.report.new.circuits c.args.circuit c.in-Some-Breaks.field-0-0 c.report.result did c.report.ensures) c.self.invariant.covered;
       listed = listed-broke i.port i.records c.step_on.new.records i.circuits c.step_on.new.circuits c.args.circuit c.in-Some-Breaks.field-0-0 i.watchers did c.self.invariant.listed;
+      led = led-thinned (records_of i.records) (records_of c.step_on.new.records) i.leading i.circuits c.report.new.circuits (broke-thins i.port i.records c.step_on.new.records i.circuits c.step_on.new.circuits c.report.new.circuits c.args.circuit c.in-Some-Breaks.field-0-0 c.report.result did c.report.ensures) (listed-broke i.port i.records c.step_on.new.records i.circuits c.step_on.new.circuits c.args.circuit c.in-Some-Breaks.field-0-0 i.leading did c.self.invariant.led.listed) c.self.invariant.led;
     }
 
 pub invariant_of-self-in-None : goal.invariant_of-self-in-None
@@ -89,6 +100,7 @@ invariant_of-self-in-None c =
       sound = none-sound i.port i.records c.step_on.new.records i.circuits c.step_on.new.circuits c.report-in-None.new.circuits c.args.circuit c.report-in-None.result c.in-None.ensures.steps c.report-in-None.ensures c.self.invariant.sound;
       covered = covers-thinned i.watchers i.circuits c.report-in-None.new.circuits (none-thins i.port i.records c.step_on.new.records i.circuits c.step_on.new.circuits c.report-in-None.new.circuits c.args.circuit c.report-in-None.result c.in-None.ensures.steps c.report-in-None.ensures) c.self.invariant.covered;
       listed = listed-none i.port i.records c.step_on.new.records i.circuits c.step_on.new.circuits c.args.circuit i.watchers c.in-None.ensures.steps c.self.invariant.listed;
+      led = led-thinned (records_of i.records) (records_of c.step_on.new.records) i.leading i.circuits c.report-in-None.new.circuits (none-thins i.port i.records c.step_on.new.records i.circuits c.step_on.new.circuits c.report-in-None.new.circuits c.args.circuit c.report-in-None.result c.in-None.ensures.steps c.report-in-None.ensures) (listed-none i.port i.records c.step_on.new.records i.circuits c.step_on.new.circuits c.args.circuit i.leading c.in-None.ensures.steps c.self.invariant.led.listed) c.self.invariant.led;
     }
 
 pub returns-else-is_quiet-clause-steps : goal.returns-else-is_quiet-clause-steps
