@@ -1,6 +1,6 @@
--- A write that is handled where it came.
-use Rattle.std.proofs.Common.{◌≡◌, ℕ, ◌+◌, ◌<◌, ◌≤◌, Bool, Fits, List, [], ◌∷◌, None, Option, Some, true, drop, if◌then◌else◌, inl, inr, length, refl, take, w64, ap, ◌∙◌, subst, sym, arith}
-use Rattle.std.proofs.lemmas.List.{length-take-le, take-append-drop, take_at}
+-- A message that is handled where it came.
+use Rattle.std.proofs.Common.{◌≡◌, ℕ, ◌+◌, ◌<◌, ◌≤◌, Bool, Fits, List, [], ◌∷◌, None, Option, Some, false, true, drop, if◌then◌else◌, inl, inr, length, refl, take, w64, ap, ◌∙◌, subst, sym, arith}
+use Rattle.std.proofs.lemmas.List.{length-drop, length-take-le, take-append-drop, take_at}
 use Rattle.ca_arena.specs.declared.handle.Handle.{Handle}
 use Rattle.ca_dgram.proofs.Readings.{spells-fields_at}
 use Rattle.ca_link.specs.Link.{LinkState, with_rest}
@@ -11,31 +11,34 @@ use Rattle.ca_records.specs.declared.puts.Begun.TheVariants as begun
 use Rattle.ca_records.specs.Puts.{Record}
 use Rattle.ca_records.specs.Record.{RecordState}
 use Rattle.ca_records.specs.declared.puts.Put.{Put}
-use Rattle.ca_records.specs.Store.{Store}
+use Rattle.ca_records.specs.declared.puts.Stamp.{Stamp}
+use Rattle.ca_records.specs.Store.{Store, records_of}
 use Rattle.ca_text.specs.Command.{command_number}
-use Rattle.ca_text.specs.declared.command.Command.{Command}
 use Rattle.ca_text.specs.declared.command.Command.TheVariants as command
+use Rattle.ca_text.specs.declared.refusal.Refusal.{Refusal}
+use Rattle.ca_text.specs.declared.refusal.Refusal.TheVariants as refusal
 use Rattle.ca_text.specs.Limits.{output_limit}
 use Rattle.ca_text.specs.Status.{normal}
 use Rattle.ca_wire.specs.Fields.{Fields}
-use Rattle.ca_wire.specs.Message.{spelled}
+use Rattle.ca_wire.specs.Message.{header_of, spelled}
+use Rattle.ca_wire.specs.Stream.{BadAt, Held}
+use Rattle.ca_wire.specs.declared.header.Header.{Header}
 use Rattle.ca_wire.specs.Messages.{on_channel, status_reply, wanted_in}
 use Rattle.ca_wire.specs.Reading.{IsWhole}
 use Rattle.ca_wire.specs.declared.reading.Head.{Head}
 use Rattle.ca_wire.specs.declared.requests.Wanted.{Wanted}
 use Rattle.ca_wire.proofs.Headers.{length-extended, length-short}
-use Rattle.ca_model.specs.Due.{PutReads, is_known}
+use Rattle.ca_model.specs.Due.{Action, Adds, Applies, Clears, Drops, Due, Greets, Names, Nothing, Opens, PutReads, Switches, Waits}
 use Rattle.ca_model.specs.Faults.{base_type_of, early_put_fault}
-use Rattle.ca_model.specs.Server.{ServerEnd}
+use Rattle.ca_model.specs.Server.{Server, ServerEnd, new_server}
+use Rattle.ca_model.specs.ServerSteps.{Acts}
 use Rattle.ca_server_circuit.specs.declared.seek.Seat.{Seat}
 use Rattle.ca_server_circuit.specs.declared.step.Effect.{Effect}
-use Rattle.ca_server_circuit.specs.declared.step.EndStep.TheVariants.{Handled}
-use Rattle.ca_server_circuit.specs.Handling.{Does, replied}
+use Rattle.ca_server_circuit.specs.Handling as here
+use Rattle.ca_server_circuit.specs.Handling.{Does, Recorded, known, replied}
 use Rattle.ca_server_circuit.specs.Putting.{IsRefused, IsTaken, WritesTo, asked, early}
-use Rattle.ca_server_circuit.specs.Seeking.{IsServed}
-use Rattle.ca_server_circuit.specs.Stepping.{EndSteps, Takes, after_head, first_at}
-use Rattle.ca_server_circuit.proofs.Dues.{command_at}
-use Rattle.ca_server_circuit.proofs.Handled.{DueFor, does-for}
+use Rattle.ca_server_circuit.specs.Stepping.{BreaksBy, Takes, after_head, cause_for, first_at}
+use Rattle.ca_server_circuit.proofs.Stays.{link-kept}
 use Rattle.ca_server_circuit.proofs.Taken.{put_in}
 
 -- what a put asks for does not depend on its command
@@ -93,20 +96,18 @@ acknowledged e new m w is slow named put same sent =
     let late : Bool → Fields → List Fields = λ b r. if b then [] else r ∷ [] in
     sent ∙ ap (λ (r : Fields). replied (late is r) e) one ∙ ap (λ (b : Bool). replied (late b (status_reply m normal)) e) same
 
+-- the same of one that is refused
+pub refused-put : (e : ServerEnd) (m : Fields) (w : Wanted) (status : ℕ) → w ≡ wanted_in m → m.command ≡ command_number command.WriteNotify
+    → replied (status_reply (on_channel command.WriteNotify w []) status ∷ []) e ≡ replied (status_reply m status ∷ []) e
+refused-put e m w status named put =
+    let reply : ℕ → Fields = λ n. record (status_reply m status) { command = n } in
+    let one : status_reply (on_channel command.WriteNotify w []) status ≡ status_reply m status = ap (λ (x : Wanted). status_reply (on_channel command.WriteNotify x []) status) named ∙ ap reply (sym put) in
+    ap (λ (r : Fields). replied (r ∷ []) e) one
+
 -- the put with notification that a message is, by what that names
 pub put-is : (h : Handle) (seat : Seat) (m : Fields) (w : Wanted) (p : Put) → w ≡ wanted_in m → (let q : Put = record { circuit = h; channel = seat.channel; data_type = w.data_type; count = w.count; ioid = w.id } in p ≡ q) → p ≡ put_in h seat m
 put-is h seat m w p named is =
     is ∙ ap (λ (x : Wanted). let q : Put = record { circuit = h; channel = seat.channel; data_type = x.data_type; count = x.count; ioid = x.id } in q) named
-
--- the end without its first message serves what it served
-abbrev pub served-behind : (head : Head) (s : Store) (e : ServerEnd) (sid : ℕ) (seat : Seat) → IsServed s e sid seat → IsServed s (after_head head e) sid seat
-served-behind head s e sid seat i =
-    record { channel = i.channel; held = i.held; there = i.there; cid = i.cid; r = i.r; at = i.at; named = i.named; found = i.found }
-
--- the end whose first message was dropped
-pub dropped-head : (head : Head) (v e : ServerEnd) (link : LinkState) → v ≡ e → link ≡ with_rest (drop (head.start + head.header.size) v.link.input.bytes) v.link → (let new : ServerEnd = record v { link = link } in new) ≡ after_head head e
-dropped-head head v e link is gone =
-    ap (λ (l : LinkState). let new : ServerEnd = record v { link = l } in new) gone ∙ ap (λ (x : ServerEnd). after_head head x) is
 
 -- what was queued is taken back
 pub taken-back : (v e : ServerEnd) (ms : List Fields) (n : ℕ) (cut : LinkState) → v ≡ replied ms e → n ≡ length e.link.output → (let l : LinkState = record v.link { output = take n v.link.output } in cut ≡ l) → (let new : ServerEnd = record v { link = cut } in new) ≡ e
@@ -115,11 +116,111 @@ taken-back v e ms n cut was all is =
     is ∙ ap (λ (x : ServerEnd). let l : LinkState = record x.link { output = take n x.link.output } in l) was ∙ ap (λ (o : List ℕ). let l : LinkState = record e.link { output = o } in l) (take_at e.link.output (spelled ms) n (sym all)) in
     ap (λ (x : ServerEnd). let new : ServerEnd = record x { link = cut } in new) was ∙ ap (λ (l : LinkState). let new : ServerEnd = record e { link = l } in new) back
 
--- a step that handled it
-pub steps-first : (port : ℕ) (h : Handle) (s : Store) (e : ServerEnd) (head : Head) (c : Command) (did : Effect) (t : Store) (new : ServerEnd) → length e.link.output < output_limit → IsWhole e.link.input.bytes head → head.header.command ≡ command_number c → is_known (command_number c) ≡ true → command_at (command_number c) ≡ c
-    → Does (DueFor port s h (after_head head e) (first_at e.link.input.bytes head) c) s h (after_head head e) (first_at e.link.input.bytes head) did t new → EndSteps port h e s (Handled did) new t
-steps-first port h s e head c did t new room whole is known one d =
+-- ---- the first message
+
+-- its header is the one that was read
+pub header-first : (bytes : List ℕ) (head : Head) → IsWhole bytes head → header_of (first_at bytes head) ≡ head.header
+header-first bytes head whole =
+    let room = whole.room in
+    let h = head.header in
+    let made : ℕ → Header = λ n. record { command = h.command; data_type = h.data_type; size = n; count = h.count; p1 = h.p1; p2 = h.p2 } in
+    let long : length (take h.size (drop head.start bytes)) ≡ h.size = length-take-le h.size (drop head.start bytes) (omega (arith, length-drop head.start bytes)) in
+    ap made long
+
+-- what came is as it was after what was done
+kept-input : (s t : Store) (h : Handle) (e new : ServerEnd) (m : Fields) (D : List Fields → Action → Type 0) (did : Effect) → Does D s h e m did t new → new.link.input ≡ e.link.input
+kept-input s t h e new m D did d =
+    let y : Server = record (new_server 0 0 [] []) { records = records_of s } in
+    ap (λ (x : ServerEnd). x.link.input) d.leaves ∙ ap (λ (l : LinkState). l.input) (link-kept y e d.action d.acted (d.acts y refl))
+
+pub whole-still : (s t : Store) (h : Handle) (e new : ServerEnd) (m : Fields) (D : List Fields → Action → Type 0) (did : Effect) (head : Head) → Does D s h e m did t new → IsWhole e.link.input.bytes head → IsWhole new.link.input.bytes head
+whole-still s t h e new m D did head d whole =
+    subst (λ (b : List ℕ). IsWhole b head) (sym (ap (λ (x : Held). x.bytes) (kept-input s t h e new m D did d))) whole
+
+-- the end with these bytes left to be read
+abbrev left : List ℕ → ServerEnd → ServerEnd
+left rest e = record e { link = with_rest rest e.link }
+
+left-acts : (y : Server) (e : ServerEnd) (rest : List ℕ) (a : Action) (new : ServerEnd) → Acts y e a new → Acts y (left rest e) a (left rest new)
+left-acts y e rest Nothing new is = ap (left rest) is
+left-acts y e rest Greets new is = ap (left rest) is
+left-acts y e rest (Names p) new is = ap (left rest) is
+left-acts y e rest (Opens c) new is = (is.0, is.1, is.2, ap (left rest) is.3)
+left-acts y e rest (Clears s) new is = ap (left rest) is
+left-acts y e rest (Applies n v b) new is = ap (left rest) is
+left-acts y e rest (Waits n v) new is = ap (left rest) is
+left-acts y e rest (Adds s) new is =
+    let t = is.2 in
+    (is.0, is.1, record { place = t.place; q = t.q; at = t.at; room = t.room; first = t.first; leaves = ap (left rest) t.leaves })
+left-acts y e rest (Drops k) new is = ap (left rest) is
+left-acts y e rest (Switches on) new is = ap (left rest) is
+
+left-recorded : (rs qs : List Record) (s : Stamp) (h : Handle) (e : ServerEnd) (m : Fields) (rest : List ℕ) (a : Action) → Recorded rs s h e m a qs → Recorded rs s h (left rest e) m a qs
+left-recorded rs qs s h e m rest Nothing is = is
+left-recorded rs qs s h e m rest Greets is = is
+left-recorded rs qs s h e m rest (Names p) is = is
+left-recorded rs qs s h e m rest (Opens c) is = is
+left-recorded rs qs s h e m rest (Clears n) is = is
+left-recorded rs qs s h e m rest (Applies n v true) is = is
+left-recorded rs qs s h e m rest (Applies n v false) is = is
+left-recorded rs qs s h e m rest (Waits n v) is = is
+left-recorded rs qs s h e m rest (Adds x) is = is
+left-recorded rs qs s h e m rest (Drops k) is = is
+left-recorded rs qs s h e m rest (Switches on) is = is
+
+left-fits : (rs : List Record) (e : ServerEnd) (m : Fields) (rest : List ℕ) (a : Action) → here.Fits rs e m a → here.Fits rs (left rest e) m a
+left-fits rs e m rest Nothing is = is
+left-fits rs e m rest Greets is = is
+left-fits rs e m rest (Names p) is = is
+left-fits rs e m rest (Opens c) is = is
+left-fits rs e m rest (Clears n) is = is
+left-fits rs e m rest (Applies n v b) is = is
+left-fits rs e m rest (Waits n v) is = is
+left-fits rs e m rest (Adds x) is = is
+left-fits rs e m rest (Drops k) is = is
+left-fits rs e m rest (Switches on) is = is
+
+-- what was done while the message was there was done without it, once it is dropped
+pub does-dropped : (port : ℕ) (s t : Store) (h : Handle) (e new after : ServerEnd) (m : Fields) (did : Effect) (head : Head)
+    → Does (Due (known port s e) m) s h e m did t new → after ≡ after_head head new → Does (Due (known port s (after_head head e)) m) s h (after_head head e) m did t after
+does-dropped port s t h e new after m did head d gone =
+    let n = head.start + head.header.size in
+    let rest = drop n e.link.input.bytes in
+    let kept : new.link.input.bytes ≡ e.link.input.bytes = ap (λ (x : Held). x.bytes) (kept-input s t h e new m (Due (known port s e) m) did d) in
+    let is : after ≡ left rest new = gone ∙ ap (λ (b : List ℕ). left (drop n b) new) kept in
+    record {
+      replies = d.replies;
+      action = d.action;
+      due = d.due;
+      acted = left rest d.acted;
+      acts = λ y same. left-acts y e rest d.action d.acted (d.acts y same);
+      records = left-recorded (records_of s) (records_of t) s.stamp h e m rest d.action d.records;
+      rules = d.rules;
+      stamp = d.stamp;
+      tells = d.tells;
+      fits = left-fits (records_of s) e m rest d.action d.fits;
+      leaves = is ∙ ap (left rest) d.leaves;
+    }
+
+-- the end whose first message was dropped
+pub dropped-head : (head : Head) (v e : ServerEnd) (link : LinkState) → v ≡ e → link ≡ with_rest (drop (head.start + head.header.size) v.link.input.bytes) v.link → (let new : ServerEnd = record v { link = link } in new) ≡ after_head head e
+dropped-head head v e link is gone =
+    ap (λ (l : LinkState). let new : ServerEnd = record v { link = l } in new) gone ∙ ap (λ (x : ServerEnd). after_head head x) is
+
+-- ---- a step
+
+-- the end that can take it
+abbrev pub takes-first : (e : ServerEnd) (head : Head) → length e.link.output < output_limit → IsWhole e.link.input.bytes head → Takes e
+takes-first e head room whole =
     let n = head.start + head.header.size in
     let bytes = e.link.input.bytes in
-    let x : Takes e = record { room = room; m = first_at bytes head; rest = drop n bytes; takes = (take n bytes, spells-fields_at bytes head whole, sym (take-append-drop n bytes)) } in
-    (x, does-for port s h (after_head head e) (first_at bytes head) did t new c is known one d)
+    record { room = room; m = first_at bytes head; rest = drop n bytes; takes = (take n bytes, spells-fields_at bytes head whole, sym (take-append-drop n bytes)) }
+
+-- an end breaks at a bad header
+pub breaks-bad : (port : ℕ) (s : Store) (e : ServerEnd) (r : Refusal) → length e.link.output < output_limit → BadAt e.link.input.bytes r → BreaksBy port s e (cause_for r)
+breaks-bad port s e refusal.Misaligned room bad = (room, bad)
+breaks-bad port s e refusal.TooLarge room bad = (room, bad)
+breaks-bad port s e _ room bad = elim bad.faults [
+  | inl p ↦ (let is = p.0 in absurd cc)
+  | inr p ↦ (let is = p.0 in absurd cc)
+]

@@ -1,5 +1,5 @@
 -- Working: what one step of an open end comes to.
-use Rattle.std.specs.Prelude.{ℕ, ◌≡◌, ◌≢◌, ◌+◌, ◌<◌, ◌≤◌, ◌⊎◌, List, [], drop, length, take}
+use Rattle.std.specs.Prelude.{ℕ, ◌≡◌, ◌≢◌, ◌+◌, ◌<◌, ◌≤◌, ◌⊎◌, ◌++◌, List, [], drop, length, replicate, take}
 use Rattle.ca_arena.specs.declared.handle.Handle.{Handle}
 use Rattle.ca_dbr.specs.Octets.{AreBytes}
 use Rattle.ca_link.specs.Link.{TakesFirst, with_rest}
@@ -9,12 +9,15 @@ use Rattle.ca_text.specs.declared.refusal.Refusal.TheVariants as refusal
 use Rattle.ca_text.specs.Limits.{output_limit}
 use Rattle.ca_wire.specs.Fields.{Fields}
 use Rattle.ca_wire.specs.Stream.{BadAt, NoneBegins, NotBad}
+use Rattle.ca_wire.specs.Header.{header_spelling}
+use Rattle.ca_wire.specs.Messages.{bare}
 use Rattle.ca_wire.specs.declared.done.Done.{Done}
 use Rattle.ca_wire.specs.declared.header.Header.{Header}
 use Rattle.ca_wire.specs.declared.reading.Head.{Head}
 use Rattle.ca_wire.specs.declared.requests.Wanted.{Wanted}
 use Rattle.ca_wire.specs.Reading.{short_in}
 use Rattle.ca_text.specs.declared.command.Command.{Command}
+use Rattle.ca_text.specs.declared.command.Command.TheVariants as command
 use Rattle.ca_model.specs.Due.{Action, Due, Knows}
 use Rattle.ca_model.specs.Ends.{Why}
 use Rattle.ca_model.specs.Ends as why
@@ -81,26 +84,21 @@ done_for w = record { data_type = w.data_type; id = w.id }
 
 -- ---- a first message that is handled where it came
 
+-- the message of this header with this payload
+abbrev pub message_of : Header → List ℕ → Fields
+message_of h payload = record { command = h.command; data_type = h.data_type; count = h.count; p1 = h.p1; p2 = h.p2; payload = payload }
+
 -- the message at the front of these bytes, which has this header
 abbrev pub first_at : List ℕ → Head → Fields
-first_at bytes head = record {
-  command = head.header.command;
-  data_type = head.header.data_type;
-  count = head.header.count;
-  p1 = head.header.p1;
-  p2 = head.header.p2;
-  payload = take head.header.size (drop head.start bytes);
-}
+first_at bytes head = message_of head.header (take head.header.size (drop head.start bytes))
 
 -- the end without it
 abbrev pub after_head : Head → ServerEnd → ServerEnd
 after_head head e = record e { link = with_rest (drop (head.start + head.header.size) e.link.input.bytes) e.link }
 
--- What is due by this relation was done for the first message, which has this header.
-abbrev pub DoesFirst : (Knows → Fields → List Fields → Action → Type 0) → Head → Handle → Store → ServerEnd → Effect → Store → ServerEnd → Type 0
-DoesFirst D head h s e did t new =
-    (port : ℕ)
-    → Does (D (known port s (after_head head e)) (first_at e.link.input.bytes head)) s h (after_head head e) (first_at e.link.input.bytes head) did t new
+-- the ERROR with this CID that says this status, and quotes this header
+abbrev pub error_on : ℕ → ℕ → Header → Fields
+error_on cid status h = record (bare command.Error) { p1 = cid; p2 = status; payload = header_spelling h ++ replicate 8 0 }
 
 -- what a header of a request on a channel names
 abbrev pub named_by : Header → Wanted

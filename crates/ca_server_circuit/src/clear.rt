@@ -8,12 +8,13 @@ ghost use Rattle.ca_wire.specs.Messages.{cleared_reply};
 ghost use Rattle.ca_model.specs.ServerSteps.{without_channel};
 ghost use Rattle.ca_server_circuit.specs.Clearing.{ArePuts, Withdraws};
 ghost use Rattle.ca_server_circuit.specs.Handling.{AreServed, replied};
+ghost use Rattle.ca_server_circuit.specs.Stepping.{message_of};
 
 use crate::end::{End, send};
 use crate::seek::Sought;
 use ca_arena::Handle;
 use ca_records::ServedRecords;
-use ca_wire::{Message, Sid, cleared_reply};
+use ca_wire::{Cid, Header, Sid, clear_request};
 use std::alloc::AllocError;
 
 impl End {
@@ -24,20 +25,22 @@ impl End {
         &mut self,
         circuit: Handle,
         records: &mut ServedRecords,
-        message: &Message,
+        header: &Header,
     ) -> Result<(), AllocError>
         requires open { IsOpen self.old.link }
         requires served { AreServed (records_of records.old) self.old.channels }
         requires puts { ArePuts circuit (records_of records.old) self.old.channels }
         ensures ok { OnOk result (self.new
-            ≡ replied (cleared_reply message.now ∷ []) (without_channel message.now.p1 self.old)) }
-        ensures records { OnOk result (Withdraws circuit message.now.p1 records.old records.new) }
+            ≡ replied (cleared_reply (message_of header.now []) ∷ [])
+            (without_channel header.now.p1 self.old)) }
+        ensures records { OnOk result (Withdraws circuit header.now.p1 records.old records.new) }
         ensures err { OnErr result (records.new ≡ records.old) }
         ensures output { OnErr result (self.new.link.output ≡ self.old.link.output) }
         ensures channels { OnErr result (self.new.channels ≡ self.old.channels) }
     {
-        send(&mut self.link, &cleared_reply(self.alloc, message))?;
-        let sid = message.channel_ids().sid;
+        let sid = Sid::new(header.p1);
+        let reply = clear_request(self.alloc, sid, Cid::new(header.p2));
+        send(&mut self.link, &reply)?;
         self.withdraw(circuit, records, sid);
         self.subscriptions.clear(sid);
         self.channels.close(sid);

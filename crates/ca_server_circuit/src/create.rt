@@ -3,17 +3,20 @@ ghost use Rattle.ca_ids.specs.Table.{is_full};
 ghost use Rattle.ca_link.specs.Calls.{IsOpen};
 ghost use Rattle.ca_records.specs.Store.{Finds};
 ghost use Rattle.ca_wire.specs.Messages.{failed_reply, text_in};
+ghost use Rattle.ca_wire.specs.Reading.{IsWhole};
 ghost use Rattle.ca_server_circuit.specs.Cids.{UsesCid};
 ghost use Rattle.ca_server_circuit.specs.Creating.{CreatesBy, IsCreation};
 ghost use Rattle.ca_server_circuit.specs.declared.step.Effect.TheVariants.{Opened, Quiet};
 ghost use Rattle.ca_server_circuit.specs.Handling.{AllStay, replied};
+ghost use Rattle.ca_server_circuit.specs.Stepping.{first_at, message_of};
 
 use crate::channel::Channel;
 use crate::end::{End, send};
+use crate::in_place::bare_of;
 use crate::step::Effect;
 use ca_ids::WireId;
 use ca_records::ServedRecords;
-use ca_wire::{Message, Sid, created_reply, failed_reply, rights_reply};
+use ca_wire::{Cid, Head, Header, Sid, created_reply, failed_reply, rights_reply};
 use std::alloc::AllocError;
 
 impl End {
@@ -22,35 +25,38 @@ impl End {
     pub(crate) fn create(
         &mut self,
         records: &ServedRecords,
-        message: &Message,
+        head: Head,
     ) -> Result<Effect, AllocError>
-        requires { IsOpen self.old.link }
+        requires open { IsOpen self.old.link }
+        requires whole { IsWhole self.old.link.input.bytes head }
         ensures ok { IfOk result (λ effect. (port : ℕ)
-            → CreatesBy port records.now self.old message.now effect self.new) }
+            → CreatesBy port records.now self.old (first_at self.old.link.input.bytes head)
+            effect self.new) }
         ensures output { OnErr result (self.new.link.output ≡ self.old.link.output) }
         ensures channels { OnErr result (AllStay self.old.channels self.new.channels) }
     {
-        let Some(place) = records.find(message.text()) else {
-            return self.refuse_channel(message);
+        let Some(place) = records.find(self.text(head)) else {
+            return self.refuse_channel(&head.header);
         };
-        if self.channels.has_cid(message.channel_cid()) {
-            return self.refuse_channel(message);
+        if self.channels.has_cid(Cid::new(head.header.p1)) {
+            return self.refuse_channel(&head.header);
         }
         if self.channels.is_full() {
-            return self.refuse_channel(message);
+            return self.refuse_channel(&head.header);
         }
-        self.open_channel(records, place, message)
+        self.open_channel(records, place, head)
     }
 
     /// CREATE_CH_FAIL.
-    fn refuse_channel(&mut self, message: &Message) -> Result<Effect, AllocError>
+    fn refuse_channel(&mut self, header: &Header) -> Result<Effect, AllocError>
         requires { IsOpen self.old.link }
         ensures ok { IfOk result (λ effect.
-            (effect ≡ Quiet) × (self.new ≡ replied (failed_reply message.now ∷ []) self.old)) }
+            (effect ≡ Quiet)
+            × (self.new ≡ replied (failed_reply (message_of header.now []) ∷ []) self.old)) }
         ensures output { OnErr result (self.new.link.output ≡ self.old.link.output) }
         ensures channels { OnErr result (self.new.channels ≡ self.old.channels) }
     {
-        let reply = failed_reply(self.alloc, message);
+        let reply = failed_reply(self.alloc, &bare_of(self.alloc, header));
         send(&mut self.link, &reply)?;
         Ok(Effect::Quiet)
     }
@@ -60,14 +66,17 @@ impl End {
         &mut self,
         records: &ServedRecords,
         place: usize,
-        message: &Message,
+        head: Head,
     ) -> Result<Effect, AllocError>
         requires open { IsOpen self.old.link }
-        requires found { Finds records.now (text_in message.now.payload) place }
+        requires found { Finds records.now
+            (text_in (first_at self.old.link.input.bytes head).payload) place }
         requires room { is_full self.old.channels ≡ false }
-        requires new { UsesCid self.old.channels message.now.p1 → ⊥ }
+        requires new { UsesCid self.old.channels head.header.p1 → ⊥ }
         ensures ok { IfOk result (λ effect.
-            (effect ≡ Opened place) × IsCreation records.now self.old message.now self.new) }
+            (effect ≡ Opened place)
+            × IsCreation records.now self.old (first_at self.old.link.input.bytes head)
+            self.new) }
         ensures output { OnErr result (self.new.link.output ≡ self.old.link.output) }
         ensures channels { OnErr result (AllStay self.old.channels self.new.channels) }
     {
@@ -75,13 +84,14 @@ impl End {
         let state = served.state();
         let rights = records.rights(&self.user, &self.host, state.name());
         let name = Vec::from_slice(self.alloc, state.name())?;
-        let channel = Channel::new(self.alloc, message.channel_cid(), name, place)?;
+        let channel = Channel::new(self.alloc, Cid::new(head.header.p1), name, place)?;
         let handle = self.channels.open(channel)?;
         let sid = Sid::new(WireId::of(handle).number());
         let data_type = state.value().base_type().number();
         let waited = self.link.out_bytes().len();
-        send(&mut self.link, &rights_reply(self.alloc, message, rights))?;
-        let reply = created_reply(self.alloc, message, data_type, state.count(), sid);
+        let request = bare_of(self.alloc, &head.header);
+        send(&mut self.link, &rights_reply(self.alloc, &request, rights))?;
+        let reply = created_reply(self.alloc, &request, data_type, state.count(), sid);
         match send(&mut self.link, &reply) {
             Ok(()) => {
                 self.settled = true;

@@ -1,8 +1,7 @@
-ghost use Rattle.std.specs.Prelude.{◌≡◌, IfOk, OnErr, OnOk, [], ◌∷◌};
+ghost use Rattle.std.specs.Prelude.{◌≡◌, OnErr, OnOk, [], ◌∷◌};
 ghost use Rattle.ca_link.specs.Calls.{IsOpen};
 ghost use Rattle.ca_link.specs.Link.{with_sent};
 ghost use Rattle.ca_model.specs.Server.{new_end};
-ghost use Rattle.ca_wire.specs.Messages.{text_in};
 
 use crate::channels::Channels;
 use ca_link::Link;
@@ -73,16 +72,4 @@ pub(crate) fn send(link: &mut Link, message: &Message) -> Result<(), AllocError>
         Ok(()) => Ok(()),
         Err(_) => Err(AllocError),
     }
-}
-
-/// The text of a message, in a Vec of its own. An empty text does not allocate.
-pub(crate) fn text_of(alloc: Global, message: &Message) -> Result<Vec<u8>, AllocError>
-    ensures ok { IfOk result (λ v. v.items ≡ text_in message.now.payload) }
-    ensures err { OnErr result (text_in message.now.payload ≡ [] → ⊥) }
-{
-    let text = message.text();
-    if text.is_empty() {
-        return Ok(Vec::new(alloc));
-    }
-    Vec::from_slice(alloc, text)
 }

@@ -1,17 +1,20 @@
-ghost use Rattle.std.specs.Prelude.{ℕ, ◌≡◌, IfOk, OnErr, OnOk, MatchOption, [], ◌∷◌, None, Some};
+ghost use Rattle.std.specs.Prelude.{ℕ, ◌≡◌, IfOk, OnErr, OnOk, MatchOption, [], ◌∷◌, None, Some, slice_index_or};
 ghost use Rattle.ca_arena.specs.declared.handle.Handle.{Handle};
 ghost use Rattle.ca_link.specs.Calls.{IsOpen};
 ghost use Rattle.ca_records.specs.Store.{records_of};
-ghost use Rattle.ca_wire.specs.Messages.{cancel_reply};
+ghost use Rattle.ca_wire.specs.Messages.{cancel_reply, mask_in};
+ghost use Rattle.ca_wire.specs.Reading.{IsWhole};
 ghost use Rattle.ca_queue.specs.Keys.{same};
 ghost use Rattle.ca_model.specs.Due.{key_in};
 ghost use Rattle.ca_model.specs.Faults.{subscribed_count, subscription_fault, type_of};
 ghost use Rattle.ca_model.specs.Server.{with_events, without_subscriptions};
 ghost use Rattle.ca_server_circuit.specs.Handling.{AreServed, Does, Subscribes, known, replied};
 ghost use Rattle.ca_server_circuit.specs.Seeking.{IsServed};
+ghost use Rattle.ca_server_circuit.specs.Stepping.{first_at, message_of};
 ghost use Rattle.ca_server_circuit.specs.Subscribing.{CanJoin, HasJoined, MayBegin};
 
 use crate::end::{End, send};
+use crate::in_place::{bare_of, named_by};
 use crate::seek::{Seat, Sought};
 use crate::step::Effect;
 use ca_dbr::{DataType, has_conversion, image_size};
@@ -19,7 +22,7 @@ use ca_queue::SubKey;
 use ca_records::{Record, ServedRecords};
 use ca_server_subscriptions::Update;
 use ca_text::{CIRCUIT_QUEUES, PAYLOAD_LIMIT, QUEUE_SUBSCRIPTIONS, Status};
-use ca_wire::{Message, cancel_reply};
+use ca_wire::{Head, Header, cancel_reply};
 use std::alloc::AllocError;
 
 /// Bytes of the payload of an EVENT_ADD.
@@ -31,22 +34,25 @@ impl End {
     pub(crate) fn subscribe(
         &mut self,
         records: &ServedRecords,
-        message: &Message,
+        head: Head,
     ) -> Result<Effect, AllocError>
         requires open { IsOpen self.old.link }
         requires served { AreServed (records_of records.now) self.old.channels }
+        requires whole { IsWhole self.old.link.input.bytes head }
         ensures ok { IfOk result (λ effect. (port : ℕ) (h : Handle)
-            → Does (Subscribes (known port records.now self.old) message.now) records.now h self.old
-            message.now effect records.now self.new) }
+            → Does (Subscribes (known port records.now self.old)
+            (first_at self.old.link.input.bytes head)) records.now h self.old
+            (first_at self.old.link.input.bytes head) effect records.now self.new) }
         ensures output { OnErr result (self.new.link.output ≡ self.old.link.output) }
         ensures channels { OnErr result (self.new.channels ≡ self.old.channels) }
     {
-        match self.seek(records, message.wanted().sid) {
+        let wanted = named_by(&head.header);
+        match self.seek(records, wanted.sid) {
             Sought::Stray(cid) => {
-                self.refuse(cid, Status::BADCHID, message)?;
+                self.refuse(cid, Status::BADCHID, head)?;
                 Ok(Effect::Quiet)
             }
-            Sought::Served(seat) => self.subscribe_on(seat, records, message),
+            Sought::Served(seat) => self.subscribe_on(seat, records, head),
         }
     }
 
@@ -55,57 +61,64 @@ impl End {
         &mut self,
         seat: Seat,
         records: &ServedRecords,
-        message: &Message,
+        head: Head,
     ) -> Result<Effect, AllocError>
         requires open { IsOpen self.old.link }
-        requires served { IsServed records.now self.old message.now.p1 seat }
+        requires served { IsServed records.now self.old head.header.p1 seat }
+        requires whole { IsWhole self.old.link.input.bytes head }
         ensures ok { IfOk result (λ effect. (port : ℕ) (h : Handle)
-            → Does (Subscribes (known port records.now self.old) message.now) records.now h self.old
-            message.now effect records.now self.new) }
+            → Does (Subscribes (known port records.now self.old)
+            (first_at self.old.link.input.bytes head)) records.now h self.old
+            (first_at self.old.link.input.bytes head) effect records.now self.new) }
         ensures output { OnErr result (self.new.link.output ≡ self.old.link.output) }
         ensures channels { OnErr result (self.new.channels ≡ self.old.channels) }
     {
         let state = records.at(seat.place).state();
         let rights = records.rights(&self.user, &self.host, state.name());
-        let in_use = self.subscriptions.has(key_of(message));
+        let in_use = self.subscriptions.has(key_of(&head.header));
         let others = self.subscriptions.len();
-        match event_fault(state, rights, in_use, others, message) {
+        let payload = self.payload(head);
+        match event_fault(state, rights, in_use, others, &head.header, payload) {
             None => {
-                self.join(state, message)?;
+                self.join(state, head)?;
                 Ok(Effect::Began(seat.place))
             }
             Some(status) => {
-                self.refuse(seat.cid, status, message)?;
+                self.refuse(seat.cid, status, head)?;
                 Ok(Effect::Quiet)
             }
         }
     }
 
     /// Begins the subscription that an EVENT_ADD asks for, on this record. Without memory all is as it was.
-    fn join(&mut self, of: &Record, message: &Message) -> Result<(), AllocError>
-        requires { CanJoin self.old message.now }
-        ensures ok { OnOk result (HasJoined of.now message.now self.old self.new) }
+    fn join(&mut self, of: &Record, head: Head) -> Result<(), AllocError>
+        requires whole { IsWhole self.old.link.input.bytes head }
+        requires may { CanJoin self.old (first_at self.old.link.input.bytes head) }
+        ensures ok { OnOk result (HasJoined of.now (first_at self.old.link.input.bytes head)
+            self.old self.new) }
         ensures err { OnErr result (self.new ≡ self.old) }
     {
         let name = Vec::from_slice(self.alloc, of.name())?;
         let update = Update::of(self.alloc, of.value(), *of.meta())?;
+        let mask = mask_in(self.payload(head));
         self.subscriptions
-            .begin(message.wanted(), name, message.mask_bits(), update)?;
+            .begin(named_by(&head.header), name, mask, update)?;
         Ok(())
     }
 
     /// EVENT_CANCEL: always confirmed.
     #[inline(never)]
-    pub(crate) fn cancel(&mut self, message: &Message) -> Result<(), AllocError>
+    pub(crate) fn cancel(&mut self, header: &Header) -> Result<(), AllocError>
         requires { IsOpen self.old.link }
         ensures ok { OnOk result (self.new
-            ≡ replied (cancel_reply message.now ∷ [])
-            (without_subscriptions (same (key_in message.now)) self.old)) }
+            ≡ replied (cancel_reply (message_of header.now []) ∷ [])
+            (without_subscriptions (same (key_in (message_of header.now []))) self.old)) }
         ensures output { OnErr result (self.new.link.output ≡ self.old.link.output) }
         ensures channels { OnErr result (self.new.channels ≡ self.old.channels) }
     {
-        send(&mut self.link, &cancel_reply(self.alloc, message))?;
-        self.subscriptions.cancel(key_of(message));
+        let request = bare_of(self.alloc, header);
+        send(&mut self.link, &cancel_reply(self.alloc, &request))?;
+        self.subscriptions.cancel(key_of(header));
         Ok(())
     }
 
@@ -118,12 +131,12 @@ impl End {
 }
 
 /// The key of the subscription that an EVENT_ADD or an EVENT_CANCEL names.
-fn key_of(message: &Message) -> SubKey
-    ensures { result ≡ key_in message.now }
+fn key_of(header: &Header) -> SubKey
+    ensures { result ≡ key_in (message_of header.now []) }
 {
     SubKey {
-        sid: message.p1(),
-        sub: message.p2(),
+        sid: header.p1,
+        sub: header.p2,
     }
 }
 
@@ -133,29 +146,31 @@ fn event_fault(
     rights: u32,
     in_use: bool,
     others: usize,
-    message: &Message,
+    header: &Header,
+    payload: &[u8],
 ) -> Option<Status>
     ensures { MatchOption result
-        ((subscription_fault of.now rights in_use others message.now (type_of message.now.data_type)
-        ≡ None) × MayBegin in_use others message.now)
+        ((subscription_fault of.now rights in_use others (message_of header.now payload.now)
+        (type_of header.now.data_type) ≡ None)
+        × MayBegin in_use others (message_of header.now payload.now))
         (λ s.
-        subscription_fault of.now rights in_use others message.now (type_of message.now.data_type)
-        ≡ Some s.number) }
+        subscription_fault of.now rights in_use others (message_of header.now payload.now)
+        (type_of header.now.data_type) ≡ Some s.number) }
 {
-    let count = count_of(of, message);
-    let Ok(size) = image_size(message.data_type(), count) else {
+    let count = count_of(of, header);
+    let Ok(size) = image_size(header.data_type, count) else {
         return Some(Status::BADTYPE);
     };
-    let Some(data_type) = DataType::of(message.data_type()) else {
+    let Some(data_type) = DataType::of(header.data_type) else {
         return Some(Status::BADTYPE);
     };
     if rights % 2 != 1 {
         return Some(Status::NORDACCESS);
     }
-    if message.payload().len() < EVENT_SIZE {
+    if payload.len() < EVENT_SIZE {
         return Some(Status::ADDFAIL);
     }
-    if message.mask_bits() % 16 == 0 {
+    if mask_in(payload) % 16 == 0 {
         return Some(Status::ADDFAIL);
     }
     if in_use {
@@ -177,9 +192,23 @@ fn event_fault(
 }
 
 /// How many elements a subscription is for: 0 means the greatest count.
-fn count_of(of: &Record, message: &Message) -> u32
-    ensures { result ≡ subscribed_count of.now message.now }
+fn count_of(of: &Record, header: &Header) -> u32
+    ensures { result ≡ subscribed_count of.now (message_of header.now []) }
 {
-    let count = message.count();
+    let count = header.count;
     if count == 0 { of.count() } else { count }
+}
+
+/// The mask in the payload of an EVENT_ADD: 0 if it ends before it.
+fn mask_in(payload: &[u8]) -> u16
+    ensures { (h : Header) → result ≡ mask_in (message_of h payload.now) }
+{
+    u16::from(byte_at(payload, 12)) * 256 + u16::from(byte_at(payload, 13))
+}
+
+/// The byte at this place, or 0.
+fn byte_at(bytes: &[u8], place: usize) -> u8
+    ensures { result ≡ slice_index_or bytes.now place 0 }
+{
+    if place < bytes.len() { bytes[place] } else { 0 }
 }

@@ -1,86 +1,98 @@
 ghost use Rattle.std.specs.Prelude.{◌≡◌, IfOk, OnErr, OnOk};
 ghost use Rattle.ca_link.specs.Calls.{IsOpen};
 ghost use Rattle.ca_records.specs.Store.{records_of};
+ghost use Rattle.ca_wire.specs.Reading.{IsWhole};
 ghost use Rattle.ca_model.specs.Due.{Due};
 ghost use Rattle.ca_server_circuit.specs.Clearing.{ArePuts};
 ghost use Rattle.ca_server_circuit.specs.declared.step.Effect.TheVariants.{Quiet};
 ghost use Rattle.ca_server_circuit.specs.Handling.{AllStay, AreServed, Does, IsQuiet, MayLack, known};
+ghost use Rattle.ca_server_circuit.specs.Stepping.{first_at};
 
 use crate::end::End;
+use crate::in_place::named_by;
 use crate::step::Effect;
 use ca_arena::Handle;
 use ca_records::ServedRecords;
 use ca_text::Command;
-use ca_wire::Message;
+use ca_wire::Head;
 use std::alloc::AllocError;
 
 impl End {
-    /// Handles one message of this circuit, at a server of this TCP port, and says what it leaves the server to do.
+    /// Handles the first message of this circuit, which has this header, at a server of this TCP port, and says what it leaves the server to do.
+    /// The message stays where it came.
     ///
     /// If there is no memory for it the records and what waits to be sent are as they were, and the end is to be closed.
+    #[inline(always)]
     pub(crate) fn handle(
         &mut self,
         port: u16,
         circuit: Handle,
         records: &mut ServedRecords,
-        message: &Message,
+        head: Head,
     ) -> Result<Effect, AllocError>
         requires open { IsOpen self.old.link }
         requires served { AreServed (records_of records.old) self.old.channels }
         requires puts { ArePuts circuit (records_of records.old) self.old.channels }
+        requires whole { IsWhole self.old.link.input.bytes head }
         ensures ok { IfOk result (λ effect.
-            Does (Due (known port records.old self.old) message.now) records.old circuit self.old
-            message.now effect records.new self.new) }
+            Does (Due (known port records.old self.old)
+            (first_at self.old.link.input.bytes head)) records.old circuit self.old
+            (first_at self.old.link.input.bytes head) effect records.new self.new) }
         ensures err { OnErr result (records.new ≡ records.old) }
         ensures output { OnErr result (self.new.link.output ≡ self.old.link.output) }
         ensures channels { OnErr result (AllStay self.old.channels self.new.channels) }
-        ensures memory { OnErr result (MayLack (known port records.old self.old) message.now) }
+        ensures memory { OnErr result (MayLack (known port records.old self.old)
+            (first_at self.old.link.input.bytes head)) }
     {
-        let Some(command) = Command::of(message.command()) else {
+        let Some(command) = Command::of(head.header.command) else {
             return Ok(Effect::Quiet);
         };
         match command {
-            Command::Write => self.write(records, message),
-            Command::WriteNotify => self.write_notify(circuit, records, message),
-            Command::EventAdd => self.subscribe(records, message),
-            Command::CreateChannel => self.create(records, message),
+            Command::Write => self.write(records, head),
+            Command::WriteNotify => self.write_notify(circuit, records, head),
+            Command::EventAdd => self.subscribe(records, head),
+            Command::CreateChannel => self.create(records, head),
             _ => {
-                self.handle_quiet(port, circuit, records, command, message)?;
+                self.handle_quiet(port, circuit, records, command, head)?;
                 Ok(Effect::Quiet)
             }
         }
     }
 
     /// Handles a message of a command that leaves the server nothing to do.
+    #[inline(never)]
     fn handle_quiet(
         &mut self,
         port: u16,
         circuit: Handle,
         records: &mut ServedRecords,
         command: Command,
-        message: &Message,
+        head: Head,
     ) -> Result<(), AllocError>
         requires open { IsOpen self.old.link }
         requires served { AreServed (records_of records.old) self.old.channels }
         requires puts { ArePuts circuit (records_of records.old) self.old.channels }
-        requires quiet { IsQuiet command message.now }
-        ensures ok { OnOk result (Does (Due (known port records.old self.old) message.now)
-            records.old circuit self.old message.now Quiet records.new self.new) }
+        requires whole { IsWhole self.old.link.input.bytes head }
+        requires quiet { IsQuiet command (first_at self.old.link.input.bytes head) }
+        ensures ok { OnOk result (Does (Due (known port records.old self.old)
+            (first_at self.old.link.input.bytes head)) records.old circuit self.old
+            (first_at self.old.link.input.bytes head) Quiet records.new self.new) }
         ensures err { OnErr result (records.new ≡ records.old) }
         ensures output { OnErr result (self.new.link.output ≡ self.old.link.output) }
         ensures channels { OnErr result (AllStay self.old.channels self.new.channels) }
-        ensures memory { OnErr result (MayLack (known port records.old self.old) message.now) }
+        ensures memory { OnErr result (MayLack (known port records.old self.old)
+            (first_at self.old.link.input.bytes head)) }
     {
         // What is rare stands out of line, so that a read or a write does not pay for its locals.
         match command {
             Command::Version => self.version(),
-            Command::ClientName => self.client_name(message),
-            Command::HostName => self.host_name(message),
+            Command::ClientName => self.client_name(head),
+            Command::HostName => self.host_name(head),
             Command::Echo => self.echo(),
-            Command::Search => self.search(port, records, message),
-            Command::ClearChannel => self.clear(circuit, records, message),
-            Command::ReadNotify => self.read(records, &message.wanted()),
-            Command::EventCancel => self.cancel(message),
+            Command::Search => self.search(port, records, head),
+            Command::ClearChannel => self.clear(circuit, records, &head.header),
+            Command::ReadNotify => self.read(records, &named_by(&head.header)),
+            Command::EventCancel => self.cancel(&head.header),
             Command::EventsOff => {
                 self.switch_events(false);
                 Ok(())

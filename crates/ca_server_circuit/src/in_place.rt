@@ -1,29 +1,28 @@
-//! Writes of any payload that are handled where they came: the value is read out of what came, and no message is made of them.
-ghost use Rattle.std.specs.Prelude.{ℕ, ◌≡◌, ◌<◌, MatchOption, length};
-ghost use Rattle.ca_text.specs.Command.{command_number};
-ghost use Rattle.ca_text.specs.declared.command.Command.TheVariants as command;
+//! The first message of a circuit is handled where it came: what it says is read there, and it is dropped then.
+ghost use Rattle.std.specs.Prelude.{◌≡◌, ◌==◌, ◌<◌, IfOk, OnErr, [], length, position};
 ghost use Rattle.ca_text.specs.Limits.{output_limit};
 ghost use Rattle.ca_link.specs.Calls.{IsOpen};
-ghost use Rattle.ca_arena.specs.declared.handle.Handle.{Handle};
 ghost use Rattle.ca_records.specs.Store.{records_of};
+ghost use Rattle.ca_wire.specs.Messages.{text_in};
 ghost use Rattle.ca_wire.specs.Reading.{IsWhole};
+ghost use Rattle.ca_model.specs.Due.{Due};
 ghost use Rattle.ca_server_circuit.specs.Clearing.{ArePuts};
-ghost use Rattle.ca_server_circuit.specs.declared.step.Effect.TheVariants.{Wrote};
-ghost use Rattle.ca_server_circuit.specs.Handling.{AreServed, Puts, Writes};
-ghost use Rattle.ca_server_circuit.specs.Stepping.{DoesFirst, EndSteps, named_by};
+ghost use Rattle.ca_server_circuit.specs.Handling.{AllStay, AreServed, Does, MayLack, known};
+ghost use Rattle.ca_server_circuit.specs.Stepping.{EndSteps, after_head, cause_for, first_at, message_of, named_by};
 
+use crate::bytes::know_bytes;
+use crate::cause::Cause;
 use crate::end::End;
-use crate::put::{begin, put_from};
-use crate::seek::Sought;
 use crate::step::{Effect, EndStep};
 use ca_arena::Handle;
-use ca_records::{Begun, ServedRecords};
-use ca_text::Command;
-use ca_wire::{Head, Header, Ioid, One, Sid, Wanted, read_one};
+use ca_records::ServedRecords;
+use ca_text::Refusal;
+use ca_wire::{Head, Header, Ioid, Message, One, Sid, Wanted, read_one};
+use std::alloc::{AllocError, Global};
 
 impl End {
-    /// Handles the next message of this circuit: where it came, if it is a write, else as a message of its own.
-    #[inline(always)]
+    /// Handles the next message of this circuit where it came, whatever it is.
+    #[inline(never)]
     pub(crate) fn step_by_place(
         &mut self,
         port: u16,
@@ -36,127 +35,92 @@ impl End {
         requires puts { ArePuts circuit (records_of records.old) self.old.channels }
         ensures { EndSteps port circuit self.old records.old result self.new records.new }
     {
-        match self.step_in_place(circuit, records) {
-            Some(step) => step,
-            None => self.step_by_message(port, circuit, records),
+        know_bytes(self.link.in_bytes());
+        match read_one(self.link.in_bytes()) {
+            One::Whole(head) => match self.take(port, circuit, records, head) {
+                Ok(effect) => EndStep::Handled(effect),
+                Err(_) => EndStep::Breaks(Cause::OutOfMemory),
+            },
+            One::More => EndStep::NeedBytes,
+            One::Bad(refusal) => EndStep::Breaks(cause_of(refusal)),
         }
     }
 
-    /// Handles the first message, if it is a WRITE or a WRITE_NOTIFY that is applied at once, or waits for its record. None if it is another,
-    /// or is refused; then nothing changes.
-    #[inline(never)]
-    fn step_in_place(&mut self, circuit: Handle, records: &mut ServedRecords) -> Option<EndStep>
-        requires open { IsOpen self.old.link }
-        requires room { length self.old.link.output < output_limit }
-        requires served { AreServed (records_of records.old) self.old.channels }
-        ensures { MatchOption result ((self.new ≡ self.old) × (records.new ≡ records.old))
-            (λ step. (port : ℕ)
-            → EndSteps port circuit self.old records.old step self.new records.new) }
-    {
-        let One::Whole(head) = read_one(self.link.in_bytes()) else {
-            return None;
-        };
-        if head.header.command == Command::Write.number() {
-            return match self.write_in_place(records, &head) {
-                Some(place) => Some(EndStep::Handled(Effect::Wrote(place))),
-                None => None,
-            };
-        }
-        if head.header.command == Command::WriteNotify.number() {
-            return match self.put_in_place(circuit, records, &head) {
-                Some(effect) => Some(EndStep::Handled(effect)),
-                None => None,
-            };
-        }
-        None
-    }
-
-    /// WRITE, if it is such a one. Says where it was applied.
-    fn write_in_place(&mut self, records: &mut ServedRecords, head: &Head) -> Option<usize>
-        requires served { AreServed (records_of records.old) self.old.channels }
-        requires whole { IsWhole self.old.link.input.bytes head.now }
-        requires command { head.now.header.command ≡ command_number command.Write }
-        ensures { MatchOption result ((self.new ≡ self.old) × (records.new ≡ records.old))
-            (λ place. (h : Handle)
-            → DoesFirst Writes head.now h records.old self.old (Wrote place) records.new self.new) }
-    {
-        let wanted = named_by(&head.header);
-        let Sought::Served(seat) = self.seek(records, wanted.sid) else {
-            return None;
-        };
-        let name = records.at(seat.place).state().name();
-        let rights = records.rights(&self.user, &self.host, name);
-        let end = head.start + head.header.size as usize;
-        let payload = &self.link.in_bytes()[head.start..end];
-        let Ok(begun) = begin(
-            self.alloc, records, seat.place, rights, None, &wanted, payload,
-        ) else {
-            return None;
-        };
-        match begun {
-            Begun::Applied(_) => {
-                self.link.drop_front(end);
-                Some(seat.place)
-            }
-            Begun::Waiting => unreachable!(),
-            Begun::Refused(_) => None,
-        }
-    }
-
-    /// WRITE_NOTIFY, if it is such a one. As in the general way, the reply of one on a quick record goes first.
-    fn put_in_place(
+    /// Handles the first message, which has this header, and drops it.
+    #[inline(always)]
+    fn take(
         &mut self,
+        port: u16,
         circuit: Handle,
         records: &mut ServedRecords,
-        head: &Head,
-    ) -> Option<Effect>
+        head: Head,
+    ) -> Result<Effect, AllocError>
         requires open { IsOpen self.old.link }
         requires served { AreServed (records_of records.old) self.old.channels }
-        requires whole { IsWhole self.old.link.input.bytes head.now }
-        requires command { head.now.header.command ≡ command_number command.WriteNotify }
-        ensures { MatchOption result ((self.new ≡ self.old) × (records.new ≡ records.old))
-            (λ effect.
-            DoesFirst Puts head.now circuit records.old self.old effect records.new self.new) }
+        requires puts { ArePuts circuit (records_of records.old) self.old.channels }
+        requires whole { IsWhole self.old.link.input.bytes head }
+        ensures ok { IfOk result (λ effect.
+            Does (Due (known port records.old (after_head head self.old))
+            (first_at self.old.link.input.bytes head)) records.old circuit
+            (after_head head self.old) (first_at self.old.link.input.bytes head) effect
+            records.new self.new) }
+        ensures err { OnErr result (records.new ≡ records.old) }
+        ensures output { OnErr result (self.new.link.output ≡ self.old.link.output) }
+        ensures channels { OnErr result (AllStay self.old.channels self.new.channels) }
+        ensures memory { OnErr result (MayLack (known port records.old self.old)
+            (first_at self.old.link.input.bytes head)) }
     {
-        let alloc = self.alloc;
-        let wanted = named_by(&head.header);
-        let Sought::Served(seat) = self.seek(records, wanted.sid) else {
-            return None;
-        };
-        let place = seat.place;
-        let state = records.at(place).state();
-        let rights = records.rights(&self.user, &self.host, state.name());
-        let is_slow = state.is_slow();
-        let waited = self.link.out_bytes().len();
-        let Ok(()) = self.acknowledge(is_slow, &wanted) else {
-            return None;
-        };
-        let put = Some(put_from(circuit, seat.channel, &wanted));
+        let effect = self.handle(port, circuit, records, head)?;
+        self.drop_first(head);
+        Ok(effect)
+    }
+
+    /// Drops the first message, which has this header.
+    #[inline(always)]
+    fn drop_first(&mut self, head: Head)
+        requires { IsWhole self.old.link.input.bytes head }
+        ensures { self.new ≡ after_head head self.old }
+    {
+        self.link.drop_front(head.start + head.header.size as usize);
+    }
+
+    /// The payload of the first message, which has this header.
+    #[inline(always)]
+    pub(crate) fn payload(&self, head: Head) -> &[u8]
+        requires { IsWhole self.now.link.input.bytes head }
+        ensures { result.now ≡ (first_at self.now.link.input.bytes head).payload }
+    {
         let end = head.start + head.header.size as usize;
-        let payload = &self.link.in_bytes()[head.start..end];
-        let Ok(begun) = begin(alloc, records, place, rights, put, &wanted, payload) else {
-            self.link.truncate(waited);
-            return None;
-        };
-        match begun {
-            Begun::Applied(_) => {
-                self.link.drop_front(end);
-                Some(Effect::Wrote(place))
-            }
-            Begun::Waiting => {
-                self.link.drop_front(end);
-                Some(Effect::Quiet)
-            }
-            Begun::Refused(_) => {
-                self.link.truncate(waited);
-                None
-            }
-        }
+        &self.link.in_bytes()[head.start..end]
+    }
+
+    /// The text in it, if it is a CLIENT_NAME, HOST_NAME, SEARCH or CREATE_CHAN: up to the first zero, or all of it.
+    pub(crate) fn text(&self, head: Head) -> &[u8]
+        requires { IsWhole self.now.link.input.bytes head }
+        ensures { result.now ≡ text_in (first_at self.now.link.input.bytes head).payload }
+    {
+        text_in(self.payload(head))
     }
 }
 
+/// The text in a payload.
+fn text_in(payload: &[u8]) -> &[u8]
+    ensures { result.now ≡ text_in payload.now }
+{
+    match first_zero(payload) {
+        Some(n) => &payload[..n],
+        None => payload,
+    }
+}
+
+fn first_zero(payload: &[u8]) -> Option<usize>
+    ensures { result ≡ position (λ b. b == 0) payload.now }
+{
+    payload.iter().position(|b| *b == 0)
+}
+
 /// What a header of a request on a channel names.
-fn named_by(header: &Header) -> Wanted
+pub(crate) fn named_by(header: &Header) -> Wanted
     ensures { result ≡ named_by header.now }
 {
     Wanted {
@@ -164,5 +128,34 @@ fn named_by(header: &Header) -> Wanted
         id: Ioid::new(header.p2),
         data_type: header.data_type,
         count: header.count,
+    }
+}
+
+/// The message of this header without its payload, for a reply that repeats what its header says.
+pub(crate) fn bare_of(alloc: Global, header: &Header) -> Message
+    ensures { result ≡ message_of header.now [] }
+{
+    let Header {
+        command,
+        data_type,
+        count,
+        p1,
+        p2,
+        ..
+    } = *header;
+    match Message::new(command, data_type, count, p1, p2, Vec::new(alloc)) {
+        Ok(message) => message,
+        Err(_) => unreachable!(),
+    }
+}
+
+/// Why an end is to be closed if this stands where a header should.
+fn cause_of(refusal: Refusal) -> Cause
+    ensures { result ≡ cause_for refusal }
+{
+    match refusal {
+        Refusal::Misaligned => Cause::Misaligned,
+        Refusal::TooLarge => Cause::TooLarge,
+        _ => Cause::OutOfMemory,
     }
 }

@@ -1,46 +1,67 @@
-ghost use Rattle.std.specs.Prelude.{◌≡◌, OnErr, OnOk, [], if◌then◌else◌};
+ghost use Rattle.std.specs.Prelude.{◌≡◌, IfOk, OnErr, OnOk, [], if◌then◌else◌};
 ghost use Rattle.ca_wire.specs.Messages.{text_in};
+ghost use Rattle.ca_wire.specs.Reading.{IsWhole};
+ghost use Rattle.ca_server_circuit.specs.Stepping.{first_at};
 
-use crate::end::{End, text_of};
-use ca_wire::Message;
-use std::alloc::AllocError;
+use crate::end::End;
+use ca_wire::Head;
+use std::alloc::{AllocError, Global};
 
 impl End {
     /// CLIENT_NAME: it counts until a channel was created.
     #[inline(never)]
-    pub(crate) fn client_name(&mut self, message: &Message) -> Result<(), AllocError>
+    pub(crate) fn client_name(&mut self, head: Head) -> Result<(), AllocError>
+        requires { IsWhole self.old.link.input.bytes head }
         ensures ok { OnOk result (self.new
             ≡ (if self.old.settled then self.old
             else record self.old {
-              peer = record self.old.peer { user = text_in message.now.payload };
+              peer = record self.old.peer {
+                user = text_in (first_at self.old.link.input.bytes head).payload;
+              };
             })) }
-        ensures err { OnErr result (text_in message.now.payload ≡ [] → ⊥) }
+        ensures err { OnErr result
+            (text_in (first_at self.old.link.input.bytes head).payload ≡ [] → ⊥) }
         ensures output { OnErr result (self.new.link.output ≡ self.old.link.output) }
         ensures channels { OnErr result (self.new.channels ≡ self.old.channels) }
     {
         if self.settled {
             return Ok(());
         }
-        self.user = text_of(self.alloc, message)?;
+        self.user = own(self.alloc, self.text(head))?;
         Ok(())
     }
 
     /// HOST_NAME: it counts until a channel was created.
     #[inline(never)]
-    pub(crate) fn host_name(&mut self, message: &Message) -> Result<(), AllocError>
+    pub(crate) fn host_name(&mut self, head: Head) -> Result<(), AllocError>
+        requires { IsWhole self.old.link.input.bytes head }
         ensures ok { OnOk result (self.new
             ≡ (if self.old.settled then self.old
             else record self.old {
-              peer = record self.old.peer { host = text_in message.now.payload };
+              peer = record self.old.peer {
+                host = text_in (first_at self.old.link.input.bytes head).payload;
+              };
             })) }
-        ensures err { OnErr result (text_in message.now.payload ≡ [] → ⊥) }
+        ensures err { OnErr result
+            (text_in (first_at self.old.link.input.bytes head).payload ≡ [] → ⊥) }
         ensures output { OnErr result (self.new.link.output ≡ self.old.link.output) }
         ensures channels { OnErr result (self.new.channels ≡ self.old.channels) }
     {
         if self.settled {
             return Ok(());
         }
-        self.host = text_of(self.alloc, message)?;
+        self.host = own(self.alloc, self.text(head))?;
         Ok(())
     }
+}
+
+/// A text in a Vec of its own. An empty one does not allocate.
+fn own(alloc: Global, text: &[u8]) -> Result<Vec<u8>, AllocError>
+    ensures ok { IfOk result (λ v. v.items ≡ text.now) }
+    ensures err { OnErr result (text.now ≡ [] → ⊥) }
+{
+    if text.is_empty() {
+        return Ok(Vec::new(alloc));
+    }
+    Vec::from_slice(alloc, text)
 }

@@ -1,11 +1,14 @@
 ghost use Rattle.std.specs.Prelude.{◌≡◌, OnErr, OnOk, []};
 ghost use Rattle.ca_link.specs.Calls.{IsOpen};
+ghost use Rattle.ca_wire.specs.Reading.{IsWhole};
 ghost use Rattle.ca_model.specs.Due.{search_due};
 ghost use Rattle.ca_server_circuit.specs.Handling.{known, replied};
+ghost use Rattle.ca_server_circuit.specs.Stepping.{first_at};
 
 use crate::end::{End, send};
+use crate::in_place::bare_of;
 use ca_records::ServedRecords;
-use ca_wire::{Message, not_found_reply, search_reply};
+use ca_wire::{Head, not_found_reply, search_reply};
 use std::alloc::AllocError;
 
 /// Data type of a SEARCH that wants an answer if the name is unknown.
@@ -18,23 +21,26 @@ impl End {
         &mut self,
         port: u16,
         records: &ServedRecords,
-        message: &Message,
+        head: Head,
     ) -> Result<(), AllocError>
-        requires { IsOpen self.old.link }
+        requires open { IsOpen self.old.link }
+        requires whole { IsWhole self.old.link.input.bytes head }
         ensures ok { OnOk result (self.new
-            ≡ replied (search_due (known port records.now self.old) message.now) self.old) }
-        ensures err { OnErr result (search_due (known port records.now self.old) message.now
-            ≡ [] → ⊥) }
+            ≡ replied (search_due (known port records.now self.old)
+            (first_at self.old.link.input.bytes head)) self.old) }
+        ensures err { OnErr result (search_due (known port records.now self.old)
+            (first_at self.old.link.input.bytes head) ≡ [] → ⊥) }
         ensures output { OnErr result (self.new.link.output ≡ self.old.link.output) }
         ensures channels { OnErr result (self.new.channels ≡ self.old.channels) }
     {
-        if records.has(message.text()) {
-            let reply = search_reply(self.alloc, port, message)?;
+        let request = bare_of(self.alloc, &head.header);
+        if records.has(self.text(head)) {
+            let reply = search_reply(self.alloc, port, &request)?;
             send(&mut self.link, &reply)?;
             return Ok(());
         }
-        if message.data_type() == REPLY_WANTED {
-            send(&mut self.link, &not_found_reply(self.alloc, message))?;
+        if head.header.data_type == REPLY_WANTED {
+            send(&mut self.link, &not_found_reply(self.alloc, &request))?;
         }
         Ok(())
     }

@@ -1,20 +1,16 @@
-ghost use Rattle.std.specs.Prelude.{◌≡◌, ◌<◌, IfOk, OnErr, length};
-ghost use Rattle.ca_text.specs.Limits.{output_limit};
+ghost use Rattle.std.specs.Prelude.{◌≡◌};
 ghost use Rattle.ca_link.specs.Calls.{IsOpen};
 ghost use Rattle.ca_records.specs.Store.{records_of};
 ghost use Rattle.ca_server_circuit.specs.Clearing.{ArePuts};
-ghost use Rattle.ca_model.specs.Due.{Due};
-ghost use Rattle.ca_server_circuit.specs.Handling.{AllStay, AreServed, Does, MayLack, is_wrote, known};
-ghost use Rattle.ca_server_circuit.specs.Stepping.{EndSteps, cause_for};
+ghost use Rattle.ca_server_circuit.specs.Handling.{AreServed, is_wrote};
+ghost use Rattle.ca_server_circuit.specs.Stepping.{EndSteps};
 
 use crate::bytes::know_bytes;
 use crate::cause::Cause;
 use crate::end::End;
 use ca_arena::Handle;
 use ca_records::ServedRecords;
-use ca_text::{Command, Refusal};
-use ca_wire::Message;
-use std::alloc::AllocError;
+use ca_text::Command;
 
 /// What a message that was handled leaves its server to do.
 #[derive(Clone, Copy, Debug, PartialEq, Eq)]
@@ -80,72 +76,5 @@ impl End {
             },
             None => self.step_by_write(port, circuit, records),
         }
-    }
-
-    /// Handles the next message of this circuit, whatever it is.
-    #[inline(always)]
-    pub(crate) fn step_by_message(
-        &mut self,
-        port: u16,
-        circuit: Handle,
-        records: &mut ServedRecords,
-    ) -> EndStep
-        requires open { IsOpen self.old.link }
-        requires room { length self.old.link.output < output_limit }
-        requires served { AreServed (records_of records.old) self.old.channels }
-        requires puts { ArePuts circuit (records_of records.old) self.old.channels }
-        ensures { EndSteps port circuit self.old records.old result self.new records.new }
-    {
-        know_bytes(self.link.in_bytes());
-        match self.link.next_message() {
-            Ok(None) => EndStep::NeedBytes,
-            Ok(Some(message)) => match self.take(port, circuit, records, message) {
-                Ok(effect) => EndStep::Handled(effect),
-                Err(_) => EndStep::Breaks(Cause::OutOfMemory),
-            },
-            Err(refusal) => EndStep::Breaks(cause_of(refusal)),
-        }
-    }
-
-    /// Handles this message, whose memory is for the next one then.
-    fn take(
-        &mut self,
-        port: u16,
-        circuit: Handle,
-        records: &mut ServedRecords,
-        message: Message,
-    ) -> Result<Effect, AllocError>
-        requires open { IsOpen self.old.link }
-        requires served { AreServed (records_of records.old) self.old.channels }
-        requires puts { ArePuts circuit (records_of records.old) self.old.channels }
-        ensures ok { IfOk result (λ effect.
-            Does (Due (known port records.old self.old) message) records.old circuit self.old
-            message effect records.new self.new) }
-        ensures err { OnErr result (records.new ≡ records.old) }
-        ensures output { OnErr result (self.new.link.output ≡ self.old.link.output) }
-        ensures channels { OnErr result (AllStay self.old.channels self.new.channels) }
-        ensures memory { OnErr result (MayLack (known port records.old self.old) message) }
-    {
-        let did = self.handle(port, circuit, records, &message);
-        self.recycle(message);
-        did
-    }
-
-    /// A message that was handled gives its memory to the next one.
-    fn recycle(&mut self, message: Message)
-        ensures { self.new ≡ self.old }
-    {
-        self.link.recycle(message);
-    }
-}
-
-/// Why an end is to be closed if its link refuses to read.
-fn cause_of(refusal: Refusal) -> Cause
-    ensures { result ≡ cause_for refusal }
-{
-    match refusal {
-        Refusal::Misaligned => Cause::Misaligned,
-        Refusal::TooLarge => Cause::TooLarge,
-        _ => Cause::OutOfMemory,
     }
 }

@@ -6,17 +6,20 @@ ghost use Rattle.ca_link.specs.Calls.{IsOpen};
 ghost use Rattle.ca_link.specs.Link.{with_sent};
 ghost use Rattle.ca_records.specs.Store.{records_of};
 ghost use Rattle.ca_wire.specs.Messages.{on_channel, status_reply};
+ghost use Rattle.ca_wire.specs.Reading.{IsWhole};
 ghost use Rattle.ca_server_circuit.specs.Handling.{AreServed, Does, Puts, known, replied};
 ghost use Rattle.ca_server_circuit.specs.Seeking.{IsServed};
+ghost use Rattle.ca_server_circuit.specs.Stepping.{first_at};
 
 use crate::end::{End, send};
+use crate::in_place::named_by;
 use crate::put::{begin, put_from};
 use crate::seek::{Seat, Sought};
 use crate::step::Effect;
 use ca_arena::Handle;
 use ca_records::{Begun, ServedRecords};
 use ca_text::Status;
-use ca_wire::{Message, Wanted, put_status, status_reply};
+use ca_wire::{Head, Wanted, put_status};
 use std::alloc::AllocError;
 
 impl End {
@@ -25,47 +28,52 @@ impl End {
     ///
     /// The reply of a quick one goes first, so that none is applied for whose reply there is no memory. It is taken back if the put is
     /// refused, or if there is no memory for the put itself.
-    #[inline(never)]
+    #[inline(always)]
     pub(crate) fn write_notify(
         &mut self,
         circuit: Handle,
         records: &mut ServedRecords,
-        message: &Message,
+        head: Head,
     ) -> Result<Effect, AllocError>
         requires open { IsOpen self.old.link }
         requires served { AreServed (records_of records.old) self.old.channels }
-        requires command { message.now.command ≡ command_number Command.WriteNotify }
+        requires whole { IsWhole self.old.link.input.bytes head }
+        requires command { head.header.command ≡ command_number Command.WriteNotify }
         ensures ok { IfOk result (λ effect. (port : ℕ)
-            → Does (Puts (known port records.old self.old) message.now) records.old circuit self.old
-            message.now effect records.new self.new) }
+            → Does (Puts (known port records.old self.old)
+            (first_at self.old.link.input.bytes head)) records.old circuit self.old
+            (first_at self.old.link.input.bytes head) effect records.new self.new) }
         ensures err { OnErr result (records.new ≡ records.old) }
         ensures output { OnErr result (self.new.link.output ≡ self.old.link.output) }
         ensures channels { OnErr result (self.new.channels ≡ self.old.channels) }
     {
-        match self.seek(records, message.wanted().sid) {
+        let wanted = named_by(&head.header);
+        match self.seek(records, wanted.sid) {
             Sought::Stray(_) => {
-                let reply = status_reply(self.alloc, message, Status::BADCHID);
-                send(&mut self.link, &reply)?;
+                self.refuse_put(&wanted, Status::BADCHID)?;
                 Ok(Effect::Quiet)
             }
-            Sought::Served(seat) => self.put_on(seat, circuit, records, message),
+            Sought::Served(seat) => self.put_on(seat, circuit, records, head),
         }
     }
 
     /// WRITE_NOTIFY to the record of this channel.
+    #[inline(always)]
     fn put_on(
         &mut self,
         seat: Seat,
         circuit: Handle,
         records: &mut ServedRecords,
-        message: &Message,
+        head: Head,
     ) -> Result<Effect, AllocError>
         requires open { IsOpen self.old.link }
-        requires served { IsServed records.old self.old message.now.p1 seat }
-        requires command { message.now.command ≡ command_number Command.WriteNotify }
+        requires served { IsServed records.old self.old head.header.p1 seat }
+        requires whole { IsWhole self.old.link.input.bytes head }
+        requires command { head.header.command ≡ command_number Command.WriteNotify }
         ensures ok { IfOk result (λ effect. (port : ℕ)
-            → Does (Puts (known port records.old self.old) message.now) records.old circuit self.old
-            message.now effect records.new self.new) }
+            → Does (Puts (known port records.old self.old)
+            (first_at self.old.link.input.bytes head)) records.old circuit self.old
+            (first_at self.old.link.input.bytes head) effect records.new self.new) }
         ensures err { OnErr result (records.new ≡ records.old) }
         ensures output { OnErr result (self.new.link.output ≡ self.old.link.output) }
         ensures channels { OnErr result (self.new.channels ≡ self.old.channels) }
@@ -76,7 +84,7 @@ impl End {
         let rights = records.rights(&self.user, &self.host, state.name());
         let is_slow = state.is_slow();
         let waited = self.link.out_bytes().len();
-        let wanted = message.wanted();
+        let wanted = named_by(&head.header);
         self.acknowledge(is_slow, &wanted)?;
         let put = Some(put_from(circuit, seat.channel, &wanted));
         let Ok(begun) = begin(
@@ -86,7 +94,7 @@ impl End {
             rights,
             put,
             &wanted,
-            message.payload(),
+            self.payload(head),
         ) else {
             self.link.truncate(waited);
             return Err(AllocError);
@@ -96,14 +104,28 @@ impl End {
             Begun::Waiting => Ok(Effect::Quiet),
             Begun::Refused(status) => {
                 self.link.truncate(waited);
-                send(&mut self.link, &status_reply(alloc, message, status))?;
+                self.refuse_put(&wanted, status)?;
                 Ok(Effect::Quiet)
             }
         }
     }
 
+    /// Answers a put with notification by a status that refuses it.
+    #[inline(never)]
+    fn refuse_put(&mut self, wanted: &Wanted, status: Status) -> Result<(), AllocError>
+        requires { IsOpen self.old.link }
+        ensures ok { OnOk result (self.new
+            ≡ replied (status_reply (on_channel Command.WriteNotify wanted.now []) status.number
+            ∷ []) self.old) }
+        ensures err { OnErr result (self.new ≡ self.old) }
+    {
+        let reply = put_status(self.alloc, wanted, status);
+        send(&mut self.link, &reply)?;
+        Ok(())
+    }
+
     /// The reply to a put with notification on a record that is quick.
-    pub(crate) fn acknowledge(&mut self, is_slow: bool, wanted: &Wanted) -> Result<(), AllocError>
+    fn acknowledge(&mut self, is_slow: bool, wanted: &Wanted) -> Result<(), AllocError>
         requires { IsOpen self.old.link }
         ensures ok { OnOk result (self.new ≡ replied (if is_slow then [] else status_reply
             (on_channel Command.WriteNotify wanted.now []) normal ∷ []) self.old) }

@@ -2,13 +2,13 @@ use Rattle.std.proofs.Common.{◌≡◌, ℕ, [], ◌∷◌, sym, ap, ◌∙◌,
 use Rattle.ca_ids.specs.Table.{Table}
 use Rattle.ca_link.specs.Link.{with_sent}
 use Rattle.ca_records.specs.Store.{records_of}
-use Rattle.ca_wire.specs.declared.requests.ChannelIds.{ChannelIds}
 use Rattle.ca_wire.specs.Fields.{Fields}
 use Rattle.ca_wire.specs.Messages.{cleared_reply}
 use Rattle.ca_model.specs.Server.{OpenChannel, ServerEnd}
 use Rattle.ca_server_circuit.specs.Clearing.{without_sid}
 use Rattle.ca_server_circuit.specs.Handling.{AreServed}
 use Rattle.ca_server_subscriptions.specs.Subscribed.{is_of_sid, without_those}
+use Rattle.ca_server_circuit.specs.Stepping.{message_of}
 use Rattle.ca_server_circuit.proofs.Joining.{cleared-end}
 use Rattle.ca_server_circuit.proofs.end.End.clear.Goals as goal
 
@@ -18,9 +18,10 @@ withdraw-requires-clause-served c =
 
 pub returns-clause-ok : goal.returns-clause-ok
 returns-clause-ok c =
-    let m = c.args.message.now in
-    let sid : c.channel_ids-sid.result.sid ≡ m.p1 = ap (λ (x : ChannelIds). x.sid) c.channel_ids-sid.ensures in
-    cleared-end _ c.args.self.now c.clear.new.self c.close.new.self c.send-2.new.link (cleared_reply m ∷ []) m.p1 c.self.view_is
-    (c.in_ok-send.ensures.ok ∙ ap (λ (x : Fields). with_sent (x ∷ []) c.self.inside.link) c.cleared_reply.ensures)
+    let m = message_of c.args.header.now [] in
+    let sid : c.new-sid.result ≡ m.p1 = c.new-sid.ensures in
+    let reply = c.clear_request-reply.ensures ∙ (λ i. cleared_reply (record m { p1 = sid i; p2 = c.new.ensures i })) in
+    cleared-end _ c.args.self.now c.clear.new.self c.close.new.self c.send.new.link (cleared_reply m ∷ []) m.p1 c.self.view_is
+    (c.in_ok-send.ensures.ok ∙ ap (λ (x : Fields). with_sent (x ∷ []) c.self.inside.link) reply)
     (c.close.ensures ∙ ap (λ (n : ℕ). without_sid n c.self.inside.channels) sid)
     (c.clear.ensures ∙ ap (λ (n : ℕ). without_those (is_of_sid n) c.self.inside.subscriptions) sid)
