@@ -1,10 +1,10 @@
 -- The lists of those that lead to records stay complete, as circuits and lists change.
-use Rattle.std.proofs.Common.{◌≡◌, ℕ, ◌⊎◌, inl, inr, Bool, true, false, cond, nat_eq, List, [], Option, Some, None, is_some, Result, Ok, Err, refl, sym, ap, ◌∙◌, subst}
+use Rattle.std.proofs.Common.{◌≡◌, ℕ, inl, inr, Bool, true, false, cond, nat_eq, List, [], Some, is_some, Result, Ok, Err, refl, sym, ap, ◌∙◌, subst}
 use Rattle.std.specs.Str.{bytes_eq}
 use Rattle.std.proofs.lemmas.Bool.{eq-eqb, eqb-true}
 use Rattle.std.proofs.lemmas.Slice.Eq.{bytes_eq-Decides}
 use Rattle.ca_arena.specs.declared.handle.Handle.{Handle}
-use Rattle.ca_ids.specs.Table.{MayGive, Table, under, with_changed, with_each, with_held}
+use Rattle.ca_ids.specs.Table.{MayGive, Table, under, with_changed, with_held}
 use Rattle.ca_records.specs.declared.puts.Finished.{Finished}
 use Rattle.ca_records.specs.Puts.{Record}
 use Rattle.ca_records.specs.Store.{Store, records_of}
@@ -25,7 +25,7 @@ use Rattle.ca_server_core.specs.Covering.{AreLed, AreListed, Covers, HasTo, Lead
 use Rattle.ca_server_core.specs.Ending.{EndsIn}
 use Rattle.ca_server_core.specs.Finishing.{effect_after}
 use Rattle.ca_server_core.specs.Following.{Begins, Follows, LeadsBut, LedFor}
-use Rattle.ca_server_core.specs.Reaching.{ReachesAll, ReachesFrom}
+use Rattle.ca_server_core.specs.Reaching.{ReachesFrom}
 use Rattle.ca_server_core.proofs.Closing.{not-ended}
 use Rattle.ca_server_core.proofs.Covered.{Thins, covers-thinned, ended-others, same-watch, thins-out, thins-same}
 use Rattle.ca_server_core.proofs.Each.{each-back}

@@ -1,5 +1,5 @@
 -- A record is removed, and one circuit after another loses it.
-use Rattle.std.proofs.Common.{◌≡◌, ℕ, zero, suc, ◌+◌, ◌<◌, ◌≤◌, ◌==◌, ◌&&◌, ◌||◌, ◌⊎◌, inl, inr, Bool, true, false, not, cond, nat_lt, nat_eq, List, [], ◌∷◌, ◌++◌, length, filter, take, Option, Some, None, is_some, Ok, Err, refl, sym, ap, ◌∙◌, subst, arith}
+use Rattle.std.proofs.Common.{◌≡◌, ℕ, zero, suc, ◌+◌, ◌<◌, ◌≤◌, ◌==◌, ◌&&◌, ◌||◌, ◌⊎◌, inl, inr, Bool, true, false, not, cond, nat_lt, List, [], ◌∷◌, ◌++◌, length, filter, take, Option, Some, None, is_some, Ok, Err, refl, sym, ap, ◌∙◌, subst, arith}
 use Rattle.std.specs.Str.{bytes_eq}
 use Rattle.std.specs.Prelude.{map, option_map, slice_get}
 use Rattle.std.proofs.lemmas.Bool.{eq-eqb, ltb-false, ltb-true}
@@ -20,7 +20,7 @@ use Rattle.ca_text.proofs.Places.{At-within, some_is}
 use Rattle.ca_link.specs.Link.{with_sent}
 use Rattle.ca_queue.specs.declared.entry.SubKey.{SubKey}
 use Rattle.ca_queue.specs.Circuit.{without_each}
-use Rattle.ca_server_watchers.specs.Watching.{AreApart, Clears, IsAmong, Watched, line_of, watching}
+use Rattle.ca_server_watchers.specs.Watching.{AreApart, Clears, IsAmong, Watched, line_of}
 use Rattle.ca_wire.specs.Messages.{disconnect}
 use Rattle.ca_wire.specs.Message.{spelled}
 use Rattle.ca_model.specs.Ends.{Why}
@@ -29,7 +29,7 @@ use Rattle.ca_model.specs.Server.{Ended, Open, OpenChannel, Server, ServerCircui
 use Rattle.ca_model.specs.ServerCalls.{Removes, channels_of, circuit_without, disconnects, end_without, is_on, retired}
 use Rattle.ca_model.specs.Speech.{In}
 use Rattle.ca_server_circuit.specs.Clearing.{ArePuts}
-use Rattle.ca_server_core.specs.Covering.{AreLed, AreListed, Covers, HasTo, IsServer, Leads}
+use Rattle.ca_server_core.specs.Covering.{AreListed, Covers, HasTo, IsServer, Leads}
 use Rattle.ca_server_circuit.specs.Ending.{WithdrawsAll}
 use Rattle.ca_server_core.specs.Removing.{HaveRoom, LosesAll, LosesIn, MayAllLose, MayLoseIn}
 use Rattle.ca_server_circuit.specs.Removing.{LosesAt, MayLose, leads_to}

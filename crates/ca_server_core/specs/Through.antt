@@ -1,5 +1,5 @@
 -- Working: what a write of a circuit leaves to do, where nobody else watches its record.
-use Rattle.std.specs.Prelude.{ℕ, ◌≡◌, Bool, true, false, is_some}
+use Rattle.std.specs.Prelude.{ℕ, ◌≡◌, true}
 use Rattle.ca_arena.specs.declared.handle.Handle.{Handle}
 use Rattle.ca_ids.specs.Table.{Table, under}
 use Rattle.ca_records.specs.Store.{Store, records_of}

@@ -1,8 +1,6 @@
-use Rattle.std.proofs.Common.{sym, subst}
-use Rattle.ca_records.specs.Store.{records_of}
+use Rattle.std.proofs.Common.{subst}
 use Rattle.ca_server_circuit.specs.declared.step.Effect.{Effect}
 use Rattle.ca_server_core.specs.Following.{CoversFor, LedFor}
-use Rattle.ca_server_core.specs.Covering.{AreLed}
 use Rattle.ca_server_core.proofs.Led.{covers-begun, led-begun, led-reached, listed-begun}
 use Rattle.ca_server_core.proofs.following.follow.Goals as goal
 

@@ -1,7 +1,7 @@
 use Rattle.std.proofs.Common.{◌≡◌, ℕ, List, ap, ◌∙◌, subst}
 use Rattle.ca_records.specs.Puts.{Record}
 use Rattle.ca_records.specs.Record.{RecordState}
-use Rattle.ca_server_watchers.specs.Watching.{OthersStay, Watches}
+use Rattle.ca_server_watchers.specs.Watching.{Watches}
 use Rattle.ca_model.specs.Ends as why
 use Rattle.ca_server_core.proofs.Led.{leads-entered, leads-out}
 use Rattle.ca_server_core.proofs.Listed.{listed-at, listed-ended}

@@ -1,7 +1,6 @@
-use Rattle.std.proofs.Common.{ℕ, ◌≡◌, ◌≤◌, List, length, sym, ap, ◌∙◌, subst, arith}
+use Rattle.std.proofs.Common.{sym, subst, arith}
 use Rattle.ca_arena.specs.declared.handle.Handle.{Handle}
 use Rattle.ca_records.specs.Store.{records_of}
-use Rattle.ca_text.specs.Place.{At}
 use Rattle.ca_server_core.specs.Removing.{LosesNext, MayLoseNext}
 use Rattle.ca_server_watchers.specs.Watching.{Watched, watching}
 use Rattle.ca_server_core.proofs.Removed.{losing-all, losing-may, losing-next, losing-none}

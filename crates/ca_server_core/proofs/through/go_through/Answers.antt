@@ -1,15 +1,10 @@
-use Rattle.std.proofs.Common.{◌≡◌, ℕ, ◌+◌, ◌-◌, List, [], length, slice_get, refl, sym, ap, ◌∙◌, subst, arith}
-use Rattle.ca_arena.specs.declared.handle.Handle.{Handle}
-use Rattle.ca_records.specs.Record.{RecordState}
-use Rattle.ca_text.specs.Place.{At}
-use Rattle.ca_text.proofs.Places.{At-within}
+use Rattle.std.proofs.Common.{◌≡◌, [], length, sym, ap, ◌∙◌, subst}
 use Rattle.ca_server_watchers.specs.Watching.{AreApart, Watched, watching}
 use Rattle.ca_server_watchers.proofs.Lines.{none-apart}
 use Rattle.ca_server_circuit.specs.declared.step.Effect.{Effect}
 use Rattle.ca_server_core.specs.Following.{CoversFor}
 use Rattle.ca_server_core.specs.Through.{GoesThrough}
-use Rattle.ca_server_core.proofs.Idle.{none-last}
-use Rattle.ca_server_core.proofs.GoneThrough.{goes-idle, goes-shown}
+use Rattle.ca_server_core.proofs.GoneThrough.{goes-idle}
 use Rattle.ca_server_core.proofs.through.go_through.Goals as goal
 
 pub returns-then-is_empty-clause-through : goal.returns-then-is_empty-clause-through

@@ -15,7 +15,6 @@ use Rattle.ca_server_core.proofs.Thinned.{thins-pumped}
 use Rattle.ca_server_circuit.specs.declared.step.Effect.TheVariants.{Quiet}
 use Rattle.ca_server_core.specs.Covering.{AreLed, AreListed, Covers}
 use Rattle.ca_server_core.specs.Following.{CoversFor, Follows, LedFor, Settles}
-use Rattle.ca_server_core.specs.Pumping.{IsIdleIn}
 use Rattle.ca_server_core.specs.Sound.{IsSound}
 use Rattle.ca_server_watchers.specs.Watching.{Watched}
 use Rattle.ca_server_core.specs.Serving.{stepped}
