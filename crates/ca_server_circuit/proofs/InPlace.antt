@@ -6,6 +6,7 @@ use Rattle.ca_dgram.proofs.Readings.{spells-fields_at}
 use Rattle.ca_link.specs.Link.{LinkState, with_rest}
 use Rattle.ca_dbr.specs.declared.data_type.BaseType.{BaseType}
 use Rattle.ca_dbr.specs.Elements.{Elements}
+use Rattle.ca_dbr.specs.Octets.{AreBytes}
 use Rattle.ca_records.specs.declared.puts.Begun.{Begun}
 use Rattle.ca_records.specs.declared.puts.Begun.TheVariants as begun
 use Rattle.ca_records.specs.Puts.{Record}
@@ -34,10 +35,12 @@ use Rattle.ca_model.specs.Server.{Server, ServerEnd, new_server}
 use Rattle.ca_model.specs.ServerSteps.{Acts}
 use Rattle.ca_server_circuit.specs.declared.seek.Seat.{Seat}
 use Rattle.ca_server_circuit.specs.declared.step.Effect.{Effect}
+use Rattle.ca_server_circuit.specs.declared.cause.Cause.TheVariants as cause
+use Rattle.ca_server_circuit.specs.declared.step.EndStep.TheVariants.{Breaks, Handled}
 use Rattle.ca_server_circuit.specs.Handling as here
-use Rattle.ca_server_circuit.specs.Handling.{Does, Recorded, known, replied}
+use Rattle.ca_server_circuit.specs.Handling.{AllStay, Does, MayLack, Recorded, known, replied}
 use Rattle.ca_server_circuit.specs.Putting.{IsRefused, IsTaken, WritesTo, asked, early}
-use Rattle.ca_server_circuit.specs.Stepping.{BreaksBy, Takes, after_head, cause_for, first_at}
+use Rattle.ca_server_circuit.specs.Stepping.{BreaksBy, EndSteps, Takes, after_head, cause_for, first_at}
 use Rattle.ca_server_circuit.proofs.Stays.{link-kept}
 use Rattle.ca_server_circuit.proofs.Taken.{put_in}
 
@@ -215,6 +218,17 @@ takes-first e head room whole =
     let n = head.start + head.header.size in
     let bytes = e.link.input.bytes in
     record { room = room; m = first_at bytes head; rest = drop n bytes; takes = (take n bytes, spells-fields_at bytes head whole, sym (take-append-drop n bytes)) }
+
+-- the message was handled, and dropped then
+pub steps-first : (port : ℕ) (h : Handle) (s t : Store) (e mid new : ServerEnd) (head : Head) (did : Effect) → length e.link.output < output_limit → IsWhole e.link.input.bytes head
+    → Does (Due (known port s e) (first_at e.link.input.bytes head)) s h e (first_at e.link.input.bytes head) did t mid → new ≡ after_head head mid → EndSteps port h e s (Handled did) new t
+steps-first port h s t e mid new head did room whole d gone =
+    (takes-first e head room whole, does-dropped port s t h e mid new (first_at e.link.input.bytes head) did head d gone)
+
+-- there was no memory for it
+pub breaks-first : (port : ℕ) (h : Handle) (s t : Store) (e new : ServerEnd) (head : Head) → length e.link.output < output_limit → IsWhole e.link.input.bytes head → AreBytes e.link.input.bytes
+    → MayLack (known port s e) (first_at e.link.input.bytes head) → new.link.output ≡ e.link.output → AllStay e.channels new.channels → t ≡ s → EndSteps port h e s (Breaks cause.OutOfMemory) new t
+breaks-first port h s t e new head room whole are lack output stay same = ((takes-first e head room whole, are, inr lack), output, stay, same)
 
 -- an end breaks at a bad header
 pub breaks-bad : (port : ℕ) (s : Store) (e : ServerEnd) (r : Refusal) → length e.link.output < output_limit → BadAt e.link.input.bytes r → BreaksBy port s e (cause_for r)

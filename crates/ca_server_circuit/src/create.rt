@@ -25,12 +25,12 @@ impl End {
     pub(crate) fn create(
         &mut self,
         records: &ServedRecords,
-        head: Head,
+        head: &Head,
     ) -> Result<Effect, AllocError>
         requires open { IsOpen self.old.link }
-        requires whole { IsWhole self.old.link.input.bytes head }
+        requires whole { IsWhole self.old.link.input.bytes head.now }
         ensures ok { IfOk result (λ effect. (port : ℕ)
-            → CreatesBy port records.now self.old (first_at self.old.link.input.bytes head)
+            → CreatesBy port records.now self.old (first_at self.old.link.input.bytes head.now)
             effect self.new) }
         ensures output { OnErr result (self.new.link.output ≡ self.old.link.output) }
         ensures channels { OnErr result (AllStay self.old.channels self.new.channels) }
@@ -66,16 +66,16 @@ impl End {
         &mut self,
         records: &ServedRecords,
         place: usize,
-        head: Head,
+        head: &Head,
     ) -> Result<Effect, AllocError>
         requires open { IsOpen self.old.link }
         requires found { Finds records.now
-            (text_in (first_at self.old.link.input.bytes head).payload) place }
+            (text_in (first_at self.old.link.input.bytes head.now).payload) place }
         requires room { is_full self.old.channels ≡ false }
-        requires new { UsesCid self.old.channels head.header.p1 → ⊥ }
+        requires new { UsesCid self.old.channels head.now.header.p1 → ⊥ }
         ensures ok { IfOk result (λ effect.
             (effect ≡ Opened place)
-            × IsCreation records.now self.old (first_at self.old.link.input.bytes head)
+            × IsCreation records.now self.old (first_at self.old.link.input.bytes head.now)
             self.new) }
         ensures output { OnErr result (self.new.link.output ≡ self.old.link.output) }
         ensures channels { OnErr result (AllStay self.old.channels self.new.channels) }

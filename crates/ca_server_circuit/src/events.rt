@@ -34,15 +34,15 @@ impl End {
     pub(crate) fn subscribe(
         &mut self,
         records: &ServedRecords,
-        head: Head,
+        head: &Head,
     ) -> Result<Effect, AllocError>
         requires open { IsOpen self.old.link }
         requires served { AreServed (records_of records.now) self.old.channels }
-        requires whole { IsWhole self.old.link.input.bytes head }
+        requires whole { IsWhole self.old.link.input.bytes head.now }
         ensures ok { IfOk result (λ effect. (port : ℕ) (h : Handle)
             → Does (Subscribes (known port records.now self.old)
-            (first_at self.old.link.input.bytes head)) records.now h self.old
-            (first_at self.old.link.input.bytes head) effect records.now self.new) }
+            (first_at self.old.link.input.bytes head.now)) records.now h self.old
+            (first_at self.old.link.input.bytes head.now) effect records.now self.new) }
         ensures output { OnErr result (self.new.link.output ≡ self.old.link.output) }
         ensures channels { OnErr result (self.new.channels ≡ self.old.channels) }
     {
@@ -61,15 +61,15 @@ impl End {
         &mut self,
         seat: Seat,
         records: &ServedRecords,
-        head: Head,
+        head: &Head,
     ) -> Result<Effect, AllocError>
         requires open { IsOpen self.old.link }
-        requires served { IsServed records.now self.old head.header.p1 seat }
-        requires whole { IsWhole self.old.link.input.bytes head }
+        requires served { IsServed records.now self.old head.now.header.p1 seat }
+        requires whole { IsWhole self.old.link.input.bytes head.now }
         ensures ok { IfOk result (λ effect. (port : ℕ) (h : Handle)
             → Does (Subscribes (known port records.now self.old)
-            (first_at self.old.link.input.bytes head)) records.now h self.old
-            (first_at self.old.link.input.bytes head) effect records.now self.new) }
+            (first_at self.old.link.input.bytes head.now)) records.now h self.old
+            (first_at self.old.link.input.bytes head.now) effect records.now self.new) }
         ensures output { OnErr result (self.new.link.output ≡ self.old.link.output) }
         ensures channels { OnErr result (self.new.channels ≡ self.old.channels) }
     {
@@ -91,10 +91,10 @@ impl End {
     }
 
     /// Begins the subscription that an EVENT_ADD asks for, on this record. Without memory all is as it was.
-    fn join(&mut self, of: &Record, head: Head) -> Result<(), AllocError>
-        requires whole { IsWhole self.old.link.input.bytes head }
-        requires may { CanJoin self.old (first_at self.old.link.input.bytes head) }
-        ensures ok { OnOk result (HasJoined of.now (first_at self.old.link.input.bytes head)
+    fn join(&mut self, of: &Record, head: &Head) -> Result<(), AllocError>
+        requires whole { IsWhole self.old.link.input.bytes head.now }
+        requires may { CanJoin self.old (first_at self.old.link.input.bytes head.now) }
+        ensures ok { OnOk result (HasJoined of.now (first_at self.old.link.input.bytes head.now)
             self.old self.new) }
         ensures err { OnErr result (self.new ≡ self.old) }
     {

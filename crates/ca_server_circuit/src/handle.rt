@@ -1,4 +1,6 @@
 ghost use Rattle.std.specs.Prelude.{◌≡◌, IfOk, OnErr, OnOk};
+ghost use Rattle.ca_text.specs.Command.{command_number};
+ghost use Rattle.ca_text.specs.declared.command.Command.TheVariants as command;
 ghost use Rattle.ca_link.specs.Calls.{IsOpen};
 ghost use Rattle.ca_records.specs.Store.{records_of};
 ghost use Rattle.ca_wire.specs.Reading.{IsWhole};
@@ -18,38 +20,37 @@ use ca_wire::Head;
 use std::alloc::AllocError;
 
 impl End {
-    /// Handles the first message of this circuit, which has this header, at a server of this TCP port, and says what it leaves the server to do.
-    /// The message stays where it came.
+    /// Handles the first message of this circuit, which has this header and is no write, at a server of this TCP port, and says what it leaves the
+    /// server to do. The message stays where it came.
     ///
     /// If there is no memory for it the records and what waits to be sent are as they were, and the end is to be closed.
-    #[inline(always)]
     pub(crate) fn handle(
         &mut self,
         port: u16,
         circuit: Handle,
         records: &mut ServedRecords,
-        head: Head,
+        head: &Head,
     ) -> Result<Effect, AllocError>
         requires open { IsOpen self.old.link }
         requires served { AreServed (records_of records.old) self.old.channels }
         requires puts { ArePuts circuit (records_of records.old) self.old.channels }
-        requires whole { IsWhole self.old.link.input.bytes head }
+        requires whole { IsWhole self.old.link.input.bytes head.now }
+        requires no_write { head.now.header.command ≡ command_number command.Write → ⊥ }
+        requires no_put { head.now.header.command ≡ command_number command.WriteNotify → ⊥ }
         ensures ok { IfOk result (λ effect.
             Does (Due (known port records.old self.old)
-            (first_at self.old.link.input.bytes head)) records.old circuit self.old
-            (first_at self.old.link.input.bytes head) effect records.new self.new) }
+            (first_at self.old.link.input.bytes head.now)) records.old circuit self.old
+            (first_at self.old.link.input.bytes head.now) effect records.new self.new) }
         ensures err { OnErr result (records.new ≡ records.old) }
         ensures output { OnErr result (self.new.link.output ≡ self.old.link.output) }
         ensures channels { OnErr result (AllStay self.old.channels self.new.channels) }
         ensures memory { OnErr result (MayLack (known port records.old self.old)
-            (first_at self.old.link.input.bytes head)) }
+            (first_at self.old.link.input.bytes head.now)) }
     {
         let Some(command) = Command::of(head.header.command) else {
             return Ok(Effect::Quiet);
         };
         match command {
-            Command::Write => self.write(records, head),
-            Command::WriteNotify => self.write_notify(circuit, records, head),
             Command::EventAdd => self.subscribe(records, head),
             Command::CreateChannel => self.create(records, head),
             _ => {
@@ -60,28 +61,27 @@ impl End {
     }
 
     /// Handles a message of a command that leaves the server nothing to do.
-    #[inline(never)]
     fn handle_quiet(
         &mut self,
         port: u16,
         circuit: Handle,
         records: &mut ServedRecords,
         command: Command,
-        head: Head,
+        head: &Head,
     ) -> Result<(), AllocError>
         requires open { IsOpen self.old.link }
         requires served { AreServed (records_of records.old) self.old.channels }
         requires puts { ArePuts circuit (records_of records.old) self.old.channels }
-        requires whole { IsWhole self.old.link.input.bytes head }
-        requires quiet { IsQuiet command (first_at self.old.link.input.bytes head) }
+        requires whole { IsWhole self.old.link.input.bytes head.now }
+        requires quiet { IsQuiet command (first_at self.old.link.input.bytes head.now) }
         ensures ok { OnOk result (Does (Due (known port records.old self.old)
-            (first_at self.old.link.input.bytes head)) records.old circuit self.old
-            (first_at self.old.link.input.bytes head) Quiet records.new self.new) }
+            (first_at self.old.link.input.bytes head.now)) records.old circuit self.old
+            (first_at self.old.link.input.bytes head.now) Quiet records.new self.new) }
         ensures err { OnErr result (records.new ≡ records.old) }
         ensures output { OnErr result (self.new.link.output ≡ self.old.link.output) }
         ensures channels { OnErr result (AllStay self.old.channels self.new.channels) }
         ensures memory { OnErr result (MayLack (known port records.old self.old)
-            (first_at self.old.link.input.bytes head)) }
+            (first_at self.old.link.input.bytes head.now)) }
     {
         // What is rare stands out of line, so that a read or a write does not pay for its locals.
         match command {

@@ -1,13 +1,15 @@
 //! The first message of a circuit is handled where it came: what it says is read there, and it is dropped then.
-ghost use Rattle.std.specs.Prelude.{◌≡◌, ◌==◌, ◌<◌, IfOk, OnErr, [], length, position};
+ghost use Rattle.std.specs.Prelude.{◌≡◌, ◌==◌, ◌<◌, [], length, position};
+ghost use Rattle.ca_text.specs.Command.{command_number};
+ghost use Rattle.ca_text.specs.declared.command.Command.TheVariants as command;
 ghost use Rattle.ca_text.specs.Limits.{output_limit};
 ghost use Rattle.ca_link.specs.Calls.{IsOpen};
 ghost use Rattle.ca_records.specs.Store.{records_of};
 ghost use Rattle.ca_wire.specs.Messages.{text_in};
 ghost use Rattle.ca_wire.specs.Reading.{IsWhole};
-ghost use Rattle.ca_model.specs.Due.{Due};
 ghost use Rattle.ca_server_circuit.specs.Clearing.{ArePuts};
-ghost use Rattle.ca_server_circuit.specs.Handling.{AllStay, AreServed, Does, MayLack, known};
+ghost use Rattle.ca_server_circuit.specs.declared.step.EndStep.TheVariants.{Handled};
+ghost use Rattle.ca_server_circuit.specs.Handling.{AreServed};
 ghost use Rattle.ca_server_circuit.specs.Stepping.{EndSteps, after_head, cause_for, first_at, message_of, named_by};
 
 use crate::bytes::know_bytes;
@@ -16,13 +18,13 @@ use crate::end::End;
 use crate::step::{Effect, EndStep};
 use ca_arena::Handle;
 use ca_records::ServedRecords;
-use ca_text::Refusal;
+use ca_text::{Command, Refusal};
 use ca_wire::{Head, Header, Ioid, Message, One, Sid, Wanted, read_one};
-use std::alloc::{AllocError, Global};
+use std::alloc::Global;
 
 impl End {
     /// Handles the next message of this circuit where it came, whatever it is.
-    #[inline(never)]
+    #[inline(always)]
     pub(crate) fn step_by_place(
         &mut self,
         port: u16,
@@ -35,69 +37,96 @@ impl End {
         requires puts { ArePuts circuit (records_of records.old) self.old.channels }
         ensures { EndSteps port circuit self.old records.old result self.new records.new }
     {
-        know_bytes(self.link.in_bytes());
         match read_one(self.link.in_bytes()) {
-            One::Whole(head) => match self.take(port, circuit, records, head) {
-                Ok(effect) => EndStep::Handled(effect),
-                Err(_) => EndStep::Breaks(Cause::OutOfMemory),
-            },
+            One::Whole(head) => self.step_first(port, circuit, records, &head),
             One::More => EndStep::NeedBytes,
             One::Bad(refusal) => EndStep::Breaks(cause_of(refusal)),
         }
     }
 
-    /// Handles the first message, which has this header, and drops it.
-    #[inline(always)]
-    fn take(
+    /// Handles the first message, which has this header. What the others need does not weigh on a write.
+    #[inline(never)]
+    fn step_first(
         &mut self,
         port: u16,
         circuit: Handle,
         records: &mut ServedRecords,
-        head: Head,
-    ) -> Result<Effect, AllocError>
+        head: &Head,
+    ) -> EndStep
         requires open { IsOpen self.old.link }
+        requires room { length self.old.link.output < output_limit }
         requires served { AreServed (records_of records.old) self.old.channels }
         requires puts { ArePuts circuit (records_of records.old) self.old.channels }
-        requires whole { IsWhole self.old.link.input.bytes head }
-        ensures ok { IfOk result (λ effect.
-            Does (Due (known port records.old (after_head head self.old))
-            (first_at self.old.link.input.bytes head)) records.old circuit
-            (after_head head self.old) (first_at self.old.link.input.bytes head) effect
-            records.new self.new) }
-        ensures err { OnErr result (records.new ≡ records.old) }
-        ensures output { OnErr result (self.new.link.output ≡ self.old.link.output) }
-        ensures channels { OnErr result (AllStay self.old.channels self.new.channels) }
-        ensures memory { OnErr result (MayLack (known port records.old self.old)
-            (first_at self.old.link.input.bytes head)) }
+        requires whole { IsWhole self.old.link.input.bytes head.now }
+        ensures { EndSteps port circuit self.old records.old result self.new records.new }
     {
-        let effect = self.handle(port, circuit, records, head)?;
-        self.drop_first(head);
-        Ok(effect)
+        know_bytes(self.link.in_bytes());
+        let command = head.header.command;
+        if command == Command::Write.number() {
+            return match self.write(records, head) {
+                Ok(effect) => self.handled(head, effect),
+                Err(_) => EndStep::Breaks(Cause::OutOfMemory),
+            };
+        }
+        if command == Command::WriteNotify.number() {
+            return match self.write_notify(circuit, records, head) {
+                Ok(effect) => self.handled(head, effect),
+                Err(_) => EndStep::Breaks(Cause::OutOfMemory),
+            };
+        }
+        self.step_other(port, circuit, records, head)
     }
 
-    /// Drops the first message, which has this header.
+    /// Handles the first message, which has this header and is no write.
+    #[inline(never)]
+    fn step_other(
+        &mut self,
+        port: u16,
+        circuit: Handle,
+        records: &mut ServedRecords,
+        head: &Head,
+    ) -> EndStep
+        requires open { IsOpen self.old.link }
+        requires room { length self.old.link.output < output_limit }
+        requires served { AreServed (records_of records.old) self.old.channels }
+        requires puts { ArePuts circuit (records_of records.old) self.old.channels }
+        requires whole { IsWhole self.old.link.input.bytes head.now }
+        requires no_write { head.now.header.command ≡ command_number command.Write → ⊥ }
+        requires no_put { head.now.header.command ≡ command_number command.WriteNotify → ⊥ }
+        ensures { EndSteps port circuit self.old records.old result self.new records.new }
+    {
+        know_bytes(self.link.in_bytes());
+        match self.handle(port, circuit, records, head) {
+            Ok(effect) => self.handled(head, effect),
+            Err(_) => EndStep::Breaks(Cause::OutOfMemory),
+        }
+    }
+
+    /// Drops the first message, which has this header and was handled with this effect.
     #[inline(always)]
-    fn drop_first(&mut self, head: Head)
-        requires { IsWhole self.old.link.input.bytes head }
-        ensures { self.new ≡ after_head head self.old }
+    fn handled(&mut self, head: &Head, effect: Effect) -> EndStep
+        requires { IsWhole self.old.link.input.bytes head.now }
+        ensures step { result ≡ Handled effect }
+        ensures dropped { self.new ≡ after_head head.now self.old }
     {
         self.link.drop_front(head.start + head.header.size as usize);
+        EndStep::Handled(effect)
     }
 
     /// The payload of the first message, which has this header.
     #[inline(always)]
-    pub(crate) fn payload(&self, head: Head) -> &[u8]
-        requires { IsWhole self.now.link.input.bytes head }
-        ensures { result.now ≡ (first_at self.now.link.input.bytes head).payload }
+    pub(crate) fn payload(&self, head: &Head) -> &[u8]
+        requires { IsWhole self.now.link.input.bytes head.now }
+        ensures { result.now ≡ (first_at self.now.link.input.bytes head.now).payload }
     {
         let end = head.start + head.header.size as usize;
         &self.link.in_bytes()[head.start..end]
     }
 
     /// The text in it, if it is a CLIENT_NAME, HOST_NAME, SEARCH or CREATE_CHAN: up to the first zero, or all of it.
-    pub(crate) fn text(&self, head: Head) -> &[u8]
-        requires { IsWhole self.now.link.input.bytes head }
-        ensures { result.now ≡ text_in (first_at self.now.link.input.bytes head).payload }
+    pub(crate) fn text(&self, head: &Head) -> &[u8]
+        requires { IsWhole self.now.link.input.bytes head.now }
+        ensures { result.now ≡ text_in (first_at self.now.link.input.bytes head.now).payload }
     {
         text_in(self.payload(head))
     }

@@ -10,17 +10,17 @@ use std::alloc::{AllocError, Global};
 impl End {
     /// CLIENT_NAME: it counts until a channel was created.
     #[inline(never)]
-    pub(crate) fn client_name(&mut self, head: Head) -> Result<(), AllocError>
-        requires { IsWhole self.old.link.input.bytes head }
+    pub(crate) fn client_name(&mut self, head: &Head) -> Result<(), AllocError>
+        requires { IsWhole self.old.link.input.bytes head.now }
         ensures ok { OnOk result (self.new
             ≡ (if self.old.settled then self.old
             else record self.old {
               peer = record self.old.peer {
-                user = text_in (first_at self.old.link.input.bytes head).payload;
+                user = text_in (first_at self.old.link.input.bytes head.now).payload;
               };
             })) }
         ensures err { OnErr result
-            (text_in (first_at self.old.link.input.bytes head).payload ≡ [] → ⊥) }
+            (text_in (first_at self.old.link.input.bytes head.now).payload ≡ [] → ⊥) }
         ensures output { OnErr result (self.new.link.output ≡ self.old.link.output) }
         ensures channels { OnErr result (self.new.channels ≡ self.old.channels) }
     {
@@ -33,17 +33,17 @@ impl End {
 
     /// HOST_NAME: it counts until a channel was created.
     #[inline(never)]
-    pub(crate) fn host_name(&mut self, head: Head) -> Result<(), AllocError>
-        requires { IsWhole self.old.link.input.bytes head }
+    pub(crate) fn host_name(&mut self, head: &Head) -> Result<(), AllocError>
+        requires { IsWhole self.old.link.input.bytes head.now }
         ensures ok { OnOk result (self.new
             ≡ (if self.old.settled then self.old
             else record self.old {
               peer = record self.old.peer {
-                host = text_in (first_at self.old.link.input.bytes head).payload;
+                host = text_in (first_at self.old.link.input.bytes head.now).payload;
               };
             })) }
         ensures err { OnErr result
-            (text_in (first_at self.old.link.input.bytes head).payload ≡ [] → ⊥) }
+            (text_in (first_at self.old.link.input.bytes head.now).payload ≡ [] → ⊥) }
         ensures output { OnErr result (self.new.link.output ≡ self.old.link.output) }
         ensures channels { OnErr result (self.new.channels ≡ self.old.channels) }
     {

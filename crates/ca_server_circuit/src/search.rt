@@ -21,15 +21,15 @@ impl End {
         &mut self,
         port: u16,
         records: &ServedRecords,
-        head: Head,
+        head: &Head,
     ) -> Result<(), AllocError>
         requires open { IsOpen self.old.link }
-        requires whole { IsWhole self.old.link.input.bytes head }
+        requires whole { IsWhole self.old.link.input.bytes head.now }
         ensures ok { OnOk result (self.new
             ≡ replied (search_due (known port records.now self.old)
-            (first_at self.old.link.input.bytes head)) self.old) }
+            (first_at self.old.link.input.bytes head.now)) self.old) }
         ensures err { OnErr result (search_due (known port records.now self.old)
-            (first_at self.old.link.input.bytes head) ≡ [] → ⊥) }
+            (first_at self.old.link.input.bytes head.now) ≡ [] → ⊥) }
         ensures output { OnErr result (self.new.link.output ≡ self.old.link.output) }
         ensures channels { OnErr result (self.new.channels ≡ self.old.channels) }
     {

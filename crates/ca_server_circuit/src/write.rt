@@ -26,16 +26,16 @@ impl End {
     pub(crate) fn write(
         &mut self,
         records: &mut ServedRecords,
-        head: Head,
+        head: &Head,
     ) -> Result<Effect, AllocError>
         requires open { IsOpen self.old.link }
         requires served { AreServed (records_of records.old) self.old.channels }
-        requires whole { IsWhole self.old.link.input.bytes head }
-        requires command { head.header.command ≡ command_number command.Write }
+        requires whole { IsWhole self.old.link.input.bytes head.now }
+        requires command { head.now.header.command ≡ command_number command.Write }
         ensures ok { IfOk result (λ effect. (port : ℕ) (h : Handle)
             → Does (Writes (known port records.old self.old)
-            (first_at self.old.link.input.bytes head)) records.old h self.old
-            (first_at self.old.link.input.bytes head) effect records.new self.new) }
+            (first_at self.old.link.input.bytes head.now)) records.old h self.old
+            (first_at self.old.link.input.bytes head.now) effect records.new self.new) }
         ensures err { OnErr result (records.new ≡ records.old) }
         ensures output { OnErr result (self.new.link.output ≡ self.old.link.output) }
         ensures channels { OnErr result (self.new.channels ≡ self.old.channels) }
@@ -56,16 +56,16 @@ impl End {
         &mut self,
         seat: Seat,
         records: &mut ServedRecords,
-        head: Head,
+        head: &Head,
     ) -> Result<Effect, AllocError>
         requires open { IsOpen self.old.link }
-        requires served { IsServed records.old self.old head.header.p1 seat }
-        requires whole { IsWhole self.old.link.input.bytes head }
-        requires command { head.header.command ≡ command_number command.Write }
+        requires served { IsServed records.old self.old head.now.header.p1 seat }
+        requires whole { IsWhole self.old.link.input.bytes head.now }
+        requires command { head.now.header.command ≡ command_number command.Write }
         ensures ok { IfOk result (λ effect. (port : ℕ) (h : Handle)
             → Does (Writes (known port records.old self.old)
-            (first_at self.old.link.input.bytes head)) records.old h self.old
-            (first_at self.old.link.input.bytes head) effect records.new self.new) }
+            (first_at self.old.link.input.bytes head.now)) records.old h self.old
+            (first_at self.old.link.input.bytes head.now) effect records.new self.new) }
         ensures err { OnErr result (records.new ≡ records.old) }
         ensures output { OnErr result (self.new.link.output ≡ self.old.link.output) }
         ensures channels { OnErr result (self.new.channels ≡ self.old.channels) }
@@ -89,12 +89,12 @@ impl End {
 
     /// Answers a request by ERROR.
     #[inline(never)]
-    pub(crate) fn refuse(&mut self, cid: Cid, status: Status, head: Head) -> Result<(), AllocError>
+    pub(crate) fn refuse(&mut self, cid: Cid, status: Status, head: &Head) -> Result<(), AllocError>
         requires open { IsOpen self.old.link }
-        requires whole { IsWhole self.old.link.input.bytes head }
+        requires whole { IsWhole self.old.link.input.bytes head.now }
         ensures ok { OnOk result (self.new
             ≡ replied (error_reply cid status.number
-            (first_at self.old.link.input.bytes head) ∷ []) self.old) }
+            (first_at self.old.link.input.bytes head.now) ∷ []) self.old) }
         ensures output { OnErr result (self.new.link.output ≡ self.old.link.output) }
         ensures channels { OnErr result (self.new.channels ≡ self.old.channels) }
     {

@@ -33,16 +33,16 @@ impl End {
         &mut self,
         circuit: Handle,
         records: &mut ServedRecords,
-        head: Head,
+        head: &Head,
     ) -> Result<Effect, AllocError>
         requires open { IsOpen self.old.link }
         requires served { AreServed (records_of records.old) self.old.channels }
-        requires whole { IsWhole self.old.link.input.bytes head }
-        requires command { head.header.command ≡ command_number Command.WriteNotify }
+        requires whole { IsWhole self.old.link.input.bytes head.now }
+        requires command { head.now.header.command ≡ command_number Command.WriteNotify }
         ensures ok { IfOk result (λ effect. (port : ℕ)
             → Does (Puts (known port records.old self.old)
-            (first_at self.old.link.input.bytes head)) records.old circuit self.old
-            (first_at self.old.link.input.bytes head) effect records.new self.new) }
+            (first_at self.old.link.input.bytes head.now)) records.old circuit self.old
+            (first_at self.old.link.input.bytes head.now) effect records.new self.new) }
         ensures err { OnErr result (records.new ≡ records.old) }
         ensures output { OnErr result (self.new.link.output ≡ self.old.link.output) }
         ensures channels { OnErr result (self.new.channels ≡ self.old.channels) }
@@ -64,16 +64,16 @@ impl End {
         seat: Seat,
         circuit: Handle,
         records: &mut ServedRecords,
-        head: Head,
+        head: &Head,
     ) -> Result<Effect, AllocError>
         requires open { IsOpen self.old.link }
-        requires served { IsServed records.old self.old head.header.p1 seat }
-        requires whole { IsWhole self.old.link.input.bytes head }
-        requires command { head.header.command ≡ command_number Command.WriteNotify }
+        requires served { IsServed records.old self.old head.now.header.p1 seat }
+        requires whole { IsWhole self.old.link.input.bytes head.now }
+        requires command { head.now.header.command ≡ command_number Command.WriteNotify }
         ensures ok { IfOk result (λ effect. (port : ℕ)
             → Does (Puts (known port records.old self.old)
-            (first_at self.old.link.input.bytes head)) records.old circuit self.old
-            (first_at self.old.link.input.bytes head) effect records.new self.new) }
+            (first_at self.old.link.input.bytes head.now)) records.old circuit self.old
+            (first_at self.old.link.input.bytes head.now) effect records.new self.new) }
         ensures err { OnErr result (records.new ≡ records.old) }
         ensures output { OnErr result (self.new.link.output ≡ self.old.link.output) }
         ensures channels { OnErr result (self.new.channels ≡ self.old.channels) }

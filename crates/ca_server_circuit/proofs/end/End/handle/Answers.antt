@@ -8,20 +8,12 @@ use Rattle.ca_server_circuit.proofs.end.End.handle.Goals as goal
 
 pub returns-in_default-clause-ok : goal.returns-in_default-clause-ok
 returns-in_default-clause-ok c =
-    does-nothing c.args.port c.args.records.now c.args.circuit c.args.self.now (first_at c.args.self.now.link.input.bytes c.args.head) (not-a-command c.args.head.header.command (λ d e. c.in_default.ensures d e))
-
-pub returns-in-Write-clause-ok : goal.returns-in-Write-clause-ok
-returns-in-Write-clause-ok c =
-    if-then c.write.result (λ writes d. does-for c.args.port c.args.records.now c.args.circuit c.args.self.now (first_at c.args.self.now.link.input.bytes c.args.head) writes c.write.new.records c.write.new.self command.Write (sym (ap command_number (sym c.in-Write.is) ∙ c.in-Some.ensures)) refl refl (d c.args.port c.args.circuit)) c.write.ensures.ok
-
-pub returns-in-WriteNotify-clause-ok : goal.returns-in-WriteNotify-clause-ok
-returns-in-WriteNotify-clause-ok c =
-    if-then c.write_notify.result (λ writes d. does-for c.args.port c.args.records.now c.args.circuit c.args.self.now (first_at c.args.self.now.link.input.bytes c.args.head) writes c.write_notify.new.records c.write_notify.new.self command.WriteNotify (sym (ap command_number (sym c.in-WriteNotify.is) ∙ c.in-Some.ensures)) refl refl (d c.args.port)) c.write_notify.ensures.ok
+    does-nothing c.args.port c.args.records.now c.args.circuit c.args.self.now (first_at c.args.self.now.link.input.bytes c.args.head.now) (not-a-command c.args.head.now.header.command (λ d e. c.in_default.ensures d e))
 
 pub returns-in-CreateChannel-clause-ok : goal.returns-in-CreateChannel-clause-ok
 returns-in-CreateChannel-clause-ok c =
-    if-then c.create.result (λ did d. does-create c.args.port c.args.records.now c.args.circuit c.args.self.now (first_at c.args.self.now.link.input.bytes c.args.head) c.create.new.self did (sym (ap command_number (sym c.in-CreateChannel.is) ∙ c.in-Some.ensures)) (d c.args.port)) c.create.ensures.ok
+    if-then c.create.result (λ did d. does-create c.args.port c.args.records.now c.args.circuit c.args.self.now (first_at c.args.self.now.link.input.bytes c.args.head.now) c.create.new.self did (sym (ap command_number (sym c.in-CreateChannel.is) ∙ c.in-Some.ensures)) (d c.args.port)) c.create.ensures.ok
 
 pub returns-in-EventAdd-clause-ok : goal.returns-in-EventAdd-clause-ok
 returns-in-EventAdd-clause-ok c =
-    if-then c.subscribe.result (λ did d. does-for c.args.port c.args.records.now c.args.circuit c.args.self.now (first_at c.args.self.now.link.input.bytes c.args.head) did c.args.records.now c.subscribe.new.self command.EventAdd (sym (ap command_number (sym c.in-EventAdd.is) ∙ c.in-Some.ensures)) refl refl (d c.args.port c.args.circuit)) c.subscribe.ensures.ok
+    if-then c.subscribe.result (λ did d. does-for c.args.port c.args.records.now c.args.circuit c.args.self.now (first_at c.args.self.now.link.input.bytes c.args.head.now) did c.args.records.now c.subscribe.new.self command.EventAdd (sym (ap command_number (sym c.in-EventAdd.is) ∙ c.in-Some.ensures)) refl refl (d c.args.port c.args.circuit)) c.subscribe.ensures.ok

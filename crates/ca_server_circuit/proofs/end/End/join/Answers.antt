@@ -11,8 +11,8 @@ use Rattle.ca_server_circuit.proofs.end.End.join.Goals as goal
 pub returns-clause-ok : goal.returns-clause-ok
 returns-clause-ok c =
     let e = c.args.self.now in
-    let h = c.args.head.header in
-    let m = first_at e.link.input.bytes c.args.head in
+    let h = c.args.head.now.header in
+    let m = first_at e.link.input.bytes c.args.head.now in
     let mask : c.mask_in-mask.result ≡ mask_in m = c.mask_in-mask.ensures h ∙ ap (λ (b : List ℕ). mask_in (message_of h b)) c.payload.ensures in
     let name = c.in_ok-name.ensures.items ∙ c.name.ensures in
     let asked : Subscription = record { wanted = c.named_by.result; name = c.in_ok-name.name.items; mask = c.mask_in-mask.result } in

@@ -19,7 +19,7 @@ pub returns-in-Applied-clause-ok : goal.returns-in-Applied-clause-ok
 returns-in-Applied-clause-ok c port =
     let s = c.args.records.now in
     let e = c.args.self.now in
-    let head = c.args.head in
+    let head = c.args.head.now in
     let m = first_at e.link.input.bytes head in
     let payload = c.payload.ensures ∙ ap (λ (x : ServerEnd). (first_at x.link.input.bytes head).payload) c.in_ok-acknowledge.ensures.ok in
     let i = c.requires.served in
@@ -40,7 +40,7 @@ pub returns-in-Waiting-clause-ok : goal.returns-in-Waiting-clause-ok
 returns-in-Waiting-clause-ok c port =
     let s = c.args.records.now in
     let e = c.args.self.now in
-    let head = c.args.head in
+    let head = c.args.head.now in
     let m = first_at e.link.input.bytes head in
     let payload = c.payload.ensures ∙ ap (λ (x : ServerEnd). (first_at x.link.input.bytes head).payload) c.in_ok-acknowledge.ensures.ok in
     let i = c.requires.served in
@@ -61,7 +61,7 @@ pub returns-in_ok-refuse_put-in-Refused-clause-ok : goal.returns-in_ok-refuse_pu
 returns-in_ok-refuse_put-in-Refused-clause-ok c port =
     let s = c.args.records.now in
     let e = c.args.self.now in
-    let head = c.args.head in
+    let head = c.args.head.now in
     let m = first_at e.link.input.bytes head in
     let payload = c.payload.ensures ∙ ap (λ (x : ServerEnd). (first_at x.link.input.bytes head).payload) c.in_ok-acknowledge.ensures.ok in
     let i = c.requires.served in

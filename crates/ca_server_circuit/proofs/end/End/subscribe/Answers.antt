@@ -11,7 +11,7 @@ pub returns-in_ok-refuse-in-Stray-clause-ok : goal.returns-in_ok-refuse-in-Stray
 returns-in_ok-refuse-in-Stray-clause-ok c port h =
     let s = c.args.records.now in
     let e = c.args.self.now in
-    let m = first_at e.link.input.bytes c.args.head in
+    let m = first_at e.link.input.bytes c.args.head.now in
     let is : IsStray e m.p1 c.in-Stray.cid = subst (λ (n : ℕ). IsStray e n c.in-Stray.cid) (ap (λ (w : Wanted). w.sid) c.named_by-wanted.ensures) c.in-Stray.ensures.seeks in
     replies-does (Subscribes (known port s e) m) s h e c.refuse.new.self m (stray-event port s e c.refuse.new.self m c.in-Stray.cid is c.in_ok-refuse-in-Stray.ensures.ok)
 

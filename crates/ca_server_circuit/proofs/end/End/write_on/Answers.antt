@@ -15,7 +15,7 @@ pub returns-in-Applied-clause-ok : goal.returns-in-Applied-clause-ok
 returns-in-Applied-clause-ok c port h =
     let s = c.args.records.now in
     let e = c.args.self.now in
-    let m = first_at e.link.input.bytes c.args.head in
+    let m = first_at e.link.input.bytes c.args.head.now in
     let i = c.requires.served in
     let bits = c.rights-rights.result in
     let b = c.in-Applied.field-0 in
@@ -30,7 +30,7 @@ pub returns-in_ok-refuse-in-Refused-clause-ok : goal.returns-in_ok-refuse-in-Ref
 returns-in_ok-refuse-in-Refused-clause-ok c port h =
     let s = c.args.records.now in
     let e = c.args.self.now in
-    let m = first_at e.link.input.bytes c.args.head in
+    let m = first_at e.link.input.bytes c.args.head.now in
     let i = c.requires.served in
     let bits = c.rights-rights.result in
     let right = right-is c.args.records.now c.args.self.now _ m.p1 c.args.seat i c.rights-rights.result _ _ _ c.at.result.now _ c.self.view_is c.deref.ensures.value c.deref-2.ensures.value c.at.ensures.at c.state.ensures c.name-name.ensures c.rights-rights.ensures in
