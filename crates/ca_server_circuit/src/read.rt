@@ -37,7 +37,8 @@ impl End {
         requires open { IsOpen self.old.link }
         requires served { AreServed (records_of records.now) self.old.channels }
         ensures ok { OnOk result ((port : ℕ)
-            → Replies (Reads (known port records.now self.old) (read_request wanted.now)) self.old self.new) }
+            → Replies (Reads (known port records.now self.old) (read_request wanted.now))
+            self.old self.new) }
         ensures output { OnErr result (self.new.link.output ≡ self.old.link.output) }
         ensures channels { OnErr result (self.new.channels ≡ self.old.channels) }
     {
@@ -65,7 +66,8 @@ fn answer(
     wanted: &Wanted,
 ) -> Result<(), AllocError>
     requires { IsOpen link.old }
-    ensures ok { OnOk result ((reply : Fields) × AnswersRead of.now rights (read_request wanted.now) reply
+    ensures ok { OnOk result ((reply : Fields)
+        × AnswersRead of.now rights (read_request wanted.now) reply
         × (link.new ≡ with_sent (reply ∷ []) link.old)) }
     ensures err { OnErr result (link.new ≡ link.old) }
 {

@@ -74,7 +74,8 @@ impl End {
         requires served { AreServed (records_of records.old) self.old.channels }
         requires short { HasShort command.Write self.old.link wanted.now }
         ensures { MatchOption result ((self.new ≡ self.old) × (records.new ≡ records.old))
-            (λ place. (h : Handle) → DoesShort Writes command.Write wanted.now h records.old self.old
+            (λ place. (h : Handle)
+            → DoesShort Writes command.Write wanted.now h records.old self.old
             (Wrote place) records.new self.new) }
     {
         let Sought::Served(seat) = self.seek(records, wanted.sid) else {

@@ -145,7 +145,8 @@ fn show(alloc: Global, link: &mut Link, wanted: &Wanted, shown: &Update) -> Resu
 /// The eight bytes that show an update to whoever asked so, if it has one element, of the type that is asked for.
 #[inline(always)]
 fn shown_alone(wanted: &Wanted, shown: &Update) -> Option<u64>
-    ensures { IfSome result (λ n. ShowsTo wanted.now shown.now (alone (update_alone wanted.now n))) }
+    ensures { IfSome result (λ n.
+        ShowsTo wanted.now shown.now (alone (update_alone wanted.now n))) }
 {
     if wanted.count > 1 {
         return None;

@@ -37,7 +37,8 @@ fn answers(
     messages: &[Message],
 ) -> Result<Vec<Vec<u8>>, AllocError>
     ensures ok { IfOk result (λ v.
-        ArePacked (flat_map (answer_of port records.now) messages.now) (map (λ d. d.items) v.items)) }
+        ArePacked (flat_map (answer_of port records.now) messages.now)
+        (map (λ d. d.items) v.items)) }
     ensures some { OnErr result (messages.now ≢ []) }
 {
     let mut replies = Vec::new(alloc);

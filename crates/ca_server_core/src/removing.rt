@@ -64,7 +64,8 @@ fn lose_on_next(
     name: &[u8],
 )
     requires { MayLoseNext (records_of records.old) name.now place leading.now circuits.old }
-    ensures { LosesNext name.now place leading.now circuits.old records.old circuits.new records.new }
+    ensures { LosesNext name.now place leading.now circuits.old records.old circuits.new
+        records.new }
 {
     let Some(circuit) = leading.at(name, place) else {
         return;

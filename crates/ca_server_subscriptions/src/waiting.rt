@@ -100,7 +100,8 @@ impl Waiting {
         requires placed { ArePlacedIn receivers.now self.old }
         requires few { count_of (elements value.now) ≤ element_limit }
         ensures ok { OnOk result (self.new ≡ fold
-            (λ qs r. map (queue_posted r.key (record { value = elements value.now; meta = meta.now })) qs)
+            (λ qs r. map
+            (queue_posted r.key (record { value = elements value.now; meta = meta.now })) qs)
             self.old (filter (is_masked mask) receivers.now)) }
         ensures err { OnErr result (list_any (is_masked mask) receivers.now ≡ true) }
         ensures placed { (es : Standings) → ArePlaced es self.old → ArePlaced es self.new }
@@ -134,7 +135,8 @@ impl Waiting {
         requires placed { ArePlacedIn receivers.now self.old }
         requires few { count_of (elements value.now) ≤ element_limit }
         ensures ok { OnOk result (self.new ≡ fold
-            (λ qs r. map (queue_posted r.key (record { value = elements value.now; meta = meta.now })) qs)
+            (λ qs r. map
+            (queue_posted r.key (record { value = elements value.now; meta = meta.now })) qs)
             self.old (filter (is_masked mask) receivers.now)) }
         ensures err { OnErr result (list_any (is_masked mask) receivers.now ≡ true) }
         ensures placed { (es : Standings) → ArePlaced es self.old → ArePlaced es self.new }
@@ -295,7 +297,8 @@ fn owe(
     mask: u16,
 ) -> Result<(), AllocError>
     requires { owed.old.items ≡ [] }
-    ensures { OnOk result (owed.new.items ≡ map addressee_of (filter (is_masked mask) receivers.now)) }
+    ensures { OnOk result (owed.new.items
+        ≡ map addressee_of (filter (is_masked mask) receivers.now)) }
 {
     'owing: for i in 0..receivers.len() {
         let receiver = &receivers[i];
@@ -358,7 +361,8 @@ fn put_all(
     mut copies: Vec<Update>,
     update: &Update,
 )
-    requires has { (i : ℕ) (a : Addressee) → At owed.old.items i a → HasAt queues.old a.queue a.key }
+    requires has { (i : ℕ) (a : Addressee) → At owed.old.items i a
+        → HasAt queues.old a.queue a.key }
     requires copies { AreCopies (length owed.old.items) update.now copies.items }
     ensures queues { queues.new ≡ with_owed owed.old.items update.now queues.old }
     ensures owed { owed.new.items ≡ [] }
