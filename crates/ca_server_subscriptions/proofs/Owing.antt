@@ -139,6 +139,12 @@ module _ {E : Type 0} where
   on-began on key v (Err refusal.OutOfMemory) old new b are = subst (AreSwitched on) (sym b.1) are
   on-began on key v (Err _) old new b are = absurd b
 
+  -- what was refused changed nothing
+  pub refused-none : (key : SubKey) (v : E) (e : Refusal) (old new : List (Queue E)) → MayBegin old key v (Err e) new → new ≡ old
+  refused-none key v refusal.OutOfMemory old new h = h
+  refused-none key v refusal.TooManySubscriptions old new h = h.1
+  refused-none key v _ old new h = absurd h
+
   pub may-begin : (key : SubKey) (v : E) (r : Result ℕ Refusal) (old new : List (Queue E)) → Begins old key v r new → MayBegin old key v r new
   may-begin key v (Ok place) old new b = b
   may-begin key v (Err refusal.TooManySubscriptions) old new b = b

@@ -28,6 +28,7 @@ invariant_of-self-2 c =
       c.self.invariant.1,
       c.self.invariant.2,
       c.self.invariant.3,
+      c.self.invariant.4,
     )
 
 pub returns-clause-gives : goal.returns-clause-gives
