@@ -1,4 +1,4 @@
-use Rattle.std.proofs.Common.{◌≡◌, None, List, ℕ, [], ◌∷◌, ◌++◌, sym, ap, ◌∙◌}
+use Rattle.std.proofs.Common.{None, [], ◌∷◌, ◌++◌, sym, ap, ◌∙◌}
 use Rattle.ca_server_subscriptions.specs.ByChannel.{IdLines, id_lines, ids_in, with_id}
 use Rattle.ca_server_subscriptions.proofs.Channels.{found, unchanged, written}
 use Rattle.ca_server_subscriptions.proofs.Placing.{in-err}

@@ -1,4 +1,4 @@
-use Rattle.std.proofs.Common.{◌≡◌, Some, List, ℕ, [], ◌∷◌, ◌++◌, sym, ap, ◌∙◌}
+use Rattle.std.proofs.Common.{Some, List, ℕ, [], ◌∷◌, ◌++◌, sym, ap, ◌∙◌}
 use Rattle.ca_server_subscriptions.specs.ByChannel.{IdLines, ids_in, with_id}
 use Rattle.ca_server_subscriptions.proofs.Channels.{changed}
 use Rattle.ca_server_subscriptions.proofs.by_channel.ByChannel.begin.Goals as goal

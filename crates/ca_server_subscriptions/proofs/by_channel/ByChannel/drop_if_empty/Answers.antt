@@ -1,4 +1,4 @@
-use Rattle.std.proofs.Common.{◌≡◌, ℕ, Some, sym, ap, ◌∙◌, arith}
+use Rattle.std.proofs.Common.{◌≡◌, Some, sym, ap, ◌∙◌, arith}
 use Rattle.std.proofs.lemmas.Bool.{eqb-true}
 use Rattle.ca_server_subscriptions.specs.ByChannel.{IdLines, ids_in}
 use Rattle.ca_server_subscriptions.proofs.Channels.{found, none-held}

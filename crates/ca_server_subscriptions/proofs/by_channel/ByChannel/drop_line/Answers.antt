@@ -1,4 +1,4 @@
-use Rattle.std.proofs.Common.{◌≡◌, None, sym, ap, ◌∙◌}
+use Rattle.std.proofs.Common.{None, sym, ap, ◌∙◌}
 use Rattle.ca_server_subscriptions.specs.ByChannel.{IdLines, id_lines, ids_in}
 use Rattle.ca_server_subscriptions.proofs.Channels.{changed, unchanged}
 use Rattle.ca_server_subscriptions.proofs.by_channel.ByChannel.drop_line.Goals as goal

@@ -1,4 +1,4 @@
-use Rattle.std.proofs.Common.{◌≡◌, List, ℕ, ◌-◌, None, Some, length, slice_get, sym, ap, ◌∙◌}
+use Rattle.std.proofs.Common.{List, ℕ, ◌-◌, None, Some, length, slice_get, sym, ap, ◌∙◌}
 use Rattle.ca_server_subscriptions.specs.ByChannel.{IdLines, ids_in}
 use Rattle.ca_server_subscriptions.proofs.Channels.{found}
 use Rattle.ca_server_subscriptions.proofs.by_channel.ByChannel.last.Goals as goal

@@ -1,4 +1,4 @@
-use Rattle.std.proofs.Common.{rules, ◌≡◌, ◌==◌, not, None, Some, List, ℕ, [], filter, sym, ap, ◌∙◌}
+use Rattle.std.proofs.Common.{rules, ◌==◌, not, None, ℕ, filter, sym, ap, ◌∙◌}
 use Rattle.std.proofs.lemmas.Fn.{filter_same}
 use Rattle.ca_server_subscriptions.specs.ByChannel.{IdLines, id_lines, ids_in, without_id}
 use Rattle.ca_server_subscriptions.proofs.Channels.{found, lost-none, written}
