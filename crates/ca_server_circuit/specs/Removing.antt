@@ -6,6 +6,7 @@ use Rattle.ca_arena.specs.Arena.{Place, place_at}
 use Rattle.ca_ids.specs.Table.{Table, held_at, with_each}
 use Rattle.ca_ids.specs.Walks.{with_place}
 use Rattle.ca_link.specs.Calls.{IsOpen}
+use Rattle.ca_link.specs.Link.{LinkState, with_sent}
 use Rattle.ca_records.specs.Puts.{Record}
 use Rattle.ca_records.specs.Store.{Store}
 use Rattle.ca_wire.specs.Fields.{Fields}
@@ -56,6 +57,10 @@ without_at name i e =
 -- the same for all channels: `end_without` but for the messages
 abbrev pub without_channels : List ℕ → ServerEnd → ServerEnd
 without_channels name e = without_subscriptions (is_on (channels_of name e)) (record e { channels = with_each (retired name) e.channels })
+
+-- some of these messages wait to be sent, the first ones, but not all
+abbrev pub SendsSome : List Fields → LinkState → LinkState → Type 0
+SendsSome ms l new = (k : ℕ) × (k < length ms) × (new ≡ with_sent (take k ms) l)
 
 -- Some SERVER_DISCONNs are due, and the first of them wait to be sent, but not all.
 abbrev pub TellsSome : List ℕ → ServerEnd → ServerEnd → Type 0

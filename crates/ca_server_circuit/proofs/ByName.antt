@@ -1,0 +1,1 @@
+-- The channels to a record, once a channel was opened, closed or retired.
