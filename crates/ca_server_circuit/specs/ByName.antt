@@ -1,11 +1,11 @@
 -- Working: the open channels of a circuit by the names of their records.
-use Rattle.std.specs.Prelude.{ℕ, ◌≡◌, ◌<◌, ◌≤◌, Bool, false, List, [], ◌∷◌, ◌++◌, Option, Some, None, filter, length, map, unwrap_or}
+use Rattle.std.specs.Prelude.{ℕ, ◌≡◌, ◌<◌, ◌≤◌, Bool, true, false, List, [], ◌∷◌, ◌++◌, Option, Some, None, filter, length, map, unwrap_or}
 use Rattle.std.specs.Map.{lookup}
 use Rattle.std.specs.Str.{bytes_eq}
 use Rattle.ca_arena.specs.declared.handle.Handle.{Handle}
 use Rattle.ca_ids.specs.Table.{Table, held}
-use Rattle.ca_model.specs.Server.{OpenChannel}
-use Rattle.ca_server_circuit.specs.Removing.{leads_to}
+use Rattle.ca_model.specs.Server.{OpenChannel, ServerEnd}
+use Rattle.ca_server_circuit.specs.Removing.{leads_to, without_channels}
 
 -- the channels to the record of this name, in order of index
 abbrev pub channels_to : (name : List ℕ) → Table OpenChannel → List Handle
@@ -15,6 +15,12 @@ channels_to name t = map (λ (c : Handle × OpenChannel). c.0) (filter (leads_to
 abbrev pub IsLastTo : (name : List ℕ) → Table OpenChannel → Option Handle → Type 0
 IsLastTo name t None = channels_to name t ≡ []
 IsLastTo name t (Some h) = (others : List Handle) × (channels_to name t ≡ others ++ h ∷ [])
+
+-- If a channel leads to the record of this name, one of them is retired: what is to be done for the record is done with those that are left.
+abbrev pub RetiresLast : List ℕ → ServerEnd → Bool → ServerEnd → Type 0
+RetiresLast name e true new =
+    (without_channels name new ≡ without_channels name e) × (length (channels_to name new.channels) < length (channels_to name e.channels))
+RetiresLast name e false new = (channels_to name e.channels ≡ []) × (new ≡ e)
 
 -- ---- lines of them, each under the name of its record
 
@@ -35,12 +41,12 @@ AreByName lines t = (name : List ℕ) → channels_in lines name ≡ channels_to
 -- ---- where a channel is in a line
 
 -- all of these have lower indices
-pub AreBelow : ℕ → List Handle → Type 0
+abbrev pub AreBelow : ℕ → List Handle → Type 0
 AreBelow i [] = Unit {0}
 AreBelow i (h ∷ hs) = (h.index < i) × AreBelow i hs
 
 -- none of these has a lower index
-pub AreFrom : ℕ → List Handle → Type 0
+abbrev pub AreFrom : ℕ → List Handle → Type 0
 AreFrom i [] = Unit {0}
 AreFrom i (h ∷ hs) = (i ≤ h.index) × AreFrom i hs
 

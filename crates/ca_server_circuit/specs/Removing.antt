@@ -4,7 +4,6 @@ use Rattle.std.specs.Str.{bytes_eq}
 use Rattle.ca_arena.specs.declared.handle.Handle.{Handle}
 use Rattle.ca_arena.specs.Arena.{Place, place_at}
 use Rattle.ca_ids.specs.Table.{Table, held_at, with_each}
-use Rattle.ca_ids.specs.Walks.{with_place}
 use Rattle.ca_link.specs.Calls.{IsOpen}
 use Rattle.ca_link.specs.Link.{LinkState, with_sent}
 use Rattle.ca_records.specs.Puts.{Record}
@@ -49,12 +48,7 @@ retired_at name p = record p { value = retired_in name p.value }
 
 -- ---- one end
 
--- the end whose channel of an index is retired without its subscriptions, if it leads to the record of this name
-abbrev pub without_at : List ℕ → ℕ → ServerEnd → ServerEnd
-without_at name i e =
-    without_subscriptions (is_on (leading_at name i e.channels)) (record e { channels = with_place i (retired_at name) e.channels })
-
--- the same for all channels: `end_without` but for the messages
+-- the end whose channels to the record of this name are retired without their subscriptions: `end_without` but for the messages
 abbrev pub without_channels : List ℕ → ServerEnd → ServerEnd
 without_channels name e = without_subscriptions (is_on (channels_of name e)) (record e { channels = with_each (retired name) e.channels })
 

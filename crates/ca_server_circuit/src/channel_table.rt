@@ -121,9 +121,10 @@ impl ChannelTable {
         ensures { self.new ≡ with_changed without_record channel self.old }
     {
         forget(&mut self.by_name, &self.table, channel);
-        if let Some(found) = self.table.by_handle_mut(channel) {
-            found.retire();
-        }
+        let Some(found) = self.table.by_handle_mut(channel) else {
+            return;
+        };
+        found.retire();
     }
 }
 

@@ -132,11 +132,10 @@ impl Channels {
     pub(crate) fn last_to(&self, name: &[u8]) -> Option<Handle>
         ensures { IsLastTo name.now self.now result }
     {
-        let channels = self.channels_to(name);
-        if channels.is_empty() {
-            return None;
+        match self.channels_to(name).last() {
+            Some(channel) => Some(*channel),
+            None => None,
         }
-        Some(channels[channels.len() - 1])
     }
 
     // The CID of the channel under this handle.

@@ -3,6 +3,7 @@ ghost use Rattle.ca_ids.specs.Table.{held};
 ghost use Rattle.ca_link.specs.Calls.{IsOpen};
 ghost use Rattle.ca_link.specs.Link.{with_sent};
 ghost use Rattle.ca_model.specs.ServerCalls.{disconnects, end_without};
+ghost use Rattle.ca_server_circuit.specs.ByName.{RetiresLast};
 ghost use Rattle.ca_server_circuit.specs.Handling.{replied};
 ghost use Rattle.ca_server_circuit.specs.Removing.{SendsSome, TellsSome, leads_to, notices, without_channels};
 
@@ -40,12 +41,23 @@ impl End {
     fn retire_all(&mut self, name: &[u8])
         ensures { self.new ≡ without_channels name.now self.old }
     {
-        // The last one first, for none moves up then in the line of that name.
-        'retiring: while let Some(channel) = self.channels.last_to(name) {
-            let sid = Sid::new(WireId::of(channel).number());
-            self.subscriptions.clear(sid);
-            self.channels.retire(channel);
+        let mut more = true;
+        'retiring: while more {
+            more = self.retire_last(name);
         }
+    }
+
+    /// The same for the last of them, for then none moves up in the line of that name. It says whether there was one.
+    fn retire_last(&mut self, name: &[u8]) -> bool
+        ensures { RetiresLast name.now self.old result self.new }
+    {
+        let Some(channel) = self.channels.last_to(name) else {
+            return false;
+        };
+        let sid = Sid::new(WireId::of(channel).number());
+        self.subscriptions.clear(sid);
+        self.channels.retire(channel);
+        true
     }
 }
 
