@@ -94,7 +94,7 @@ those-below name i (p ∷ t) =
     let n : (i + 1) + length t ≡ i + suc (length t) = omega arith in
     subst (λ (hs : List Handle). AreBelow (i + suc (length t)) hs) (sym (those-more name i p t))
     (below-append (i + suc (length t)) (own name i p) (those name (i + 1) t) (own-below name i (i + suc (length t)) p.generation p.value (omega arith))
-        (subst (λ (k : ℕ). AreBelow k (those name (i + 1) t)) n (those-below name (i + 1) t)))
+    (subst (λ (k : ℕ). AreBelow k (those name (i + 1) t)) n (those-below name (i + 1) t)))
 
 -- ---- those around an index, whatever is there
 
@@ -105,6 +105,15 @@ record Around (name : List ℕ) (i : ℕ) (with : Place OpenChannel → List Han
   are : AreBelow i below
   rest : AreFrom i from
   is : (p : Place OpenChannel) → with p ≡ below ++ (own name i p ++ from)
+
+-- one place more before them
+more-before : (name : List ℕ) (n k : ℕ) (q p : Place OpenChannel) (t : Channels) (below from : List Handle) → those name (n + 1) t ≡ below ++ (own name k p ++ from) → those name n (q ∷ t) ≡ (own name n q ++ below) ++ (own name k p ++ from)
+more-before name n k q p t below from is =
+    let here : List Handle = own name n q in
+    let there : List Handle = own name k p ++ from in
+    those-more name n q t
+    ∙ ap (λ (hs : List Handle). own name n q ++ hs) is
+    ∙ sym (append_assoc here below there)
 
 around-from : (name : List ℕ) (n : ℕ) (t : Channels) (i k : ℕ) → i < length t → n + i ≡ k → Around name k (λ p. those name n (slice_set t i p))
 around-from name n [] i k lt is = absurd (omega (arith, lt))
@@ -124,7 +133,7 @@ around-from name n (q ∷ t) (suc i) k lt is =
       from = r.from;
       are = below-append k (own name n q) r.below (own-below name n k q.generation q.value (omega (arith, is))) r.are;
       rest = r.rest;
-      is = λ p. those-more name n q (slice_set t i p) ∙ ap (λ (hs : List Handle). own name n q ++ hs) (r.is p) ∙ sym (append_assoc (own name n q) r.below (own name k p ++ r.from));
+      is = λ p. more-before name n k q p (slice_set t i p) r.below r.from (r.is p);
     }
 
 those-last : (name : List ℕ) (n : ℕ) (t : Channels) (k : ℕ) (p : Place OpenChannel) → n + length t ≡ k → those name n (t ++ p ∷ []) ≡ those name n t ++ (own name k p ++ [])

@@ -202,14 +202,14 @@ pub retired-once : (name : List ℕ) (v e : ServerEnd) (h : Handle) (others : Li
     → new ≡ without_those (is_of_sid sid) (events_of v) → t ≡ with_changed without_record h v.channels
     → (without_channels name (let x : ServerEnd = record v { channels = t; subscriptions = new.subscriptions; queues = new.queues } in x) ≡ without_channels name e) × (length (channels_to name t) < length (channels_to name e.channels))
 retired-once name v e h others new t sid same last id cleared closed = (
-    ap (λ (x : ServerEnd). without_channels name x) (λ i. let x : ServerEnd = record v { channels = closed i; subscriptions = (cleared i).subscriptions; queues = (cleared i).queues } in x)
-    ∙ ap (λ (u : Channels). let x : ServerEnd = record v { channels = u } in without_subscriptions (is_on (leading name changed)) (without_subscriptions (is_of_sid sid) x)) (all-retired name 0 changed ∙ unchanged ∙ sym (all-retired name 0 v.channels))
-    ∙ without-both (is_of_sid sid) (is_on (leading name changed)) all
-    ∙ ap (λ (gone : SubKey → Bool). without_subscriptions gone all) (λ i k. gone k i)
-    ∙ ap (λ (x : ServerEnd). without_channels name x) same,
-    (let fewer : length (channels_to name t) < length (channels_to name v.channels) = less in
-    subst (λ (x : ServerEnd). length (channels_to name t) < length (channels_to name x.channels)) same fewer),
-  )
+  ap (λ (x : ServerEnd). without_channels name x) (λ i. let x : ServerEnd = record v { channels = closed i; subscriptions = (cleared i).subscriptions; queues = (cleared i).queues } in x)
+      ∙ ap (λ (u : Channels). let x : ServerEnd = record v { channels = u } in without_subscriptions (is_on (leading name changed)) (without_subscriptions (is_of_sid sid) x)) (all-retired name 0 changed ∙ unchanged ∙ sym (all-retired name 0 v.channels))
+      ∙ without-both (is_of_sid sid) (is_on (leading name changed)) all
+      ∙ ap (λ (gone : SubKey → Bool). without_subscriptions gone all) (λ i k. gone k i)
+      ∙ ap (λ (x : ServerEnd). without_channels name x) same,
+  (let fewer : length (channels_to name t) < length (channels_to name v.channels) = less in
+      subst (λ (x : ServerEnd). length (channels_to name t) < length (channels_to name x.channels)) same fewer),
+)
   where
     changed : Channels
     changed = with_changed without_record h v.channels

@@ -1,5 +1,4 @@
-ghost use Rattle.std.specs.Prelude.{◌≡◌, ◌<◌, ◌≤◌, [], IfOk, OnErr, Some, false, is_some, length, option_copied, option_map};
-ghost use Rattle.ca_text.specs.Limits.{arena_slots};
+ghost use Rattle.std.specs.Prelude.{◌≡◌, ◌<◌, [], IfOk, OnErr, false, length, option_copied, option_map};
 ghost use Rattle.ca_arena.specs.Arena.{place_at};
 ghost use Rattle.ca_ids.specs.Table.{MayGive, by_wire, held_at, is_full, under, with_changed, with_freed, with_held};
 ghost use Rattle.ca_server_circuit.specs.ByName.{AreByName, channels_to};

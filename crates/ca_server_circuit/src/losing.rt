@@ -61,7 +61,7 @@ impl End {
     }
 }
 
-/// A SERVER_DISCONN for each of these channels to the record of this name, in order of index.
+/// A SERVER_DISCONN for each of these channels that leads to the record of this name, in order of index.
 fn tell_each(
     alloc: Global,
     link: &mut Link,
