@@ -1,5 +1,5 @@
 -- The channels to a record, once a channel was opened, closed or retired, and the lines that have them.
-use Rattle.std.proofs.Common.{◌≡◌, ℕ, zero, suc, ◌+◌, ◌-◌, ◌<◌, ◌≤◌, ◌==◌, ◌&&◌, ◌⊎◌, inl, inr, Bool, true, false, not, cond, eqb, List, [], ◌∷◌, ◌++◌, length, filter, map, Option, Some, None, is_some, slice_set, refl, sym, ap, ◌∙◌, subst, arith, append_assoc}
+use Rattle.std.proofs.Common.{◌≡◌, ℕ, zero, suc, ◌+◌, ◌-◌, ◌<◌, ◌≤◌, ◌&&◌, inl, inr, Bool, true, false, not, cond, eqb, List, [], ◌∷◌, ◌++◌, length, filter, map, Option, Some, None, is_some, slice_set, refl, sym, ap, ◌∙◌, subst, arith, append_assoc}
 use Rattle.std.specs.Prelude.{option_map, option_to_list, slice_get}
 use Rattle.std.specs.Str.{bytes_eq}
 use Rattle.std.proofs.lemmas.Bool.{both_ways, eq-eqb, eqb-true}
@@ -10,10 +10,10 @@ use Rattle.ca_text.specs.Place.{At}
 use Rattle.ca_text.proofs.Places.{some_is, At-or, At-within}
 use Rattle.ca_arena.specs.declared.handle.Handle.{Handle}
 use Rattle.ca_arena.specs.Arena.{Place, blank, place_at}
-use Rattle.ca_ids.specs.Table.{MayGive, Table, held, held_at, held_from, under, with_changed, with_freed, with_held}
+use Rattle.ca_ids.specs.Table.{MayGive, Table, held_at, held_from, under, with_changed, with_freed, with_held}
 use Rattle.ca_model.specs.Server.{OpenChannel}
 use Rattle.ca_server_circuit.specs.ByName.{AreBelow, AreByName, AreFrom, Enters, Goes, Lines, channels_in, channels_to}
-use Rattle.ca_server_circuit.specs.Removing.{leads_to, without_record}
+use Rattle.ca_server_circuit.specs.Removing.{leads_to}
 use Rattle.ca_server_circuit.proofs.Tables.{none-some, place, under-at}
 
 abbrev Channels : Type 0

@@ -1,14 +1,14 @@
 -- An end loses a record: the SERVER_DISCONNs of its channels, and then the channels with their subscriptions, one after another.
-use Rattle.std.proofs.Common.{◌≡◌, ◌≢◌, ℕ, zero, suc, ◌+◌, ◌-◌, ◌<◌, ◌≤◌, ◌==◌, ◌&&◌, ◌||◌, ◌⊎◌, inl, inr, Bool, true, false, not, cond, List, [], ◌∷◌, ◌++◌, length, filter, get_or, map, take, Option, Some, None, is_some, slice_set, refl, sym, ap, ◌∙◌, subst, arith, append_assoc, length-append}
+use Rattle.std.proofs.Common.{◌≡◌, ◌≢◌, ℕ, zero, suc, ◌+◌, ◌<◌, ◌≤◌, ◌==◌, ◌&&◌, ◌||◌, Bool, true, false, not, cond, List, [], ◌∷◌, ◌++◌, length, filter, get_or, map, take, Option, Some, None, is_some, slice_set, refl, sym, ap, ◌∙◌, subst, arith, append_assoc, length-append}
 use Rattle.std.proofs.Math.Numerals.{add-one}
-use Rattle.std.specs.Prelude.{IsSome, option_map, slice_get}
+use Rattle.std.specs.Prelude.{IsSome, option_map}
 use Rattle.std.specs.List.{list_any}
 use Rattle.std.specs.Str.{bytes_eq}
-use Rattle.std.proofs.lemmas.Bool.{both_ways, eq-eqb, eqb-true}
+use Rattle.std.proofs.lemmas.Bool.{eq-eqb, eqb-true}
 use Rattle.std.proofs.lemmas.Grind.{flat_map-append}
 use Rattle.std.proofs.lemmas.List.{append-nil, length-map, map-append, take_all}
 use Rattle.ca_text.specs.Place.{At}
-use Rattle.ca_text.proofs.Places.{some_is, At-last, At-map, At-mapped, At-or, At-within}
+use Rattle.ca_text.proofs.Places.{some_is, At-last, At-map, At-mapped, At-within}
 use Rattle.ca_arena.specs.declared.handle.Handle.{Handle}
 use Rattle.ca_arena.specs.Arena.{Place}
 use Rattle.ca_ids.specs.Table.{Table, held, under, with_changed, with_each_from, with_freed}
@@ -20,13 +20,13 @@ use Rattle.ca_wire.specs.Fields.{Fields}
 use Rattle.ca_wire.specs.Message.{spelled, spelling}
 use Rattle.ca_wire.specs.Messages.{disconnect}
 use Rattle.ca_model.specs.Server.{OpenChannel, ServerEnd, Subscription, key_of, without_subscriptions}
-use Rattle.ca_model.specs.ServerCalls.{channels_of, disconnects, end_without, is_on, retired}
+use Rattle.ca_model.specs.ServerCalls.{disconnects, end_without, is_on, retired}
 use Rattle.ca_server_subscriptions.proofs.Sieves.{each-both, each-false, filter-all, filter-both}
 use Rattle.ca_server_subscriptions.specs.Subscribed.{Subscribed, is_of_sid, without_those}
 use Rattle.ca_server_circuit.specs.ByName.{AreBelow, AreFrom, RetiresLast, channels_to}
 use Rattle.ca_server_circuit.specs.Concerned.{ids_of}
 use Rattle.ca_server_circuit.specs.Handling.{replied}
-use Rattle.ca_server_circuit.specs.Removing.{SendsSome, TellsSome, leads_to, notices, retired_at, without_channels, without_record}
+use Rattle.ca_server_circuit.specs.Removing.{SendsSome, leads_to, notices, retired_at, without_channels, without_record}
 use Rattle.ca_server_circuit.specs.Subscribing.{events_of}
 use Rattle.ca_server_circuit.proofs.ByName.{changed-is, changed-one, handle, own, own-is, parts-to, retired-are, spot, those, those-more}
 use Rattle.ca_server_circuit.proofs.Tables.{listed-under, place, under-at}

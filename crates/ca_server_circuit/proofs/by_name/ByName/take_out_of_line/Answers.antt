@@ -1,5 +1,5 @@
-use Rattle.std.proofs.Common.{sym, ap, ◌∙◌, subst}
-use Rattle.ca_server_circuit.specs.ByName.{Goes, Lines, channels_in, lines_in}
+use Rattle.std.proofs.Common.{sym, ap, subst}
+use Rattle.ca_server_circuit.specs.ByName.{Goes, Lines, lines_in}
 use Rattle.ca_server_circuit.proofs.Lines.{goes-from-none, goes-too, unlined}
 use Rattle.ca_server_circuit.proofs.by_name.ByName.take_out_of_line.Goals as goal
 
