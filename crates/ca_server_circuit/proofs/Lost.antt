@@ -22,12 +22,11 @@ use Rattle.ca_wire.specs.Messages.{disconnect}
 use Rattle.ca_model.specs.Server.{OpenChannel, ServerEnd, Subscription, key_of, without_subscriptions}
 use Rattle.ca_model.specs.ServerCalls.{disconnects, end_without, is_on, retired}
 use Rattle.ca_server_subscriptions.proofs.Sieves.{each-both, each-false, filter-all, filter-both}
-use Rattle.ca_server_subscriptions.specs.Subscribed.{Subscribed, is_of_sid, without_those}
+use Rattle.ca_server_subscriptions.specs.Subscribed.{is_of_sid}
 use Rattle.ca_server_circuit.specs.ByName.{AreBelow, AreFrom, RetiresLast, channels_to}
 use Rattle.ca_server_circuit.specs.Concerned.{ids_of}
 use Rattle.ca_server_circuit.specs.Handling.{replied}
-use Rattle.ca_server_circuit.specs.Removing.{SendsSome, leads_to, notices, retired_at, without_channels, without_record}
-use Rattle.ca_server_circuit.specs.Subscribing.{events_of}
+use Rattle.ca_server_circuit.specs.Removing.{SendsSome, leads_to, notices, retired_at, without_channel, without_channels, without_record}
 use Rattle.ca_server_circuit.proofs.ByName.{changed-is, changed-one, handle, own, own-is, parts-to, retired-are, spot, those, those-more}
 use Rattle.ca_server_circuit.proofs.Tables.{listed-under, place, under-at}
 
@@ -186,11 +185,11 @@ any-both (g ∷ gs) hs k = ap (λ (b : Bool). (wire_of g == k.sid) || b) (any-bo
     by true = refl
     by false = refl
 
-its-sid : (h : Handle) (sid : ℕ) (k : SubKey) → sid ≡ wire_of h → is_of_sid sid k ≡ (wire_of h == k.sid)
-its-sid h sid k id =
-    bools (k.sid == sid) (wire_of h == k.sid)
-    (λ e. eq-eqb (wire_of h) k.sid (sym id ∙ sym (eqb-true k.sid sid e)))
-    (λ e. eq-eqb k.sid sid (sym (eqb-true (wire_of h) k.sid e) ∙ sym id))
+its-sid : (h : Handle) (k : SubKey) → is_of_sid (wire_of h) k ≡ (wire_of h == k.sid)
+its-sid h k =
+    bools (k.sid == wire_of h) (wire_of h == k.sid)
+    (λ e. eq-eqb (wire_of h) k.sid (sym (eqb-true k.sid (wire_of h) e)))
+    (λ e. eq-eqb k.sid (wire_of h) (sym (eqb-true (wire_of h) k.sid e)))
   where
     bools : (a b : Bool) → (a ≡ true → b ≡ true) → (b ≡ true → a ≡ true) → a ≡ b
     bools true b f g = sym (f refl)
@@ -198,68 +197,64 @@ its-sid h sid k id =
     bools false false f g = refl
 
 -- one that leads to the record is retired, and loses its subscriptions
-pub retired-once : (name : List ℕ) (v e : ServerEnd) (h : Handle) (others : List Handle) (new : Subscribed) (t : Channels) (sid : ℕ) → v ≡ e → channels_to name v.channels ≡ others ++ h ∷ [] → sid ≡ wire_of h
-    → new ≡ without_those (is_of_sid sid) (events_of v) → t ≡ with_changed without_record h v.channels
-    → (without_channels name (let x : ServerEnd = record v { channels = t; subscriptions = new.subscriptions; queues = new.queues } in x) ≡ without_channels name e) × (length (channels_to name t) < length (channels_to name e.channels))
-retired-once name v e h others new t sid same last id cleared closed = (
-  ap (λ (x : ServerEnd). without_channels name x) (λ i. let x : ServerEnd = record v { channels = closed i; subscriptions = (cleared i).subscriptions; queues = (cleared i).queues } in x)
-      ∙ ap (λ (u : Channels). let x : ServerEnd = record v { channels = u } in without_subscriptions (is_on (leading name changed)) (without_subscriptions (is_of_sid sid) x)) (all-retired name 0 changed ∙ unchanged ∙ sym (all-retired name 0 v.channels))
-      ∙ without-both (is_of_sid sid) (is_on (leading name changed)) all
-      ∙ ap (λ (gone : SubKey → Bool). without_subscriptions gone all) (λ i k. gone k i)
-      ∙ ap (λ (x : ServerEnd). without_channels name x) same,
-  (let fewer : length (channels_to name t) < length (channels_to name v.channels) = less in
-      subst (λ (x : ServerEnd). length (channels_to name t) < length (channels_to name x.channels)) same fewer),
+pub retired-once : (name : List ℕ) (e new : ServerEnd) (h : Handle) (others : List Handle) → channels_to name e.channels ≡ others ++ h ∷ [] → new ≡ without_channel h e → RetiresLast name e true new
+retired-once name e new h others last once = (
+  ap (λ (x : ServerEnd). without_channels name x) once
+      ∙ ap (λ (u : Channels). let x : ServerEnd = record e { channels = u } in without_subscriptions (is_on (leading name changed)) (without_subscriptions (is_of_sid (wire_of h)) x)) (all-retired name 0 changed ∙ unchanged ∙ sym (all-retired name 0 e.channels))
+      ∙ without-both (is_of_sid (wire_of h)) (is_on (leading name changed)) all
+      ∙ ap (λ (f : SubKey → Bool). without_subscriptions f all) (λ i k. gone k i),
+  less,
 )
   where
     changed : Channels
-    changed = with_changed without_record h v.channels
+    changed = with_changed without_record h e.channels
 
     all : ServerEnd
-    all = record v { channels = with_each_from 0 (retired name) v.channels }
+    all = record e { channels = with_each_from 0 (retired name) e.channels }
 
-    here : (c : OpenChannel) × At (leading name v.channels) (length others) (h, c) × (leads_to name (h, c) ≡ true) × (under v.channels h ≡ Some c)
-    here = leads-at name v.channels (length others) h (subst (λ (hs : List Handle). At hs (length others) h) (sym last) (At-last others h))
+    here : (c : OpenChannel) × At (leading name e.channels) (length others) (h, c) × (leads_to name (h, c) ≡ true) × (under e.channels h ≡ Some c)
+    here = leads-at name e.channels (length others) h (subst (λ (hs : List Handle). At hs (length others) h) (sym last) (At-last others h))
 
     c : OpenChannel
     c = here.0
 
-    there : under v.channels h ≡ Some c
+    there : under e.channels h ≡ Some c
     there = here.3
 
-    changed-to : changed ≡ with_changed (λ (x : OpenChannel). without_record c) h v.channels
-    changed-to = changed-one without_record v.channels h c there
+    changed-to : changed ≡ with_changed (λ (x : OpenChannel). without_record c) h e.channels
+    changed-to = changed-one without_record e.channels h c there
 
-    unchanged : map (retired_at name) changed ≡ map (retired_at name) v.channels
+    unchanged : map (retired_at name) changed ≡ map (retired_at name) e.channels
     unchanged =
-        ap (λ (u : Channels). map (retired_at name) u) (changed-to ∙ changed-is v.channels h c there (without_record c))
-        ∙ map-set-same (retired_at name) v.channels h.index (place h c) (place h (without_record c)) (under-at v.channels h c there)
+        ap (λ (u : Channels). map (retired_at name) u) (changed-to ∙ changed-is e.channels h c there (without_record c))
+        ∙ map-set-same (retired_at name) e.channels h.index (place h c) (place h (without_record c)) (under-at e.channels h c there)
         (ap (λ (b : Bool). let x : OpenChannel = record c { retired = b } in place h x) (by c.retired (bytes_eq c.name name) here.2))
       where
         by : (r b : Bool) → (b && not r) ≡ true → true ≡ (r || b)
-        by true b e = refl
-        by false true e = refl
-        by false false e = absurd cc
+        by true b is = refl
+        by false true is = refl
+        by false false is = absurd cc
 
-    parts : (below from : List Handle) × AreBelow h.index below × AreFrom h.index from × (channels_to name v.channels ≡ below ++ h ∷ from) × (channels_to name (with_freed h v.channels) ≡ below ++ from)
-    parts = parts-to v.channels h c there name here.2
+    parts : (below from : List Handle) × AreBelow h.index below × AreFrom h.index from × (channels_to name e.channels ≡ below ++ h ∷ from) × (channels_to name (with_freed h e.channels) ≡ below ++ from)
+    parts = parts-to e.channels h c there name here.2
 
     left : channels_to name changed ≡ parts.0 ++ parts.1
     left =
         ap (λ (u : Channels). channels_to name u) changed-to
-        ∙ sym (retired-are v.channels h c there (without_record c) name refl)
+        ∙ sym (retired-are e.channels h c there (without_record c) name refl)
         ∙ parts.5
 
-    less : length (channels_to name t) < length (channels_to name v.channels)
+    less : length (channels_to name new.channels) < length (channels_to name e.channels)
     less =
-        let a = ap (λ (hs : List Handle). length hs) (ap (λ (u : Channels). channels_to name u) closed ∙ left) ∙ length-append parts.0 parts.1 in
+        let a = ap (λ (hs : List Handle). length hs) (ap (λ (x : ServerEnd). channels_to name x.channels) once ∙ left) ∙ length-append parts.0 parts.1 in
         let b = ap (λ (hs : List Handle). length hs) parts.4 ∙ length-append parts.0 (h ∷ parts.1) in
         omega (arith, a, b)
 
-    gone : (k : SubKey) → (is_of_sid sid k || is_on (leading name changed) k) ≡ is_on (leading name v.channels) k
+    gone : (k : SubKey) → (is_of_sid (wire_of h) k || is_on (leading name changed) k) ≡ is_on (leading name e.channels) k
     gone k =
-        (λ i. its-sid h sid k id i || (on-handles (leading name changed) k ∙ ap (λ (hs : List Handle). on_any hs k) left ∙ any-both parts.0 parts.1 k) i)
+        (λ i. its-sid h k i || (on-handles (leading name changed) k ∙ ap (λ (hs : List Handle). on_any hs k) left ∙ any-both parts.0 parts.1 k) i)
         ∙ first (wire_of h == k.sid) (on_any parts.0 k) (on_any parts.1 k)
-        ∙ sym (on-handles (leading name v.channels) k ∙ ap (λ (hs : List Handle). on_any hs k) parts.4 ∙ any-both parts.0 (h ∷ parts.1) k)
+        ∙ sym (on-handles (leading name e.channels) k ∙ ap (λ (hs : List Handle). on_any hs k) parts.4 ∙ any-both parts.0 (h ∷ parts.1) k)
       where
         first : (a b d : Bool) → (a || (b || d)) ≡ (b || (a || d))
         first true true d = refl

@@ -3,7 +3,8 @@ use Rattle.std.specs.Prelude.{ℕ, ◌≡◌, ◌<◌, ◌&&◌, ◌||◌, ◌�
 use Rattle.std.specs.Str.{bytes_eq}
 use Rattle.ca_arena.specs.declared.handle.Handle.{Handle}
 use Rattle.ca_arena.specs.Arena.{Place, place_at}
-use Rattle.ca_ids.specs.Table.{Table, held_at, with_each}
+use Rattle.ca_ids.specs.Table.{Table, held_at, with_changed, with_each}
+use Rattle.ca_ids.specs.Wire.{wire_of}
 use Rattle.ca_link.specs.Calls.{IsOpen}
 use Rattle.ca_link.specs.Link.{LinkState, with_sent}
 use Rattle.ca_records.specs.Puts.{Record}
@@ -19,7 +20,7 @@ use Rattle.ca_server_circuit.specs.Clearing.{ArePuts}
 use Rattle.ca_server_circuit.specs.Ending.{WithdrawsAll}
 use Rattle.ca_server_circuit.specs.Handling.{replied}
 use Rattle.ca_server_circuit.specs.Subscribing.{events_of}
-use Rattle.ca_server_subscriptions.specs.Subscribed.{HasRoom}
+use Rattle.ca_server_subscriptions.specs.Subscribed.{HasRoom, is_of_sid}
 
 -- ---- one channel
 
@@ -47,6 +48,10 @@ abbrev pub retired_at : List ℕ → Place OpenChannel → Place OpenChannel
 retired_at name p = record p { value = retired_in name p.value }
 
 -- ---- one end
+
+-- the end whose channel under this handle is retired, without its subscriptions
+abbrev pub without_channel : Handle → ServerEnd → ServerEnd
+without_channel h e = without_subscriptions (is_of_sid (wire_of h)) (record e { channels = with_changed without_record h e.channels })
 
 -- the end whose channels to the record of this name are retired without their subscriptions: `end_without` but for the messages
 abbrev pub without_channels : List ℕ → ServerEnd → ServerEnd

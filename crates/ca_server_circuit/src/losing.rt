@@ -5,10 +5,11 @@ ghost use Rattle.ca_link.specs.Link.{with_sent};
 ghost use Rattle.ca_model.specs.ServerCalls.{disconnects, end_without};
 ghost use Rattle.ca_server_circuit.specs.ByName.{RetiresLast};
 ghost use Rattle.ca_server_circuit.specs.Handling.{replied};
-ghost use Rattle.ca_server_circuit.specs.Removing.{SendsSome, TellsSome, leads_to, notices, without_channels};
+ghost use Rattle.ca_server_circuit.specs.Removing.{SendsSome, TellsSome, leads_to, notices, without_channel, without_channels};
 
 use crate::channels::Channels;
 use crate::end::{End, send};
+use ca_arena::Handle;
 use ca_ids::WireId;
 use ca_link::Link;
 use ca_wire::{Sid, disconnect};
@@ -54,10 +55,17 @@ impl End {
         let Some(channel) = self.channels.last_to(name) else {
             return false;
         };
+        self.retire(channel);
+        true
+    }
+
+    /// The channel under this handle is retired, and loses its subscriptions.
+    fn retire(&mut self, channel: Handle)
+        ensures { self.new ≡ without_channel channel self.old }
+    {
         let sid = Sid::new(WireId::of(channel).number());
         self.subscriptions.clear(sid);
         self.channels.retire(channel);
-        true
     }
 }
 
