@@ -146,7 +146,7 @@ any-at test (y ∷ xs) (suc i) x at hit = or_right (test y) (list_any test xs) (
 
 -- ---- a subscription that was begun is taken out again
 
-filter-snoc : {A : Type 0} (f : A → Bool) (xs : List A) (y : A) → list_any f xs ≡ false → f y ≡ true → filter (λ (x : A). not (f x)) (xs ++ y ∷ []) ≡ xs
+pub filter-snoc : {A : Type 0} (f : A → Bool) (xs : List A) (y : A) → list_any f xs ≡ false → f y ≡ true → filter (λ (x : A). not (f x)) (xs ++ y ∷ []) ≡ xs
 filter-snoc f [] y none hit = rw hit refl
 filter-snoc f (x ∷ xs) y none hit =
     let parts = or_parts (f x) (list_any f xs) none in rw parts.0 (ap (λ (ys : List _). x ∷ ys) (filter-snoc f xs y parts.1 hit))

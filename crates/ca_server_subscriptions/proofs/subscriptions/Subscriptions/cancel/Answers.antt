@@ -1,4 +1,5 @@
 use Rattle.std.proofs.Common.{sym, ap, ◌∙◌}
+use Rattle.ca_server_subscriptions.proofs.Channels.{channels-less}
 use Rattle.ca_server_subscriptions.proofs.Placing.{cancels-none, cancels-one, found-at, placed-cancelled, removed-is}
 use Rattle.ca_server_subscriptions.specs.ByRecord.{receivers_of, without}
 use Rattle.ca_server_subscriptions.proofs.Receivers.{askable-left, none-sole, receivers-without}
@@ -25,6 +26,7 @@ invariant_of-self c =
           ∙ ap (receivers_of name) (sym left),
       none-sole c.shift_remove.new.self.entries,
       askable-left c.args.key es c.shift_remove.new.self.entries left c.self.invariant.3,
+      channels-less c.self.inside.by_channel es c.self.invariant.4 c.take_out-2.new.self c.shift_remove.new.self.entries c.args.key left c.take_out-2.ensures,
     )
 
 pub returns : goal.returns
