@@ -271,7 +271,7 @@ looked-up key (e ∷ es) x is = elim (cases_Bool (same key e.0)) [
 abbrev pub other : SubKey → Entry → Bool
 other key e = not (same key e.0)
 
-all-other : (key : SubKey) (es : Standings) → is_among key (keys_in es) ≡ false → filter (other key) es ≡ es
+pub all-other : (key : SubKey) (es : Standings) → is_among key (keys_in es) ≡ false → filter (other key) es ≡ es
 all-other key [] none = refl
 all-other key (e ∷ es) none =
     let parts = or_parts (same key e.0) (is_among key (keys_in es)) none in
