@@ -1,5 +1,5 @@
 -- Lines of subscriptions, as the map that has them leaves them.
-use Rattle.std.proofs.Common.{◌≡◌, ℕ, Bool, true, false, cond, List, [], ◌∷◌, ◌++◌, Option, Some, None, refl, sym, ap, ◌∙◌, subst}
+use Rattle.std.proofs.Common.{◌≡◌, ℕ, zero, suc, slice_get, Bool, true, false, cond, List, [], ◌∷◌, ◌++◌, Option, Some, None, refl, sym, ap, ◌∙◌, subst}
 use Rattle.std.specs.Prelude.{IsSome, map, unwrap_or}
 use Rattle.std.specs.HashMap as hash
 use Rattle.std.specs.HashMap.{HashMap}
@@ -7,6 +7,8 @@ use Rattle.std.specs.Map.{IsKeyTest, KeepsOthers, lookup, set_value}
 use Rattle.std.specs.Str.{bytes_eq}
 use Rattle.std.proofs.lemmas.Map.Steps.{set_value_same}
 use Rattle.std.proofs.lemmas.Slice.Eq.{bytes_eq-Decides}
+use Rattle.indexmap.specs.IndexMap.{set_value_at}
+use Rattle.ca_text.proofs.Places.{some_is}
 use Rattle.ca_queue.specs.declared.entry.SubKey.{SubKey}
 use Rattle.ca_server_subscriptions.specs.ByRecord.{Adds, Drops, Receiver, lines_in, receivers_in, without}
 
@@ -111,3 +113,9 @@ module _ {K : Type 0} (bytes : K → List ℕ) where
         own = ap (λ (h : HashMap K (List Receiver) _). receivers_in (lines_in bytes h.entries) name) same ∙ empty ∙ ap (without key) (sym empty);
         stay = λ other miss. ap (λ (h : HashMap K (List Receiver) _). receivers_in (lines_in bytes h.entries) other) same;
       }
+
+  -- what was written into a line left its subscriptions
+  pub noted : (es : Map) (i : ℕ) (v w : List Receiver) → slice_get (map (λ e. e.1) es) i ≡ Some v → w ≡ v → lines_in bytes (set_value_at es i w) ≡ lines_in bytes es
+  noted [] i v w at same = refl
+  noted (e ∷ es) zero v w at same = ap (λ (rs : List Receiver). (bytes e.0, rs) ∷ lines_in bytes es) (same ∙ sym (some_is e.1 v at))
+  noted (e ∷ es) (suc i) v w at same = ap (λ (ls : List (List ℕ × List Receiver)). (bytes e.0, e.1) ∷ ls) (noted es i v w at same)

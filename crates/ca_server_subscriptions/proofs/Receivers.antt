@@ -273,10 +273,14 @@ index-at [] i x lt is = absurd (omega (arith, lt))
 index-at (y ∷ xs) zero x lt is = ap (λ (z : _). Some z) (sym is)
 index-at (y ∷ xs) (suc i) x lt is = index-at xs i x (omega (arith, lt)) is
 
--- whether there is one, by how many there are
-pub some-there : (rs : List Receiver) (b : Bool) → b ≡ (length rs == 0) → not b ≡ list_any (λ (r : Receiver). true) rs
-some-there [] b is = ap not is
-some-there (r ∷ rs) b is = ap not (is ∙ ne_eqb (length (r ∷ rs)) 0 (λ hit. omega (arith, hit)))
+-- whether there is one, by the first
+pub some-first : (rs : List Receiver) (r : Receiver) → slice_get rs 0 ≡ Some r → list_any (λ (x : Receiver). true) rs ≡ true
+some-first [] r is = absurd cc
+some-first (x ∷ rs) r is = refl
+
+pub none-first : (rs : List Receiver) → (let none : Option Receiver = None in slice_get rs 0 ≡ none) → rs ≡ []
+none-first [] is = refl
+none-first (x ∷ rs) is = absurd cc
 
 -- ---- an update can be made for each
 

@@ -74,6 +74,16 @@ impl ByRecord {
         }
     }
 
+    // The first one of the line here is at this place of all of the end.
+    pub(crate) fn note(&mut self, recent: usize, place: usize)
+        ensures { self.new ≡ self.old }
+    {
+        let Some(line) = self.lines.get_index_mut(recent) else {
+            return;
+        };
+        line.note(place);
+    }
+
     // One more is on the record of this name, after all others. Without memory all is as it was.
     pub(crate) fn add(&mut self, name: &[u8], receiver: Receiver) -> Result<(), AllocError>
         ensures ok { OnOk result (Adds name.now receiver self.old self.new) }

@@ -55,6 +55,15 @@ impl Line {
         Ok(())
     }
 
+    // The first one is at this place of all of the end.
+    pub(crate) fn note(&mut self, place: usize)
+        ensures { self.new ≡ self.old }
+    {
+        if !self.receivers.is_empty() {
+            self.receivers[0].note(place);
+        }
+    }
+
     // The one of this key is gone.
     pub(crate) fn take_out(&mut self, key: SubKey)
         ensures { self.new ≡ without key self.old }

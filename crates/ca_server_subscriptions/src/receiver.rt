@@ -64,13 +64,11 @@ impl Receiver {
         self.place
     }
 
-    // One at this place is gone, and those after it have moved up.
-    pub(crate) fn move_up(&mut self, gone: usize)
+    // It is at this place.
+    pub(crate) fn note(&mut self, place: usize)
         ensures { self.new ≡ self.old }
     {
-        if self.place > gone {
-            self.place -= 1;
-        }
+        self.place = place;
     }
 
     // The place of the queue that has it.

@@ -236,12 +236,14 @@ impl Subscriptions {
         ensures stay { OnErr result (self.new.subscriptions ≡ self.old.subscriptions) }
     {
         let receivers = self.by_record.receivers(&mut self.recent, name);
-        self.sole = sole_of(receivers, &self.standing, name);
-        if let Some(first) = receivers.first() {
-            self.next = first.place();
-        }
+        let Some(first) = receivers.first() else {
+            return Ok(false);
+        };
+        self.next = place_of(first, &self.standing);
+        self.sole = sole_of(receivers, self.next, &self.standing, name);
         self.queues.post(receivers, mask, value, meta)?;
-        Ok(!receivers.is_empty())
+        self.by_record.note(self.recent, self.next);
+        Ok(true)
     }
 
     /// An update that was shown gives its memory to the next one.
@@ -299,7 +301,9 @@ impl Subscriptions {
         ensures stays { self.new ≡ self.old }
     {
         let receivers = self.by_record.receivers(&mut self.recent, name);
-        self.sole = sole_of(receivers, &self.standing, name);
+        let place = place_of(receivers.first()?, &self.standing);
+        self.sole = sole_of(receivers, place, &self.standing, name);
+        self.by_record.note(self.recent, place);
         let receiver = sole_on(self.sole, &self.standing, name)?;
         wanted_by(&self.standing, &receiver, mask)
     }
@@ -435,9 +439,19 @@ fn wanted_by(
     Some(found.wanted())
 }
 
-// Where the only one of those on the record of this name is, if there is one alone.
+// Where this one is: mostly where it was noted, unless others before it are gone. The key decides.
+fn place_of(receiver: &Receiver, standing: &IndexMap<SubKey, Standing>) -> usize {
+    let place = receiver.place();
+    if at_key(standing, place, receiver.key()).is_some() {
+        return place;
+    }
+    standing.get_index_of(&receiver.key()).unwrap_or(place)
+}
+
+// Where the only one of those on the record of this name is, if there is one alone, and the first is here.
 fn sole_of(
     receivers: &[Receiver],
+    place: usize,
     standing: &IndexMap<SubKey, Standing>,
     name: &[u8],
 ) -> Option<usize>
@@ -447,7 +461,6 @@ fn sole_of(
     if receivers.len() != 1 {
         return None;
     }
-    let place = receivers[0].place();
     let Some((_, standing)) = standing.get_index(place) else {
         return None;
     };
