@@ -74,7 +74,7 @@ impl ByRecord {
         }
     }
 
-    // The first one of the line here is at this place of all of the end.
+    // The first one of the line here was found at this place of all of the end.
     pub(crate) fn note(&mut self, recent: usize, place: usize)
         ensures { self.new ≡ self.old }
     {

@@ -55,7 +55,7 @@ impl Line {
         Ok(())
     }
 
-    // The first one is at this place of all of the end.
+    // The first one was found at this place of all of the end.
     pub(crate) fn note(&mut self, place: usize)
         ensures { self.new ≡ self.old }
     {

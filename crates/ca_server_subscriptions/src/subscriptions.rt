@@ -439,7 +439,7 @@ fn wanted_by(
     Some(found.wanted())
 }
 
-// Where this one is: mostly where it was noted, unless others before it are gone. The key decides.
+// Where this one is: mostly where it was found last, unless others before it are gone since.
 fn place_of(receiver: &Receiver, standing: &IndexMap<SubKey, Standing>) -> usize {
     let place = receiver.place();
     if at_key(standing, place, receiver.key()).is_some() {
@@ -448,7 +448,7 @@ fn place_of(receiver: &Receiver, standing: &IndexMap<SubKey, Standing>) -> usize
     standing.get_index_of(&receiver.key()).unwrap_or(place)
 }
 
-// Where the only one of those on the record of this name is, if there is one alone, and the first is here.
+// Where the only one of those on the record of this name is, if there is one alone: here is the first.
 fn sole_of(
     receivers: &[Receiver],
     place: usize,
