@@ -75,6 +75,7 @@ impl ByRecord {
     }
 
     // The first one of the line here was found at this place of all of the end.
+    #[inline(always)]
     pub(crate) fn note(&mut self, recent: usize, place: usize)
         ensures { self.new ≡ self.old }
     {

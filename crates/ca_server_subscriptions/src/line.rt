@@ -56,6 +56,7 @@ impl Line {
     }
 
     // The first one was found at this place of all of the end.
+    #[inline(always)]
     pub(crate) fn note(&mut self, place: usize)
         ensures { self.new ≡ self.old }
     {

@@ -65,6 +65,7 @@ impl Receiver {
     }
 
     // It was found at this place.
+    #[inline(always)]
     pub(crate) fn note(&mut self, place: usize)
         ensures { self.new ≡ self.old }
     {

@@ -440,12 +440,19 @@ fn wanted_by(
 }
 
 // Where this one is: mostly where it was found last, unless others before it are gone since.
+#[inline(always)]
 fn place_of(receiver: &Receiver, standing: &IndexMap<SubKey, Standing>) -> usize {
     let place = receiver.place();
-    if at_key(standing, place, receiver.key()).is_some() {
-        return place;
+    match at_key(standing, place, receiver.key()) {
+        Some(_) => place,
+        None => moved_to(receiver, standing),
     }
-    standing.get_index_of(&receiver.key()).unwrap_or(place)
+}
+
+// The same by the key.
+#[inline(never)]
+fn moved_to(receiver: &Receiver, standing: &IndexMap<SubKey, Standing>) -> usize {
+    standing.get_index_of(&receiver.key()).unwrap_or(0)
 }
 
 // Where the only one of those on the record of this name is, if there is one alone: here is the first.
