@@ -3,8 +3,10 @@
 //! The server's core holds one for each open end.
 #![tactic(auto)]
 
+mod by_channel;
 mod by_record;
 mod line;
+mod order;
 mod receiver;
 mod standing;
 mod subscriptions;
