@@ -1,11 +1,12 @@
 -- Working: a record is removed, on one circuit.
-use Rattle.std.specs.Prelude.{ℕ, ◌≡◌, ◌<◌, ◌&&◌, ◌||◌, ◌⊎◌, ◌++◌, Bool, true, not, List, Option, filter, length, map, option_map, option_to_list, take}
+use Rattle.std.specs.Prelude.{ℕ, ◌≡◌, ◌<◌, ◌&&◌, ◌||◌, ◌⊎◌, ◌++◌, Bool, true, not, List, Option, length, map, option_map, take}
 use Rattle.std.specs.Str.{bytes_eq}
 use Rattle.ca_arena.specs.declared.handle.Handle.{Handle}
-use Rattle.ca_arena.specs.Arena.{Place, place_at}
-use Rattle.ca_ids.specs.Table.{Table, held_at, with_each}
-use Rattle.ca_ids.specs.Walks.{with_place}
+use Rattle.ca_arena.specs.Arena.{Place}
+use Rattle.ca_ids.specs.Table.{with_changed, with_each}
+use Rattle.ca_ids.specs.Wire.{wire_of}
 use Rattle.ca_link.specs.Calls.{IsOpen}
+use Rattle.ca_link.specs.Link.{LinkState, with_sent}
 use Rattle.ca_records.specs.Puts.{Record}
 use Rattle.ca_records.specs.Store.{Store}
 use Rattle.ca_wire.specs.Fields.{Fields}
@@ -19,17 +20,13 @@ use Rattle.ca_server_circuit.specs.Clearing.{ArePuts}
 use Rattle.ca_server_circuit.specs.Ending.{WithdrawsAll}
 use Rattle.ca_server_circuit.specs.Handling.{replied}
 use Rattle.ca_server_circuit.specs.Subscribing.{events_of}
-use Rattle.ca_server_subscriptions.specs.Subscribed.{HasRoom}
+use Rattle.ca_server_subscriptions.specs.Subscribed.{HasRoom, is_of_sid}
 
 -- ---- one channel
 
 -- the channel leads to the record of this name, which was not removed
 abbrev pub leads_to : List ℕ → Handle × OpenChannel → Bool
 leads_to name c = bytes_eq c.1.name name && not c.1.retired
-
--- the channel of an index, if it leads there
-abbrev pub leading_at : List ℕ → ℕ → Table OpenChannel → List (Handle × OpenChannel)
-leading_at name i t = filter (leads_to name) (option_to_list (held_at i (place_at t i)))
 
 -- the SERVER_DISCONNs of channels
 abbrev pub notices : List (Handle × OpenChannel) → List Fields
@@ -48,14 +45,17 @@ retired_at name p = record p { value = retired_in name p.value }
 
 -- ---- one end
 
--- the end whose channel of an index is retired without its subscriptions, if it leads to the record of this name
-abbrev pub without_at : List ℕ → ℕ → ServerEnd → ServerEnd
-without_at name i e =
-    without_subscriptions (is_on (leading_at name i e.channels)) (record e { channels = with_place i (retired_at name) e.channels })
+-- the end whose channel under this handle is retired, without its subscriptions
+abbrev pub without_channel : Handle → ServerEnd → ServerEnd
+without_channel h e = without_subscriptions (is_of_sid (wire_of h)) (record e { channels = with_changed without_record h e.channels })
 
--- the same for all channels: `end_without` but for the messages
+-- the end whose channels to the record of this name are retired without their subscriptions: `end_without` but for the messages
 abbrev pub without_channels : List ℕ → ServerEnd → ServerEnd
 without_channels name e = without_subscriptions (is_on (channels_of name e)) (record e { channels = with_each (retired name) e.channels })
+
+-- some of these messages wait to be sent, the first ones, but not all
+abbrev pub SendsSome : List Fields → LinkState → LinkState → Type 0
+SendsSome ms l new = (k : ℕ) × (k < length ms) × (new ≡ with_sent (take k ms) l)
 
 -- Some SERVER_DISCONNs are due, and the first of them wait to be sent, but not all.
 abbrev pub TellsSome : List ℕ → ServerEnd → ServerEnd → Type 0
