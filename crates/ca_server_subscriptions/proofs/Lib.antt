@@ -6,5 +6,6 @@ pub mod Owing
 pub mod Changes
 pub mod Receivers
 pub mod Lines
+pub mod Channels
 pub mod Posts
 pub mod Passing

@@ -1,13 +1,14 @@
 -- Lines of subscriptions, as the map that has them leaves them.
-use Rattle.std.proofs.Common.{◌≡◌, ℕ, Bool, true, false, cond, List, [], ◌∷◌, ◌++◌, Option, Some, None, refl, sym, ap, ◌∙◌, subst}
-use Rattle.std.specs.Prelude.{IsSome, map, option_map, unwrap_or}
+use Rattle.std.proofs.Common.{◌≡◌, ℕ, zero, suc, slice_get, Bool, true, false, cond, List, [], ◌∷◌, ◌++◌, Option, Some, None, refl, sym, ap, ◌∙◌, subst}
+use Rattle.std.specs.Prelude.{IsSome, map, unwrap_or}
 use Rattle.std.specs.HashMap as hash
 use Rattle.std.specs.HashMap.{HashMap}
 use Rattle.std.specs.Map.{IsKeyTest, KeepsOthers, lookup, set_value}
 use Rattle.std.specs.Str.{bytes_eq}
-use Rattle.std.proofs.lemmas.Map.Made.{lookup-map_values}
 use Rattle.std.proofs.lemmas.Map.Steps.{set_value_same}
 use Rattle.std.proofs.lemmas.Slice.Eq.{bytes_eq-Decides}
+use Rattle.indexmap.specs.IndexMap.{set_value_at}
+use Rattle.ca_text.proofs.Places.{some_is}
 use Rattle.ca_queue.specs.declared.entry.SubKey.{SubKey}
 use Rattle.ca_server_subscriptions.specs.ByRecord.{Adds, Drops, Receiver, lines_in, receivers_in, without}
 
@@ -95,13 +96,26 @@ module _ {K : Type 0} (bytes : K → List ℕ) where
       by true is = subst (λ (t : List ℕ). receivers_in (lines_in bytes n.entries) t ≡ receivers_in (lines_in bytes m.entries) t) (sym ((bytes_eq-Decides other name).0 is)) own
       by false is = others-stay m n name None u other is
 
-  -- all lines are without one
-  pub dropped : (key : SubKey) (es ns : Map) → ns ≡ map (λ e. (e.0, without key e.1)) es → Drops key (lines_in bytes es) (lines_in bytes ns)
-  dropped key es ns is name =
-      ap (λ (o : Option (List Receiver)). unwrap_or o []) (looked name ns ∙ ap (λ (xs : Map). lookup (is_named name) xs) is ∙ lookup-map_values (without key) (is_named name) es)
-      ∙ by (lookup (is_named name) es)
-      ∙ ap (λ (o : Option (List Receiver)). without key (unwrap_or o [])) (sym (looked name es))
-    where
-      by : (o : Option (List Receiver)) → unwrap_or (option_map (without key) o) [] ≡ without key (unwrap_or o [])
-      by None = refl
-      by (Some rs) = refl
+  -- one is gone from a record that has a line
+  pub drops-own : {S : Type 0} (m n : HashMap K (List Receiver) S) (name : List ℕ) (key : SubKey) (v w : List Receiver) → lookup (is_named name) m.entries ≡ Some v → hash.WritesThrough equal (is_named name) m w n → w ≡ without key v → Drops name key (lines_in bytes m.entries) (lines_in bytes n.entries)
+  drops-own m n name key v w found through less =
+      let u = through.3 (some-there (lookup (is_named name) m.entries) v found) in
+      record {
+        own = own-is m n name (Some w) u ∙ less ∙ ap (without key) (sym (lined name m.entries v found));
+        stay = others-stay m n name (Some w) u;
+      }
+
+  -- a record that has no line loses none
+  pub drops-none : {S : Type 0} (m n : HashMap K (List Receiver) S) (name : List ℕ) (key : SubKey) → n ≡ m → (let none : Option (List Receiver) = None in lookup (is_named name) m.entries ≡ none) → Drops name key (lines_in bytes m.entries) (lines_in bytes n.entries)
+  drops-none m n name key same missing =
+      let empty = unlined name m.entries missing in
+      record {
+        own = ap (λ (h : HashMap K (List Receiver) _). receivers_in (lines_in bytes h.entries) name) same ∙ empty ∙ ap (without key) (sym empty);
+        stay = λ other miss. ap (λ (h : HashMap K (List Receiver) _). receivers_in (lines_in bytes h.entries) other) same;
+      }
+
+  -- what was written into a line left its subscriptions
+  pub noted : (es : Map) (i : ℕ) (v w : List Receiver) → slice_get (map (λ e. e.1) es) i ≡ Some v → w ≡ v → lines_in bytes (set_value_at es i w) ≡ lines_in bytes es
+  noted [] i v w at same = refl
+  noted (e ∷ es) zero v w at same = ap (λ (rs : List Receiver). (bytes e.0, rs) ∷ lines_in bytes es) (same ∙ sym (some_is e.1 v at))
+  noted (e ∷ es) (suc i) v w at same = ap (λ (ls : List (List ℕ × List Receiver)). (bytes e.0, e.1) ∷ ls) (noted es i v w at same)

@@ -1,27 +1,25 @@
 -- Updates wait beside the queues of an end.
-use Rattle.std.proofs.Common.{◌≡◌, ℕ, zero, suc, ◌<◌, ◌≤◌, ◌+◌, ◌||◌, inl, inr, Bool, true, false, not, cond, List, [], ◌∷◌, ◌++◌, length, drop, filter, map, nat_lt, Option, Some, None, Result, Ok, Err, refl, sym, ap, ◌∙◌, subst, arith}
+use Rattle.std.proofs.Common.{◌≡◌, ℕ, zero, suc, ◌<◌, ◌≤◌, inl, inr, Bool, true, false, cond, List, [], ◌∷◌, ◌++◌, length, filter, map, Option, Some, None, Result, Ok, Err, refl, sym, ap, ◌∙◌, subst, arith}
 use Rattle.std.specs.Prelude.{slice_set}
-use Rattle.std.specs.List.{fold, list_any}
+use Rattle.std.specs.List.{fold}
 use Rattle.std.specs.Option.{MatchOption, option_to_list}
-use Rattle.std.proofs.lemmas.Bool.{both_ways, cases_Bool, or_from, or_parts}
-use Rattle.std.proofs.lemmas.List.{append-nil, append_assoc, length-map}
-use Rattle.std.specs.Map.{lookup}
+use Rattle.std.proofs.lemmas.Bool.{cases_Bool, or_from, or_parts}
+use Rattle.std.proofs.lemmas.List.{append-nil, append_assoc}
 use Rattle.ca_text.specs.declared.refusal.Refusal.{Refusal}
 use Rattle.ca_text.specs.declared.refusal.Refusal.TheVariants as refusal
 use Rattle.ca_text.specs.Place.{At}
-use Rattle.ca_text.proofs.Places.{At-map, At-mapped, At-one, At-set, At-within, some_is}
+use Rattle.ca_text.proofs.Places.{At-map, At-mapped, At-set, At-within, some_is}
 use Rattle.ca_queue.specs.declared.entry.SubKey.{SubKey}
-use Rattle.ca_queue.specs.Circuit.{AreInOne, Begins, HasAt, RestBefore, Takes, queue_posted, queue_without, without_each}
+use Rattle.ca_queue.specs.Circuit.{Begins, HasAt, RestBefore, Takes, queue_posted, queue_without}
 use Rattle.ca_queue.specs.Keys.{AreApart, is_among, same}
-use Rattle.ca_queue.specs.Queue.{Queue, added, cancelled, posted, switched, with_front_taken}
-use Rattle.ca_queue.specs.Waiting.{after_take, count_of, has_entry, is_crowded, is_of, taken}
+use Rattle.ca_queue.specs.Queue.{Queue, added, posted, with_front_taken}
+use Rattle.ca_queue.specs.Waiting.{after_take, has_entry, is_of, taken}
 use Rattle.ca_queue.proofs.Circuits.{idle-rests}
-use Rattle.ca_queue.proofs.Keys.{among_without, other_sym, same_is, same_itself}
+use Rattle.ca_queue.proofs.Keys.{other_sym}
 use Rattle.ca_server_subscriptions.proofs.Dropping.{filtered-later}
 use Rattle.ca_server_subscriptions.proofs.Sieves.{without-none, without-one}
-use Rattle.ca_server_subscriptions.specs.ByRecord.{Receiver}
 use Rattle.ca_server_subscriptions.specs.declared.waiting.Addressee.{Addressee}
-use Rattle.ca_server_subscriptions.specs.Owing.{AreEmpty, AreInOrder, AreOn, AreSwitched, HasAlone, IsNext, IsOwing, LosesNext, MayBegin, addressee_of, keys_of, with_owed}
+use Rattle.ca_server_subscriptions.specs.Owing.{AreEmpty, AreInOrder, AreOn, AreSwitched, HasAlone, IsNext, IsOwing, LosesNext, MayBegin, keys_of, with_owed}
 
 -- ---- lists
 
@@ -138,6 +136,12 @@ module _ {E : Type 0} where
   on-began on key v (Err refusal.TooManySubscriptions) old new b are = subst (AreSwitched on) (sym b.1) are
   on-began on key v (Err refusal.OutOfMemory) old new b are = subst (AreSwitched on) (sym b.1) are
   on-began on key v (Err _) old new b are = absurd b
+
+  -- what was refused changed nothing
+  pub refused-none : (key : SubKey) (v : E) (e : Refusal) (old new : List (Queue E)) → MayBegin old key v (Err e) new → new ≡ old
+  refused-none key v refusal.OutOfMemory old new h = h
+  refused-none key v refusal.TooManySubscriptions old new h = h.1
+  refused-none key v _ old new h = absurd h
 
   pub may-begin : (key : SubKey) (v : E) (r : Result ℕ Refusal) (old new : List (Queue E)) → Begins old key v r new → MayBegin old key v r new
   may-begin key v (Ok place) old new b = b

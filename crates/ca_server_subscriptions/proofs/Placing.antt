@@ -20,7 +20,7 @@ use Rattle.ca_model.specs.Server.{Subscription, concerns, key_of}
 use Rattle.ca_model.specs.Speech.{Stored}
 use Rattle.ca_server_subscriptions.proofs.Sieves.{each-none, without-none, without-one}
 use Rattle.ca_server_subscriptions.specs.Concerned.{ConcernsAt}
-use Rattle.ca_server_subscriptions.specs.Subscribed.{ArePlaced, AtPlace, HasRoom, Joins, Standings, Subscribed, has_key, keys_in, subscriptions_in, total, without_one, without_those}
+use Rattle.ca_server_subscriptions.specs.Subscribed.{ArePlaced, HasRoom, Joins, Standings, Subscribed, has_key, keys_in, subscriptions_in, total, without_those}
 
 -- what holds anyway holds if the call was refused
 pub in-err : {T E P : Type 0} (r : Result T E) → P → OnErr r P
@@ -271,7 +271,7 @@ looked-up key (e ∷ es) x is = elim (cases_Bool (same key e.0)) [
 abbrev pub other : SubKey → Entry → Bool
 other key e = not (same key e.0)
 
-all-other : (key : SubKey) (es : Standings) → is_among key (keys_in es) ≡ false → filter (other key) es ≡ es
+pub all-other : (key : SubKey) (es : Standings) → is_among key (keys_in es) ≡ false → filter (other key) es ≡ es
 all-other key [] none = refl
 all-other key (e ∷ es) none =
     let parts = or_parts (same key e.0) (is_among key (keys_in es)) none in
@@ -302,7 +302,7 @@ filtered-at f (x ∷ es) i e at = elim (cases_Bool (f x)) [
     first f x es zero e is rest got = (let one : x ≡ e = some_is x e got in (0, got, ap f (sym one) ∙ is))
     first f x es (suc n) e is rest got = (let r = rest n got in (suc r.0, r.1, r.2))
 
-keys-filter : (key : SubKey) (es : Standings) → keys_in (filter (other key) es) ≡ filter (λ (k : SubKey). not (same key k)) (keys_in es)
+pub keys-filter : (key : SubKey) (es : Standings) → keys_in (filter (other key) es) ≡ filter (λ (k : SubKey). not (same key k)) (keys_in es)
 keys-filter key [] = refl
 keys-filter key (e ∷ es) =
     elim (cases_Bool (same key e.0)) [
@@ -340,7 +340,7 @@ fewer-keys key (k ∷ keys) =
       | inr differs ↦ (let rest = fewer-keys key keys in rw differs (omega (arith, rest)))
     ]
 
-less-keys : (key : SubKey) (keys : List SubKey) → is_among key keys ≡ true → length (filter (λ (k : SubKey). not (same key k)) keys) + 1 ≤ length keys
+pub less-keys : (key : SubKey) (keys : List SubKey) → is_among key keys ≡ true → length (filter (λ (k : SubKey). not (same key k)) keys) + 1 ≤ length keys
 less-keys key [] there = absurd cc
 less-keys key (k ∷ keys) there =
     elim (cases_Bool (same key k)) [
@@ -561,25 +561,8 @@ module _ (es : Standings) (qs : List Q) (p : ArePlaced es qs) where
         }),
       )
 
-  -- what is done to the subscription at a place
-  pub at-entry : (test : Subscription → Bool) (f : Subscription → Subscribed → Subscribed) (old new : Subscribed) (place : ℕ) (e : Entry) (b : Bool) → whole ≡ old → At es place e
-      → test e.1.0 ≡ b → new ≡ cond b (f e.1.0 old) old → AtPlace test f place old new
-  at-entry test f old new place e b is at told did =
-      inl (
-        e.1.0,
-        subst (λ (s : Subscribed). At s.subscriptions place e.1.0) is (At-map (λ (x : Entry). x.1.0) es place e at),
-        did ∙ sym (ap (λ (c : Bool). cond c (f e.1.0 old) old) told),
-      )
-
   -- the one at a place, which a post concerns, and its queue
   pub concerned-at : (name : List ℕ) (mask : ℕ) (old : Subscribed) (place : ℕ) (e : Entry) → whole ≡ old → At es place e → concerns name mask e.1.0 ≡ true → ConcernsAt name mask place old.subscriptions old.queues (Some e.1.1)
   concerned-at name mask old place e is at hit =
       subst (λ (s : Subscribed). ConcernsAt name mask place s.subscriptions s.queues (Some e.1.1)) is
       (e.1.0, At-map (λ (x : Entry). x.1.0) es place e at, hit, subst (λ (k : SubKey). HasAt qs e.1.1 k) (p.keyed place e at) (p.placed place e at), p.one)
-
-  -- the SID of the one at a place, by its key
-  pub sid-at : (place : ℕ) (e : Entry) → At es place e → e.0.sid ≡ e.1.0.wanted.sid
-  sid-at place e at = ap (λ (k : SubKey). k.sid) (p.keyed place e at)
-
-  pub without-at : (old new : Subscribed) (place : ℕ) (e : Entry) → At es place e → new ≡ without_those (same e.0) old → new ≡ without_one e.1.0 old
-  without-at old new place e at did = did ∙ ap (λ (k : SubKey). without_those (same k) old) (p.keyed place e at)

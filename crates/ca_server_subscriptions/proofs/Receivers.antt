@@ -1,25 +1,26 @@
 -- The subscriptions of an end by the names of their records.
-use Rattle.std.proofs.Common.{◌≡◌, ℕ, zero, suc, ◌+◌, ◌<◌, ◌≤◌, ◌||◌, ◌==◌, inl, inr, Bool, true, false, not, cond, List, [], ◌∷◌, ◌++◌, length, drop, filter, map, slice_get, slice_index_or, Option, Some, None, Ok, refl, sym, ap, ◌∙◌, subst, arith}
+use Rattle.std.proofs.Common.{◌≡◌, ℕ, zero, suc, ◌+◌, ◌<◌, ◌≤◌, ◌||◌, inl, inr, Bool, true, false, not, cond, List, [], ◌∷◌, ◌++◌, length, drop, filter, map, slice_get, slice_index_or, Option, Some, None, Ok, refl, sym, ap, ◌∙◌, subst, arith}
 use Rattle.std.specs.Prelude.{slice_set}
 use Rattle.std.specs.List.{fold, list_any}
+use Rattle.std.specs.Map.{lookup}
 use Rattle.std.specs.Str.{bytes_eq}
 use Rattle.std.proofs.lemmas.Slice.Eq.{bytes_eq-Decides}
-use Rattle.std.proofs.lemmas.Bool.{both_ways, cases_Bool, ne_eqb, or_parts, or_right}
+use Rattle.std.proofs.lemmas.Bool.{both_ways, cases_Bool, or_parts, or_right}
 use Rattle.ca_text.specs.Place.{At}
 use Rattle.ca_text.proofs.Places.{At-mapped, At-one, At-snoc, At-within, some_is}
 use Rattle.ca_queue.specs.declared.entry.SubKey.{SubKey}
 use Rattle.ca_queue.specs.Circuit.{Begins, HasAt, queue_posted, queue_without, without_each}
-use Rattle.ca_queue.specs.Keys.{is_among, same}
+use Rattle.ca_queue.specs.Keys.{AreApart, is_among, same}
 use Rattle.ca_queue.specs.Queue.{added, posted}
 use Rattle.ca_queue.specs.Sound.{IsSound}
 use Rattle.ca_queue.specs.Waiting.{has_entry, is_of, after_post}
 use Rattle.ca_queue.proofs.Circuits.{set-here}
-use Rattle.ca_queue.proofs.Keys.{among_push, same_itself}
+use Rattle.ca_queue.proofs.Keys.{among_push, same_is, same_itself}
 use Rattle.ca_model.specs.Server.{Subscription, concerns, key_of}
 use Rattle.ca_model.specs.Speech.{Stored, share_bit}
-use Rattle.ca_server_subscriptions.proofs.Placing.{Entry, Q, alike-posted, filtered-at, has-none, other, placed-alike}
+use Rattle.ca_server_subscriptions.proofs.Placing.{Entry, Q, alike-posted, all-other, filtered-at, has-none, other, placed-alike}
 use Rattle.ca_server_subscriptions.proofs.Sieves.{each-none, without-one}
-use Rattle.ca_server_subscriptions.specs.ByRecord.{Adds, AreByRecord, ArePlacedIn, IsSole, Lines, Receiver, is_masked, receiver_of, receivers_in, receivers_of, without}
+use Rattle.ca_server_subscriptions.specs.ByRecord.{Adds, AreByRecord, ArePlacedIn, Drops, IsSole, Lines, Receiver, is_masked, receiver_of, receivers_in, receivers_of, without}
 use Rattle.ca_server_subscriptions.specs.Subscribed.{AreAskable, ArePlaced, IsAskable, Standings, is_on, keys_in, subscriptions_in}
 
 -- ---- those on a record
@@ -146,7 +147,7 @@ any-at test (y ∷ xs) (suc i) x at hit = or_right (test y) (list_any test xs) (
 
 -- ---- a subscription that was begun is taken out again
 
-filter-snoc : {A : Type 0} (f : A → Bool) (xs : List A) (y : A) → list_any f xs ≡ false → f y ≡ true → filter (λ (x : A). not (f x)) (xs ++ y ∷ []) ≡ xs
+pub filter-snoc : {A : Type 0} (f : A → Bool) (xs : List A) (y : A) → list_any f xs ≡ false → f y ≡ true → filter (λ (x : A). not (f x)) (xs ++ y ∷ []) ≡ xs
 filter-snoc f [] y none hit = rw hit refl
 filter-snoc f (x ∷ xs) y none hit =
     let parts = or_parts (f x) (list_any f xs) none in rw parts.0 (ap (λ (ys : List _). x ∷ ys) (filter-snoc f xs y parts.1 hit))
@@ -233,15 +234,53 @@ lines-more lines new es grown e name r of is all adds were other = by (bytes_eq 
         ∙ ap (λ (b : Bool). receivers_of other es ++ cond b (receiver_of e ∷ []) []) (sym (off miss (is_on other e.1.0) refl))
         ∙ sym (receivers-snoc other es e)
 
+-- ---- one fewer
+
+-- those on another record stay
+receivers-stay : (other-name : List ℕ) (key : SubKey) (es : Standings) (v : Subscription × ℕ) → AreApart (keys_in es) → lookup (same key) es ≡ Some v → is_on other-name v.0 ≡ false
+    → receivers_of other-name (filter (other key) es) ≡ receivers_of other-name es
+receivers-stay name key [] v apart is off = refl
+receivers-stay name key (e ∷ es) v apart is off = by (same key e.0) (is_on name e.1.0) refl refl (λ found. receivers-stay name key es v apart.1 found off)
+  where
+    by : (a b : Bool) → same key e.0 ≡ a → is_on name e.1.0 ≡ b → (lookup (same key) es ≡ Some v → receivers_of name (filter (other key) es) ≡ receivers_of name es)
+        → receivers_of name (filter (other key) (e ∷ es)) ≡ receivers_of name (e ∷ es)
+    by true b hit on rest =
+        let one : e.1 ≡ v = some_is e.1 v (sym (ap (λ (b : Bool). cond b (Some e.1) (lookup (same key) es)) hit) ∙ is) in
+        let miss : is_on name e.1.0 ≡ false = ap (λ (w : Subscription × ℕ). is_on name w.0) one ∙ off in
+        let none : is_among key (keys_in es) ≡ false = subst (λ (k : SubKey). is_among k (keys_in es) ≡ false) (sym (same_is key e.0 hit)) apart.0 in
+        rw (hit, miss) (ap (receivers_of name) (all-other key es none))
+    by false true differs on rest =
+        rw (differs, on) (ap (λ (rs : List Receiver). receiver_of e ∷ rs) (rest (sym (ap (λ (b : Bool). cond b (Some e.1) (lookup (same key) es)) differs) ∙ is)))
+    by false false differs on rest = rw (differs, on) (rest (sym (ap (λ (b : Bool). cond b (Some e.1) (lookup (same key) es)) differs) ∙ is))
+
+pub lines-less : (lines new : Lines) (es left : Standings) (name : List ℕ) (key : SubKey) (v : Subscription × ℕ) → AreApart (keys_in es) → lookup (same key) es ≡ Some v → v.0.name ≡ name → left ≡ filter (other key) es
+    → Drops name key lines new → AreByRecord lines es → AreByRecord new left
+lines-less lines new es left name key v apart is of all drops were any = by (bytes_eq any name) refl ∙ ap (receivers_of any) (sym all)
+  where
+    own : receivers_in new name ≡ receivers_of name (filter (other key) es)
+    own = drops.own ∙ ap (without key) (were name) ∙ sym (receivers-without name key es)
+
+    off : bytes_eq any name ≡ false → (b : Bool) → is_on any v.0 ≡ b → b ≡ false
+    off miss true hit = absurd (both_ways (bytes_eq any name) miss ((bytes_eq-Decides any name).1 (sym ((bytes_eq-Decides v.0.name any).0 hit) ∙ of)))
+    off miss false hit = refl
+
+    by : (b : Bool) → bytes_eq any name ≡ b → receivers_in new any ≡ receivers_of any (filter (other key) es)
+    by true hit = subst (λ (t : List ℕ). receivers_in new t ≡ receivers_of t (filter (other key) es)) (sym ((bytes_eq-Decides any name).0 hit)) own
+    by false miss = drops.stay any miss ∙ were any ∙ sym (receivers-stay any key es v apart is (off miss (is_on any v.0) refl))
+
 pub index-at : {A : Type 0} (xs : List A) (i : ℕ) (x : A) → i < length xs → x ≡ slice_index_or xs i x → At xs i x
 index-at [] i x lt is = absurd (omega (arith, lt))
 index-at (y ∷ xs) zero x lt is = ap (λ (z : _). Some z) (sym is)
 index-at (y ∷ xs) (suc i) x lt is = index-at xs i x (omega (arith, lt)) is
 
--- whether there is one, by how many there are
-pub some-there : (rs : List Receiver) (b : Bool) → b ≡ (length rs == 0) → not b ≡ list_any (λ (r : Receiver). true) rs
-some-there [] b is = ap not is
-some-there (r ∷ rs) b is = ap not (is ∙ ne_eqb (length (r ∷ rs)) 0 (λ hit. omega (arith, hit)))
+-- whether there is one, by the first
+pub some-first : (rs : List Receiver) (r : Receiver) → slice_get rs 0 ≡ Some r → list_any (λ (x : Receiver). true) rs ≡ true
+some-first [] r is = absurd cc
+some-first (x ∷ rs) r is = refl
+
+pub none-first : (rs : List Receiver) → (let none : Option Receiver = None in slice_get rs 0 ≡ none) → rs ≡ []
+none-first [] is = refl
+none-first (x ∷ rs) is = absurd cc
 
 -- ---- an update can be made for each
 

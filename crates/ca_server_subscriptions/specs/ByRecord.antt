@@ -48,9 +48,10 @@ pub record Adds (name : List ℕ) (r : Receiver) (old new : Lines) : Type 0 wher
   pub own : receivers_in new name ≡ receivers_in old name ++ r ∷ []
   pub stay : (other : List ℕ) → bytes_eq other name ≡ false → receivers_in new other ≡ receivers_in old other
 
--- The subscription of this key is in no line any more.
-abbrev pub Drops : SubKey → (old new : Lines) → Type 0
-Drops key old new = (name : List ℕ) → receivers_in new name ≡ without key (receivers_in old name)
+-- One is gone from the line of this name. All other lines have whom they had.
+pub record Drops (name : List ℕ) (key : SubKey) (old new : Lines) : Type 0 where
+  pub own : receivers_in new name ≡ without key (receivers_in old name)
+  pub stay : (other : List ℕ) → bytes_eq other name ≡ false → receivers_in new other ≡ receivers_in old other
 
 -- each line has just the subscriptions on the record of its name, in their order
 abbrev pub AreByRecord : Lines → Standings → Type 0

@@ -1,5 +1,6 @@
 pub mod Subscribed
 pub mod ByRecord
+pub mod ByChannel
 pub mod Owing
 pub mod Pumping
 pub mod Concerned

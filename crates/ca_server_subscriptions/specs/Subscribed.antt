@@ -1,12 +1,12 @@
 -- Working: the subscriptions of an end, and the queues that have them.
-use Rattle.std.specs.Prelude.{ℕ, ◌≡◌, ◌<◌, ◌≤◌, ◌+◌, ◌*◌, ◌==◌, ◌⊎◌, Bool, true, not, List, [], ◌∷◌, ◌++◌, filter, if◌then◌else◌, length, map, replicate, slice_set}
+use Rattle.std.specs.Prelude.{ℕ, ◌≡◌, ◌<◌, ◌≤◌, ◌+◌, ◌*◌, ◌==◌, Bool, true, false, not, List, [], ◌∷◌, ◌++◌, Option, Some, None, filter, length, map, replicate, slice_set}
 use Rattle.std.specs.List.{fold}
 use Rattle.std.specs.Str.{bytes_eq}
 use Rattle.ca_text.specs.Limits.{circuit_queues, element_limit, queue_subscriptions}
 use Rattle.ca_text.specs.Place.{At}
 use Rattle.ca_queue.specs.declared.entry.SubKey.{SubKey}
 use Rattle.ca_queue.specs.Circuit.{AreInOne, HasAt, IsFirstWithRoom, queue_posted, without_each}
-use Rattle.ca_queue.specs.Keys.{AreApart, is_among, same}
+use Rattle.ca_queue.specs.Keys.{AreApart, is_among}
 use Rattle.ca_queue.specs.Queue.{Queue, added, no_queue, posted}
 use Rattle.ca_queue.specs.Sound.{IsSound}
 use Rattle.ca_wire.specs.declared.requests.Wanted.{Wanted}
@@ -94,15 +94,10 @@ HasRoom s = length s.subscriptions < circuit_queues * queue_subscriptions → (p
 abbrev pub is_of_sid : ℕ → SubKey → Bool
 is_of_sid sid key = key.sid == sid
 
--- The subscription at a place, if there is one, is left alone, or changed so.
-abbrev pub AtPlace : (test : Subscription → Bool) → (f : Subscription → Subscribed → Subscribed) → (place : ℕ) → Subscribed → Subscribed → Type 0
-AtPlace test f place old new =
-    ((s : Subscription) × At old.subscriptions place s × (new ≡ (if test s then f s old else old)))
-    ⊎ ((length old.subscriptions ≤ place) × (new ≡ old))
-
--- without this subscription
-abbrev pub without_one : Subscription → Subscribed → Subscribed
-without_one s old = without_those (same (key_of s)) old
+-- One with this SID has this key; or none has the SID.
+abbrev pub IsOneOf : (sid : ℕ) → Subscribed → Option SubKey → Type 0
+IsOneOf sid s (Some key) = (is_of_sid sid key ≡ true) × (has_key key s ≡ true)
+IsOneOf sid s None = (i : ℕ) (x : Subscription) → At s.subscriptions i x → is_of_sid sid (key_of x) ≡ false
 
 -- after a post to the record of this name
 abbrev pub after_post : (name : List ℕ) → (mask : ℕ) → Stored → Subscribed → Subscribed

@@ -1,5 +1,5 @@
-ghost use Rattle.std.specs.Prelude.{ℕ, ◌≡◌, List, [], true, IfSome, OnErr, OnOk};
-ghost use Rattle.ca_server_subscriptions.specs.ByRecord.{Adds, Drops, receivers_in, without};
+ghost use Rattle.std.specs.Prelude.{ℕ, ◌≡◌, List, [], IfSome, OnErr, OnOk};
+ghost use Rattle.ca_server_subscriptions.specs.ByRecord.{Adds, Drops, receivers_in};
 
 use crate::line::Line;
 use crate::receiver::Receiver;
@@ -74,6 +74,17 @@ impl ByRecord {
         }
     }
 
+    // The first one of the line here was found at this place of all of the end.
+    #[inline(always)]
+    pub(crate) fn note(&mut self, recent: usize, place: usize)
+        ensures { self.new ≡ self.old }
+    {
+        let Some(line) = self.lines.get_index_mut(recent) else {
+            return;
+        };
+        line.note(place);
+    }
+
     // One more is on the record of this name, after all others. Without memory all is as it was.
     pub(crate) fn add(&mut self, name: &[u8], receiver: Receiver) -> Result<(), AllocError>
         ensures ok { OnOk result (Adds name.now receiver self.old self.new) }
@@ -99,27 +110,23 @@ impl ByRecord {
         Ok(())
     }
 
-    // The subscription of this key, on the record of this name, is gone from this place, and those after it have moved up. A line that
-    // has none left goes, so that names which come and go fill no memory.
-    pub(crate) fn take_out(&mut self, name: &[u8], key: SubKey, gone: usize)
-        ensures { Drops key self.old self.new }
+    // The subscription of this key, on the record of this name, is gone. A line that has none left goes, so that names which come and go
+    // fill no memory.
+    pub(crate) fn take_out(&mut self, name: &[u8], key: SubKey)
+        ensures { Drops name.now key self.old self.new }
     {
-        self.take_out_of_all(key, gone);
+        self.shorten(name, key);
         self.drop_if_empty(name);
     }
 
-    // The same, but that a line may have none.
-    fn take_out_of_all(&mut self, key: SubKey, gone: usize)
-        ensures { Drops key self.old self.new }
+    // The same, but that the line may have none.
+    fn shorten(&mut self, name: &[u8], key: SubKey)
+        ensures { Drops name.now key self.old self.new }
     {
-        self.lines.retain(
-            |_name: &Vec<u8>, line: &mut Line| -> bool
-                ensures { (result ≡ true) × (line.new ≡ without key line.old) }
-            {
-                line.take_out(key, gone);
-                true
-            },
-        );
+        let Some(line) = self.lines.get_mut(name) else {
+            return;
+        };
+        line.take_out(key);
     }
 
     // Without the line of this name if it has none.

@@ -3,6 +3,7 @@
 //! The server's core holds one for each open end.
 #![tactic(auto)]
 
+mod by_channel;
 mod by_record;
 mod line;
 mod receiver;

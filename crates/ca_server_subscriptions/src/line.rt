@@ -55,20 +55,20 @@ impl Line {
         Ok(())
     }
 
-    // The one of this key is gone from this place of all of the end, and those after it have moved up.
-    pub(crate) fn take_out(&mut self, key: SubKey, gone: usize)
+    // The first one was found at this place of all of the end.
+    #[inline(always)]
+    pub(crate) fn note(&mut self, place: usize)
+        ensures { self.new ≡ self.old }
+    {
+        if !self.receivers.is_empty() {
+            self.receivers[0].note(place);
+        }
+    }
+
+    // The one of this key is gone.
+    pub(crate) fn take_out(&mut self, key: SubKey)
         ensures { self.new ≡ without key self.old }
     {
         self.receivers.retain(|receiver| !receiver.is_of(key));
-        move_up(&mut self.receivers, gone);
-    }
-}
-
-// One at this place is gone, and those after it have moved up.
-fn move_up(receivers: &mut Vec<Receiver>, gone: usize)
-    ensures { receivers.new.items ≡ receivers.old.items }
-{
-    'moving: for i in 0..receivers.len() {
-        receivers[i].move_up(gone);
     }
 }

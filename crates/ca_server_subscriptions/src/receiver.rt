@@ -13,7 +13,7 @@ pub(crate) struct Receiver {
     mask: u16,
     // The place of the queue that has it.
     queue: usize,
-    // Its place among all of the end, where it is looked for first when its update is taken. The key decides.
+    // Where it was found last among all of the end: there it is looked for first. The key decides, since those before it may be gone.
     place: usize,
 }
 
@@ -59,18 +59,17 @@ impl Receiver {
         Mask::new(mask & self.mask).is_some()
     }
 
-    // Where it is, mostly.
+    // Where it was found last.
     pub(crate) fn place(&self) -> usize {
         self.place
     }
 
-    // One at this place is gone, and those after it have moved up.
-    pub(crate) fn move_up(&mut self, gone: usize)
+    // It was found at this place.
+    #[inline(always)]
+    pub(crate) fn note(&mut self, place: usize)
         ensures { self.new ≡ self.old }
     {
-        if self.place > gone {
-            self.place -= 1;
-        }
+        self.place = place;
     }
 
     // The place of the queue that has it.

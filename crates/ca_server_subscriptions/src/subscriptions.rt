@@ -14,8 +14,9 @@ ghost use Rattle.ca_server_subscriptions.specs.ByRecord.{IsSole, receivers_of};
 ghost use Rattle.ca_server_subscriptions.specs.Pumping.{GivesUpdate, MayGive};
 ghost use Rattle.ca_server_subscriptions.specs.Owing.{AreEmpty, AreOn};
 ghost use Rattle.ca_server_subscriptions.specs.Passing.{IsWantedBy, PassesBy};
-ghost use Rattle.ca_server_subscriptions.specs.Subscribed.{AreKnown, ArePlaced, AtPlace, HasRoom, IsAskable, Joins, Standings, after_post, has_key, is_of_sid, is_on, none_yet, without_one, without_those};
+ghost use Rattle.ca_server_subscriptions.specs.Subscribed.{AreKnown, ArePlaced, HasRoom, IsAskable, IsOneOf, Joins, Standings, after_post, has_key, is_of_sid, is_on, none_yet, without_those};
 
+use crate::by_channel::ByChannel;
 use crate::by_record::ByRecord;
 use crate::receiver::Receiver;
 use crate::standing::Standing;
@@ -42,6 +43,7 @@ pub struct Subscriptions {
     by_record: ByRecord,
     // Where the line of a record was found last: mostly the same is asked for again. The name decides.
     recent: usize,
+    by_channel: ByChannel,
 }
 
 impl Model for Subscriptions {
@@ -50,6 +52,7 @@ impl Model for Subscriptions {
     ghost Value = { Subscribed };
 
     ghost use Rattle.ca_server_subscriptions.specs.ByRecord.{AreByRecord, IsSole};
+    ghost use Rattle.ca_server_subscriptions.specs.ByChannel.{AreByChannel};
     ghost use Rattle.ca_server_subscriptions.specs.Subscribed.{AreAskable, ArePlaced, subscriptions_in};
 
     ghost view = { λ s.
@@ -57,7 +60,8 @@ impl Model for Subscriptions {
 
     ghost invariant = { λ s.
         ArePlaced s.standing.entries s.queues × AreByRecord s.by_record s.standing.entries
-        × IsSole s.sole s.standing.entries × AreAskable s.standing.entries };
+        × IsSole s.sole s.standing.entries × AreAskable s.standing.entries
+        × AreByChannel s.by_channel s.standing.entries };
 }
 
 impl Subscriptions {
@@ -72,6 +76,7 @@ impl Subscriptions {
             next: 0,
             by_record: ByRecord::new(alloc),
             recent: 0,
+            by_channel: ByChannel::new(alloc),
         }
     }
 
@@ -111,14 +116,19 @@ impl Subscriptions {
         };
         self.sole = None;
         self.standing.reserve(1)?;
+        self.by_channel.add(key)?;
         let queue = match self.queues.begin(key, update) {
             Ok(queue) => queue,
             Err(Refusal::TooManySubscriptions) => unreachable!(),
-            Err(_) => return Err(AllocError),
+            Err(_) => {
+                self.by_channel.take_out(key);
+                return Err(AllocError);
+            }
         };
         let receiver = Receiver::new(key, mask, queue, self.standing.len());
         if self.by_record.add(name.as_slice(), receiver).is_err() {
             self.queues.cancel(queue, key);
+            self.by_channel.take_out(key);
             return Err(AllocError);
         }
         let standing = Standing::new(wanted, name, mask, queue);
@@ -132,12 +142,13 @@ impl Subscriptions {
     pub fn cancel(&mut self, key: SubKey)
         ensures { self.new ≡ without_those (same key) self.old }
     {
-        let Some((place, _, standing)) = self.standing.get_full(&key) else {
+        let Some(standing) = self.standing.get(&key) else {
             return;
         };
         let queue = standing.queue();
         self.sole = None;
-        self.by_record.take_out(standing.name(), key, place);
+        self.by_record.take_out(standing.name(), key);
+        self.by_channel.take_out(key);
         self.queues.cancel(queue, key);
         self.standing.shift_remove(&key);
     }
@@ -153,24 +164,20 @@ impl Subscriptions {
     pub fn clear(&mut self, sid: Sid)
         ensures { self.new ≡ without_those (is_of_sid sid) self.old }
     {
-        let mut place = self.len();
-        'clearing: while place > 0 {
-            place -= 1;
-            self.clear_at(place, sid);
+        'clearing: while let Some(key) = self.last_of(sid) {
+            self.cancel(key);
         }
         self.know();
     }
 
-    // Takes the one at this place out if it has this SID.
-    fn clear_at(&mut self, place: usize, sid: Sid)
-        ensures { AtPlace (λ s. s.wanted.sid == sid) without_one place self.old self.new }
+    // The last one of this SID, if there is one.
+    fn last_of(&self, sid: Sid) -> Option<SubKey>
+        ensures { IsOneOf sid self.now result }
     {
-        let Some((key, _)) = self.standing.get_index(place) else {
-            return;
-        };
-        let key = *key;
-        if key.sid == sid.number() {
-            self.cancel(key);
+        let sid = sid.number();
+        match self.by_channel.last(sid) {
+            Some(sub) => Some(SubKey { sid, sub }),
+            None => None,
         }
     }
 
@@ -229,12 +236,14 @@ impl Subscriptions {
         ensures stay { OnErr result (self.new.subscriptions ≡ self.old.subscriptions) }
     {
         let receivers = self.by_record.receivers(&mut self.recent, name);
-        self.sole = sole_of(receivers, &self.standing, name);
-        if let Some(first) = receivers.first() {
-            self.next = first.place();
-        }
+        let Some(first) = receivers.first() else {
+            return Ok(false);
+        };
+        self.next = place_of(first, &self.standing);
+        self.sole = sole_of(receivers, self.next, &self.standing, name);
         self.queues.post(receivers, mask, value, meta)?;
-        Ok(!receivers.is_empty())
+        self.by_record.note(self.recent, self.next);
+        Ok(true)
     }
 
     /// An update that was shown gives its memory to the next one.
@@ -292,7 +301,9 @@ impl Subscriptions {
         ensures stays { self.new ≡ self.old }
     {
         let receivers = self.by_record.receivers(&mut self.recent, name);
-        self.sole = sole_of(receivers, &self.standing, name);
+        let place = place_of(receivers.first()?, &self.standing);
+        self.sole = sole_of(receivers, place, &self.standing, name);
+        self.by_record.note(self.recent, place);
         let receiver = sole_on(self.sole, &self.standing, name)?;
         wanted_by(&self.standing, &receiver, mask)
     }
@@ -428,9 +439,26 @@ fn wanted_by(
     Some(found.wanted())
 }
 
-// Where the only one of those on the record of this name is, if there is one alone.
+// Where this one is: mostly where it was found last, unless others before it are gone since.
+#[inline(always)]
+fn place_of(receiver: &Receiver, standing: &IndexMap<SubKey, Standing>) -> usize {
+    let place = receiver.place();
+    match at_key(standing, place, receiver.key()) {
+        Some(_) => place,
+        None => moved_to(receiver, standing),
+    }
+}
+
+// The same by the key.
+#[inline(never)]
+fn moved_to(receiver: &Receiver, standing: &IndexMap<SubKey, Standing>) -> usize {
+    standing.get_index_of(&receiver.key()).unwrap_or(0)
+}
+
+// Where the only one of those on the record of this name is, if there is one alone: here is the first.
 fn sole_of(
     receivers: &[Receiver],
+    place: usize,
     standing: &IndexMap<SubKey, Standing>,
     name: &[u8],
 ) -> Option<usize>
@@ -440,7 +468,6 @@ fn sole_of(
     if receivers.len() != 1 {
         return None;
     }
-    let place = receivers[0].place();
     let Some((_, standing)) = standing.get_index(place) else {
         return None;
     };

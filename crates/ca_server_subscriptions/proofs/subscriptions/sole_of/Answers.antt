@@ -8,5 +8,5 @@ pub returns : goal.returns
 returns c =
     let e : Entry = (c.in-Some.field-0-0.now, c.in-Some.standing.now) in
     let one : length c.args.receivers.now ≡ 1 = c.if-receivers-ne1.false in
-    sole-found c.args.name.now c.args.standing.now.entries c.place-place.result e (sym c.in-Some.ensures.entry) (sym c.is_on.ensures ∙ c.if-not-is_on.false)
+    sole-found c.args.name.now c.args.standing.now.entries c.args.place e (sym c.in-Some.ensures.entry) (sym c.is_on.ensures ∙ c.if-not-is_on.false)
     (sym (ap (λ (rs : List Receiver). length rs) c.requires) ∙ one)

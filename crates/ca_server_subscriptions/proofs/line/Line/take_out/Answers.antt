@@ -6,6 +6,5 @@ use Rattle.ca_server_subscriptions.proofs.line.Line.take_out.Goals as goal
 
 pub returns : goal.returns
 returns c =
-    c.move_up.ensures
-    ∙ filter_same _ (λ (r : Receiver). not (same c.args.key r.key)) _ (λ x b f' k. search rules) _ _ c.retain.ensures.filtered
+    filter_same _ (λ (r : Receiver). not (same c.args.key r.key)) _ (λ x b f' k. search rules) _ _ c.retain.ensures.filtered
     ∙ ap (without c.args.key) c.self.view_is

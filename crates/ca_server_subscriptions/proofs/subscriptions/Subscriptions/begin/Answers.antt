@@ -7,8 +7,11 @@ use Rattle.indexmap.proofs.CallerLemmas.{insert_entry-new}
 use Rattle.ca_queue.specs.Queue.{Queue}
 use Rattle.ca_model.specs.Server.{Subscription, key_of}
 use Rattle.ca_model.specs.Speech.{Stored}
+use Rattle.ca_server_subscriptions.specs.ByChannel.{AreByChannel}
 use Rattle.ca_server_subscriptions.specs.ByRecord.{Lines, receivers_in, receivers_of}
 use Rattle.ca_server_subscriptions.specs.Subscribed.{AreAskable, ArePlaced, Joins, Standings, Subscribed, keys_in, subscriptions_in}
+use Rattle.ca_server_subscriptions.proofs.Channels.{channels-back, channels-more}
+use Rattle.ca_server_subscriptions.proofs.Owing.{refused-none}
 use Rattle.ca_server_subscriptions.proofs.Placing.{begins-new, has-none, if-err, if-ok, new-key, not-there, some-room}
 use Rattle.ca_server_subscriptions.proofs.Receivers.{askable-more, begun-gone, begun-has, lines-more, none-sole}
 use Rattle.ca_server_subscriptions.proofs.subscriptions.Subscriptions.begin.Goals as goal
@@ -62,12 +65,13 @@ invariant_of-self-2 c =
     let s : Subscription = record { wanted = c.args.wanted; name = c.args.name.items; mask = c.args.mask } in
     let key : SubKey = record { sid = c.number.result; sub = c.number-2.result } in
     let name : c.as_slice.result.now ≡ c.args.name.items = c.as_slice.ensures.value in
-    let adds = if-ok c.add.result (sym c.is_err.ensures.value ∙ c.if-is_err.false) c.add.ensures.ok in (
+    let adds = if-ok c.add-2.result (sym c.is_err.ensures.value ∙ c.if-is_err.false) c.add-2.ensures.ok in (
       (begun c).0,
-      lines-more c.self.inside.by_record c.add.new.self c.self.inside.standing.entries c.insert.new.self.entries (key, (s, c.in-Ok.queue)) c.as_slice.result.now c.new-receiver.result (sym name)
+      lines-more c.self.inside.by_record c.add-2.new.self c.self.inside.standing.entries c.insert.new.self.entries (key, (s, c.in-Ok.queue)) c.as_slice.result.now c.new-receiver.result (sym name)
           c.new-receiver.ensures (grown c) adds c.self.invariant.1,
       none-sole c.insert.new.self.entries,
       askable-more c.self.inside.standing.entries c.insert.new.self.entries (key, (s, c.in-Ok.queue)) (grown c) c.requires.askable c.self.invariant.3,
+      channels-more c.self.inside.by_channel c.self.inside.standing.entries c.self.invariant.4 c.add.new.self c.insert.new.self.entries (key, (s, c.in-Ok.queue)) (grown c) c.in_ok-add.ensures.ok,
     )
 
 pub returns-clause-ok : goal.returns-clause-ok
@@ -94,15 +98,34 @@ gone c =
     subst (λ (k : SubKey). is_among k (keys_in es) ≡ false) (sym keyed) (new-key es c.self.inside.queues c.self.invariant.0 wanted c.args.self.now c.self.view_is c.requires.new) in
     c.cancel.ensures ∙ begun-gone es c.self.inside.queues c.begin.new.self key c.args.update c.in-Ok.queue c.self.invariant.0 fresh c.in-Ok.ensures
 
+pub invariant_of-self-in-Err : goal.invariant_of-self-in-Err
+invariant_of-self-in-Err c =
+    let es = c.self.inside.standing.entries in
+    let key : SubKey = record { sid = c.number.result; sub = c.number-2.result } in
+    let wanted : SubKey = record { sid = c.args.wanted.sid; sub = c.args.wanted.id } in
+    let keyed : key ≡ wanted = (λ i. record { sid = c.number.ensures i; sub = c.number-2.ensures i }) in
+    let fresh : is_among key (keys_in es) ≡ false =
+    subst (λ (k : SubKey). is_among k (keys_in es) ≡ false) (sym keyed) (new-key es c.self.inside.queues c.self.invariant.0 wanted c.args.self.now c.self.view_is c.requires.new) in
+    let stay : c.begin.new.self ≡ c.self.inside.queues = refused-none key c.args.update c.in-Err.field-0 c.self.inside.queues c.begin.new.self c.in-Err.ensures in
+    let back = channels-back c.self.inside.by_channel es c.self.invariant.4 c.add.new.self c.take_out.new.self key fresh c.in_ok-add.ensures.ok c.take_out.ensures in
+    rw (c.reserve.ensures.entries, stay) (c.self.invariant.0, c.self.invariant.1, none-sole es, c.self.invariant.3, back)
+
 pub invariant_of-self-then-is_err : goal.invariant_of-self-then-is_err
 invariant_of-self-then-is_err c =
     let es = c.self.inside.standing.entries in
     let still : c.reserve.new.self.entries ≡ es = c.reserve.ensures.entries in
-    let same_lines = if-err c.add.result (sym c.is_err.ensures.value ∙ c.if-is_err.true) c.add.ensures.err in (
+    let key : SubKey = record { sid = c.number.result; sub = c.number-2.result } in
+    let wanted : SubKey = record { sid = c.args.wanted.sid; sub = c.args.wanted.id } in
+    let keyed : key ≡ wanted = (λ i. record { sid = c.number.ensures i; sub = c.number-2.ensures i }) in
+    let fresh : is_among key (keys_in es) ≡ false =
+    subst (λ (k : SubKey). is_among k (keys_in es) ≡ false) (sym keyed) (new-key es c.self.inside.queues c.self.invariant.0 wanted c.args.self.now c.self.view_is c.requires.new) in
+    let same_lines = if-err c.add-2.result (sym c.is_err.ensures.value ∙ c.if-is_err.true) c.add-2.ensures.err in (
       subst (λ (xs : Standings). ArePlaced xs c.cancel.new.self) (sym still) (subst (λ (rs : List (Queue Stored)). ArePlaced es rs) (sym (gone c)) c.self.invariant.0),
       λ name. ap (λ (w : Lines). receivers_in w name) same_lines ∙ c.self.invariant.1 name ∙ ap (receivers_of name) (sym still),
       none-sole c.reserve.new.self.entries,
       subst (λ (xs : Standings). AreAskable xs) (sym still) c.self.invariant.3,
+      subst (λ (xs : Standings). AreByChannel c.take_out-then-is_err.new.self xs) (sym still)
+          (channels-back c.self.inside.by_channel es c.self.invariant.4 c.add.new.self c.take_out-then-is_err.new.self key fresh c.in_ok-add.ensures.ok c.take_out-then-is_err.ensures),
     )
 
 pub returns-then-is_err-clause-err : goal.returns-then-is_err-clause-err

@@ -1,7 +1,8 @@
-use Rattle.std.proofs.Common.{sym, ap, ◌∙◌}
+use Rattle.std.proofs.Common.{List, ℕ, refl, sym, ◌∙◌, subst}
+use Rattle.ca_server_subscriptions.proofs.Channels.{channels-less}
 use Rattle.ca_server_subscriptions.proofs.Placing.{cancels-none, cancels-one, found-at, placed-cancelled, removed-is}
-use Rattle.ca_server_subscriptions.specs.ByRecord.{receivers_of, without}
-use Rattle.ca_server_subscriptions.proofs.Receivers.{askable-left, none-sole, receivers-without}
+use Rattle.ca_server_subscriptions.specs.ByRecord.{Drops}
+use Rattle.ca_server_subscriptions.proofs.Receivers.{askable-left, lines-less, none-sole}
 use Rattle.ca_server_subscriptions.proofs.subscriptions.Subscriptions.cancel.Goals as goal
 
 pub returns-in_default : goal.returns-in_default
@@ -20,11 +21,11 @@ invariant_of-self c =
     let left = c.shift_remove.ensures.entries ∙ removed-is c.args.key es c.self.invariant.0.apart in (
       rw (c.cancel.ensures, c.shift_remove.ensures.entries, removed-is c.args.key es c.self.invariant.0.apart)
           (placed-cancelled es qs c.self.invariant.0 c.queue-queue.result c.args.key has),
-      λ name.
-          c.take_out.ensures name ∙ ap (without c.args.key) (c.self.invariant.1 name) ∙ sym (receivers-without name c.args.key es)
-          ∙ ap (receivers_of name) (sym left),
+      lines-less c.self.inside.by_record c.take_out.new.self es c.shift_remove.new.self.entries c.in-Some.standing.now.0.name c.args.key c.in-Some.standing.now c.self.invariant.0.apart (sym c.in-Some.ensures.value) refl left
+          (subst (λ (name : List ℕ). Drops name c.args.key c.self.inside.by_record c.take_out.new.self) c.name.ensures c.take_out.ensures) c.self.invariant.1,
       none-sole c.shift_remove.new.self.entries,
       askable-left c.args.key es c.shift_remove.new.self.entries left c.self.invariant.3,
+      channels-less c.self.inside.by_channel es c.self.invariant.4 c.take_out-2.new.self c.shift_remove.new.self.entries c.args.key left c.take_out-2.ensures,
     )
 
 pub returns : goal.returns

@@ -1,16 +1,18 @@
-use Rattle.std.proofs.Common.{◌≡◌, ◌+◌, ◌-◌, ℕ, sym, subst, arith}
-use Rattle.ca_server_subscriptions.specs.Subscribed.{is_of_sid}
-use Rattle.ca_server_subscriptions.proofs.Dropping.{Leaves, leaves-all, leaves-next}
+use Rattle.std.proofs.Common.{◌≡◌, length, ap, ◌∙◌, arith}
+use Rattle.ca_queue.specs.Keys.{same}
+use Rattle.ca_server_subscriptions.specs.Subscribed.{Subscribed, is_of_sid, without_those}
+use Rattle.ca_server_subscriptions.proofs.Dropping.{fewer, those-less, those-out}
 use Rattle.ca_server_subscriptions.proofs.subscriptions.Subscriptions.clear.Goals as goal
+
+pub clearing-smaller : goal.clearing-smaller
+clearing-smaller c =
+    let less = fewer c.in-Some.key c.clearing.self c.in-Some.ensures.1 in
+    let left : length c.cancel.new.self.subscriptions ≡ length (without_those (same c.in-Some.key) c.clearing.self).subscriptions = ap (λ (s : Subscribed). length s.subscriptions) c.cancel.ensures in
+    omega (arith, less, left)
 
 pub clearing-preserved : goal.clearing-preserved
 clearing-preserved c =
-    let one : c.clearing.place - 1 + 1 ≡ c.clearing.place = (let lt = c.clearing-test.true in omega (arith, lt)) in
-    leaves-next c.args.sid c.args.self.now c.clearing.self c.clear_at.new.self (c.clearing.place - 1)
-    (subst (λ (n : ℕ). Leaves (is_of_sid c.args.sid) c.args.self.now c.clearing.self n) (sym one) c.clearing.invariant) c.clear_at.ensures
+    ap (without_those (is_of_sid c.args.sid)) c.cancel.ensures ∙ those-less (is_of_sid c.args.sid) c.in-Some.key c.clearing.self c.in-Some.ensures.0 ∙ c.clearing.invariant
 
 pub returns : goal.returns
-returns c =
-    let none : c.clearing.place ≡ 0 = (let le = c.clearing-test.false in omega (arith, le)) in
-    leaves-all (is_of_sid c.args.sid) c.args.self.now c.clearing.self
-    (subst (λ (n : ℕ). Leaves (is_of_sid c.args.sid) c.args.self.now c.clearing.self n) none c.clearing.invariant) c.know.ensures.known
+returns c = those-out (is_of_sid c.args.sid) c.args.self.now c.clearing.self c.clearing.invariant c.in_default.ensures c.know.ensures.known

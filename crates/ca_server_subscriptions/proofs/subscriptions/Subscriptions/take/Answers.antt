@@ -1,5 +1,4 @@
-use Rattle.std.proofs.Common.{◌≡◌, ℕ, Option, Some, None, refl, sym, subst}
-use Rattle.std.specs.Map.{lookup}
+use Rattle.std.proofs.Common.{ℕ, Option, refl, sym, subst}
 use Rattle.ca_queue.specs.declared.entry.SubKey.{SubKey}
 use Rattle.ca_queue.specs.Circuit.{Takes}
 use Rattle.ca_model.specs.Speech.{Stored}
@@ -28,6 +27,7 @@ invariant_of-self-2 c =
       c.self.invariant.1,
       c.self.invariant.2,
       c.self.invariant.3,
+      c.self.invariant.4,
     )
 
 pub returns-clause-gives : goal.returns-clause-gives
