@@ -125,14 +125,15 @@ module _ (t : Table OpenChannel) (s : Cids) (h : Handle) (ch : OpenChannel) (i :
         limit = (let few = changed-few without_record t h in let limit = i.limit in omega (arith, few, limit));
       }
 
--- the same of a channel that became one whose record was removed
-pub indexed-retired : (t : Table OpenChannel) (s : Cids) (h : Handle) (ch new : OpenChannel) → IsIndexed t s → under t h ≡ Some ch → new ≡ without_record ch → IsIndexed (with_changed (λ (x : OpenChannel). new) h t) s
-indexed-retired t s h ch new i there is =
-    subst (λ (u : Table OpenChannel). IsIndexed u s)
-    (ap (λ (o : Option OpenChannel). let p : Place OpenChannel = record { generation = h.generation; value = option_map without_record o } in cond (is_some o) (slice_set t h.index p) t) there
-    ∙ ap (λ (c : OpenChannel). let p : Place OpenChannel = record { generation = h.generation; value = Some c } in slice_set t h.index p) (sym is)
-    ∙ sym (ap (λ (o : Option OpenChannel). let p : Place OpenChannel = record { generation = h.generation; value = option_map (λ (x : OpenChannel). new) o } in cond (is_some o) (slice_set t h.index p) t) there))
-    (indexed-retire t s h ch i there)
+-- the same of whatever channel there is
+pub indexed-retired : (t : Table OpenChannel) (s : Cids) (h : Handle) → IsIndexed t s → IsIndexed (with_changed without_record h t) s
+indexed-retired t s h i = by (under t h) refl
+  where
+    by : (o : Option OpenChannel) → under t h ≡ o → IsIndexed (with_changed without_record h t) s
+    by (Some c) there = indexed-retire t s h c i there
+    by None there =
+        subst (λ (u : Table OpenChannel). IsIndexed u s)
+        (sym (ap (λ (o : Option OpenChannel). let p : Place OpenChannel = record { generation = h.generation; value = option_map without_record o } in cond (is_some o) (slice_set t h.index p) t) there)) i
 
 -- ---- the channel in front
 

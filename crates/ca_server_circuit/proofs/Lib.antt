@@ -1,4 +1,6 @@
 pub mod Tables
+pub mod Lines
+pub mod ByName
 pub mod Indexes
 pub mod Known
 pub mod Replying

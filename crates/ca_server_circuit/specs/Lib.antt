@@ -20,3 +20,4 @@ pub mod Imaging
 pub mod Concerned
 pub mod Names
 pub mod AtOnce
+pub mod ByName

@@ -3,9 +3,10 @@ use Rattle.std.specs.Prelude.{ℕ, ◌≡◌, ◌<◌, ◌&&◌, ◌||◌, ◌�
 use Rattle.std.specs.Str.{bytes_eq}
 use Rattle.ca_arena.specs.declared.handle.Handle.{Handle}
 use Rattle.ca_arena.specs.Arena.{Place, place_at}
-use Rattle.ca_ids.specs.Table.{Table, held_at, with_each}
-use Rattle.ca_ids.specs.Walks.{with_place}
+use Rattle.ca_ids.specs.Table.{Table, held_at, with_changed, with_each}
+use Rattle.ca_ids.specs.Wire.{wire_of}
 use Rattle.ca_link.specs.Calls.{IsOpen}
+use Rattle.ca_link.specs.Link.{LinkState, with_sent}
 use Rattle.ca_records.specs.Puts.{Record}
 use Rattle.ca_records.specs.Store.{Store}
 use Rattle.ca_wire.specs.Fields.{Fields}
@@ -19,7 +20,7 @@ use Rattle.ca_server_circuit.specs.Clearing.{ArePuts}
 use Rattle.ca_server_circuit.specs.Ending.{WithdrawsAll}
 use Rattle.ca_server_circuit.specs.Handling.{replied}
 use Rattle.ca_server_circuit.specs.Subscribing.{events_of}
-use Rattle.ca_server_subscriptions.specs.Subscribed.{HasRoom}
+use Rattle.ca_server_subscriptions.specs.Subscribed.{HasRoom, is_of_sid}
 
 -- ---- one channel
 
@@ -48,14 +49,17 @@ retired_at name p = record p { value = retired_in name p.value }
 
 -- ---- one end
 
--- the end whose channel of an index is retired without its subscriptions, if it leads to the record of this name
-abbrev pub without_at : List ℕ → ℕ → ServerEnd → ServerEnd
-without_at name i e =
-    without_subscriptions (is_on (leading_at name i e.channels)) (record e { channels = with_place i (retired_at name) e.channels })
+-- the end whose channel under this handle is retired, without its subscriptions
+abbrev pub without_channel : Handle → ServerEnd → ServerEnd
+without_channel h e = without_subscriptions (is_of_sid (wire_of h)) (record e { channels = with_changed without_record h e.channels })
 
--- the same for all channels: `end_without` but for the messages
+-- the end whose channels to the record of this name are retired without their subscriptions: `end_without` but for the messages
 abbrev pub without_channels : List ℕ → ServerEnd → ServerEnd
 without_channels name e = without_subscriptions (is_on (channels_of name e)) (record e { channels = with_each (retired name) e.channels })
+
+-- some of these messages wait to be sent, the first ones, but not all
+abbrev pub SendsSome : List Fields → LinkState → LinkState → Type 0
+SendsSome ms l new = (k : ℕ) × (k < length ms) × (new ≡ with_sent (take k ms) l)
 
 -- Some SERVER_DISCONNs are due, and the first of them wait to be sent, but not all.
 abbrev pub TellsSome : List ℕ → ServerEnd → ServerEnd → Type 0

@@ -1,5 +1,4 @@
-ghost use Rattle.std.specs.Prelude.{◌≡◌, ◌&&◌, IfOk, IfSome, false, not, true};
-ghost use Rattle.std.specs.Str.{bytes_eq};
+ghost use Rattle.std.specs.Prelude.{◌≡◌, IfOk, IfSome, false, true};
 
 use crate::name::Name;
 use ca_wire::Cid;
@@ -150,13 +149,6 @@ impl Channel {
         ensures { result ≡ self.now.retired }
     {
         self.kept().is_retired()
-    }
-
-    // Whether it leads to the record of this name, which was not removed.
-    pub(crate) fn leads_to(&self, name: &[u8]) -> bool
-        ensures { result ≡ (bytes_eq self.now.name name.now && not self.now.retired) }
-    {
-        self.name() == name && !self.is_retired()
     }
 
     // Its record was removed.

@@ -1,14 +1,16 @@
-ghost use Rattle.std.specs.Prelude.{◌≡◌, ◌<◌, ◌≤◌, ◌↔◌, length, [], IsTrue, IfOk, OnErr, false, is_some, option_map};
+ghost use Rattle.std.specs.Prelude.{◌≡◌, ◌<◌, ◌≤◌, ◌↔◌, length, [], IsSome, IsTrue, IfOk, OnErr, Some, false, is_some, option_map};
 ghost use Rattle.ca_text.specs.Limits.{arena_slots};
 ghost use Rattle.ca_arena.specs.Arena.{place_at};
 ghost use Rattle.ca_ids.specs.Table.{MayGive, by_wire, held_at, is_full, under, with_changed, with_held};
+ghost use Rattle.ca_server_circuit.specs.ByName.{IsLastTo, channels_to};
 ghost use Rattle.ca_server_circuit.specs.Cids.{UsesCid, come, leave};
 ghost use Rattle.ca_server_circuit.specs.Clearing.{without_sid};
 ghost use Rattle.ca_server_circuit.specs.Removing.{without_record};
 
 use crate::channel::{Channel, Kept};
+use crate::channel_table::ChannelTable;
 use ca_arena::Handle;
-use ca_ids::{HeldTable, WireId};
+use ca_ids::WireId;
 use ca_wire::{Cid, Sid};
 use std::alloc::{AllocError, Global};
 use std::collections::HashSet;
@@ -19,7 +21,7 @@ use std::marker::Model;
 pub(crate) struct Channels {
     // One of the channels once more, mostly the only one: with many circuits a message is handled in fewer cache lines so.
     front: Option<(Handle, Kept)>,
-    table: HeldTable<Channel>,
+    table: ChannelTable,
     // The CIDs in use.
     cids: HashSet<u32>,
 }
@@ -44,7 +46,7 @@ impl Channels {
     {
         Channels {
             front: None,
-            table: HeldTable::new(alloc),
+            table: ChannelTable::new(alloc),
             cids: HashSet::new(alloc),
         }
     }
@@ -119,10 +121,39 @@ impl Channels {
         self.table.at(index)
     }
 
+    // The channels to the record of this name, in order of index.
+    pub(crate) fn channels_to(&self, name: &[u8]) -> &[Handle]
+        ensures { result.now ≡ channels_to name.now self.now }
+    {
+        self.table.channels_to(name)
+    }
+
+    // The last of them.
+    pub(crate) fn last_to(&self, name: &[u8]) -> Option<Handle>
+        ensures { IsLastTo name.now self.now result }
+    {
+        match self.channels_to(name).last() {
+            Some(channel) => Some(*channel),
+            None => None,
+        }
+    }
+
+    // The CID of the channel under this handle.
+    pub(crate) fn cid_of(&self, channel: Handle) -> Cid
+        requires { IsSome (under self.now channel) }
+        ensures { option_map (λ c. c.cid) (under self.now channel) ≡ Some result }
+    {
+        match self.table.by_handle(channel) {
+            Some(found) => found.cid(),
+            None => unreachable!(),
+        }
+    }
+
     // Opens a channel, and says under which handle. Without memory the channels are as they were.
     pub(crate) fn open(&mut self, channel: Channel) -> Result<Handle, AllocError>
         requires room { is_full self.old ≡ false }
         requires new { UsesCid self.old channel.cid → ⊥ }
+        requires served { channel.retired ≡ false }
         ensures ok { IfOk result (λ h.
             MayGive self.old h × (self.new ≡ with_held h channel self.old)) }
         ensures limit { length self.old ≤ arena_slots }
@@ -151,7 +182,7 @@ impl Channels {
             return;
         };
         self.cids.remove(&channel.cid().number());
-        let _ = self.table.free(handle);
+        self.table.close(handle);
         leave(&mut self.front, handle);
     }
 
@@ -159,10 +190,7 @@ impl Channels {
     pub(crate) fn retire(&mut self, channel: Handle)
         ensures { self.new ≡ with_changed without_record channel self.old }
     {
-        let Some(found) = self.table.by_handle_mut(channel) else {
-            return;
-        };
-        found.retire();
+        self.table.retire(channel);
         leave(&mut self.front, channel);
     }
 }

@@ -5,9 +5,11 @@
 //! nor the records of its server: its calls are given both.
 #![tactic(auto)]
 
+mod by_name;
 mod bytes;
 mod cause;
 mod channel;
+mod channel_table;
 mod channels;
 mod circuit;
 mod clear;
@@ -20,6 +22,7 @@ mod finishing;
 mod handle;
 mod in_place;
 mod leading;
+mod line;
 mod losing;
 mod name;
 mod names;

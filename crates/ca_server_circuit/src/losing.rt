@@ -1,13 +1,19 @@
-ghost use Rattle.std.specs.Prelude.{◌≡◌, ◌≢◌, ◌<◌, [], OnErr, OnOk, length};
+ghost use Rattle.std.specs.Prelude.{◌≡◌, OnErr, OnOk, filter};
+ghost use Rattle.ca_ids.specs.Table.{held};
 ghost use Rattle.ca_link.specs.Calls.{IsOpen};
+ghost use Rattle.ca_link.specs.Link.{with_sent};
 ghost use Rattle.ca_model.specs.ServerCalls.{disconnects, end_without};
+ghost use Rattle.ca_server_circuit.specs.ByName.{RetiresLast};
 ghost use Rattle.ca_server_circuit.specs.Handling.{replied};
-ghost use Rattle.ca_server_circuit.specs.Removing.{TellsSome, leading_at, notices, without_at, without_channels};
+ghost use Rattle.ca_server_circuit.specs.Removing.{SendsSome, TellsSome, leads_to, notices, without_channel, without_channels};
 
+use crate::channels::Channels;
 use crate::end::{End, send};
+use ca_arena::Handle;
 use ca_ids::WireId;
+use ca_link::Link;
 use ca_wire::{Sid, disconnect};
-use std::alloc::AllocError;
+use std::alloc::{AllocError, Global};
 
 impl End {
     /// The record of this name was removed: each channel to it gets a SERVER_DISCONN, is retired, and loses its subscriptions with
@@ -28,29 +34,7 @@ impl End {
         ensures ok { OnOk result (self.new ≡ replied (disconnects name.now self.old) self.old) }
         ensures err { OnErr result (TellsSome name.now self.old self.new) }
     {
-        for index in 0..self.channels.places() {
-            self.tell_at(index, name)?;
-        }
-        Ok(())
-    }
-
-    /// The same for the channel of this index, if it is one to that record.
-    fn tell_at(&mut self, index: usize, name: &[u8]) -> Result<(), AllocError>
-        requires open { IsOpen self.old.link }
-        requires within { index < length self.old.channels }
-        ensures ok { OnOk result (self.new
-            ≡ replied (notices (leading_at name.now index self.old.channels)) self.old) }
-        ensures err { OnErr result (self.new ≡ self.old) }
-        ensures some { OnErr result (leading_at name.now index self.old.channels ≢ []) }
-    {
-        let Some((_, channel)) = self.channels.at(index) else {
-            return Ok(());
-        };
-        if !channel.leads_to(name) {
-            return Ok(());
-        }
-        let notice = disconnect(self.alloc, channel.cid());
-        send(&mut self.link, &notice)?;
+        tell_each(self.alloc, &mut self.link, &self.channels, name)?;
         Ok(())
     }
 
@@ -58,24 +42,50 @@ impl End {
     fn retire_all(&mut self, name: &[u8])
         ensures { self.new ≡ without_channels name.now self.old }
     {
-        for index in 0..self.channels.places() {
-            self.retire_at(index, name);
+        let mut more = true;
+        'retiring: while more {
+            more = self.retire_last(name);
         }
     }
 
-    /// The same for the channel of this index, if it is one to that record.
-    fn retire_at(&mut self, index: usize, name: &[u8])
-        requires { index < length self.old.channels }
-        ensures { self.new ≡ without_at name.now index self.old }
+    /// The same for the last of them, for then none moves up in the line of that name. It says whether there was one.
+    fn retire_last(&mut self, name: &[u8]) -> bool
+        ensures { RetiresLast name.now self.old result self.new }
     {
-        let Some((handle, channel)) = self.channels.at(index) else {
-            return;
+        let Some(channel) = self.channels.last_to(name) else {
+            return false;
         };
-        if !channel.leads_to(name) {
-            return;
-        }
-        let sid = Sid::new(WireId::of(handle).number());
-        self.subscriptions.clear(sid);
-        self.channels.retire(handle);
+        self.retire(channel);
+        true
     }
+
+    /// The channel under this handle is retired, and loses its subscriptions.
+    fn retire(&mut self, channel: Handle)
+        ensures { self.new ≡ without_channel channel self.old }
+    {
+        let sid = Sid::new(WireId::of(channel).number());
+        self.subscriptions.clear(sid);
+        self.channels.retire(channel);
+    }
+}
+
+/// A SERVER_DISCONN for each of these channels that leads to the record of this name, in order of index.
+fn tell_each(
+    alloc: Global,
+    link: &mut Link,
+    channels: &Channels,
+    name: &[u8],
+) -> Result<(), AllocError>
+    requires { IsOpen link.old }
+    ensures ok { OnOk result (link.new
+        ≡ with_sent (notices (filter (leads_to name.now) (held channels.now))) link.old) }
+    ensures err { OnErr result
+        (SendsSome (notices (filter (leads_to name.now) (held channels.now))) link.old link.new) }
+{
+    let all = channels.channels_to(name);
+    for i in 0..all.len() {
+        let notice = disconnect(alloc, channels.cid_of(all[i]));
+        send(link, &notice)?;
+    }
+    Ok(())
 }

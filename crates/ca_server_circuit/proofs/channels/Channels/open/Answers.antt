@@ -7,5 +7,5 @@ invariant_of-self-in-Ok c =
     let t = c.self.inside.table in
     let s = c.self.inside.cids in
     let changes = subst (λ (n : ℕ). Changes s c.insert.new.self n true) (c.number-cid.ensures ∙ c.cid.ensures) c.in_ok-insert.ensures.updates.0 in
-    let front = front-come t c.in-Ok.handle c.args.channel c.copy-copy.result c.self.inside.front c.self.invariant.1 c.in-Ok.ensures.0 c.copy-copy.ensures in
-    rw (c.in-Ok.ensures.1, c.come.ensures) (indexed-open t s c.insert.new.self c.in-Ok.handle c.args.channel c.self.invariant.0 c.in-Ok.ensures.0 (rw c.self.view_is c.requires.new) changes, front)
+    let front = front-come t c.in-Ok.handle c.args.channel c.copy-copy.result c.self.inside.front c.self.invariant.1 c.in-Ok.ensures.ok.0 c.copy-copy.ensures in
+    rw (c.in-Ok.ensures.ok.1, c.come.ensures) (indexed-open t s c.insert.new.self c.in-Ok.handle c.args.channel c.self.invariant.0 c.in-Ok.ensures.ok.0 (rw c.self.view_is c.requires.new) changes, front)

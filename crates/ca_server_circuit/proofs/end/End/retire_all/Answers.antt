@@ -1,25 +1,15 @@
-use Rattle.std.proofs.Common.{ap, arith, length}
-use Rattle.ca_model.specs.Server.{ServerEnd}
-use Rattle.ca_server_circuit.proofs.Lost.{retired-all, retired-more, retired-none, walked-long}
+use Rattle.std.proofs.Common.{◌∙◌}
+use Rattle.ca_server_circuit.proofs.Lost.{last-less, last-none, last-same, retired-all}
 use Rattle.ca_server_circuit.proofs.end.End.retire_all.Goals as goal
 
-pub loop-index-init : goal.loop-index-init
-loop-index-init c = retired-none c.args.name.now c.args.self.now
+pub retiring-smaller : goal.retiring-smaller
+retiring-smaller c = last-less c.args.name.now c.retiring.self c.retire_last-more.new.self c.retiring.more c.retire_last-more.result c.retiring-test.true c.retire_last-more.ensures
 
-pub retire_at-requires : goal.retire_at-requires
-retire_at-requires c =
-    let all = ap (λ (x : ServerEnd). length x.channels) c.self.view_is in
-    let same = walked-long c.args.name.now c.loop-index.index c.args.self.now c.loop-index.self c.loop-index.invariant in
-    let lt = c.loop-index-test.true in
-    omega (arith, all, same, c.places-index-end.ensures, lt)
-
-pub loop-index-preserved : goal.loop-index-preserved
-loop-index-preserved c =
-    let all = ap (λ (x : ServerEnd). length x.channels) c.self.view_is in
-    let lt = c.loop-index-test.true in
-    retired-more c.args.name.now c.loop-index.index c.args.self.now c.loop-index.self c.retire_at.new.self (omega (arith, all, c.places-index-end.ensures, lt)) c.loop-index.invariant c.retire_at.ensures
+pub retiring-preserved : goal.retiring-preserved
+retiring-preserved c = record {
+  same = last-same c.args.name.now c.args.self.now c.retiring.self c.retire_last-more.new.self c.retire_last-more.result c.retiring.invariant.same c.retire_last-more.ensures;
+  none = last-none c.args.name.now c.retiring.self c.retire_last-more.new.self c.retire_last-more.result c.retire_last-more.ensures;
+}
 
 pub returns : goal.returns
-returns c =
-    let all = ap (λ (x : ServerEnd). length x.channels) c.self.view_is in
-    retired-all c.args.name.now c.loop-index.index c.args.self.now c.loop-index.self (omega (arith, all, c.places-index-end.ensures, c.loop-index-test.false)) c.loop-index.invariant
+returns c = retired-all c.args.name.now c.retiring.self (c.retiring.invariant.none c.retiring-test.false) ∙ c.retiring.invariant.same

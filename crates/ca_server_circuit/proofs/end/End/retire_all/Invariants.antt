@@ -1,5 +1,14 @@
-use Rattle.ca_server_circuit.proofs.Lost.{Retired}
+use Rattle.std.proofs.Common.{◌≡◌, ◌+◌, [], cond, false, length}
+use Rattle.ca_server_circuit.specs.ByName.{channels_to}
+use Rattle.ca_server_circuit.specs.Removing.{without_channels}
 use Rattle.ca_server_circuit.proofs.end.End.retire_all.Given as goal
 
-abbrev pub invariant-loop-index : goal.invariant-loop-index
-invariant-loop-index l = Retired l.name l.index l.fn.self l.self
+-- what is to be done from here is what was to be done
+abbrev pub invariant-retiring : goal.invariant-retiring
+invariant-retiring l = record {
+  same : without_channels l.name l.self ≡ without_channels l.name l.fn.self;
+  none : l.more ≡ false → channels_to l.name l.self.channels ≡ [];
+}
+
+abbrev pub decreases-retiring : goal.decreases-retiring
+decreases-retiring l = length (channels_to l.name l.self.channels) + cond l.more 1 0

@@ -1,0 +1,74 @@
+ghost use Rattle.std.specs.Prelude.{◌≡◌, ◌∷◌, ◌≤◌, ◌↔◌, [], true, IfOk, OnErr, OnOk, length};
+ghost use Rattle.ca_server_circuit.specs.ByName.{EntersLine, GoesFromLine, IsItsPlace};
+
+use ca_arena::Handle;
+use std::alloc::{AllocError, Global};
+use std::marker::Model;
+
+/// The channels to one record, in order of index.
+#[derive(Drop)]
+pub(crate) struct Line {
+    channels: Vec<Handle>,
+}
+
+impl Model for Line {
+    ghost use Rattle.std.specs.Prelude.{List};
+    ghost use Rattle.ca_arena.specs.declared.handle.Handle.{Handle};
+
+    ghost Value = { List Handle };
+
+    ghost view = { λ l. l.channels.items };
+}
+
+impl Line {
+    // This one alone.
+    pub(crate) fn one(alloc: Global, channel: Handle) -> Result<Line, AllocError>
+        ensures { IfOk result (λ l. l ≡ channel ∷ []) }
+    {
+        let mut channels = Vec::new(alloc);
+        channels.push(channel)?;
+        Ok(Line { channels })
+    }
+
+    // All of them.
+    pub(crate) fn as_slice(&self) -> &[Handle]
+        ensures { result.now ≡ self.now }
+    {
+        self.channels.as_slice()
+    }
+
+    // Whether there is none.
+    pub(crate) fn is_empty(&self) -> bool
+        ensures { (result ≡ true) ↔ (self.now ≡ []) }
+    {
+        self.channels.is_empty()
+    }
+
+    // One more, at its place. Without memory all is as it was.
+    pub(crate) fn add(&mut self, channel: Handle) -> Result<(), AllocError>
+        ensures ok { OnOk result (EntersLine channel self.old self.new) }
+        ensures err { OnErr result (self.new ≡ self.old) }
+    {
+        let place = place_of(self.channels.as_slice(), channel.index);
+        self.channels.insert(place, channel)?;
+        Ok(())
+    }
+
+    // This one is gone, if it is at its place.
+    pub(crate) fn take_out(&mut self, channel: Handle)
+        ensures { GoesFromLine channel self.old self.new }
+    {
+        let place = place_of(self.channels.as_slice(), channel.index);
+        if place < self.channels.len() {
+            self.channels.remove(place);
+        }
+    }
+}
+
+// The place of a channel of this index: after those of lower indices.
+fn place_of(channels: &[Handle], index: u16) -> usize
+    ensures within { result ≤ length channels.now }
+    ensures place { IsItsPlace index channels.now result }
+{
+    channels.partition_point(|channel| channel.index < index)
+}
