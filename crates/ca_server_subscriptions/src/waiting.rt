@@ -338,7 +338,7 @@ fn settle(
         return Ok(());
     }
     let copies = copies_of(alloc, update, owed.len())?;
-    put_all(queues, owed, copies, update);
+    put_all(queues, owed, copies);
     Ok(())
 }
 
@@ -353,21 +353,20 @@ fn copies_of(alloc: Global, update: &Update, n: usize) -> Result<Vec<Update>, Al
     Ok(copies)
 }
 
-// Puts a copy of the update into the queue of each subscription that it is for.
+// Puts these copies of an update into the queues of the subscriptions that it is for, one for each.
 #[inline(never)]
 fn put_all(
     queues: &mut QueuesAtNeed<Update, EventQueue<Update>>,
     owed: &mut VecDeque<Addressee, Global>,
     mut copies: Vec<Update>,
-    update: &Update,
 )
     requires has { (i : ℕ) (a : Addressee) → At owed.old.items i a
         → HasAt queues.old a.queue a.key }
-    requires copies { AreCopies (length owed.old.items) update.now copies.items }
-    ensures queues { queues.new ≡ with_owed owed.old.items update.now queues.old }
+    requires count { length copies.items ≡ length owed.old.items }
+    ensures queues { (v : Stored) → AreCopies (length owed.old.items) v copies.items
+        → queues.new ≡ with_owed owed.old.items v queues.old }
     ensures owed { owed.new.items ≡ [] }
 {
-    let _ = update;
     'putting: while let Some(copy) = copies.pop() {
         let Some(addressee) = owed.pop_front() else {
             unreachable!()
