@@ -267,6 +267,7 @@ impl Circuit {
 
     // The same in the middle of a call, when no more is known of its end than where its puts are. It has a function of its own so that the calls
     // do not pay for its locals, in which a whole end has room.
+    #[cold]
     #[inline(never)]
     fn close(&mut self, circuit: Handle, cause: Cause, records: &mut ServedRecords)
         requires { ArePutsAt circuit (records_of records.old) self.old }

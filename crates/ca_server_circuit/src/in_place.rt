@@ -45,6 +45,7 @@ impl End {
     }
 
     /// Handles the first message, which has this header. What the others need does not weigh on a write.
+    #[cold]
     #[inline(never)]
     fn step_first(
         &mut self,
@@ -78,6 +79,7 @@ impl End {
     }
 
     /// Handles the first message, which has this header and is no write.
+    #[cold]
     #[inline(never)]
     fn step_other(
         &mut self,

@@ -53,6 +53,7 @@ pub(crate) fn follow(
 }
 
 /// The circuit watches the record at this place. Without memory its end has ended.
+#[cold]
 #[inline(never)]
 fn watch(
     circuits: &mut HeldTable<Circuit>,
@@ -76,6 +77,7 @@ fn watch(
 }
 
 /// The circuit leads to the record at this place. Without memory its end has ended.
+#[cold]
 #[inline(never)]
 fn lead(
     circuits: &mut HeldTable<Circuit>,

@@ -109,6 +109,7 @@ fn finish_busy(
 }
 
 /// Finishes the busy put of the record at this place.
+#[cold]
 #[inline(never)]
 fn finish_here(
     applied: &mut u64,

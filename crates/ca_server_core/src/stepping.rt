@@ -123,6 +123,7 @@ pub(crate) fn settle(
 }
 
 /// The same of an end that has ended since.
+#[cold]
 #[inline(never)]
 pub(crate) fn over(
     alloc: Global,
@@ -160,6 +161,7 @@ pub(crate) fn is_open(circuits: &HeldTable<Circuit>, circuit: Handle) -> bool
 }
 
 /// Takes a circuit out whose end has ended, and reports that.
+#[cold]
 #[inline(never)]
 pub(crate) fn report(alloc: Global, circuits: &mut HeldTable<Circuit>, circuit: Handle) -> Step
     ensures { Reports circuits.old circuit result circuits.new }
