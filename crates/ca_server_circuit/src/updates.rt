@@ -78,7 +78,6 @@ impl End {
     }
 
     /// The same where something waits.
-    #[cold]
     #[inline(never)]
     fn pump_all(&mut self) -> Result<(), AllocError>
         requires { IsOpen self.old.link }

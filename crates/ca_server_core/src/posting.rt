@@ -70,7 +70,6 @@ pub(crate) fn post_to_all(
 }
 
 /// The same, by the record's list.
-#[cold]
 #[inline(never)]
 fn post_to_watching(
     circuits: &mut HeldTable<Circuit>,
@@ -102,7 +101,6 @@ fn post_to_watching(
 }
 
 /// The same for the circuit at this place of the list of those that watch the record.
-#[cold]
 #[inline(never)]
 fn post_to_one(
     circuits: &mut HeldTable<Circuit>,

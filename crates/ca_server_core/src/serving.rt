@@ -109,7 +109,6 @@ fn finish_busy(
 }
 
 /// Finishes the busy put of the record at this place.
-#[cold]
 #[inline(never)]
 fn finish_here(
     applied: &mut u64,
