@@ -5,6 +5,7 @@ pub mod Pumps
 pub mod Owing
 pub mod Changes
 pub mod Receivers
+pub mod Orders
 pub mod Lines
 pub mod Channels
 pub mod Posts

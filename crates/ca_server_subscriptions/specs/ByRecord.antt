@@ -1,14 +1,14 @@
 -- Working: the subscriptions of an end by the names of their records, as far as a post needs them.
-use Rattle.std.specs.Prelude.{ℕ, ◌≡◌, Bool, false, not, List, [], ◌∷◌, ◌++◌, Option, Some, filter, map, unwrap_or}
+use Rattle.std.specs.Prelude.{ℕ, ◌≡◌, Bool, false, true, not, List, [], ◌∷◌, ◌++◌, Option, Some, filter, map, unwrap_or}
 use Rattle.std.specs.Map.{lookup}
 use Rattle.std.specs.Str.{bytes_eq}
 use Rattle.ca_text.specs.Place.{At}
 use Rattle.ca_queue.specs.declared.entry.SubKey.{SubKey}
-use Rattle.ca_queue.specs.Keys.{same}
+use Rattle.ca_queue.specs.Keys.{AreApart, same}
 use Rattle.ca_model.specs.Server.{Subscription}
 use Rattle.ca_queue.specs.Queue.{Queue}
 use Rattle.ca_model.specs.Speech.{Stored, share_bit}
-use Rattle.ca_server_subscriptions.specs.Subscribed.{ArePlaced, Standings, is_on}
+use Rattle.ca_server_subscriptions.specs.Subscribed.{ArePlaced, Standings, is_on, keys_in}
 
 -- what a post needs of a subscription: its key, its mask, and the place of its queue
 pub record Receiver : Type 0 where
@@ -30,6 +30,19 @@ is_masked mask r = share_bit mask r.mask
 -- these without the subscription of this key
 abbrev pub without : SubKey → List Receiver → List Receiver
 without key rs = filter (λ (r : Receiver). not (same key r.key)) rs
+
+-- The subscription at this place is in the line, which has just those on its record.
+pub record IsInLine (es : Standings) (place : ℕ) (rs : List Receiver) : Type 0 where
+  pub name : List ℕ
+  pub line : rs ≡ receivers_of name es
+  pub entry : SubKey × (Subscription × ℕ)
+  pub at : At es place entry
+  pub on : is_on name entry.1.0 ≡ true
+  pub apart : AreApart (keys_in es)
+
+-- it is gone from the line
+abbrev pub LeavesLine : Standings → (place : ℕ) → (old new : List Receiver) → Type 0
+LeavesLine es place old new = (key : SubKey) → At (keys_in es) place key → new ≡ without key old
 
 -- ---- lines of them, each under the name of its record
 

@@ -1,8 +1,12 @@
 ghost use Rattle.std.specs.Prelude.{ℕ, ◌≡◌, List, [], IfSome, OnErr, OnOk};
-ghost use Rattle.ca_server_subscriptions.specs.ByRecord.{Adds, Drops, receivers_in};
+ghost use Rattle.ca_text.specs.Place.{At};
+ghost use Rattle.ca_queue.specs.declared.entry.SubKey.{SubKey};
+ghost use Rattle.ca_server_subscriptions.specs.ByRecord.{Adds, Drops, IsInLine, receivers_in};
+ghost use Rattle.ca_server_subscriptions.specs.Subscribed.{keys_in};
 
 use crate::line::Line;
 use crate::receiver::Receiver;
+use crate::standing::Standing;
 use ca_queue::SubKey;
 use ca_text::is_same_name;
 use indexmap::IndexMap;
@@ -110,23 +114,32 @@ impl ByRecord {
         Ok(())
     }
 
-    // The subscription of this key, on the record of this name, is gone. A line that has none left goes, so that names which come and go
-    // fill no memory.
-    pub(crate) fn take_out(&mut self, name: &[u8], key: SubKey)
-        ensures { Drops name.now key self.old self.new }
+    // The subscription at this place of all of the end, on the record of this name, is gone. A line that has none left goes, so that names
+    // which come and go fill no memory.
+    pub(crate) fn take_out(
+        &mut self,
+        name: &[u8],
+        standing: &IndexMap<SubKey, Standing>,
+        place: usize,
+    )
+        requires { IsInLine standing.now.entries place (receivers_in self.old name.now) }
+        ensures { (key : SubKey) → At (keys_in standing.now.entries) place key
+            → Drops name.now key self.old self.new }
     {
-        self.shorten(name, key);
+        self.shorten(name, standing, place);
         self.drop_if_empty(name);
     }
 
     // The same, but that the line may have none.
-    fn shorten(&mut self, name: &[u8], key: SubKey)
-        ensures { Drops name.now key self.old self.new }
+    fn shorten(&mut self, name: &[u8], standing: &IndexMap<SubKey, Standing>, place: usize)
+        requires { IsInLine standing.now.entries place (receivers_in self.old name.now) }
+        ensures { (key : SubKey) → At (keys_in standing.now.entries) place key
+            → Drops name.now key self.old self.new }
     {
         let Some(line) = self.lines.get_mut(name) else {
             return;
         };
-        line.take_out(key);
+        line.take_out(standing, place);
     }
 
     // Without the line of this name if it has none.

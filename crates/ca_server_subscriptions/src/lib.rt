@@ -6,6 +6,7 @@
 mod by_channel;
 mod by_record;
 mod line;
+mod order;
 mod receiver;
 mod standing;
 mod subscriptions;

@@ -1,8 +1,11 @@
-ghost use Rattle.std.specs.Prelude.{◌≡◌, ◌∷◌, ◌++◌, ◌↔◌, [], true, IfOk, OnErr, OnOk};
-ghost use Rattle.ca_server_subscriptions.specs.ByRecord.{without};
+ghost use Rattle.std.specs.Prelude.{◌≡◌, ◌∷◌, ◌++◌, ◌<◌, ◌↔◌, [], true, IfOk, OnErr, OnOk, length, remove};
+ghost use Rattle.ca_server_subscriptions.specs.ByRecord.{IsInLine, LeavesLine};
 
+use crate::order::is_before;
 use crate::receiver::Receiver;
+use crate::standing::Standing;
 use ca_queue::SubKey;
+use indexmap::IndexMap;
 use std::alloc::{AllocError, Global};
 use std::marker::Model;
 
@@ -65,10 +68,23 @@ impl Line {
         }
     }
 
-    // The one of this key is gone.
-    pub(crate) fn take_out(&mut self, key: SubKey)
-        ensures { self.new ≡ without key self.old }
+    // The one at this place of all of the end is gone.
+    pub(crate) fn take_out(&mut self, standing: &IndexMap<SubKey, Standing>, place: usize)
+        requires { IsInLine standing.now.entries place self.old }
+        ensures { LeavesLine standing.now.entries place self.old self.new }
     {
-        self.receivers.retain(|receiver| !receiver.is_of(key));
+        let found = place_of(self.receivers.as_slice(), standing, place);
+        self.receivers.remove(found);
     }
+}
+
+// Where the line has the one at this place of all of the end. Both are in the order of their EVENT_ADDs, so that those which are before it
+// there come before it here, and a search by halving finds it.
+fn place_of(receivers: &[Receiver], standing: &IndexMap<SubKey, Standing>, place: usize) -> usize
+    requires { IsInLine standing.now.entries place receivers.now }
+    ensures within { result < length receivers.now }
+    ensures place { LeavesLine standing.now.entries place receivers.now
+        (remove receivers.now result) }
+{
+    receivers.partition_point(|receiver| is_before(standing, place, receiver.key()))
 }

@@ -1,5 +1,4 @@
 ghost use Rattle.std.specs.Prelude.{◌≡◌};
-ghost use Rattle.ca_queue.specs.Keys.{same};
 ghost use Rattle.ca_server_subscriptions.specs.ByRecord.{is_masked};
 
 use ca_queue::SubKey;
@@ -36,13 +35,6 @@ impl Receiver {
             queue,
             place,
         }
-    }
-
-    // Whether it has this key.
-    pub(crate) fn is_of(&self, key: SubKey) -> bool
-        ensures { result ≡ same key self.now.key }
-    {
-        key == self.key
     }
 
     // Its key.

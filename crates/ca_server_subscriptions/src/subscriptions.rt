@@ -142,12 +142,13 @@ impl Subscriptions {
     pub fn cancel(&mut self, key: SubKey)
         ensures { self.new ≡ without_those (same key) self.old }
     {
-        let Some(standing) = self.standing.get(&key) else {
+        let Some((place, _, standing)) = self.standing.get_full(&key) else {
             return;
         };
         let queue = standing.queue();
         self.sole = None;
-        self.by_record.take_out(standing.name(), key);
+        self.by_record
+            .take_out(standing.name(), &self.standing, place);
         self.by_channel.take_out(key);
         self.queues.cancel(queue, key);
         self.standing.shift_remove(&key);
