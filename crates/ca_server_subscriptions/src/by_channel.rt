@@ -1,6 +1,11 @@
 ghost use Rattle.std.specs.Prelude.{◌≡◌, ◌-◌, [], OnErr, OnOk, length, slice_get};
-ghost use Rattle.ca_server_subscriptions.specs.ByChannel.{ids_in, with_id, without_id};
+ghost use Rattle.ca_text.specs.Place.{At};
+ghost use Rattle.ca_queue.specs.Keys.{AreApart};
+ghost use Rattle.ca_server_subscriptions.specs.ByChannel.{AreByChannel, Ids, ids_in, ids_of, with_id, without_id};
+ghost use Rattle.ca_server_subscriptions.specs.Subscribed.{keys_in};
 
+use crate::order::is_before;
+use crate::standing::Standing;
 use ca_queue::SubKey;
 use indexmap::IndexMap;
 use std::alloc::{AllocError, Global};
@@ -67,22 +72,53 @@ impl ByChannel {
         Ok(())
     }
 
-    // This one is gone. A line that has none left goes, so that SIDs which come and go fill no memory.
-    pub(crate) fn take_out(&mut self, key: SubKey)
-        ensures { ids_in self.new ≡ without_id key (ids_in self.old) }
+    // The last one of its channel, which `add` put there, is gone again.
+    pub(crate) fn take_back(&mut self, key: SubKey)
+        ensures { (ids : Ids) → ids_in self.old ≡ with_id key ids → ids_in self.new ≡ ids }
     {
-        self.shorten(key);
+        self.pop(key);
         self.drop_if_empty(key.sid);
     }
 
     // The same, but that the line may have none.
-    fn shorten(&mut self, key: SubKey)
+    fn pop(&mut self, key: SubKey)
+        ensures { (ids : Ids) → ids_in self.old ≡ with_id key ids → ids_in self.new ≡ ids }
+    {
+        let Some(line) = self.lines.get_mut(&key.sid) else {
+            return;
+        };
+        line.pop();
+    }
+
+    // This one, which is at this place of all of the end, is gone. A line that has none left goes, so that SIDs which come and go fill no
+    // memory.
+    pub(crate) fn take_out(
+        &mut self,
+        standing: &IndexMap<SubKey, Standing>,
+        place: usize,
+        key: SubKey,
+    )
+        requires here { At (keys_in standing.now.entries) place key }
+        requires apart { AreApart (keys_in standing.now.entries) }
+        requires lines { AreByChannel self.old standing.now.entries }
+        ensures { ids_in self.new ≡ without_id key (ids_in self.old) }
+    {
+        self.shorten(standing, place, key);
+        self.drop_if_empty(key.sid);
+    }
+
+    // The same, but that the line may have none.
+    fn shorten(&mut self, standing: &IndexMap<SubKey, Standing>, place: usize, key: SubKey)
+        requires here { At (keys_in standing.now.entries) place key }
+        requires apart { AreApart (keys_in standing.now.entries) }
+        requires lines { AreByChannel self.old standing.now.entries }
         ensures { ids_in self.new ≡ without_id key (ids_in self.old) }
     {
         let Some(line) = self.lines.get_mut(&key.sid) else {
             return;
         };
-        line.retain(|id| key.sub != *id);
+        let found = place_in(line.as_slice(), standing, place, key);
+        line.remove(found);
     }
 
     // Without the line of this SID if it has none.
@@ -104,4 +140,16 @@ impl ByChannel {
     {
         self.lines.swap_remove(&sid);
     }
+}
+
+// Where the one at this place of all of the end is in the line of its channel. Both lists are in the order of EVENT_ADDs, so that those
+// which are before it in the one come first in the other.
+fn place_in(line: &[u32], standing: &IndexMap<SubKey, Standing>, place: usize, key: SubKey) -> usize
+    requires here { At (keys_in standing.now.entries) place key }
+    requires apart { AreApart (keys_in standing.now.entries) }
+    requires line { line.now ≡ ids_of (keys_in standing.now.entries) key.sid }
+    ensures { At line.now result key.sub }
+{
+    let sid = key.sid;
+    line.partition_point(|sub| is_before(standing, place, SubKey { sid, sub: *sub }))
 }

@@ -121,14 +121,14 @@ impl Subscriptions {
             Ok(queue) => queue,
             Err(Refusal::TooManySubscriptions) => unreachable!(),
             Err(_) => {
-                self.by_channel.take_out(key);
+                self.by_channel.take_back(key);
                 return Err(AllocError);
             }
         };
         let receiver = Receiver::new(key, mask, queue, self.standing.len());
         if self.by_record.add(name.as_slice(), receiver).is_err() {
             self.queues.cancel(queue, key);
-            self.by_channel.take_out(key);
+            self.by_channel.take_back(key);
             return Err(AllocError);
         }
         let standing = Standing::new(wanted, name, mask, queue);
@@ -149,7 +149,7 @@ impl Subscriptions {
         self.sole = None;
         self.by_record
             .take_out(standing.name(), &self.standing, place);
-        self.by_channel.take_out(key);
+        self.by_channel.take_out(&self.standing, place, key);
         self.queues.cancel(queue, key);
         self.standing.shift_remove(&key);
     }

@@ -7,10 +7,10 @@ use Rattle.indexmap.proofs.CallerLemmas.{insert_entry-new}
 use Rattle.ca_queue.specs.Queue.{Queue}
 use Rattle.ca_model.specs.Server.{Subscription, key_of}
 use Rattle.ca_model.specs.Speech.{Stored}
-use Rattle.ca_server_subscriptions.specs.ByChannel.{AreByChannel}
+use Rattle.ca_server_subscriptions.specs.ByChannel.{AreByChannel, ids_in}
 use Rattle.ca_server_subscriptions.specs.ByRecord.{Lines, receivers_in, receivers_of}
 use Rattle.ca_server_subscriptions.specs.Subscribed.{AreAskable, ArePlaced, Joins, Standings, Subscribed, keys_in, subscriptions_in}
-use Rattle.ca_server_subscriptions.proofs.Channels.{channels-back, channels-more}
+use Rattle.ca_server_subscriptions.proofs.Channels.{channels-more}
 use Rattle.ca_server_subscriptions.proofs.Owing.{refused-none}
 use Rattle.ca_server_subscriptions.proofs.Placing.{begins-new, has-none, if-err, if-ok, new-key, not-there, some-room}
 use Rattle.ca_server_subscriptions.proofs.Receivers.{askable-more, begun-gone, begun-has, lines-more, none-sole}
@@ -102,30 +102,21 @@ pub invariant_of-self-in-Err : goal.invariant_of-self-in-Err
 invariant_of-self-in-Err c =
     let es = c.self.inside.standing.entries in
     let key : SubKey = record { sid = c.number.result; sub = c.number-2.result } in
-    let wanted : SubKey = record { sid = c.args.wanted.sid; sub = c.args.wanted.id } in
-    let keyed : key ≡ wanted = (λ i. record { sid = c.number.ensures i; sub = c.number-2.ensures i }) in
-    let fresh : is_among key (keys_in es) ≡ false =
-    subst (λ (k : SubKey). is_among k (keys_in es) ≡ false) (sym keyed) (new-key es c.self.inside.queues c.self.invariant.0 wanted c.args.self.now c.self.view_is c.requires.new) in
     let stay : c.begin.new.self ≡ c.self.inside.queues = refused-none key c.args.update c.in-Err.field-0 c.self.inside.queues c.begin.new.self c.in-Err.ensures in
-    let back = channels-back c.self.inside.by_channel es c.self.invariant.4 c.add.new.self c.take_out.new.self key fresh c.in_ok-add.ensures.ok c.take_out.ensures in
+    let back = c.take_back.ensures (ids_in c.self.inside.by_channel) c.in_ok-add.ensures.ok ∙ c.self.invariant.4 in
     rw (c.reserve.ensures.entries, stay) (c.self.invariant.0, c.self.invariant.1, none-sole es, c.self.invariant.3, back)
 
 pub invariant_of-self-then-is_err : goal.invariant_of-self-then-is_err
 invariant_of-self-then-is_err c =
     let es = c.self.inside.standing.entries in
     let still : c.reserve.new.self.entries ≡ es = c.reserve.ensures.entries in
-    let key : SubKey = record { sid = c.number.result; sub = c.number-2.result } in
-    let wanted : SubKey = record { sid = c.args.wanted.sid; sub = c.args.wanted.id } in
-    let keyed : key ≡ wanted = (λ i. record { sid = c.number.ensures i; sub = c.number-2.ensures i }) in
-    let fresh : is_among key (keys_in es) ≡ false =
-    subst (λ (k : SubKey). is_among k (keys_in es) ≡ false) (sym keyed) (new-key es c.self.inside.queues c.self.invariant.0 wanted c.args.self.now c.self.view_is c.requires.new) in
     let same_lines = if-err c.add-2.result (sym c.is_err.ensures.value ∙ c.if-is_err.true) c.add-2.ensures.err in (
       subst (λ (xs : Standings). ArePlaced xs c.cancel.new.self) (sym still) (subst (λ (rs : List (Queue Stored)). ArePlaced es rs) (sym (gone c)) c.self.invariant.0),
       λ name. ap (λ (w : Lines). receivers_in w name) same_lines ∙ c.self.invariant.1 name ∙ ap (receivers_of name) (sym still),
       none-sole c.reserve.new.self.entries,
       subst (λ (xs : Standings). AreAskable xs) (sym still) c.self.invariant.3,
-      subst (λ (xs : Standings). AreByChannel c.take_out-then-is_err.new.self xs) (sym still)
-          (channels-back c.self.inside.by_channel es c.self.invariant.4 c.add.new.self c.take_out-then-is_err.new.self key fresh c.in_ok-add.ensures.ok c.take_out-then-is_err.ensures),
+      subst (λ (xs : Standings). AreByChannel c.take_back-then-is_err.new.self xs) (sym still)
+          (c.take_back-then-is_err.ensures (ids_in c.self.inside.by_channel) c.in_ok-add.ensures.ok ∙ c.self.invariant.4),
     )
 
 pub returns-then-is_err-clause-err : goal.returns-then-is_err-clause-err

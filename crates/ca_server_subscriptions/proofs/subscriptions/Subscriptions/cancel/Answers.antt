@@ -46,3 +46,9 @@ pub returns : goal.returns
 returns c =
     cancels-one c.self.inside.standing.entries c.self.inside.queues c.self.invariant.0 c.args.key c.args.self.now c.shift_remove.new.self.entries c.cancel.new.self
     c.self.view_is c.shift_remove.ensures.entries c.cancel.ensures
+
+pub take_out-requires-2-clause-here : goal.take_out-requires-2-clause-here
+take_out-requires-2-clause-here c = key-at c.args.key c.self.inside.standing.entries c.in-Some.place c.in-Some.ensures.index
+
+pub take_out-requires-2-clause-lines : goal.take_out-requires-2-clause-lines
+take_out-requires-2-clause-lines c = c.self.invariant.4
