@@ -15,7 +15,6 @@ use Rattle.ca_text.specs.Status.{bad_channel}
 use Rattle.ca_wire.specs.Fields.{Fields}
 use Rattle.ca_wire.specs.Messages.{error_reply, status_reply}
 use Rattle.ca_model.specs.Due.{Action, Adds, Applies, Clears, Due, EventDue, IsCreated, IsNotCreated, Knows, Nothing, Opens, PutDue, ReadDue, StrayDue, Waits, WriteDue}
-use Rattle.ca_model.specs.Ends.{Peer}
 use Rattle.ca_model.specs.Server.{OpenChannel, Server, ServerEnd, key_of}
 use Rattle.ca_model.specs.ServerSteps.{Acts, IsPut, NeedsMemory, known_channel, known_record}
 use Rattle.ca_server_circuit.specs.declared.step.Effect.{Effect}
@@ -146,11 +145,3 @@ Creates k m replies action = IsCreated k m replies action ⊎ IsNotCreated k m r
 abbrev pub greeting : Bool → List Fields → List Fields
 greeting true ms = []
 greeting false ms = ms
-
--- the end after a name, which counts until a channel was created
-abbrev pub with_peer : Peer → ServerEnd → ServerEnd
-with_peer p e = record e { peer = p }
-
-abbrev pub unless_settled : Bool → ServerEnd → ServerEnd → ServerEnd
-unless_settled true new e = e
-unless_settled false new e = new

@@ -1,9 +1,9 @@
 -- Working: a record is removed, on one circuit.
-use Rattle.std.specs.Prelude.{ℕ, ◌≡◌, ◌<◌, ◌&&◌, ◌||◌, ◌⊎◌, ◌++◌, Bool, true, not, List, Option, filter, length, map, option_map, option_to_list, take}
+use Rattle.std.specs.Prelude.{ℕ, ◌≡◌, ◌<◌, ◌&&◌, ◌||◌, ◌⊎◌, ◌++◌, Bool, true, not, List, Option, length, map, option_map, take}
 use Rattle.std.specs.Str.{bytes_eq}
 use Rattle.ca_arena.specs.declared.handle.Handle.{Handle}
-use Rattle.ca_arena.specs.Arena.{Place, place_at}
-use Rattle.ca_ids.specs.Table.{Table, held_at, with_changed, with_each}
+use Rattle.ca_arena.specs.Arena.{Place}
+use Rattle.ca_ids.specs.Table.{with_changed, with_each}
 use Rattle.ca_ids.specs.Wire.{wire_of}
 use Rattle.ca_link.specs.Calls.{IsOpen}
 use Rattle.ca_link.specs.Link.{LinkState, with_sent}
@@ -27,10 +27,6 @@ use Rattle.ca_server_subscriptions.specs.Subscribed.{HasRoom, is_of_sid}
 -- the channel leads to the record of this name, which was not removed
 abbrev pub leads_to : List ℕ → Handle × OpenChannel → Bool
 leads_to name c = bytes_eq c.1.name name && not c.1.retired
-
--- the channel of an index, if it leads there
-abbrev pub leading_at : List ℕ → ℕ → Table OpenChannel → List (Handle × OpenChannel)
-leading_at name i t = filter (leads_to name) (option_to_list (held_at i (place_at t i)))
 
 -- the SERVER_DISCONNs of channels
 abbrev pub notices : List (Handle × OpenChannel) → List Fields

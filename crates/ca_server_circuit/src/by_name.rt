@@ -7,7 +7,7 @@ use indexmap::IndexMap;
 use std::alloc::{AllocError, Global};
 use std::marker::Model;
 
-/// The open channels of a circuit by the names of their records, of those that were not removed.
+/// The open channels of a circuit by the names of their records, but for those whose record was removed.
 #[derive(Drop)]
 pub(crate) struct ByName {
     lines: IndexMap<Vec<u8>, Line>,

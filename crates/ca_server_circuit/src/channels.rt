@@ -92,7 +92,7 @@ impl Channels {
         }
     }
 
-    // There are no more than SIDs have indices.
+    // A law: there are no more channels than SIDs have indices. It does nothing.
     pub(crate) fn know(&self)
         ensures { length self.now ≤ arena_slots }
     {
@@ -129,7 +129,7 @@ impl Channels {
         self.table.channels_to(name)
     }
 
-    // The last of them.
+    // The last of the channels to the record of this name.
     pub(crate) fn last_to(&self, name: &[u8]) -> Option<Handle>
         ensures { IsLastTo name.now self.now result }
     {
@@ -209,7 +209,7 @@ fn come(front: &mut Option<(Handle, Kept)>, channel: Handle, copy: Option<Kept>)
     }
 }
 
-// The channel of this handle is not in front any more.
+// The channel under this handle is not in front any more.
 fn leave(front: &mut Option<(Handle, Kept)>, channel: Handle)
     ensures { front.new ≡ leave channel front.old }
 {

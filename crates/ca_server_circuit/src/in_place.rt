@@ -44,8 +44,7 @@ impl End {
         }
     }
 
-    /// Handles the first message, which has this header. What the others need does not weigh on a write.
-    #[cold]
+    /// Handles the first message, which has this header. All but the writes have a function of their own: a write would pay for its locals.
     #[inline(never)]
     fn step_first(
         &mut self,
@@ -125,7 +124,7 @@ impl End {
         &self.link.in_bytes()[head.start..end]
     }
 
-    /// The text in it, if it is a CLIENT_NAME, HOST_NAME, SEARCH or CREATE_CHAN: up to the first zero, or all of it.
+    /// The text in that payload, if the message is a CLIENT_NAME, HOST_NAME, SEARCH or CREATE_CHAN: up to the first zero, or all of it.
     pub(crate) fn text(&self, head: &Head) -> &[u8]
         requires { IsWhole self.now.link.input.bytes head.now }
         ensures { result.now ≡ text_in (first_at self.now.link.input.bytes head.now).payload }
@@ -144,6 +143,7 @@ fn text_in(payload: &[u8]) -> &[u8]
     }
 }
 
+/// Where its first zero is.
 fn first_zero(payload: &[u8]) -> Option<usize>
     ensures { result ≡ position (λ b. b == 0) payload.now }
 {
@@ -180,7 +180,7 @@ pub(crate) fn bare_of(alloc: Global, header: &Header) -> Message
     }
 }
 
-/// Why an end is to be closed if this stands where a header should.
+/// Why an end is to be closed whose next header is refused for this.
 fn cause_of(refusal: Refusal) -> Cause
     ensures { result ≡ cause_for refusal }
 {

@@ -44,7 +44,7 @@ impl Line {
         self.channels.is_empty()
     }
 
-    // One more, at its place. Without memory all is as it was.
+    // One more, after those of lower indices. Without memory all is as it was.
     pub(crate) fn add(&mut self, channel: Handle) -> Result<(), AllocError>
         ensures ok { OnOk result (EntersLine channel self.old self.new) }
         ensures err { OnErr result (self.new ≡ self.old) }
@@ -54,7 +54,7 @@ impl Line {
         Ok(())
     }
 
-    // This one is gone, if it is at its place.
+    // This one is gone. Nothing is said of a line that does not have it.
     pub(crate) fn take_out(&mut self, channel: Handle)
         ensures { GoesFromLine channel self.old self.new }
     {

@@ -48,7 +48,7 @@ impl End {
         }
     }
 
-    /// The same for the last of them, for then none moves up in the line of that name. It says whether there was one.
+    /// The same for the last of them, so that no other moves up in the line of this name. It says whether there was one.
     fn retire_last(&mut self, name: &[u8]) -> bool
         ensures { RetiresLast name.now self.old result self.new }
     {
