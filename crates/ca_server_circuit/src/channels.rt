@@ -81,7 +81,6 @@ impl Channels {
     }
 
     // The channel of this SID, as the table has it.
-    #[cold]
     #[inline(never)]
     fn in_table(&self, sid: Sid) -> Option<(Handle, &Kept)>
         ensures { option_map (λ e. (e.0, e.1.now)) result ≡ by_wire self.now sid }

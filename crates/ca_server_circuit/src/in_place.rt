@@ -78,7 +78,6 @@ impl End {
     }
 
     /// Handles the first message, which has this header and is no write.
-    #[cold]
     #[inline(never)]
     fn step_other(
         &mut self,

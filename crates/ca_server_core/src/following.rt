@@ -53,7 +53,6 @@ pub(crate) fn follow(
 }
 
 /// The circuit watches the record at this place. Without memory its end has ended.
-#[cold]
 #[inline(never)]
 fn watch(
     circuits: &mut HeldTable<Circuit>,
@@ -77,7 +76,6 @@ fn watch(
 }
 
 /// The circuit leads to the record at this place. Without memory its end has ended.
-#[cold]
 #[inline(never)]
 fn lead(
     circuits: &mut HeldTable<Circuit>,
