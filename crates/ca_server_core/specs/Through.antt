@@ -1,5 +1,5 @@
--- Working: what a write of a circuit leaves to do, where nobody else watches its record.
-use Rattle.std.specs.Prelude.{ℕ, ◌≡◌, true}
+-- Working: what a message of a circuit leaves to do, with the pump of the circuit; and the same of a write, where nobody else watches its record.
+use Rattle.std.specs.Prelude.{ℕ, ◌≡◌, false, true}
 use Rattle.ca_arena.specs.declared.handle.Handle.{Handle}
 use Rattle.ca_ids.specs.Table.{Table, under}
 use Rattle.ca_records.specs.Store.{Store, records_of}
@@ -15,6 +15,7 @@ use Rattle.ca_server_core.specs.Following.{Follows, Settles}
 use Rattle.ca_server_core.specs.Noting.{TriesAt}
 use Rattle.ca_server_core.specs.Pumping.{PumpsIn}
 use Rattle.ca_server_core.specs.Reaching.{PostsIn, WatchesIn}
+use Rattle.ca_server_core.specs.Serving.{more_applied}
 use Rattle.ca_server_core.specs.Sound.{IsSound}
 
 -- The circuit of a handle had its post for a write to the record at a place, which it watches; its end is open then, and was pumped.
@@ -36,3 +37,22 @@ pub record GoesThrough (did : Effect) (h : Handle) (w : Watched) (t : Table Serv
   pub settles : (waited : ℕ) → Settles t h waited Handled t → Settles mid h waited Handled mid
   pub tries : (n : ℕ) → TriesAt did n mid s n mid s
   pub pumps : PumpsIn mid h s after s
+
+-- What a message leaves to do was done, and its step is answered as it was before. Then the put of the record to which it wrote ended, if that was
+-- busy, and the circuit was pumped. So many writes were applied before, and so many then.
+pub record FollowsAndPumps (did : Effect) (h : Handle) (n : ℕ) (t : Table ServerCircuit) (s : Store) (k : ℕ) (after : Table ServerCircuit) (x : Store) : Type 0 where
+  pub mid : Table ServerCircuit
+  pub left : Store
+  pub follows : Follows did h t s mid left
+  pub sound : IsSound (records_of left) mid
+  pub settles : (waited : ℕ) → Settles t h waited Handled t → Settles mid h waited Handled mid
+  pub last : Table ServerCircuit
+  pub u : Store
+  pub tries : TriesAt did (more_applied (is_wrote did) n) mid left k last u
+  pub pumps : PumpsIn last h u after x
+
+-- The same, but that the end of the circuit has ended before its put was looked for.
+pub record FollowsAndEnds (did : Effect) (h : Handle) (n : ℕ) (t : Table ServerCircuit) (s : Store) (k : ℕ) (after : Table ServerCircuit) (x : Store) : Type 0 where
+  pub follows : Follows did h t s after x
+  pub counts : k ≡ more_applied (is_wrote did) n
+  pub ended : is_open (under after h) ≡ false

@@ -1,9 +1,14 @@
-ghost use Rattle.std.specs.Prelude.{◌≡◌, false};
+ghost use Rattle.std.specs.Prelude.{◌≡◌, false, length, true};
+ghost use Rattle.ca_ids.specs.Table.{under};
+ghost use Rattle.ca_model.specs.ServerSteps.{output_of};
 ghost use Rattle.ca_records.specs.Store.{IsThere, records_of};
-ghost use Rattle.ca_server_core.specs.Covering.{AreLed, AreListed, Covers};
+ghost use Rattle.ca_server_core.specs.Covering.{AreLed, AreListed, Covers, IsServer};
+ghost use Rattle.ca_server_core.specs.Following.{CoversFor, LedFor};
 ghost use Rattle.ca_server_core.specs.Noting.{EndsPutAt, LeadsTo, ServesAndPumps, TriesAt, was_handled};
+ghost use Rattle.ca_server_core.specs.Pumping.{IsIdleIn};
 ghost use Rattle.ca_server_core.specs.Serving.{stepped};
 ghost use Rattle.ca_server_core.specs.Sound.{IsSound};
+ghost use Rattle.ca_server_core.specs.Through.{FollowsAndEnds, FollowsAndPumps};
 
 use crate::counting::{pump_counting_on, step_counting_on};
 use crate::finishing::{effect_of, reply_on};
@@ -28,17 +33,13 @@ impl ServerCore {
         ensures serves { ServesAndPumps self.old circuit (stepped result) waiting.new self.new }
         ensures stays { was_handled (stepped result) ≡ false → waiting.new ≡ waiting.old }
     {
-        let circuits = &mut self.circuits;
-        let records = &mut self.records;
-        let watchers = &mut self.watchers;
-        let leading = &mut self.leading;
         let mut waited = 0;
         let mut left = 0;
         let mut idle = false;
         let effect = match step_counting_on(
             self.port,
-            circuits,
-            records,
+            &mut self.circuits,
+            &mut self.records,
             circuit,
             &mut waited,
             &mut left,
@@ -47,35 +48,69 @@ impl ServerCore {
             Some(EndStep::Handled(effect)) => effect,
             Some(EndStep::NeedBytes) => return Step::NeedBytes,
             Some(EndStep::OutputFull) => return Step::OutputFull,
-            Some(EndStep::Breaks(_)) => return report(self.alloc, circuits, circuit),
-            None => return report(self.alloc, circuits, circuit),
+            Some(EndStep::Breaks(_)) => return report(self.alloc, &mut self.circuits, circuit),
+            None => return report(self.alloc, &mut self.circuits, circuit),
         };
-        if is_quiet(effect) {
+        if is_quiet(effect)
+            || follow_and_pump(
+                &mut self.applied,
+                &mut self.circuits,
+                &mut self.records,
+                &mut self.watchers,
+                &mut self.leading,
+                circuit,
+                effect,
+                idle,
+                &mut left,
+            )
+        {
             *waiting = left;
             return Step::Handled;
         }
-        self.applied = more_applied(self.applied, effect.is_write());
-        if go_through(
-            circuits, records, watchers, circuit, effect, idle, &mut left,
-        ) {
-            *waiting = left;
-            return Step::Handled;
-        }
-        let may_have_ended = follow(circuits, records, watchers, leading, circuit, effect);
-        if may_have_ended && !is_open(circuits, circuit) {
-            return over(self.alloc, circuits, circuit, waited);
-        }
-        finish_busy(
-            &mut self.applied,
-            circuits,
-            records,
-            watchers,
-            leading,
-            effect,
-        );
-        *waiting = pump_counting_on(circuits, records, circuit);
-        Step::Handled
+        over(self.alloc, &mut self.circuits, circuit, waited)
     }
+}
+
+/// Does what a message of this circuit leaves to do, finishes the put by which it made a record busy, and pumps the circuit. So many bytes
+/// wait on it then. False if the end of the circuit has ended before that: then nothing was finished, and nothing pumped.
+#[inline(always)]
+fn follow_and_pump(
+    applied: &mut u64,
+    circuits: &mut HeldTable<Circuit>,
+    records: &mut ServedRecords,
+    watchers: &mut Watchers,
+    leading: &mut Watchers,
+    circuit: Handle,
+    effect: Effect,
+    idle: bool,
+    left: &mut usize,
+) -> bool
+    requires sound { IsSound (records_of records.old) circuits.old }
+    requires covered { CoversFor effect circuit records.old watchers.old circuits.old }
+    requires listed { AreListed (records_of records.old) watchers.old }
+    requires led { LedFor effect circuit records.old leading.old circuits.old }
+    requires rests { idle ≡ true → IsIdleIn circuits.old circuit }
+    requires counted { left.old ≡ length (output_of (under circuits.old circuit)) }
+    ensures pumps { result ≡ true
+        → FollowsAndPumps effect circuit applied.old circuits.old records.old applied.new
+        circuits.new records.new }
+    ensures counts { result ≡ true → left.new ≡ length (output_of (under circuits.new circuit)) }
+    ensures ends { result ≡ false
+        → FollowsAndEnds effect circuit applied.old circuits.old records.old applied.new
+        circuits.new records.new }
+    ensures server { IsServer (records_of records.new) watchers.new leading.new circuits.new }
+{
+    *applied = more_applied(*applied, effect.is_write());
+    if go_through(circuits, records, watchers, circuit, effect, idle, left) {
+        return true;
+    }
+    let may_have_ended = follow(circuits, records, watchers, leading, circuit, effect);
+    if may_have_ended && !is_open(circuits, circuit) {
+        return false;
+    }
+    finish_busy(applied, circuits, records, watchers, leading, effect);
+    *left = pump_counting_on(circuits, records, circuit);
+    true
 }
 
 /// Finishes the put of the record to which a message wrote, if it is busy.
