@@ -1,4 +1,5 @@
 pub mod Subscribed
+pub mod AtNeed
 pub mod Order
 pub mod ByRecord
 pub mod ByChannel

@@ -3,6 +3,7 @@
 //! The server's core holds one for each open end.
 #![tactic(auto)]
 
+mod at_need;
 mod by_channel;
 mod by_record;
 mod line;
@@ -13,5 +14,5 @@ mod subscriptions;
 mod update;
 mod waiting;
 
-pub use subscriptions::Subscriptions;
+pub use at_need::SubscriptionsAtNeed;
 pub use update::Update;

@@ -33,7 +33,7 @@ use std::slice;
 
 /// The subscriptions of an end, in the order of their EVENT_ADDs, and the queues of their updates.
 #[derive(Drop)]
-pub struct Subscriptions {
+pub(crate) struct Subscriptions {
     // Where the subscription is that was posted to last, if it is the only one on its record: then no line need be looked at.
     sole: Option<usize>,
     standing: IndexMap<SubKey, Standing>,
