@@ -11,7 +11,7 @@ use Rattle.std.proofs.lemmas.List.{get_or_append_left, get_or-append-add}
 use Rattle.std.proofs.lemmas.Map.Steps.{set_value_same}
 use Rattle.std.proofs.lemmas.Slice.Eq.{bytes_eq-Decides}
 use Rattle.ca_arena.specs.declared.handle.Handle.{Handle}
-use Rattle.ca_server_circuit.specs.ByName.{AreBelow, AreFrom, Enters, EntersLine, Goes, GoesFromLine, IsItsPlace, channels_in, lines_in}
+use Rattle.ca_server_circuit.specs.ByName.{AreBelow, AreFrom, Enters, EntersLine, Goes, GoesFromLine, IsItsPlace, channels_in, line_of, lines_in}
 
 -- ---- the place of a channel
 
@@ -135,6 +135,10 @@ module _ {K : Type 0} (bytes : K → List ℕ) where
   pub unlined : (name : List ℕ) (es : Map) → (let none : Option (List Handle) = None in lookup (λ k. bytes_eq name (bytes k)) es ≡ none) → channels_in (lines_in bytes es) name ≡ []
   unlined name es is = ap (λ (o : Option (List Handle)). unwrap_or o []) (looked name es ∙ is)
 
+  -- there is none
+  pub not-lined : (name : List ℕ) (es : Map) → (let none : Option (List Handle) = None in lookup (λ k. bytes_eq name (bytes k)) es ≡ none) → line_of (lines_in bytes es) name ≡ None
+  not-lined name es is = looked name es ∙ is
+
   -- what one name has is not what another has
   apart : (name other key : List ℕ) → bytes_eq other name ≡ false → bytes_eq name key ≡ true → bytes_eq other key ≡ false
   apart name other key miss hit = subst (λ (k : List ℕ). bytes_eq other k ≡ false) ((bytes_eq-Decides name key).0 hit) miss
@@ -212,6 +216,10 @@ module _ {K : Type 0} (bytes : K → List ℕ) where
   pub unwritten : {S : Type 0} (m n : HashMap K (List Handle) S) (name : List ℕ) (v w : List Handle) → lookup (is_named name) m.entries ≡ Some v → hash.WritesThrough equal (is_named name) m w n → w ≡ v → lines_in bytes n.entries ≡ lines_in bytes m.entries
   unwritten m n name v w found through same =
       ap (λ (es : Map). lines_in bytes es) (through.0 ∙ ap (λ (x : List Handle). set_value (is_named name) m.entries x) same ∙ set_value_same (is_named name) m.entries v found)
+
+  -- a line that was taken out is there no more
+  pub taken-out : {S : Type 0} (m n : HashMap K (List Handle) S) (name : List ℕ) → hash.UpdatesBy equal (is_named name) m n None → line_of (lines_in bytes n.entries) name ≡ None
+  taken-out m n name u = not-lined name n.entries u.1
 
   -- a line with none is none
   pub emptied : {S : Type 0} (m n : HashMap K (List Handle) S) (name : List ℕ) → channels_in (lines_in bytes m.entries) name ≡ [] → hash.UpdatesBy equal (is_named name) m n None → (other : List ℕ) → channels_in (lines_in bytes n.entries) other ≡ channels_in (lines_in bytes m.entries) other

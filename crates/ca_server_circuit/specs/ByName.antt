@@ -27,9 +27,13 @@ RetiresLast name e false new = (channels_to name e.channels ≡ []) × (new ≡ 
 abbrev pub Lines : Type 0
 Lines = List (List ℕ × List Handle)
 
--- those in the line of this name
+-- the line of this name, if there is one
+abbrev pub line_of : Lines → (name : List ℕ) → Option (List Handle)
+line_of lines name = lookup (bytes_eq name) lines
+
+-- those in it
 abbrev pub channels_in : Lines → (name : List ℕ) → List Handle
-channels_in lines name = unwrap_or (lookup (bytes_eq name) lines) []
+channels_in lines name = unwrap_or (line_of lines name) []
 
 abbrev pub lines_in : {K : Type 0} → (K → List ℕ) → List (K × List Handle) → Lines
 lines_in bytes es = map (λ e. (bytes e.0, e.1)) es

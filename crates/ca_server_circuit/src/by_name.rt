@@ -1,5 +1,5 @@
-ghost use Rattle.std.specs.Prelude.{ℕ, ◌≡◌, List, [], OnErr, OnOk};
-ghost use Rattle.ca_server_circuit.specs.ByName.{Enters, Goes, channels_in};
+ghost use Rattle.std.specs.Prelude.{ℕ, ◌≡◌, List, [], None, OnErr, OnOk};
+ghost use Rattle.ca_server_circuit.specs.ByName.{Enters, Goes, channels_in, line_of};
 
 use crate::line::Line;
 use ca_arena::Handle;
@@ -71,7 +71,8 @@ impl ByName {
     // This channel leads to the record of this name no more. A line that has none left goes, so that names which come and go fill no
     // memory.
     pub(crate) fn take_out(&mut self, name: &[u8], channel: Handle)
-        ensures { Goes name.now channel self.old self.new }
+        ensures goes { Goes name.now channel self.old self.new }
+        ensures gone { channels_in self.new name.now ≡ [] → line_of self.new name.now ≡ None }
     {
         self.take_out_of_line(name, channel);
         self.drop_if_empty(name);
@@ -89,7 +90,8 @@ impl ByName {
 
     // Without the line of this name if it has none.
     fn drop_if_empty(&mut self, name: &[u8])
-        ensures { (other : List ℕ) → channels_in self.new other ≡ channels_in self.old other }
+        ensures stay { (other : List ℕ) → channels_in self.new other ≡ channels_in self.old other }
+        ensures gone { channels_in self.old name.now ≡ [] → line_of self.new name.now ≡ None }
     {
         let Some(line) = self.lines.get(name) else {
             return;
@@ -102,7 +104,8 @@ impl ByName {
     // Without the line of this name, which has none.
     fn drop_line(&mut self, name: &[u8])
         requires { channels_in self.old name.now ≡ [] }
-        ensures { (other : List ℕ) → channels_in self.new other ≡ channels_in self.old other }
+        ensures stay { (other : List ℕ) → channels_in self.new other ≡ channels_in self.old other }
+        ensures gone { line_of self.new name.now ≡ None }
     {
         self.lines.swap_remove(name);
     }

@@ -5,7 +5,7 @@ ghost use Rattle.ca_model.specs.Server.{new_end};
 
 use crate::channels::Channels;
 use ca_link::Link;
-use ca_server_subscriptions::Subscriptions;
+use ca_server_subscriptions::SubscriptionsAtNeed;
 use ca_wire::Message;
 use std::alloc::{AllocError, Global};
 use std::marker::Model;
@@ -16,8 +16,8 @@ pub(crate) struct End {
     pub(crate) alloc: Global,
     // What each step needs stands side by side: with many circuits it is in the fewest cache lines so.
     pub(crate) link: Link,
+    pub(crate) subscriptions: SubscriptionsAtNeed,
     pub(crate) channels: Channels,
-    pub(crate) subscriptions: Subscriptions,
     // How the peer named itself.
     pub(crate) user: Vec<u8>,
     pub(crate) host: Vec<u8>,
@@ -52,8 +52,8 @@ impl End {
         End {
             alloc,
             link: Link::new(alloc, now),
+            subscriptions: SubscriptionsAtNeed::new(alloc),
             channels: Channels::new(alloc),
-            subscriptions: Subscriptions::new(alloc),
             greeted: false,
             settled: false,
             user: Vec::new(alloc),

@@ -21,7 +21,6 @@ mod events;
 mod finishing;
 mod handle;
 mod in_place;
-mod leading;
 mod line;
 mod losing;
 mod name;

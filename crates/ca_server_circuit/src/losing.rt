@@ -1,9 +1,10 @@
-ghost use Rattle.std.specs.Prelude.{◌≡◌, OnErr, OnOk, filter};
+ghost use Rattle.std.specs.Prelude.{◌≡◌, ◌≢◌, [], IfOk, OnErr, OnOk, filter, map};
 ghost use Rattle.ca_ids.specs.Table.{held};
 ghost use Rattle.ca_link.specs.Calls.{IsOpen};
 ghost use Rattle.ca_link.specs.Link.{with_sent};
-ghost use Rattle.ca_model.specs.ServerCalls.{disconnects, end_without};
+ghost use Rattle.ca_model.specs.ServerCalls.{channels_of, disconnects, end_without};
 ghost use Rattle.ca_server_circuit.specs.ByName.{RetiresLast};
+ghost use Rattle.ca_server_circuit.specs.Concerned.{ids_of};
 ghost use Rattle.ca_server_circuit.specs.Handling.{replied};
 ghost use Rattle.ca_server_circuit.specs.Removing.{SendsSome, TellsSome, leads_to, notices, without_channel, without_channels};
 
@@ -66,6 +67,21 @@ impl End {
         let sid = Sid::new(WireId::of(channel).number());
         self.subscriptions.clear(sid);
         self.channels.retire(channel);
+    }
+
+    /// The SID and the CID of each channel to the record of this name, in order of index. Refused without
+    /// memory, only if there is one.
+    pub(crate) fn channels_to(&self, name: &[u8]) -> Result<Vec<(u32, u32)>, AllocError>
+        ensures ok { IfOk result (λ all. all.items ≡ map ids_of (channels_of name.now self.now)) }
+        ensures some { OnErr result (map ids_of (channels_of name.now self.now) ≢ []) }
+    {
+        let mut all = Vec::new(self.alloc);
+        let channels = self.channels.channels_to(name);
+        for i in 0..channels.len() {
+            let cid = self.channels.cid_of(channels[i]);
+            all.push((WireId::of(channels[i]).number(), cid.number()))?;
+        }
+        Ok(all)
     }
 }
 

@@ -159,14 +159,14 @@ fn value_among<'a>(records: &'a ServedRecords, name: &[u8]) -> Option<&'a Value>
     Some(records.at(place).state().value())
 }
 
-/// The put that waits for the record of this name after n others, if there is one.
+/// The put that waits for the record of this name at this place, if there is one. The one that waits longest is at place 0.
 pub fn waiting_at(core: &ServerCore, name: &[u8], place: usize) -> Option<Put>
     ensures { result ≡ put_in (record_named core.now.records name.now) place }
 {
     waiting_among(&core.records, name, place)
 }
 
-// The put that waits for the record of this name after n others.
+// The put that waits for the record of this name at this place.
 fn waiting_among(records: &ServedRecords, name: &[u8], place: usize) -> Option<Put>
     ensures { result ≡ put_in (record_named (records_of records.now) name.now) place }
 {

@@ -21,7 +21,7 @@ use Rattle.ca_server_subscriptions.proofs.Orders.{divided, divided-at, parts-at,
 use Rattle.ca_server_subscriptions.proofs.Placing.{Entry, Q, keys-filter, keys-of, keys-snoc, other, whole}
 use Rattle.ca_server_subscriptions.proofs.Receivers.{any-at}
 use Rattle.ca_server_subscriptions.proofs.Sieves.{filter-all}
-use Rattle.ca_server_subscriptions.specs.ByChannel.{AreByChannel, IdLines, Ids, id_lines, ids_in, ids_of, with_id, without_id}
+use Rattle.ca_server_subscriptions.specs.ByChannel.{AreByChannel, IdLines, Ids, id_lines, ids_in, ids_of, line_of, with_id, without_id}
 use Rattle.ca_server_subscriptions.specs.Order.{is_before}
 use Rattle.ca_server_subscriptions.specs.Subscribed.{ArePlaced, IsOneOf, Standings, Subscribed, has_key, is_of_sid, keys_in, subscriptions_in}
 
@@ -36,6 +36,14 @@ module _ {V : Type 0} (items : V → List ℕ) where
 
   pub found : (es : List (ℕ × V)) (sid : ℕ) (o : Option V) → lookup (nat_eq sid) es ≡ o → ids es sid ≡ held o
   found es sid o is = ap (λ (w : Option (List ℕ)). unwrap_or w []) (lookup-map_values items (nat_eq sid) es) ∙ ap held is
+
+  -- a SID that is not in the map has no line
+  pub not-lined : (es : List (ℕ × V)) (sid : ℕ) → (let none : Option V = None in lookup (nat_eq sid) es ≡ none) → line_of (id_lines items es) sid ≡ None
+  not-lined es sid is = lookup-map_values items (nat_eq sid) es ∙ ap (option_map items) is
+
+  -- a line that was taken out is there no more
+  pub taken-out : {S : Type 0} (m n : HashMap ℕ V S) (sid : ℕ) → hash.UpdatesBy nat_eq (nat_eq sid) m n None → line_of (id_lines items n.entries) sid ≡ None
+  taken-out m n sid u = not-lined n.entries sid u.1
 
   -- the line that was found is that of its channel
   pub line-is : (es : List (ℕ × V)) (sid : ℕ) (v : V) (lines : IdLines) (all : Standings) → lookup (nat_eq sid) es ≡ Some v → id_lines items es ≡ lines → AreByChannel lines all → items v ≡ ids_of (keys_in all) sid
@@ -83,14 +91,18 @@ pub none-held : (xs : List ℕ) → length xs ≡ 0 → xs ≡ []
 none-held [] none = refl
 none-held (x ∷ xs) none = absurd (omega (arith, none))
 
+-- ids without that of this subscription
+abbrev less : SubKey → List ℕ → List ℕ
+less key ids = filter (λ (id : ℕ). not (key.sub == id)) ids
+
 -- a channel that has no line loses none
 pub lost-none : (key : SubKey) (ids : Ids) → ids key.sid ≡ [] → ids ≡ without_id key ids
 lost-none key ids none = λ i sid. by sid (is_of_sid sid key) refl i
   where
-    by : (sid : ℕ) (b : Bool) → is_of_sid sid key ≡ b → ids sid ≡ cond b (filter (λ (id : ℕ). not (key.sub == id)) (ids sid)) (ids sid)
+    by : (sid : ℕ) (b : Bool) → is_of_sid sid key ≡ b → ids sid ≡ cond b (less key (ids sid)) (ids sid)
     by sid true is =
         let empty : ids sid ≡ [] = ap ids (sym (eqb-true key.sid sid is)) ∙ none in
-        empty ∙ ap (λ (xs : List ℕ). filter (λ (id : ℕ). not (key.sub == id)) xs) (sym empty)
+        empty ∙ ap (less key) (sym empty)
     by sid false is = refl
 
 -- ---- of keys
@@ -112,11 +124,8 @@ module _ (key : SubKey) where
   abbrev left : List SubKey → List SubKey
   left ks = filter (λ (k : SubKey). not (same key k)) ks
 
-  abbrev less : List ℕ → List ℕ
-  less ids = filter (λ (id : ℕ). not (key.sub == id)) ids
-
   -- of its own channel
-  own : (sid : ℕ) → is_of_sid sid key ≡ true → (ks : List SubKey) → ids_of (left ks) sid ≡ less (ids_of ks sid)
+  own : (sid : ℕ) → is_of_sid sid key ≡ true → (ks : List SubKey) → ids_of (left ks) sid ≡ less key (ids_of ks sid)
   own sid its [] = refl
   own sid its (k ∷ ks) = by (same key k) (is_of_sid sid k) refl refl (own sid its ks)
     where
@@ -127,7 +136,7 @@ module _ (key : SubKey) where
       differs true is other of = absurd (both_ways (same key k) other (and_from (nat_eq key.sid k.sid) (nat_eq key.sub k.sub) (its-sid of) is))
       differs false is other of = refl
 
-      by : (a b : Bool) → same key k ≡ a → is_of_sid sid k ≡ b → ids_of (left ks) sid ≡ less (ids_of ks sid) → ids_of (left (k ∷ ks)) sid ≡ less (ids_of (k ∷ ks) sid)
+      by : (a b : Bool) → same key k ≡ a → is_of_sid sid k ≡ b → ids_of (left ks) sid ≡ less key (ids_of ks sid) → ids_of (left (k ∷ ks)) sid ≡ less key (ids_of (k ∷ ks) sid)
       by true true is of rest = (let sub = (and_parts (nat_eq key.sid k.sid) (nat_eq key.sub k.sub) is).1 in rw (is, of, sub) rest)
       by true false is off rest = rw (is, off) rest
       by false true is of rest = (let sub = differs (key.sub == k.sub) refl is of in rw (is, of, sub) (ap (λ (xs : List ℕ). k.sub ∷ xs) rest))
@@ -148,8 +157,8 @@ module _ (key : SubKey) where
   ids-without keys = λ i sid. at sid (is_of_sid sid key) refl i
     where
       at : (sid : ℕ) (b : Bool) → is_of_sid sid key ≡ b → ids_of (left keys) sid ≡ without_id key (ids_of keys) sid
-      at sid true its = own sid its keys ∙ sym (ap (λ (b : Bool). cond b (less (ids_of keys sid)) (ids_of keys sid)) its)
-      at sid false off = stay sid off keys ∙ sym (ap (λ (b : Bool). cond b (less (ids_of keys sid)) (ids_of keys sid)) off)
+      at sid true its = own sid its keys ∙ sym (ap (λ (b : Bool). cond b (less key (ids_of keys sid)) (ids_of keys sid)) its)
+      at sid false off = stay sid off keys ∙ sym (ap (λ (b : Bool). cond b (less key (ids_of keys sid)) (ids_of keys sid)) off)
 
 -- an id of a channel is of one of the keys
 key-of-id : (keys : List SubKey) (sid i sub : ℕ) → At (ids_of keys sid) i sub → (let key : SubKey = record { sid = sid; sub = sub } in (k : ℕ) × At keys k key)
@@ -217,26 +226,23 @@ not-added key ids now empty is =
 -- ---- the place of one in the line of its channel
 
 module _ (key : SubKey) where
-  abbrev rest : List ℕ → List ℕ
-  rest ids = filter (λ (id : ℕ). not (key.sub == id)) ids
-
   -- all others of its channel are others
-  none-goes : (keys : List SubKey) → is_among key keys ≡ false → rest (ids_of keys key.sid) ≡ ids_of keys key.sid
+  none-goes : (keys : List SubKey) → is_among key keys ≡ false → less key (ids_of keys key.sid) ≡ ids_of keys key.sid
   none-goes keys none = filter-all (λ (id : ℕ). not (key.sub == id)) (ids_of keys key.sid) (λ i id there. ap not (by i id there (key.sub == id) refl))
     where
       by : (i id : ℕ) → At (ids_of keys key.sid) i id → (b : Bool) → (key.sub == id) ≡ b → b ≡ false
       by i id there true is = absurd (both_ways (is_among key keys) none (id-among keys key.sid i key.sub (subst (λ (n : ℕ). At (ids_of keys key.sid) i n) (sym (eqb-true key.sub id is)) there)))
       by i id there false is = refl
 
-  first-goes : (id : ℕ) (ids : List ℕ) → (key.sub == id) ≡ true → rest ids ≡ ids → remove (id ∷ ids) 0 ≡ rest (id ∷ ids)
+  first-goes : (id : ℕ) (ids : List ℕ) → (key.sub == id) ≡ true → less key ids ≡ ids → remove (id ∷ ids) 0 ≡ less key (id ∷ ids)
   first-goes id [] hit all = rw hit refl
   first-goes id (x ∷ ids) hit all = rw hit (sym all)
 
-  later-goes : (id : ℕ) (ids : List ℕ) (i : ℕ) → (key.sub == id) ≡ false → remove ids i ≡ rest ids → remove (id ∷ ids) (suc i) ≡ rest (id ∷ ids)
+  later-goes : (id : ℕ) (ids : List ℕ) (i : ℕ) → (key.sub == id) ≡ false → remove ids i ≡ less key ids → remove (id ∷ ids) (suc i) ≡ less key (id ∷ ids)
   later-goes id ids i miss so = rw miss (ap (λ (xs : List ℕ). id ∷ xs) so)
 
   -- what is left without the one here is all but its id
-  pub goes-there : (keys : List SubKey) (i : ℕ) → AreApart keys → At (ids_of keys key.sid) i key.sub → remove (ids_of keys key.sid) i ≡ rest (ids_of keys key.sid)
+  pub goes-there : (keys : List SubKey) (i : ℕ) → AreApart keys → At (ids_of keys key.sid) i key.sub → remove (ids_of keys key.sid) i ≡ less key (ids_of keys key.sid)
   goes-there [] i apart there = absurd cc
   goes-there (k ∷ keys) i apart there = by (is_of_sid key.sid k) refl i there (λ j later. goes-there keys j apart.1 later)
     where
@@ -248,20 +254,20 @@ module _ (key : SubKey) where
       differs of among true is = absurd (both_ways (is_among key keys) (is-it of (eqb-true key.sub k.sub is)) among)
       differs of among false is = refl
 
-      by : (b : Bool) → is_of_sid key.sid k ≡ b → (i : ℕ) → At (ids_of (k ∷ keys) key.sid) i key.sub → ((j : ℕ) → At (ids_of keys key.sid) j key.sub → remove (ids_of keys key.sid) j ≡ rest (ids_of keys key.sid))
-          → remove (ids_of (k ∷ keys) key.sid) i ≡ rest (ids_of (k ∷ keys) key.sid)
+      by : (b : Bool) → is_of_sid key.sid k ≡ b → (i : ℕ) → At (ids_of (k ∷ keys) key.sid) i key.sub → ((j : ℕ) → At (ids_of keys key.sid) j key.sub → remove (ids_of keys key.sid) j ≡ less key (ids_of keys key.sid))
+          → remove (ids_of (k ∷ keys) key.sid) i ≡ less key (ids_of (k ∷ keys) key.sid)
       by false off i there more =
           let shown : ids_of (k ∷ keys) key.sid ≡ ids_of keys key.sid = rw off refl in
-          subst (λ (ids : List ℕ). remove ids i ≡ rest ids) (sym shown) (more i (subst (λ (ids : List ℕ). At ids i key.sub) shown there))
+          subst (λ (ids : List ℕ). remove ids i ≡ less key ids) (sym shown) (more i (subst (λ (ids : List ℕ). At ids i key.sub) shown there))
       by true of zero there more =
           let shown : ids_of (k ∷ keys) key.sid ≡ k.sub ∷ ids_of keys key.sid = rw of refl in
           let sub : k.sub ≡ key.sub = some_is k.sub key.sub (subst (λ (ids : List ℕ). At ids 0 key.sub) shown there) in
-          subst (λ (ids : List ℕ). remove ids 0 ≡ rest ids) (sym shown)
+          subst (λ (ids : List ℕ). remove ids 0 ≡ less key ids) (sym shown)
           (first-goes k.sub (ids_of keys key.sid) (eq-eqb key.sub k.sub (sym sub)) (none-goes keys (is-it of (sym sub))))
       by true of (suc i) there more =
           let shown : ids_of (k ∷ keys) key.sid ≡ k.sub ∷ ids_of keys key.sid = rw of refl in
           let later : At (ids_of keys key.sid) i key.sub = subst (λ (ids : List ℕ). At ids (suc i) key.sub) shown there in
-          subst (λ (ids : List ℕ). remove ids (suc i) ≡ rest ids) (sym shown)
+          subst (λ (ids : List ℕ). remove ids (suc i) ≡ less key ids) (sym shown)
           (later-goes k.sub (ids_of keys key.sid) i (differs of (id-among keys key.sid i key.sub later) (key.sub == k.sub) refl) (more i later))
 
 at-turn : (xs : List ℕ) (y : ℕ) (ys : List ℕ) → At (xs ++ y ∷ ys) (length xs) y

@@ -10,7 +10,7 @@ use Rattle.std.proofs.lemmas.Slice.Eq.{bytes_eq-Decides}
 use Rattle.indexmap.specs.IndexMap.{set_value_at}
 use Rattle.ca_text.proofs.Places.{some_is}
 use Rattle.ca_queue.specs.declared.entry.SubKey.{SubKey}
-use Rattle.ca_server_subscriptions.specs.ByRecord.{Adds, Drops, Receiver, lines_in, receivers_in, without}
+use Rattle.ca_server_subscriptions.specs.ByRecord.{Adds, Drops, Receiver, line_of, lines_in, receivers_in, without}
 
 module _ {K : Type 0} (bytes : K → List ℕ) where
   abbrev Map : Type 0
@@ -37,6 +37,10 @@ module _ {K : Type 0} (bytes : K → List ℕ) where
 
   pub unlined : (name : List ℕ) (es : Map) → (let none : Option (List Receiver) = None in lookup (λ k. bytes_eq name (bytes k)) es ≡ none) → receivers_in (lines_in bytes es) name ≡ []
   unlined name es is = ap (λ (o : Option (List Receiver)). unwrap_or o []) (looked name es ∙ is)
+
+  -- there is none
+  pub not-lined : (name : List ℕ) (es : Map) → (let none : Option (List Receiver) = None in lookup (λ k. bytes_eq name (bytes k)) es ≡ none) → line_of (lines_in bytes es) name ≡ None
+  not-lined name es is = looked name es ∙ is
 
   -- what one name has is not what another has
   apart : (name other key : List ℕ) → bytes_eq other name ≡ false → bytes_eq name key ≡ true → bytes_eq other key ≡ false
@@ -84,6 +88,10 @@ module _ {K : Type 0} (bytes : K → List ℕ) where
   pub unwritten : {S : Type 0} (m n : HashMap K (List Receiver) S) (name : List ℕ) (v w : List Receiver) → lookup (is_named name) m.entries ≡ Some v → hash.WritesThrough equal (is_named name) m w n → w ≡ v → lines_in bytes n.entries ≡ lines_in bytes m.entries
   unwritten m n name v w found through same =
       ap (λ (es : Map). lines_in bytes es) (through.0 ∙ ap (λ (x : List Receiver). set_value (is_named name) m.entries x) same ∙ set_value_same (is_named name) m.entries v found)
+
+  -- a line that was taken out is there no more
+  pub taken-out : {S : Type 0} (m n : HashMap K (List Receiver) S) (name : List ℕ) → hash.UpdatesBy equal (is_named name) m n None → line_of (lines_in bytes n.entries) name ≡ None
+  taken-out m n name u = not-lined name n.entries u.1
 
   -- a line with none is none
   pub emptied : {S : Type 0} (m n : HashMap K (List Receiver) S) (name : List ℕ) → receivers_in (lines_in bytes m.entries) name ≡ [] → hash.UpdatesBy equal (is_named name) m n None → (other : List ℕ) → receivers_in (lines_in bytes n.entries) other ≡ receivers_in (lines_in bytes m.entries) other

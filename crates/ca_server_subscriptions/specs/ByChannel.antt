@@ -1,5 +1,5 @@
 -- Working: the subscriptions of an end by the SIDs of their channels.
-use Rattle.std.specs.Prelude.{ℕ, ◌≡◌, ◌==◌, nat_eq, not, List, [], ◌∷◌, ◌++◌, filter, if◌then◌else◌, map, unwrap_or}
+use Rattle.std.specs.Prelude.{ℕ, ◌≡◌, ◌==◌, nat_eq, not, List, [], ◌∷◌, ◌++◌, Option, filter, if◌then◌else◌, map, unwrap_or}
 use Rattle.std.specs.Map.{lookup}
 use Rattle.ca_queue.specs.declared.entry.SubKey.{SubKey}
 use Rattle.ca_server_subscriptions.specs.Subscribed.{Standings, is_of_sid, keys_in}
@@ -25,8 +25,13 @@ without_id key ids sid = if is_of_sid sid key then filter (λ (id : ℕ). not (k
 abbrev pub IdLines : Type 0
 IdLines = List (ℕ × List ℕ)
 
+-- the line of this SID, if there is one
+abbrev pub line_of : IdLines → (sid : ℕ) → Option (List ℕ)
+line_of lines sid = lookup (nat_eq sid) lines
+
+-- those in it
 abbrev pub ids_in : IdLines → Ids
-ids_in lines sid = unwrap_or (lookup (nat_eq sid) lines) []
+ids_in lines sid = unwrap_or (line_of lines sid) []
 
 abbrev pub id_lines : {V : Type 0} → (V → List ℕ) → List (ℕ × V) → IdLines
 id_lines items es = map (λ e. (e.0, items e.1)) es

@@ -49,9 +49,13 @@ LeavesLine es place old new = (key : SubKey) → At (keys_in es) place key → n
 abbrev pub Lines : Type 0
 Lines = List (List ℕ × List Receiver)
 
--- those in the line of this name
+-- the line of this name, if there is one
+abbrev pub line_of : Lines → (name : List ℕ) → Option (List Receiver)
+line_of lines name = lookup (bytes_eq name) lines
+
+-- those in it
 abbrev pub receivers_in : Lines → (name : List ℕ) → List Receiver
-receivers_in lines name = unwrap_or (lookup (bytes_eq name) lines) []
+receivers_in lines name = unwrap_or (line_of lines name) []
 
 abbrev pub lines_in : {K : Type 0} → (K → List ℕ) → List (K × List Receiver) → Lines
 lines_in bytes es = map (λ e. (bytes e.0, e.1)) es

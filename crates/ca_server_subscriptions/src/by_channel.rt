@@ -1,7 +1,7 @@
-ghost use Rattle.std.specs.Prelude.{◌≡◌, ◌-◌, [], OnErr, OnOk, length, slice_get};
+ghost use Rattle.std.specs.Prelude.{◌≡◌, ◌-◌, [], None, OnErr, OnOk, length, slice_get};
 ghost use Rattle.ca_text.specs.Place.{At};
 ghost use Rattle.ca_queue.specs.Keys.{AreApart};
-ghost use Rattle.ca_server_subscriptions.specs.ByChannel.{AreByChannel, Ids, ids_in, ids_of, with_id, without_id};
+ghost use Rattle.ca_server_subscriptions.specs.ByChannel.{AreByChannel, Ids, ids_in, ids_of, line_of, with_id, without_id};
 ghost use Rattle.ca_server_subscriptions.specs.Subscribed.{keys_in};
 
 use crate::order::is_before;
@@ -72,9 +72,10 @@ impl ByChannel {
         Ok(())
     }
 
-    // The last one of its channel, which `add` put there, is gone again.
+    // The last one of its channel, which `add` put there, is gone again. A line that has none left goes, as in `take_out`.
     pub(crate) fn take_back(&mut self, key: SubKey)
-        ensures { (ids : Ids) → ids_in self.old ≡ with_id key ids → ids_in self.new ≡ ids }
+        ensures back { (ids : Ids) → ids_in self.old ≡ with_id key ids → ids_in self.new ≡ ids }
+        ensures gone { ids_in self.new key.sid ≡ [] → line_of self.new key.sid ≡ None }
     {
         self.pop(key);
         self.drop_if_empty(key.sid);
@@ -101,7 +102,8 @@ impl ByChannel {
         requires here { At (keys_in standing.now.entries) place key }
         requires apart { AreApart (keys_in standing.now.entries) }
         requires lines { AreByChannel self.old standing.now.entries }
-        ensures { ids_in self.new ≡ without_id key (ids_in self.old) }
+        ensures goes { ids_in self.new ≡ without_id key (ids_in self.old) }
+        ensures gone { ids_in self.new key.sid ≡ [] → line_of self.new key.sid ≡ None }
     {
         self.shorten(standing, place, key);
         self.drop_if_empty(key.sid);
@@ -117,13 +119,14 @@ impl ByChannel {
         let Some(line) = self.lines.get_mut(&key.sid) else {
             return;
         };
-        let found = place_in(line.as_slice(), standing, place, key);
+        let found = place_in_channel(line.as_slice(), standing, place, key);
         line.remove(found);
     }
 
     // Without the line of this SID if it has none.
     fn drop_if_empty(&mut self, sid: u32)
-        ensures { ids_in self.new ≡ ids_in self.old }
+        ensures stay { ids_in self.new ≡ ids_in self.old }
+        ensures gone { ids_in self.old sid ≡ [] → line_of self.new sid ≡ None }
     {
         let Some(line) = self.lines.get(&sid) else {
             return;
@@ -136,7 +139,8 @@ impl ByChannel {
     // Without the line of this SID, which has none.
     fn drop_line(&mut self, sid: u32)
         requires { ids_in self.old sid ≡ [] }
-        ensures { ids_in self.new ≡ ids_in self.old }
+        ensures stay { ids_in self.new ≡ ids_in self.old }
+        ensures gone { line_of self.new sid ≡ None }
     {
         self.lines.swap_remove(&sid);
     }
@@ -144,7 +148,12 @@ impl ByChannel {
 
 // Where the one at this place of all of the end is in the line of its channel. Both lists are in the order of EVENT_ADDs, so that those
 // which are before it in the one come first in the other.
-fn place_in(line: &[u32], standing: &IndexMap<SubKey, Standing>, place: usize, key: SubKey) -> usize
+fn place_in_channel(
+    line: &[u32],
+    standing: &IndexMap<SubKey, Standing>,
+    place: usize,
+    key: SubKey,
+) -> usize
     requires here { At (keys_in standing.now.entries) place key }
     requires apart { AreApart (keys_in standing.now.entries) }
     requires line { line.now ≡ ids_of (keys_in standing.now.entries) key.sid }

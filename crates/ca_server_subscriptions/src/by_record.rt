@@ -1,7 +1,7 @@
-ghost use Rattle.std.specs.Prelude.{ℕ, ◌≡◌, List, [], IfSome, OnErr, OnOk};
+ghost use Rattle.std.specs.Prelude.{ℕ, ◌≡◌, List, [], None, IfSome, OnErr, OnOk};
 ghost use Rattle.ca_text.specs.Place.{At};
 ghost use Rattle.ca_queue.specs.declared.entry.SubKey.{SubKey};
-ghost use Rattle.ca_server_subscriptions.specs.ByRecord.{Adds, Drops, IsInLine, receivers_in};
+ghost use Rattle.ca_server_subscriptions.specs.ByRecord.{Adds, Drops, IsInLine, line_of, receivers_in};
 ghost use Rattle.ca_server_subscriptions.specs.Subscribed.{keys_in};
 
 use crate::line::Line;
@@ -123,8 +123,9 @@ impl ByRecord {
         place: usize,
     )
         requires { IsInLine standing.now.entries place (receivers_in self.old name.now) }
-        ensures { (key : SubKey) → At (keys_in standing.now.entries) place key
+        ensures goes { (key : SubKey) → At (keys_in standing.now.entries) place key
             → Drops name.now key self.old self.new }
+        ensures gone { receivers_in self.new name.now ≡ [] → line_of self.new name.now ≡ None }
     {
         self.shorten(name, standing, place);
         self.drop_if_empty(name);
@@ -144,7 +145,8 @@ impl ByRecord {
 
     // Without the line of this name if it has none.
     fn drop_if_empty(&mut self, name: &[u8])
-        ensures { (other : List ℕ) → receivers_in self.new other ≡ receivers_in self.old other }
+        ensures stay { (other : List ℕ) → receivers_in self.new other ≡ receivers_in self.old other }
+        ensures gone { receivers_in self.old name.now ≡ [] → line_of self.new name.now ≡ None }
     {
         let Some(line) = self.lines.get(name) else {
             return;
@@ -157,7 +159,8 @@ impl ByRecord {
     // Without the line of this name, which has none.
     fn drop_line(&mut self, name: &[u8])
         requires { receivers_in self.old name.now ≡ [] }
-        ensures { (other : List ℕ) → receivers_in self.new other ≡ receivers_in self.old other }
+        ensures stay { (other : List ℕ) → receivers_in self.new other ≡ receivers_in self.old other }
+        ensures gone { line_of self.new name.now ≡ None }
     {
         self.lines.swap_remove(name);
     }

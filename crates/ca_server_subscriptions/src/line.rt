@@ -73,14 +73,18 @@ impl Line {
         requires { IsInLine standing.now.entries place self.old }
         ensures { LeavesLine standing.now.entries place self.old self.new }
     {
-        let found = place_of(self.receivers.as_slice(), standing, place);
+        let found = place_on_record(self.receivers.as_slice(), standing, place);
         self.receivers.remove(found);
     }
 }
 
 // Where the line has the one at this place of all of the end. Both are in the order of their EVENT_ADDs, so that those which are before it
 // there come before it here, and a search by halving finds it.
-fn place_of(receivers: &[Receiver], standing: &IndexMap<SubKey, Standing>, place: usize) -> usize
+fn place_on_record(
+    receivers: &[Receiver],
+    standing: &IndexMap<SubKey, Standing>,
+    place: usize,
+) -> usize
     requires { IsInLine standing.now.entries place receivers.now }
     ensures within { result < length receivers.now }
     ensures place { LeavesLine standing.now.entries place receivers.now

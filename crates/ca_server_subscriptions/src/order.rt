@@ -5,7 +5,7 @@ use crate::standing::Standing;
 use ca_queue::SubKey;
 use indexmap::IndexMap;
 
-/// Whether the subscription of this key is among those before this place.
+// Whether the subscription of this key is among those before this place.
 pub(crate) fn is_before(standing: &IndexMap<SubKey, Standing>, place: usize, key: SubKey) -> bool
     ensures { result ≡ is_before standing.now.entries place key }
 {

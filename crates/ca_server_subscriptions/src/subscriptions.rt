@@ -34,11 +34,13 @@ use std::slice;
 /// The subscriptions of an end, in the order of their EVENT_ADDs, and the queues of their updates.
 #[derive(Drop)]
 pub(crate) struct Subscriptions {
-    // Where the subscription is that was posted to last, if it is the only one on its record: then no line need be looked at.
+    // The place in `standing` of a subscription that is the only one on its record, mostly the record that was posted to last: the next post
+    // to it then looks at no line. None if no such place is known, as after each `begin` and `cancel`.
     sole: Option<usize>,
     standing: IndexMap<SubKey, Standing>,
     queues: Waiting,
-    // The place after the subscription whose update was taken last: the next update is mostly of the one there. The key decides.
+    // A guess of the place in `standing` of the subscription whose update is taken next: the first one that was last posted to, then the one
+    // after each that was taken. Whoever uses it compares the key there, and looks the key up if it is another.
     next: usize,
     by_record: ByRecord,
     // Where the line of a record was found last: mostly the same is asked for again. The name decides.
@@ -168,6 +170,7 @@ impl Subscriptions {
         'clearing: while let Some(key) = self.last_of(sid) {
             self.cancel(key);
         }
+        // It does nothing here: it tells the proof that the queues have no other subscriptions, so that none of this SID is left there.
         self.know();
     }
 

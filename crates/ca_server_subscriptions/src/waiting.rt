@@ -32,7 +32,7 @@ pub(crate) struct Waiting {
     queues: QueuesAtNeed<Update, EventQueue<Update>>,
     // Whether events are on in the queues.
     events_on: bool,
-    // Whether nothing waits in the queues.
+    // If true, no update waits in the queues. It may be false while none waits: it becomes true again only once `take` finds none with events on.
     empty: bool,
     // Whom the update beside the queues is for, in the order in which they get it.
     owed: VecDeque<Addressee, Global>,

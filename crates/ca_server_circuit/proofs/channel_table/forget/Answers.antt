@@ -13,7 +13,7 @@ pub returns-then-not-is_retired : goal.returns-then-not-is_retired
 returns-then-not-is_retired c =
     let old = c.args.by_name.now in
     let new = c.take_out.new.self in
-    let goes = subst (λ (name : List ℕ). Goes name c.args.channel old new) c.name.ensures c.take_out.ensures in
+    let goes = subst (λ (name : List ℕ). Goes name c.args.channel old new) c.name.ensures c.take_out.ensures.goes in
     forgets c.args.table.now c.args.channel c.in-Some.found.now (sym c.in-Some.ensures) old new c.requires (sym c.is_retired.ensures ∙ c.if-not-is_retired.true) goes
 
 pub returns-else-not-is_retired : goal.returns-else-not-is_retired

@@ -20,6 +20,6 @@ invariant_of-self-in-Err c =
     let new = c.take_out.new.self in
     let enters = subst (λ (name : List ℕ). Enters name c.in-Some.vacant old mid) c.name.ensures c.in_ok-add.ensures.ok in
     let named = c.name-in-Err.ensures ∙ ap (λ (x : OpenChannel). x.name) c.in-Err.ensures.0 in
-    let goes = subst (λ (name : List ℕ). Goes name c.in-Some.vacant mid new) named c.take_out.ensures in
+    let goes = subst (λ (name : List ℕ). Goes name c.in-Some.vacant mid new) named c.take_out.ensures.goes in
     subst (λ (t : Table OpenChannel). AreByName new t) (sym c.in-Err.ensures.1)
     (undone c.self.inside.table c.in-Some.vacant c.args.channel c.in-Some.ensures old mid new c.self.invariant enters goes)

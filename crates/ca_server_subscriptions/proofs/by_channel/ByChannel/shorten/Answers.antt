@@ -15,16 +15,16 @@ returns-in_default c =
     ∙ lost-none key (ids_in (id_lines (λ line. line.items) old.entries)) (found (λ line. line.items) old.entries key.sid None (sym c.in_default.ensures.value))
     ∙ ap (λ (w : IdLines). without_id key (ids_in w)) c.self.view_is
 
-pub place_in-found-requires-clause-line : goal.place_in-found-requires-clause-line
-place_in-found-requires-clause-line c =
+pub place_in_channel-found-requires-clause-line : goal.place_in_channel-found-requires-clause-line
+place_in_channel-found-requires-clause-line c =
     c.as_slice.ensures.value
     ∙ line-is (λ line. line.items) c.self.inside.lines.entries c.args.key.sid c.in-Some.line.now c.args.self.now c.args.standing.now.entries (sym c.in-Some.ensures.value) c.self.view_is c.requires.lines
 
 pub remove-requires : goal.remove-requires
 remove-requires c =
     let line = c.in-Some.line.now in
-    let r = c.place_in-found.result in
-    let here = subst (λ (ids : List ℕ). At ids r c.args.key.sub) c.as_slice.ensures.value c.place_in-found.ensures in
+    let r = c.place_in_channel-found.result in
+    let here = subst (λ (ids : List ℕ). At ids r c.args.key.sub) c.as_slice.ensures.value c.place_in_channel-found.ensures in
     let lt = At-within line.items r c.args.key.sub here in
     let all = line.ok in
     omega (arith, lt, all)
@@ -34,9 +34,9 @@ returns c =
     let key = c.args.key in
     let es = c.args.standing.now.entries in
     let line = c.in-Some.line.now in
-    let r = c.place_in-found.result in
+    let r = c.place_in_channel-found.result in
     let is = line-is (λ line. line.items) c.self.inside.lines.entries key.sid line c.args.self.now es (sym c.in-Some.ensures.value) c.self.view_is c.requires.lines in
-    let here = subst (λ (ids : List ℕ). At ids r key.sub) (c.as_slice.ensures.value ∙ is) c.place_in-found.ensures in
+    let here = subst (λ (ids : List ℕ). At ids r key.sub) (c.as_slice.ensures.value ∙ is) c.place_in_channel-found.ensures in
     let goes = c.remove.ensures.items ∙ subst (λ (ids : List ℕ). remove ids r ≡ filter (λ (id : ℕ). not (key.sub == id)) ids) (sym is) (goes-there key (keys_in es) r c.requires.apart here) in
     written (λ line. line.items) c.self.inside.lines (c.get_mut.follows.lender c.remove.new.self) key.sid line c.remove.new.self (λ ids. filter (λ (id : ℕ). not (key.sub == id)) ids) (sym c.in-Some.ensures.value)
     (c.get_mut.follows.holds c.remove.new.self) goes

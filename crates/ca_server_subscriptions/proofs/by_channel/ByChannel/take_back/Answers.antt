@@ -1,5 +1,9 @@
-use Rattle.std.proofs.Common.{◌∙◌}
+use Rattle.std.proofs.Common.{sym, ap, ◌∙◌}
+use Rattle.ca_server_subscriptions.specs.ByChannel.{Ids}
 use Rattle.ca_server_subscriptions.proofs.by_channel.ByChannel.take_back.Goals as goal
 
-pub returns : goal.returns
-returns c ids is = c.drop_if_empty.ensures ∙ c.pop.ensures ids is
+pub returns-clause-back : goal.returns-clause-back
+returns-clause-back c ids is = c.drop_if_empty.ensures.stay ∙ c.pop.ensures ids is
+
+pub returns-clause-gone : goal.returns-clause-gone
+returns-clause-gone c none = c.drop_if_empty.ensures.gone (ap (λ (ids : Ids). ids c.args.key.sid) (sym c.drop_if_empty.ensures.stay) ∙ none)

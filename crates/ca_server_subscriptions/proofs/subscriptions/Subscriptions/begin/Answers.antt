@@ -103,7 +103,7 @@ invariant_of-self-in-Err c =
     let es = c.self.inside.standing.entries in
     let key : SubKey = record { sid = c.number.result; sub = c.number-2.result } in
     let stay : c.begin.new.self ≡ c.self.inside.queues = refused-none key c.args.update c.in-Err.field-0 c.self.inside.queues c.begin.new.self c.in-Err.ensures in
-    let back = c.take_back.ensures (ids_in c.self.inside.by_channel) c.in_ok-add.ensures.ok ∙ c.self.invariant.4 in
+    let back = c.take_back.ensures.back (ids_in c.self.inside.by_channel) c.in_ok-add.ensures.ok ∙ c.self.invariant.4 in
     rw (c.reserve.ensures.entries, stay) (c.self.invariant.0, c.self.invariant.1, none-sole es, c.self.invariant.3, back)
 
 pub invariant_of-self-then-is_err : goal.invariant_of-self-then-is_err
@@ -116,7 +116,7 @@ invariant_of-self-then-is_err c =
       none-sole c.reserve.new.self.entries,
       subst (λ (xs : Standings). AreAskable xs) (sym still) c.self.invariant.3,
       subst (λ (xs : Standings). AreByChannel c.take_back-then-is_err.new.self xs) (sym still)
-          (c.take_back-then-is_err.ensures (ids_in c.self.inside.by_channel) c.in_ok-add.ensures.ok ∙ c.self.invariant.4),
+          (c.take_back-then-is_err.ensures.back (ids_in c.self.inside.by_channel) c.in_ok-add.ensures.ok ∙ c.self.invariant.4),
     )
 
 pub returns-then-is_err-clause-err : goal.returns-then-is_err-clause-err

@@ -36,10 +36,10 @@ invariant_of-self c =
       rw (c.cancel.ensures, c.shift_remove.ensures.entries, removed-is c.args.key es c.self.invariant.0.apart)
           (placed-cancelled es qs c.self.invariant.0 c.queue-queue.result c.args.key has),
       lines-less c.self.inside.by_record c.take_out.new.self es c.shift_remove.new.self.entries c.in-Some.standing.now.0.name c.args.key c.in-Some.standing.now c.self.invariant.0.apart (sym c.in-Some.ensures.value) refl left
-          (subst (λ (name : List ℕ). Drops name c.args.key c.self.inside.by_record c.take_out.new.self) c.name.ensures (c.take_out.ensures c.args.key (key-at c.args.key es c.in-Some.place c.in-Some.ensures.index))) c.self.invariant.1,
+          (subst (λ (name : List ℕ). Drops name c.args.key c.self.inside.by_record c.take_out.new.self) c.name.ensures (c.take_out.ensures.goes c.args.key (key-at c.args.key es c.in-Some.place c.in-Some.ensures.index))) c.self.invariant.1,
       none-sole c.shift_remove.new.self.entries,
       askable-left c.args.key es c.shift_remove.new.self.entries left c.self.invariant.3,
-      channels-less c.self.inside.by_channel es c.self.invariant.4 c.take_out-2.new.self c.shift_remove.new.self.entries c.args.key left c.take_out-2.ensures,
+      channels-less c.self.inside.by_channel es c.self.invariant.4 c.take_out-2.new.self c.shift_remove.new.self.entries c.args.key left c.take_out-2.ensures.goes,
     )
 
 pub returns : goal.returns

@@ -4,7 +4,7 @@ use Rattle.std.proofs.lemmas.List.Sorted.{IsPartitionPoint-from_clause}
 use Rattle.ca_server_subscriptions.specs.ByRecord.{Receiver}
 use Rattle.ca_server_subscriptions.specs.Order.{is_before}
 use Rattle.ca_server_subscriptions.proofs.Orders.{line-left, line-within}
-use Rattle.ca_server_subscriptions.proofs.line.place_of.Goals as goal
+use Rattle.ca_server_subscriptions.proofs.line.place_on_record.Goals as goal
 
 pub returns-clause-within : goal.returns-clause-within
 returns-clause-within c =

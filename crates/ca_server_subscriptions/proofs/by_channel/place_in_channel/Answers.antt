@@ -1,7 +1,7 @@
 use Rattle.std.proofs.Common.{rules}
 use Rattle.std.proofs.lemmas.List.Sorted.{IsPartitionPoint-from_clause}
 use Rattle.ca_server_subscriptions.proofs.Channels.{is_ahead, stands-there}
-use Rattle.ca_server_subscriptions.proofs.by_channel.place_in.Goals as goal
+use Rattle.ca_server_subscriptions.proofs.by_channel.place_in_channel.Goals as goal
 
 pub returns : goal.returns
 returns c =
