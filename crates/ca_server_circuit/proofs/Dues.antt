@@ -6,9 +6,9 @@ use Rattle.ca_text.specs.declared.command.Command.TheVariants as command
 use Rattle.ca_wire.specs.Fields.{Fields}
 use Rattle.ca_wire.specs.Messages.{bare, cancel_reply, cleared_reply, error_reply, status_reply, text_in, version_reply}
 use Rattle.ca_text.specs.Status.{bad_channel}
+use Rattle.ca_model.specs.Ends.{Peer}
 use Rattle.ca_model.specs.Due.{Action, Adds, Applies, Clears, Drops, Due, EventDue, Greets, IsCreated, IsNotCreated, Knows, Names, Nothing, Opens, PutDue, ReadDue, StrayDue, Switches, Waits, WriteDue, is_known, key_in, named, search_due}
-use Rattle.ca_model.specs.ServerSteps.{NeedsMemory}
-use Rattle.ca_server_circuit.specs.Handling.{Creates, MayLack, Puts, Reads, Subscribes, Writes}
+use Rattle.ca_server_circuit.specs.Handling.{AsksMemory, Creates, MayLack, Puts, Reads, Subscribes, Writes}
 
 -- the command of this number, of those that a server acts on
 abbrev pub command_at : ℕ → Command
@@ -95,44 +95,39 @@ due-other k m other =
 -- ---- memory may lack
 
 module _ (m : Fields) where
-  pub needs-payload : (r : List Fields) (a : Action) → m.payload ≢ [] → NeedsMemory m r a
-  needs-payload r (Applies n v b) h = tt
-  needs-payload r (Waits n v) h = tt
-  needs-payload r (Adds s) h = tt
-  needs-payload r Nothing h = inl h
-  needs-payload r Greets h = inl h
-  needs-payload r (Names p) h = inl h
-  needs-payload r (Opens c) h = inl h
-  needs-payload r (Clears n) h = inl h
-  needs-payload r (Drops x) h = inl h
-  needs-payload r (Switches b) h = inl h
-
-  needs-some : (r : List Fields) (a : Action) → r ≢ [] → NeedsMemory m r a
+  needs-some : (r : List Fields) (a : Action) → r ≢ [] → AsksMemory m r a
   needs-some r (Applies n v b) h = tt
   needs-some r (Waits n v) h = tt
   needs-some r (Adds s) h = tt
-  needs-some r Nothing h = inr h
-  needs-some r Greets h = inr h
+  needs-some r Nothing h = h
+  needs-some r Greets h = h
   needs-some r (Names p) h = inr h
-  needs-some r (Opens c) h = inr h
-  needs-some r (Clears n) h = inr h
-  needs-some r (Drops x) h = inr h
-  needs-some r (Switches b) h = inr h
+  needs-some r (Opens c) h = h
+  needs-some r (Clears n) h = h
+  needs-some r (Drops x) h = h
+  needs-some r (Switches b) h = h
 
   some-reply : (x : Fields) (xs : List Fields) → x ∷ xs ≡ [] → ⊥
   some-reply x xs e = cc
 
-  needs : (r : List Fields) (a : Action) (x : Fields) (xs : List Fields) → r ≡ x ∷ xs → NeedsMemory m r a
+  needs : (r : List Fields) (a : Action) (x : Fields) (xs : List Fields) → r ≡ x ∷ xs → AsksMemory m r a
   needs r a x xs is = needs-some r a (λ e. some-reply x xs (sym is ∙ e))
 
-  needs-action : (r : List Fields) (a b : Action) → NeedsMemory m r b → a ≡ b → NeedsMemory m r a
-  needs-action r a b h e = subst (λ (x : Action). NeedsMemory m r x) (sym e) h
+  needs-action : (r : List Fields) (a b : Action) → AsksMemory m r b → a ≡ b → AsksMemory m r a
+  needs-action r a b h e = subst (λ (x : Action). AsksMemory m r x) (sym e) h
 
-  stray-needs : (k : Knows) (reply : ℕ → Fields) (r : List Fields) (a : Action) → StrayDue k m reply r a → NeedsMemory m r a
+  stray-needs : (k : Knows) (reply : ℕ → Fields) (r : List Fields) (a : Action) → StrayDue k m reply r a → AsksMemory m r a
   stray-needs k reply r a s = needs r a (reply s.0) [] s.2
 
-  pub lack-payload : (k : Knows) → m.payload ≢ [] → MayLack k m
-  lack-payload k h r a due = needs-payload r a h
+  pub lack-user : (k : Knows) → m.command ≡ command_number command.ClientName → k.settled ≡ false → (text_in m.payload ≡ [] → ⊥) → MayLack k m
+  lack-user k is new some r a due =
+      let p : Peer = record k.peer { user = text_in m.payload } in
+      needs-action r a (Names p) (inl some) ((due.user is).1 ∙ ap (λ (b : Bool). if b then Nothing else Names p) new)
+
+  pub lack-host : (k : Knows) → m.command ≡ command_number command.HostName → k.settled ≡ false → (text_in m.payload ≡ [] → ⊥) → MayLack k m
+  lack-host k is new some r a due =
+      let p : Peer = record k.peer { host = text_in m.payload } in
+      needs-action r a (Names p) (inl some) ((due.host is).1 ∙ ap (λ (b : Bool). if b then Nothing else Names p) new)
 
   pub lack-version : (k : Knows) → m.command ≡ command_number command.Version → k.greeted ≡ false → MayLack k m
   lack-version k is new r a due =
@@ -153,14 +148,14 @@ module _ (m : Fields) where
   pub lack-create : (k : Knows) → m.command ≡ command_number command.CreateChannel → MayLack k m
   lack-create k is r a due = by (due.create is)
     where
-      by : IsCreated k m r a ⊎ IsNotCreated k m r a → NeedsMemory m r a
+      by : IsCreated k m r a ⊎ IsNotCreated k m r a → AsksMemory m r a
       by (inl c) = needs-some r a (λ e. some-reply _ _ (sym c.are ∙ e))
       by (inr c) = needs-some r a (λ e. some-reply _ _ (sym c.are ∙ e))
 
   pub lack-read : (k : Knows) → m.command ≡ command_number command.ReadNotify → MayLack k m
   lack-read k is r a due = by (due.read is)
     where
-      by : ReadDue k m r a ⊎ StrayDue k m (λ cid. status_reply m bad_channel) r a → NeedsMemory m r a
+      by : ReadDue k m r a ⊎ StrayDue k m (λ cid. status_reply m bad_channel) r a → AsksMemory m r a
       by (inl d) = elim d.2 [
         | inl h ↦ needs-some r a (λ e. some-reply _ _ (sym h.2 ∙ e))
         | inr h ↦ needs-some r a (λ e. some-reply _ _ (sym h.1.4 ∙ e))
@@ -170,21 +165,21 @@ module _ (m : Fields) where
   pub lack-write : (k : Knows) → m.command ≡ command_number command.Write → MayLack k m
   lack-write k is r a due = by (due.write is)
     where
-      by : WriteDue k m r a ⊎ StrayDue k m (λ cid. error_reply cid bad_channel m) r a → NeedsMemory m r a
+      by : WriteDue k m r a ⊎ StrayDue k m (λ cid. error_reply cid bad_channel m) r a → AsksMemory m r a
       by (inl d) = elim d.1 [
         | inl h ↦ needs-some r a (λ e. some-reply _ _ (sym h.2 ∙ e))
         | inr h ↦ needs-action r a (Applies d.0.channel.name h.0 false) tt h.3
       ]
       by (inr s) = stray-needs k (λ cid. error_reply cid bad_channel m) r a s
 
-  put-needs : (r : List Fields) (wait slow : Bool) (name : List ℕ) (value : _) → NeedsMemory m r (if wait then Waits name value else Applies name value slow)
+  put-needs : (r : List Fields) (wait slow : Bool) (name : List ℕ) (value : _) → AsksMemory m r (if wait then Waits name value else Applies name value slow)
   put-needs r true slow name value = tt
   put-needs r false slow name value = tt
 
   pub lack-put : (k : Knows) → m.command ≡ command_number command.WriteNotify → MayLack k m
   lack-put k is r a due = by (due.put is)
     where
-      by : PutDue k m r a ⊎ StrayDue k m (λ cid. status_reply m bad_channel) r a → NeedsMemory m r a
+      by : PutDue k m r a ⊎ StrayDue k m (λ cid. status_reply m bad_channel) r a → AsksMemory m r a
       by (inl d) = elim d.1 [
         | inl h ↦ needs-some r a (λ e. some-reply _ _ (sym h.2 ∙ e))
         | inr h ↦ needs-action r a _ (put-needs r _ _ _ _) h.3
@@ -194,7 +189,7 @@ module _ (m : Fields) where
   pub lack-subscribe : (k : Knows) → m.command ≡ command_number command.EventAdd → MayLack k m
   lack-subscribe k is r a due = by (due.subscribe is)
     where
-      by : EventDue k m r a ⊎ StrayDue k m (λ cid. error_reply cid bad_channel m) r a → NeedsMemory m r a
+      by : EventDue k m r a ⊎ StrayDue k m (λ cid. error_reply cid bad_channel m) r a → AsksMemory m r a
       by (inl d) = elim d.1 [
         | inl h ↦ needs-some r a (λ e. some-reply _ _ (sym h.2 ∙ e))
         | inr h ↦ needs-action r a _ tt h.2

@@ -228,7 +228,7 @@ steps-first port h s t e mid new head did room whole d gone =
 -- there was no memory for it
 pub breaks-first : (port : ℕ) (h : Handle) (s t : Store) (e new : ServerEnd) (head : Head) → length e.link.output < output_limit → IsWhole e.link.input.bytes head → AreBytes e.link.input.bytes
     → MayLack (known port s e) (first_at e.link.input.bytes head) → new.link.output ≡ e.link.output → AllStay e.channels new.channels → t ≡ s → EndSteps port h e s (Breaks cause.OutOfMemory) new t
-breaks-first port h s t e new head room whole are lack output stay same = ((takes-first e head room whole, are, inr lack), output, stay, same)
+breaks-first port h s t e new head room whole are lack output stay same = ((takes-first e head room whole, are, lack), output, stay, same)
 
 -- an end breaks at a bad header
 pub breaks-bad : (port : ℕ) (s : Store) (e : ServerEnd) (r : Refusal) → length e.link.output < output_limit → BadAt e.link.input.bytes r → BreaksBy port s e (cause_for r)

@@ -1,5 +1,5 @@
 -- Working: what one step of an open end comes to.
-use Rattle.std.specs.Prelude.{ℕ, ◌≡◌, ◌≢◌, ◌+◌, ◌<◌, ◌≤◌, ◌⊎◌, ◌++◌, List, [], drop, length, replicate, take}
+use Rattle.std.specs.Prelude.{ℕ, ◌≡◌, ◌+◌, ◌<◌, ◌≤◌, ◌++◌, List, [], drop, length, replicate, take}
 use Rattle.ca_arena.specs.declared.handle.Handle.{Handle}
 use Rattle.ca_dbr.specs.Octets.{AreBytes}
 use Rattle.ca_link.specs.Link.{TakesFirst, with_rest}
@@ -55,7 +55,7 @@ after_first {e} t = record e { link = with_rest t.rest e.link }
 
 -- Why an end breaks: out of memory for its first message, or at a bad header.
 abbrev pub BreaksBy : (port : ℕ) → Store → ServerEnd → Cause → Type 0
-BreaksBy port s e cause.OutOfMemory = (t : Takes e) × AreBytes e.link.input.bytes × ((t.m.payload ≢ []) ⊎ MayLack (known port s (after_first t)) t.m)
+BreaksBy port s e cause.OutOfMemory = (t : Takes e) × AreBytes e.link.input.bytes × MayLack (known port s (after_first t)) t.m
 BreaksBy port s e cause.Misaligned = (length e.link.output < output_limit) × BadAt e.link.input.bytes refusal.Misaligned
 BreaksBy port s e cause.TooLarge = (length e.link.output < output_limit) × BadAt e.link.input.bytes refusal.TooLarge
 BreaksBy port s e cause.Cut = ⊥

@@ -1,4 +1,4 @@
-ghost use Rattle.std.specs.Prelude.{◌≡◌, IfOk, OnErr, OnOk, [], if◌then◌else◌};
+ghost use Rattle.std.specs.Prelude.{◌≡◌, IfOk, OnErr, OnOk, [], false, if◌then◌else◌};
 ghost use Rattle.ca_wire.specs.Messages.{text_in};
 ghost use Rattle.ca_wire.specs.Reading.{IsWhole};
 ghost use Rattle.ca_server_circuit.specs.Stepping.{first_at};
@@ -21,6 +21,7 @@ impl End {
             })) }
         ensures err { OnErr result
             (text_in (first_at self.old.link.input.bytes head.now).payload ≡ [] → ⊥) }
+        ensures unsettled { OnErr result (self.old.settled ≡ false) }
         ensures output { OnErr result (self.new.link.output ≡ self.old.link.output) }
         ensures channels { OnErr result (self.new.channels ≡ self.old.channels) }
     {
@@ -44,6 +45,7 @@ impl End {
             })) }
         ensures err { OnErr result
             (text_in (first_at self.old.link.input.bytes head.now).payload ≡ [] → ⊥) }
+        ensures unsettled { OnErr result (self.old.settled ≡ false) }
         ensures output { OnErr result (self.new.link.output ≡ self.old.link.output) }
         ensures channels { OnErr result (self.new.channels ≡ self.old.channels) }
     {

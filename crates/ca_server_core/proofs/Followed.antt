@@ -18,7 +18,7 @@ use Rattle.ca_server_watchers.specs.Watching.{IsAmong, Watched, watching}
 use Rattle.ca_model.specs.Due.{Action, Adds, Applies, Clears, Drops, Greets, KnownChannel, Names, Nothing, Opens, Switches, Waits}
 use Rattle.ca_model.specs.Ends as why
 use Rattle.ca_model.specs.Server.{Ended, Open, OpenChannel, Server, ServerCircuit, ServerEnd, Subscription, key_of, with_post}
-use Rattle.ca_model.specs.ServerSteps.{Acts, MayEnd, NeedsMemory, Next, Reaches, Stepped, Steps, StepsAt, after_post, closed, is_write, output_of, reached, stored_now, write_mask}
+use Rattle.ca_model.specs.ServerSteps.{Acts, MayEnd, Next, Reaches, Stepped, Steps, StepsAt, after_post, closed, is_write, output_of, reached, stored_now, write_mask}
 use Rattle.ca_model.specs.ServerSteps as steps
 use Rattle.ca_model.specs.Speech.{In, Stored}
 use Rattle.ca_server_circuit.specs.declared.cause.Cause.{Cause}
@@ -31,7 +31,7 @@ use Rattle.ca_server_circuit.specs.Ending.{EndsAt}
 use Rattle.ca_server_core.specs.Ending.{EndsIn}
 use Rattle.ca_server_core.specs.Following.{CoversFor, Follows, IsSettled, LedFor, Settles}
 use Rattle.ca_server_circuit.specs.Circuits.{is_open}
-use Rattle.ca_server_circuit.specs.Handling.{Does, Fits, Recorded, Tells, is_wrote}
+use Rattle.ca_server_circuit.specs.Handling.{AsksMemory, Does, Fits, Recorded, Tells, is_wrote}
 use Rattle.ca_server_core.specs.Reaching.{ReachesAll}
 use Rattle.ca_server_circuit.specs.Serving.{CircuitSteps}
 use Rattle.ca_server_core.specs.Noting.{action_at, action_of}
@@ -45,7 +45,7 @@ use Rattle.ca_server_core.proofs.Led.{leads-changed}
 use Rattle.ca_server_core.proofs.Reached.{there-is}
 use Rattle.ca_server_core.proofs.Servers.{became, freed-changed, freed-nothing, same-parts, server_of, stayed}
 use Rattle.ca_server_circuit.proofs.Stays.{at-filtered, link-kept}
-use Rattle.ca_server_core.proofs.Stepped.{Makes, handled-next, none-wrote, not-some, step-at}
+use Rattle.ca_server_core.proofs.Stepped.{Makes, asks-needs, handled-next, none-wrote, not-some, step-at}
 use Rattle.ca_server_circuit.proofs.Dues.{lack-create}
 use Rattle.ca_server_circuit.proofs.Tables.{changed-back, changed-own, freed-back, held-back}
 
@@ -377,22 +377,24 @@ module _ (port now n : ℕ) (b : Clock) (s u : Store) (t : Circuits) (h : Handle
           on true out v at reach =
               let ended : under last h ≡ Some (Ended why.OutOfMemory new.link.output) = at ∙ ap (λ (z : Bool). Some (cond z (Ended why.OutOfMemory new.link.output) (Open (with_post name write_mask v new)))) out in
               let clear : withdrawn (λ (p : Put). same_handle p.circuit h) (records_of x) ≡ records_of x = none-waits (records_of x) last h sound (λ z open_at. not-ended z why.OutOfMemory new.link.output (some_is (Open z) (Ended why.OutOfMemory new.link.output) (sym open_at ∙ ended))) in
+              let asks = subst (λ (a : Action). AsksMemory the-next.0.m the-next.0.replies a) (sym is) tt in
               ended-after x last result final new.link.output ended left-is settled (record {
                 lacks = record {
                   next = the-next.0;
-                  needs = subst (λ (a : Action). NeedsMemory the-next.0.m the-next.0.replies a) (sym is) tt;
+                  needs = asks-needs the-next.0.m the-next.0.replies the-next.0.action asks;
                   written = Some gone;
                   mid = server_of port x now last b k;
                   left_is = (ap (λ (a : Action). is_write a) is, reach);
                   leaves = same-parts port now b x.rules x.rules (records_of x) _ x.stamp x.stamp (with_freed h last) _ k k refl (sym clear) refl refl refl;
                 };
+                asks = asks;
                 itself = λ g wrote. subst (λ (f : Handle → Bool). f h ≡ true) (some_is gone g wrote) out;
               })
 
   -- a subscription that began, or a channel that was created
-  begins : (x : Store) (last : Circuits) (result : Step) (final : Circuits) → ((z : Server) → Reaches the-next.0.action (λ (g : Handle). false) z z) → NeedsMemory the-next.0.m the-next.0.replies the-next.0.action → records_of u ≡ records_of s → is_wrote did ≡ false → ((last ≡ mid_table) × (x ≡ u)) ⊎ EndsIn mid_table h u why.OutOfMemory last x → Settles last h (length e.link.output) result final
+  begins : (x : Store) (last : Circuits) (result : Step) (final : Circuits) → ((z : Server) → Reaches the-next.0.action (λ (g : Handle). false) z z) → AsksMemory the-next.0.m the-next.0.replies the-next.0.action → records_of u ≡ records_of s → is_wrote did ≡ false → ((last ≡ mid_table) × (x ≡ u)) ⊎ EndsIn mid_table h u why.OutOfMemory last x → Settles last h (length e.link.output) result final
       → MakesBy P y h (stepped result) (server_of port x now final b k)
-  begins x last result final reach lack rs-same quiet f settled = by f
+  begins x last result final reach asks rs-same quiet f settled = by f
     where
       count-is : k ≡ n
       count-is = ap (λ (z : Bool). more_applied z n) quiet
@@ -419,12 +421,13 @@ module _ (port now n : ℕ) (b : Clock) (s u : Store) (t : Circuits) (h : Handle
               ended-after x last result final new.link.output at left-is settled (record {
                 lacks = record {
                   next = the-next.0;
-                  needs = lack;
+                  needs = asks-needs the-next.0.m the-next.0.replies the-next.0.action asks;
                   written = None;
                   mid = y;
                   left_is = refl;
                   leaves = same-parts port now b x.rules s.rules (records_of x) _ x.stamp s.stamp (with_freed h last) (with_freed h t) k n (did_end.1.rules ∙ d.1.rules) (did_end.1.records ∙ ap (λ (rs : List Record). withdrawn (λ (p : Put). same_handle p.circuit h) rs) rs-same) (did_end.1.stamp ∙ d.1.stamp) freed count-is;
                 };
+                asks = asks;
                 itself = λ g wrote. none-wrote g wrote;
               })
 
@@ -439,7 +442,7 @@ module _ (port now n : ℕ) (b : Clock) (s u : Store) (t : Circuits) (h : Handle
           let action = the-next.2 ∙ is in
           begins x last result final
           (λ z. subst (λ (a : Action). Reaches a (λ (g : Handle). false) z z) (sym action) ((λ g. refl), refl))
-          (subst (λ (a : Action). NeedsMemory the-next.0.m the-next.0.replies a) (sym action) tt)
+          (subst (λ (a : Action). AsksMemory the-next.0.m the-next.0.replies a) (sym action) tt)
           (subst (λ (a : Action). Recorded (records_of s) s.stamp h (after_first d.0) d.0.m a (records_of u)) is d.1.records)
           (ap is_wrote told.2)
           (subst (λ (z : Effect). Follows z h mid_table u last x) told.2 f) settled

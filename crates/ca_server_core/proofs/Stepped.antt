@@ -1,5 +1,5 @@
 -- A step of a server, from what it made of one circuit.
-use Rattle.std.proofs.Common.{◌≡◌, ◌≢◌, ℕ, suc, ◌+◌, ◌≤◌, inl, inr, Bool, true, false, List, [], ◌∷◌, length, Option, Some, None, refl, sym, ap, ◌∙◌, subst}
+use Rattle.std.proofs.Common.{◌≡◌, ℕ, suc, ◌+◌, ◌≤◌, inl, inr, Bool, true, false, List, [], ◌∷◌, length, Option, Some, None, refl, sym, ap, ◌∙◌, subst}
 use Rattle.std.specs.Prelude.{option_map, if◌then◌else◌}
 use Rattle.ca_arena.specs.declared.handle.Handle.{Handle}
 use Rattle.ca_arena.specs.Arena.{Place}
@@ -13,6 +13,7 @@ use Rattle.ca_text.specs.Limits.{arena_slots}
 use Rattle.ca_text.specs.Place.{At}
 use Rattle.ca_text.proofs.Places.{some_is}
 use Rattle.ca_wire.specs.Fields.{Fields}
+use Rattle.ca_wire.specs.Messages.{text_in}
 use Rattle.ca_model.specs.Due.{Action, Adds, Applies, Clears, Drops, Due, Greets, Names, Nothing, Opens, Switches, Waits}
 use Rattle.ca_model.specs.Ends as why
 use Rattle.ca_model.specs.Server.{Ended, Open, Server, ServerCircuit, ServerEnd}
@@ -26,7 +27,7 @@ use Rattle.ca_server_core.specs.declared.stepping.Step.TheVariants as own
 use Rattle.ca_server_circuit.specs.declared.step.Effect.{Effect}
 use Rattle.ca_server_circuit.specs.Circuits.{is_open}
 use Rattle.ca_server_circuit.specs.Ending.{KeepsPlaces, WithdrawsAll}
-use Rattle.ca_server_circuit.specs.Handling.{Does, Recorded, Tells, is_wrote, known, replied}
+use Rattle.ca_server_circuit.specs.Handling.{AsksMemory, Does, Recorded, Tells, is_wrote, known, replied}
 use Rattle.ca_server_circuit.specs.Serving.{CircuitSteps}
 use Rattle.ca_server_core.specs.Following.{IsSettled, Settles}
 use Rattle.ca_server_core.specs.Serving.{Closes, ClosesAt, ClosesOpen, IsReport, LacksItself, Reports, StepsIn, more_applied, stepped}
@@ -43,6 +44,20 @@ use Rattle.ca_dbr.proofs.LongBytes.{are-back, are-front}
 use Rattle.ca_server_core.proofs.Servers.{became, freed-changed, freed-nothing, made_of, same-parts, server_of, stayed}
 use Rattle.ca_server_circuit.proofs.Tables.{changed-own}
 use Rattle.ca_server_circuit.proofs.Walking.{keeps-same}
+
+-- a message that asks for memory may need it, as the statement has it
+pub asks-needs : (m : Fields) (replies : List Fields) (a : Action) → AsksMemory m replies a → NeedsMemory m replies a
+asks-needs m replies (Applies name value busies) asks = tt
+asks-needs m replies (Waits name value) asks = tt
+asks-needs m replies (Adds s) asks = tt
+asks-needs m replies Nothing asks = inr asks
+asks-needs m replies Greets asks = inr asks
+asks-needs m replies (Names p) (inl text) = inl (λ none. text (ap text_in none))
+asks-needs m replies (Names p) (inr some) = inr some
+asks-needs m replies (Opens c) asks = inr asks
+asks-needs m replies (Clears sid) asks = inr asks
+asks-needs m replies (Drops k) asks = inr asks
+asks-needs m replies (Switches on) asks = inr asks
 
 -- ---- nothing changes
 
@@ -174,18 +189,6 @@ module _ (port now n : ℕ) (b : Clock) where
   closed-is : (s u : Store) (t last : Table ServerCircuit) (h : Handle) → WithdrawsAll h s u → last ≡ with_freed h t → server_of port u now last b n ≡ closed h (server_of port s now t b n)
   closed-is s u t last h w freed = same-parts port now b u.rules s.rules (records_of u) _ u.stamp s.stamp last _ n n w.rules w.records w.stamp freed refl
 
-  needs-for : (m : Fields) (replies : List Fields) (a : Action) → m.payload ≢ [] → NeedsMemory m replies a
-  needs-for m replies (Applies name value busies) some = tt
-  needs-for m replies (Waits name value) some = tt
-  needs-for m replies (Adds s) some = tt
-  needs-for m replies Nothing some = inl some
-  needs-for m replies Greets some = inl some
-  needs-for m replies (Names p) some = inl some
-  needs-for m replies (Opens c) some = inl some
-  needs-for m replies (Clears sid) some = inl some
-  needs-for m replies (Drops k) some = inl some
-  needs-for m replies (Switches on) some = inl some
-
   -- the payload of the first message is bytes
   payload-bytes : (e : ServerEnd) (x : Takes e) → AreBytes e.link.input.bytes → AreBytes x.m.payload
   payload-bytes e x are =
@@ -214,18 +217,17 @@ module _ (port now n : ℕ) (b : Clock) where
           leaves = refl;
         };
       } in
+      let asks : AsksMemory x.m c.replies c.action = did.2 c.replies c.action c.due in
       record {
         lacks = record {
           next = next;
-          needs = elim did.2 [
-            | inl some ↦ needs-for x.m c.replies c.action some
-            | inr lack ↦ lack c.replies c.action c.due
-          ];
+          needs = asks-needs x.m c.replies c.action asks;
           written = None;
           mid = y;
           left_is = refl;
           leaves = is;
         };
+        asks = asks;
         itself = λ gone wrote. none-wrote gone wrote;
       }
 

@@ -15,6 +15,7 @@ use Rattle.ca_server_circuit.specs.declared.step.EndStep.{EndStep}
 use Rattle.ca_server_circuit.specs.declared.step.EndStep.TheVariants as step
 use Rattle.ca_server_core.specs.declared.stepping.Step.{Step}
 use Rattle.ca_server_core.specs.declared.stepping.Step.TheVariants.{Closed, Handled, NeedBytes, OutputFull}
+use Rattle.ca_server_circuit.specs.Handling.{AsksMemory}
 use Rattle.ca_server_circuit.specs.Serving.{CircuitSteps}
 use Rattle.ca_server_circuit.specs.Stepping.{why_is}
 
@@ -62,10 +63,11 @@ Reports t h did after = IsReport (under t h) (stepped did) × (after ≡ with_fr
 
 -- ---- when a step closes an end
 
--- An end closes out of memory in a step for the next message: nothing is left of that; or its write is applied, and the end is one of those
--- that lacked memory for an update of it.
+-- An end closes out of memory in a step for the next message, which asks for some: nothing is left of that; or its write is applied, and the
+-- end is one of those that lacked memory for an update of it.
 pub record LacksItself (y : Server) (h : Handle) (e : ServerEnd) (new : Server) : Type 0 where
   pub lacks : LacksMemory y h e new
+  pub asks : AsksMemory lacks.next.m lacks.next.replies lacks.next.action
   pub itself : (gone : Handle → Bool) → lacks.written ≡ Some gone → gone h ≡ true
 
 abbrev pub ClosesOpen : Server → Handle → ServerEnd → Stepped → Server → Type 0

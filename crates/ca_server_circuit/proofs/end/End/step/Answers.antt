@@ -1,4 +1,4 @@
-use Rattle.std.proofs.Common.{◌≡◌, ◌<◌, Some, inr, length, refl, sym, ap, ◌∙◌, subst}
+use Rattle.std.proofs.Common.{◌≡◌, ◌<◌, Some, length, refl, sym, ap, ◌∙◌, subst}
 use Rattle.std.proofs.lemmas.Bool.{leb-false}
 use Rattle.ca_ids.specs.Table.{Table, under}
 use Rattle.ca_link.specs.Calls.{IsOpen}
@@ -69,4 +69,4 @@ returns-in-Err c =
     let stay : AllStay e.channels c.read.new.self.channels = λ h o at. subst (λ (u : Table OpenChannel). under u h ≡ Some o) (ap (λ (w : ServerEnd). w.channels) (sym c.self.view_is) ∙ sym c.in-Err.ensures.channels) at in
     let output = c.in-Err.ensures.output ∙ ap (λ (l : LinkState). l.output) t.2 ∙ ap (λ (w : ServerEnd). w.link.output) c.self.view_is in
     let are = subst (λ (w : ServerEnd). AreBytes w.link.input.bytes) c.self.view_is (subst AreBytes c.in_bytes.ensures c.know_bytes.ensures) in
-    ((x, are, inr (lack-read m (known c.args.port s (after_first x)) refl)), output, stay, refl)
+    ((x, are, lack-read m (known c.args.port s (after_first x)) refl), output, stay, refl)
