@@ -8,7 +8,7 @@ use Rattle.ca_queue.proofs.Circuits.{idle-rests}
 use Rattle.ca_wire.specs.declared.requests.Wanted.{Wanted}
 use Rattle.ca_model.specs.Server.{Subscription, concerns, key_of}
 use Rattle.ca_model.specs.Speech.{Stored}
-use Rattle.ca_server_subscriptions.specs.ByRecord.{Receiver, is_masked, receivers_of}
+use Rattle.ca_server_subscriptions.specs.ByRecord.{IsAloneOn, Receiver, is_masked, receiver_of, receivers_of}
 use Rattle.ca_server_subscriptions.specs.Owing.{AreEmpty, AreOn}
 use Rattle.ca_server_subscriptions.specs.Passing.{IsWantedBy, PassesBy}
 use Rattle.ca_server_subscriptions.specs.Subscribed.{ArePlaced, Standings, Subscribed, after_post, subscriptions_in}
@@ -17,7 +17,13 @@ use Rattle.ca_server_subscriptions.proofs.Placing.{Q, alike-posted, placed-alike
 use Rattle.ca_server_subscriptions.proofs.Pumps.{gives-one}
 use Rattle.ca_server_subscriptions.proofs.Receivers.{any-on, posts-all, receiver-has}
 
-module _ (es : Standings) (qs : List Q) (p : ArePlaced es qs) (name : List ℕ) (mask : ℕ) (r : Receiver) (sole : receivers_of name es ≡ r ∷ []) (w : Wanted) (wants : IsWantedBy mask r es w) where
+module _ (es : Standings) (qs : List Q) (p : ArePlaced es qs) (name : List ℕ) (mask : ℕ) (of : Subscription × ℕ) (alone : IsAloneOn name of es) (w : Wanted) (wants : IsWantedBy mask of.0 w) where
+  abbrev r : Receiver
+  r = receiver_of (alone.0, of)
+
+  sole : receivers_of name es ≡ r ∷ []
+  sole = alone.1
+
   has : HasAt qs r.queue r.key
   has = receiver-has es qs name 0 r p (subst (λ (rs : List Receiver). At rs 0 r) (sym sole) refl)
 
@@ -27,7 +33,7 @@ module _ (es : Standings) (qs : List Q) (p : ArePlaced es qs) (name : List ℕ) 
 
   posted-is : (v : Stored) → posted v ≡ fold (λ (rs : List Q) (x : Subscription). map (queue_posted (key_of x) v) rs) qs (filter (concerns name mask) (subscriptions_in es))
   posted-is v =
-      ap (λ (b : Bool). fold (λ (rs : List Q) (x : Receiver). map (queue_posted x.key v) rs) qs (cond b (r ∷ []) [])) (sym wants.masked)
+      ap (λ (b : Bool). fold (λ (rs : List Q) (x : Receiver). map (queue_posted x.key v) rs) qs (cond b (r ∷ []) [])) (sym wants.0)
       ∙ ap (λ (rs : List Receiver). fold (λ (zs : List Q) (x : Receiver). map (queue_posted x.key v) zs) qs (filter (is_masked mask) rs)) (sym sole)
       ∙ posts-all name mask v es qs p.keyed
 
@@ -43,11 +49,11 @@ module _ (es : Standings) (qs : List Q) (p : ArePlaced es qs) (name : List ℕ) 
     rests = λ i q lt at. idle-rests q (empty i q at);
     gives = λ v.
         let takes : Takes (posted v) (Some (r.queue, r.key, v)) qs = one-takes r.queue r.key v qs on empty (has, λ i also. p.one i r.queue r.key also has) in
-        gives-one es (posted v) (placed v) r.queue r.key v qs takes (after_post name mask v (whole es qs p)) wants.of w (after v) wants.found wants.wanted;
+        gives-one es (posted v) (placed v) r.queue r.key v qs takes (after_post name mask v (whole es qs p)) of w (after v) alone.2 wants.1;
     room = λ v. room-is es (posted v) (placed v) (after_post name mask v (whole es qs p)) (after v);
   })
 
-pub if-passes : (es : Standings) (qs : List Q) (p : ArePlaced es qs) (name : List ℕ) (mask : ℕ) (r : Receiver) (old : Subscribed) (o : Option Wanted) → receivers_of name es ≡ r ∷ [] → AreOn qs → AreEmpty qs
-    → whole es qs p ≡ old → IfSome o (λ w. IsWantedBy mask r es w) → IfSome o (λ w. PassesBy name mask w old)
-if-passes es qs p name mask r old None sole on empty is wants = tt
-if-passes es qs p name mask r old (Some w) sole on empty is wants = passes-by es qs p name mask r sole w wants old on empty is
+pub if-passes : (es : Standings) (qs : List Q) (p : ArePlaced es qs) (name : List ℕ) (mask : ℕ) (of : Subscription × ℕ) (old : Subscribed) (o : Option Wanted) → IsAloneOn name of es → AreOn qs → AreEmpty qs
+    → whole es qs p ≡ old → IfSome o (λ w. IsWantedBy mask of.0 w) → IfSome o (λ w. PassesBy name mask w old)
+if-passes es qs p name mask of old None alone on empty is wants = tt
+if-passes es qs p name mask of old (Some w) alone on empty is wants = passes-by es qs p name mask of alone w wants old on empty is

@@ -1,7 +1,8 @@
-ghost use Rattle.std.specs.Prelude.{◌≡◌};
+ghost use Rattle.std.specs.Prelude.{◌≡◌, IfSome};
 ghost use Rattle.ca_model.specs.Server.{concerns};
 ghost use Rattle.ca_model.specs.Speech.{share_bit};
 ghost use Rattle.ca_server_subscriptions.specs.ByRecord.{receiver_of};
+ghost use Rattle.ca_server_subscriptions.specs.Passing.{IsWantedBy};
 ghost use Rattle.ca_server_subscriptions.specs.Subscribed.{IsAskable, is_on};
 
 use crate::receiver::Receiver;
@@ -54,6 +55,18 @@ impl Standing {
         ensures askable { IsAskable result }
     {
         self.wanted
+    }
+
+    // The same, if this mask is its.
+    #[inline(always)]
+    pub(crate) fn wanted_by(&self, mask: u16) -> Option<Wanted>
+        ensures wants { IfSome result (λ w. IsWantedBy mask self.now.0 w) }
+        ensures askable { IfSome result (λ w. IsAskable w) }
+    {
+        if !self.is_masked(mask) {
+            return None;
+        }
+        Some(self.wanted)
     }
 
     // The place of the queue that has it.

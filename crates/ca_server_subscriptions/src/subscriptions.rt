@@ -10,10 +10,10 @@ ghost use Rattle.ca_server_subscriptions.specs.Concerned.{ConcernsAt};
 ghost use Rattle.ca_queue.specs.Circuit.{RestBefore, queue_posted};
 ghost use Rattle.ca_model.specs.Speech.{Stored};
 ghost use Rattle.ca_wire.specs.declared.requests.Wanted.{Wanted};
-ghost use Rattle.ca_server_subscriptions.specs.ByRecord.{IsSole, receivers_of};
+ghost use Rattle.ca_server_subscriptions.specs.ByRecord.{IsAloneOn, IsSole, receivers_of};
 ghost use Rattle.ca_server_subscriptions.specs.Pumping.{GivesUpdate, MayGive};
 ghost use Rattle.ca_server_subscriptions.specs.Owing.{AreEmpty, AreOn};
-ghost use Rattle.ca_server_subscriptions.specs.Passing.{IsWantedBy, PassesBy};
+ghost use Rattle.ca_server_subscriptions.specs.Passing.{PassesBy};
 ghost use Rattle.ca_server_subscriptions.specs.Subscribed.{AreKnown, ArePlaced, HasRoom, IsAskable, IsOneOf, Joins, Standings, after_post, has_key, is_of_sid, is_on, none_yet, without_those};
 
 use crate::by_channel::ByChannel;
@@ -289,8 +289,8 @@ impl Subscriptions {
         if !self.queues.is_idle() {
             return None;
         }
-        match sole_on(self.sole, &self.standing, name) {
-            Some(receiver) => wanted_by(&self.standing, &receiver, mask),
+        match alone_on(self.sole, &self.standing, name) {
+            Some(standing) => standing.wanted_by(mask),
             None => self.seek_sole(name, mask),
         }
     }
@@ -308,8 +308,8 @@ impl Subscriptions {
         let place = place_of(receivers.first()?, &self.standing);
         self.sole = sole_of(receivers, place, &self.standing, name);
         self.by_record.note(self.recent, place);
-        let receiver = sole_on(self.sole, &self.standing, name)?;
-        wanted_by(&self.standing, &receiver, mask)
+        let standing = alone_on(self.sole, &self.standing, name)?;
+        standing.wanted_by(mask)
     }
 
     /// The update that is taken next, and what its subscription asked for, if it was posted while nothing waited. It is not taken yet.
@@ -426,21 +426,24 @@ fn sole_on(
     Some(standing.receiver(*key, place))
 }
 
-// What this one asked for, if this mask is its.
+// The only one on the record of this name, if it is at this place, as it stands there.
 #[inline(always)]
-fn wanted_by(
-    standing: &IndexMap<SubKey, Standing>,
-    receiver: &Receiver,
-    mask: u16,
-) -> Option<Wanted>
-    ensures wants { IfSome result (λ w. IsWantedBy mask receiver.now standing.now.entries w) }
-    ensures askable { IfSome result (λ w. IsAskable w) }
+fn alone_on<'a>(
+    sole: Option<usize>,
+    standing: &'a IndexMap<SubKey, Standing>,
+    name: &[u8],
+) -> Option<&'a Standing>
+    requires { IsSole sole standing.now.entries }
+    ensures { IfSome result (λ s. IsAloneOn name.now s.now standing.now.entries) }
 {
-    if !receiver.is_masked(mask) {
+    let place = sole?;
+    let Some((_, standing)) = standing.get_index(place) else {
+        return None;
+    };
+    if !standing.is_on(name) {
         return None;
     }
-    let found = at_key(standing, receiver.place(), receiver.key())?;
-    Some(found.wanted())
+    Some(standing)
 }
 
 // Where this one is: mostly where it was found last, unless others before it are gone since.
