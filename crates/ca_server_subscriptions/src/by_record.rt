@@ -145,7 +145,8 @@ impl ByRecord {
 
     // Without the line of this name if it has none.
     fn drop_if_empty(&mut self, name: &[u8])
-        ensures stay { (other : List ℕ) → receivers_in self.new other ≡ receivers_in self.old other }
+        ensures stay { (other : List ℕ) →
+            receivers_in self.new other ≡ receivers_in self.old other }
         ensures gone { receivers_in self.old name.now ≡ [] → line_of self.new name.now ≡ None }
     {
         let Some(line) = self.lines.get(name) else {
@@ -159,7 +160,8 @@ impl ByRecord {
     // Without the line of this name, which has none.
     fn drop_line(&mut self, name: &[u8])
         requires { receivers_in self.old name.now ≡ [] }
-        ensures stay { (other : List ℕ) → receivers_in self.new other ≡ receivers_in self.old other }
+        ensures stay { (other : List ℕ) →
+            receivers_in self.new other ≡ receivers_in self.old other }
         ensures gone { line_of self.new name.now ≡ None }
     {
         self.lines.swap_remove(name);
