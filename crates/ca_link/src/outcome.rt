@@ -1,5 +1,5 @@
 ghost use Rattle.std.specs.Prelude.{◌≡◌};
-ghost use Rattle.ca_outcome.specs.Status.{not_understood_status, status_of};
+ghost use Rattle.ca_link.specs.Exits.{not_understood_status, status_of};
 
 use ca_text::Refusal;
 use std::io::Write;
