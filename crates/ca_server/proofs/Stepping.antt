@@ -13,10 +13,10 @@ use Rattle.ca_model.specs.Due.{Action, Adds, Applies, Clears, Drops, Greets, Nam
 use Rattle.ca_model.specs.Ends as why
 use Rattle.ca_model.specs.Server.{Ended, Open, Server, ServerCircuit, ServerEnd}
 use Rattle.ca_model.specs.ServerSteps.{Closed, Handled, Handles, LeftOf, NeedBytes, Next, OutputFull, Reaches, Records, Stepped, Steps, StepsAt, StepsOpen, closed}
-use Rattle.ca_laws_counts.specs.Counts.{AreApart, CountsNothing, CountsOne}
-use Rattle.ca_laws_counts.proofs.Names.{Distinct, apart, distinct, distinct-map}
-use Rattle.ca_laws_counts.proofs.Waits.{waits-more}
-use Rattle.ca_laws_counts.proofs.Calls.{Fewer, closed-nothing, fewer-changed, fewer-valued, fewer-withdrawn, named-so}
+use Rattle.ca_server.specs.Counts.{AreApart, CountsNothing, CountsOne}
+use Rattle.ca_server.proofs.Names.{Distinct, apart, distinct, distinct-map}
+use Rattle.ca_server.proofs.Waits.{waits-more}
+use Rattle.ca_server.proofs.Calls.{Fewer, closed-nothing, fewer-changed, fewer-valued, fewer-withdrawn, named-so}
 
 -- what of a server is counted: how many writes were applied, and its records
 record Grows (n : ℕ) (rs : List Record) (new : Server) : Type 0 where

@@ -12,10 +12,10 @@ use Rattle.ca_text.specs.Limits.{applied_limit}
 use Rattle.ca_wire.specs.Fields.{Fields}
 use Rattle.ca_model.specs.Server.{Server}
 use Rattle.ca_model.specs.ServerCalls.{Finishes, Replies, after_next, waiting, with_finish}
-use Rattle.ca_laws_counts.specs.Counts.{CountsNext}
-use Rattle.ca_laws_counts.proofs.Names.{apart, distinct}
-use Rattle.ca_laws_counts.proofs.Waits.{finished-fewer, waits-next}
-use Rattle.ca_laws_counts.proofs.Calls.{Fewer, fewer-changed, fewer-then, fewer-withdrawn}
+use Rattle.ca_server.specs.Counts.{CountsNext}
+use Rattle.ca_server.proofs.Names.{apart, distinct}
+use Rattle.ca_server.proofs.Waits.{finished-fewer, waits-next}
+use Rattle.ca_server.proofs.Calls.{Fewer, fewer-changed, fewer-then, fewer-withdrawn}
 
 finished-named : (s : Stamp) (r : Record) (ws : List WaitingPut) → (finished s r ws).state.name ≡ r.state.name
 finished-named s r [] = refl

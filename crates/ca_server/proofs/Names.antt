@@ -7,7 +7,7 @@ use Rattle.ca_text.specs.Place.{At}
 use Rattle.ca_text.proofs.Places.{some_is, At-mapped}
 use Rattle.ca_records.specs.Puts.{Record, record_named}
 use Rattle.ca_records.specs.Record.{RecordState}
-use Rattle.ca_laws_counts.specs.Counts.{AreApart}
+use Rattle.ca_server.specs.Counts.{AreApart}
 
 -- none of these records has this name
 abbrev pub Lacks : List ℕ → List Record → Type 0

@@ -1,5 +1,5 @@
-use Rattle.ca_laws_counts.proofs.Calls.{accepts, adds, beacons, cuts, gives, posts, pumps, removes, sends, stamps}
-use Rattle.ca_laws_counts.proofs.laws.other_calls_count_nothing.Goals as goal
+use Rattle.ca_server.proofs.Calls.{accepts, adds, beacons, cuts, gives, posts, pumps, removes, sends, stamps}
+use Rattle.ca_server.proofs.counts.other_calls_count_nothing.Goals as goal
 
 pub returns : goal.returns
 returns c = record {

@@ -8,7 +8,7 @@ use Rattle.ca_records.specs.declared.puts.Put.{Put}
 use Rattle.ca_records.specs.declared.puts.Stamp.{Stamp}
 use Rattle.ca_records.specs.Puts.{Record, WaitingPut, finished, new_record, record_named, waiting_in, with_record, with_waiting, without_puts}
 use Rattle.ca_records.specs.Record.{RecordState}
-use Rattle.ca_laws_counts.proofs.Names.{Distinct, Lacks, is-named, not-named}
+use Rattle.ca_server.proofs.Names.{Distinct, Lacks, is-named, not-named}
 
 pub waits-cons : (r : Record) (rs : List Record) → waiting_in (r ∷ rs) ≡ length r.waiting + waiting_in rs
 waits-cons r rs = sum_by-cons (λ (q : Record). length q.waiting) r rs

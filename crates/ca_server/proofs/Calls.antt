@@ -16,9 +16,9 @@ use Rattle.ca_model.specs.ServerCalls.{AddsRecord, Beacons, Posts, Removes, stam
 use Rattle.ca_model.specs.ServerSteps.{Accepts, Cuts, Gives, Pumps, Sends, Update, closed, ended}
 use Rattle.ca_model.specs.Ends.{Why}
 use Rattle.ca_model.specs.Speech.{Stored}
-use Rattle.ca_laws_counts.specs.Counts.{CountsNothing}
-use Rattle.ca_laws_counts.proofs.Names.{Distinct, apart, distinct, distinct-added, distinct-filter, distinct-map, lacks-named}
-use Rattle.ca_laws_counts.proofs.Waits.{fewer-without, waits-added, waits-fewer, waits-filter, with-record-fewer}
+use Rattle.ca_server.specs.Counts.{CountsNothing}
+use Rattle.ca_server.proofs.Names.{Distinct, apart, distinct, distinct-added, distinct-filter, distinct-map, lacks-named}
+use Rattle.ca_server.proofs.Waits.{fewer-without, waits-added, waits-fewer, waits-filter, with-record-fewer}
 
 -- ---- records
 

@@ -1,6 +1,6 @@
 ghost use Rattle.std.specs.Prelude.{◌≡◌, ◌≤◌, ◌+◌, Bool, Err, List, Ok, Option, Result, ℕ};
 ghost use Rattle.ca_arena.specs.declared.handle.Handle.{Handle};
-ghost use Rattle.ca_laws_counts.specs.Counts.{AreApart, CountsNext, CountsNothing, CountsOne};
+ghost use Rattle.ca_server.specs.Counts.{AreApart, CountsNext, CountsNothing, CountsOne};
 ghost use Rattle.ca_model.specs.Server.{Server};
 ghost use Rattle.ca_model.specs.ServerCalls.{AddsRecord, Beacons, Finishes, Posts, Removes, stamped, waiting};
 ghost use Rattle.ca_model.specs.ServerSteps.{Accepts, Cuts, Gives, Pumps, Sends, Stepped, Steps, Update};
