@@ -31,8 +31,8 @@ KINDS = [
 
 def built_program():
     """The program that ./ca runs, once it is built."""
-    subprocess.run([os.path.join(TOP, "ca"), "answer"], stdin=subprocess.DEVNULL, check=True)
-    return os.path.join(TOP, "crates", "ca_main", "out", "ca_main")
+    made = subprocess.run([os.path.join(TOP, "tools", "build"), "--program"], stdout=subprocess.PIPE, text=True, check=True)
+    return os.path.join(TOP, made.stdout.strip())
 
 
 def built_by_rustc(folder, name, words):
