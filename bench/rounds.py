@@ -4,8 +4,8 @@ A benchmark is a program with CRATES, the crates of its programs, and lines(path
   Line    a time, and the peers that are measured beside it in the same rounds
   Check   what else has to hold
   str     what else is to be known
-`main(CRATES, lines)` runs one: `bench/NAME [--instructions] [PROGRAM..]`, with the programs of tools/build in place of those that are not given. A ratio
-is one time by the other of the same round; it prints the median of the rounds, the least and the most, and judges the median.
+`main(CRATES, lines)` runs one: `bench/NAME [--instructions] [--proved] [PROGRAM..]`. A program that is not given is that of tools/build, or with --proved the
+one that `./test` left. A ratio is one time by the other of the same round; it prints the median of the rounds, the least and the most, and judges the median.
 The last line is 'N passed, M failed', and the status 1 if something failed. With --instructions it prints what a message takes by callgrind.
 """
 import os
@@ -91,8 +91,8 @@ def tell_line(line, verdicts):
     print(f"{line.name}: {told_time(statistics.median(ours) / line.messages)} each", flush=True)
     for peer, theirs in zip(line.peers, others):
         median, least, most = spread(ours, theirs)
-        text = f"{line.name}; times {peer.name}: {median:.2f} ({least:.2f} to {most:.2f})"
-        bounds = [f"at most {peer.most}"] * (peer.most is not None) + [f"at least {peer.least}"] * (peer.least is not None)
+        text = f"{line.name}, beside {peer.name}: {median:.2f} ({least:.2f} to {most:.2f})"
+        bounds = [f"{word} {bound:.3g}" for word, bound in (("at most", peer.most), ("at least", peer.least)) if bound]
         if bounds:
             well = median <= (peer.most or median) and median >= (peer.least or median)
             verdicts.judge(well, ", ".join([text] + bounds))
@@ -127,11 +127,14 @@ def tell_instructions(items):
 
 def main(crates, lines):
     """A benchmark's command."""
-    words = sys.argv[1:]
-    counted = words[:1] == ["--instructions"]
-    given = [os.path.abspath(word) for word in words[counted:]]
-    paths = given + [program(crate) for crate in crates[len(given):]]
-    return (tell_instructions if counted else tell)(lines(paths))
+    options = {word for word in sys.argv[1:] if word.startswith("--")}
+    given = [os.path.abspath(word) for word in sys.argv[1:] if word not in options]
+    if options - {"--instructions", "--proved"} or len(given) > len(crates):
+        print(f"usage: bench/{os.path.basename(sys.argv[0])} [--instructions] [--proved] [PROGRAM..], programs of {', '.join(crates)}")
+        return 2
+    find = proved if "--proved" in options else program
+    paths = given + [find(crate) for crate in crates[len(given):]]
+    return (tell_instructions if "--instructions" in options else tell)(lines(paths))
 
 
 def loaded(name):
@@ -146,6 +149,12 @@ def program(crate, *options, top=TOP):
     """The program of a crate, which tools/build builds if it is missing or older than a source."""
     subprocess.run([os.path.join(top, "tools", "build"), *options, crate], check=True, stdin=subprocess.DEVNULL)
     return os.path.join(top, "target", *(["aligned"] if "--aligned" in options else []), crate, crate)
+
+
+def proved(crate):
+    """The program of a crate that `./test` proved, built and left."""
+    path = os.path.join(TOP, "crates", crate, "out", crate)
+    return path if os.path.exists(path) else sys.exit(f"there is no {path}: ./test makes it")
 
 
 def compiled(folder, source, *flags):
