@@ -147,7 +147,9 @@ def loaded(name):
 
 def program(crate, *options, top=TOP):
     """The program of a crate, which tools/build builds if it is missing or older than a source."""
-    subprocess.run([os.path.join(top, "tools", "build"), *options, crate], check=True, stdin=subprocess.DEVNULL)
+    done = subprocess.run([os.path.join(top, "tools", "build"), *options, crate], stdin=subprocess.DEVNULL, check=False)
+    if done.returncode != 0:
+        sys.exit(f"{crate} was not built")
     return os.path.join(top, "target", *(["aligned"] if "--aligned" in options else []), crate, crate)
 
 
