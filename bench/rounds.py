@@ -193,12 +193,15 @@ def instructions(words, source=os.devnull):
 
 
 def most_memory(words, source=os.devnull):
-    """The greatest resident set of a run in KiB, by GNU time, or None if that is missing."""
+    """The greatest resident set of a run in KiB, by GNU time, or None if that is missing; the least of three runs, since the loader touches pages."""
     if not os.access("/usr/bin/time", os.X_OK):
         return None
-    with tempfile.NamedTemporaryFile() as said, open(source, "rb") as given:
-        subprocess.run(["/usr/bin/time", "-f", "%M", "-o", said.name, *words], stdin=given, stdout=subprocess.DEVNULL, check=True)
-        return int(said.read().split()[-1])
+    held = []
+    for _ in range(3):
+        with tempfile.NamedTemporaryFile() as said, open(source, "rb") as given:
+            subprocess.run(["/usr/bin/time", "-f", "%M", "-o", said.name, *words], stdin=given, stdout=subprocess.DEVNULL, check=True)
+            held.append(int(said.read().split()[-1]))
+    return min(held)
 
 
 def a_round(measure, path, what, size, rounds):
