@@ -4,8 +4,8 @@ A benchmark is a program with CRATES, the crates of its programs, and lines(path
   Line    a time, and the peers that are measured beside it in the same rounds
   Check   what else has to hold
   str     what else is to be known
-`main(CRATES, lines)` runs one: `bench/NAME [--instructions] [--proved] [PROGRAM..]`. A program that is not given is that of tools/build, or with --proved the
-one that `./test` left. A ratio is one time by the other of the same round; it prints the median of the rounds, the least and the most, and judges the median.
+`main(CRATES, lines)` runs one: `bench/NAME [--instructions] [--proved] [PROGRAM..]`. A program that is not given is the one that ./ca would run, or with --proved
+the one that `./test` left. A ratio is one time by the other of the same round; it prints the median of the rounds, the least and the most, and judges the median.
 The last line is 'N passed, M failed', and the status 1 if something failed. With --instructions it prints what a message takes by callgrind.
 """
 import os
@@ -145,12 +145,24 @@ def loaded(name):
     return module
 
 
-def program(crate, *options, top=TOP):
-    """The program of a crate, which tools/build builds if it is missing or older than a source."""
-    done = subprocess.run([os.path.join(top, "tools", "build"), *options, crate], stdin=subprocess.DEVNULL, check=False)
+def build(crate, option, top=TOP):
+    """What tools/build prints as it builds the program of a crate."""
+    words = [os.path.join(top, "tools", "build"), option, crate]
+    done = subprocess.run(words, stdin=subprocess.DEVNULL, stdout=subprocess.PIPE, text=True, check=False)
     if done.returncode != 0:
         sys.exit(f"{crate} was not built")
-    return os.path.join(top, "target", *(["aligned"] if "--aligned" in options else []), crate, crate)
+    return done.stdout.strip()
+
+
+def program(crate):
+    """The program of a crate that ./ca would run: the proved one if it is current, else the unproved one, which is built if need be."""
+    return os.path.join(TOP, build(crate, "--program"))
+
+
+def aligned(crate, top):
+    """The unproved program of a crate of a tree, with branches aligned."""
+    build(crate, "--aligned", top)
+    return os.path.join(top, "target", "aligned", crate, crate)
 
 
 def proved(crate):
