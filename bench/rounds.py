@@ -115,6 +115,9 @@ def tell(items):
 
 def tell_instructions(items):
     """Prints the instructions a message of each line that is counted, and of its peers that are; each count once."""
+    if not shutil.which("valgrind"):
+        print("MISSING: valgrind (apt-get install valgrind)")
+        return 1
     seen = set()
     for line in (item for item in items if isinstance(item, Line) and item.count and item.count not in seen):
         seen.add(line.count)
