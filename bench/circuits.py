@@ -1,9 +1,8 @@
-"""The circuits of bench/answer and bench/conduct, and the programs that these run."""
+"""The messages that the benchmarks send, the circuits of bench/answer and bench/conduct, and the plain Rust programs beside these."""
 import os
 import shutil
 import subprocess
-
-TOP = os.path.dirname(os.path.dirname(os.path.abspath(__file__)))
+from rounds import TOP
 
 VERSION = bytes.fromhex("0000 0000 0000 000D 00000000 00000000")
 # CREATE_CHAN with CID 00010000; the first channel's SID is 00010000 too.
@@ -17,22 +16,16 @@ WRITE = bytes.fromhex("0004 0008 0005 0001 00010000 00010000 0000002A 00000000")
 WRITE_NOTIFY = bytes.fromhex("0013 0008 0005 0001 00010000 00010000 0000002A 00000000")
 SUBSCRIBE = bytes.fromhex("0001 0010 0005 0001 00010000 00010000 00000000 00000000 00000000 00010000")
 
-MANY = [100_000, 200_000, 400_000]
+MANY = (100_000, 200_000, 400_000)
 # What the messages are, what stands before them, one of them, how many there are, and the bytes of output: of what
 # stands before, and of one.
 KINDS = [
     ("reads of one element", VERSION + CREATE_TEMP, READ_ONE, MANY, 48, 24),
-    ("reads of 16,382 elements", VERSION + CREATE_WAVE, READ_WAVE, [1_000, 2_000, 4_000], 48, 16 + 4 * 16_382),
+    ("reads of 16,382 elements", VERSION + CREATE_WAVE, READ_WAVE, (1_000, 2_000, 4_000), 48, 16 + 4 * 16_382),
     ("writes", VERSION + CREATE_SETP, WRITE, MANY, 48, 0),
     ("writes with notification", VERSION + CREATE_SETP, WRITE_NOTIFY, MANY, 48, 16),
     ("updates", VERSION + CREATE_SETP + SUBSCRIBE, WRITE, MANY, 72, 24),
 ]
-
-
-def built_program():
-    """The program that ./ca runs, once it is built."""
-    made = subprocess.run([os.path.join(TOP, "tools", "build"), "--program"], stdout=subprocess.PIPE, text=True, check=True)
-    return os.path.join(TOP, made.stdout.strip())
 
 
 def built_by_rustc(folder, name, words):
