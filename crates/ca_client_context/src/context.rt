@@ -315,12 +315,13 @@ impl<L: Listener> Context<L> {
         }
         match self.collect(caller, ticket) {
             Some(outcome) => Waited::Outcome(outcome),
-            None if self.shared.has_ended() => Waited::Over,
+            None if self.shared.has_ended() || caller.has_ended(ticket) => Waited::Over,
             None => Waited::TimedOut,
         }
     }
 
-    // Waits for a turn, of the thread of input and output or its own, for so long at most. It is Left if that thread has ended.
+    // Waits for a turn, of the thread of input and output or its own, for so long at most. It is Left if nothing is to be waited for any more: that thread, or
+    // the ticket, has ended.
     fn wait_once<R: Wait + Clock>(
         &self,
         rt: &R,
@@ -344,6 +345,7 @@ impl<L: Listener> Context<L> {
         }
         match caller.collect(ticket) {
             Some(outcome) => Led::Found(outcome),
+            None if caller.has_ended(ticket) => Led::Left,
             None => Led::Moved,
         }
     }
