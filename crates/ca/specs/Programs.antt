@@ -11,7 +11,7 @@ use Rattle.ca.specs.Repeating.{RepeatsFrom}
 use Rattle.ca.specs.Replaying.{ReplaysTo}
 use Rattle.ca.specs.AnswerWords.{file_in}
 use Rattle.ca.specs.Runs.{Answers, Leaves}
-use Rattle.ca_outcome.specs.Status.{not_understood_status}
+use Rattle.ca_link.specs.Exits.{not_understood_status}
 
 -- a repeater over a socket of the system, of which nothing is known
 abbrev pub RepeatsAnywhere : RepeaterLine → ℕ → Type 0

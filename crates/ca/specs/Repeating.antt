@@ -10,7 +10,7 @@ use Rattle.ca_repeat.specs.Addresses.{same}
 use Rattle.ca_repeat.specs.Sent.{Sent}
 use Rattle.ca_repeat.specs.Fan.{Receives}
 use Rattle.ca.specs.declared.repeater.line.RepeaterLine.{RepeaterLine}
-use Rattle.ca_outcome.specs.Status.{status_of}
+use Rattle.ca_link.specs.Exits.{status_of}
 
 module _ {D : Type 0} (went refuses : D → Address → List ℕ → D → Type 0) where
   -- One datagram is sent, or refused: then the member to whom it went is dropped.

@@ -4,7 +4,7 @@ use Rattle.ca_replay.specs.Replayed.{IsNotRead, Reported}
 use Rattle.ca_text.specs.declared.refusal.Refusal.{Refusal}
 use Rattle.ca_text.specs.declared.refusal.Refusal.TheVariants.{BadEvent, BadText, Device, OutOfMemory}
 use Rattle.ca.specs.Files.{Gives}
-use Rattle.ca_outcome.specs.Status.{status_of}
+use Rattle.ca_link.specs.Exits.{status_of}
 
 -- how a run that stopped so ended
 abbrev pub ended : Option Refusal → Result (Unit {0}) Refusal

@@ -6,7 +6,7 @@ use Rattle.ca_script.specs.Grammar.{Refuses}
 use Rattle.ca_script.specs.RecordFiles.{FileReading, SaysFile}
 use Rattle.ca.specs.Files.{Gives}
 use Rattle.ca.specs.Standing.{standing}
-use Rattle.ca_outcome.specs.Status.{status_of}
+use Rattle.ca_link.specs.Exits.{status_of}
 
 -- What is served: what a text of records says; without one, the standing records, under no rules.
 abbrev pub Says : Option (List ℕ) → FileReading → Type 0

@@ -1,4 +1,4 @@
-ghost use Rattle.std.specs.Prelude.{◌≡◌, ◌≤◌, ◌<◌, ◌+◌, ◌-◌, ◌*◌, ◌^◌, ◌++◌, min, replicate, MatchResult, OnOk, vec_len, vec_capacity, IfErr, ◌⊎◌};
+ghost use Rattle.std.specs.Prelude.{◌≡◌, ◌≤◌, ◌<◌, ◌+◌, ◌-◌, ◌*◌, ◌^◌, ◌++◌, min, replicate, MatchResult, OnOk, vec_len, vec_capacity, IfErr};
 ghost use Rattle.ca_dbr.specs.declared.data_type.DataType.{DataType};
 ghost use Rattle.ca_dbr.specs.Types.{type_number, element_size, meta_size, size_of_image};
 ghost use Rattle.ca_dbr.specs.Elements.{elements, base_of, count_of, bytes_of, IsValue};
@@ -118,23 +118,5 @@ pub fn write_value(
     put_meta(data_type.form, *meta, out);
     put_zeros(data_type.padding_size(), out);
     put_elements(value, out);
-    Ok(())
-}
-
-/// Writes as many zero bytes as an image of n elements takes. Refused as BadType if the type does not exist,
-/// then as OutOfMemory, only if there is no room for it; the bytes are then as before.
-pub fn write_zero_image(number: u16, count: u32, out: &mut Vec<u8>) -> Result<(), Refusal>
-    ensures ok { OnOk result ((t : DataType) × (type_number t ≡ number)
-        × (out.new.items ≡ out.old.items ++ replicate (size_of_image t count) 0)) }
-    ensures err { IfErr result (λ e.
-        (out.new.items ≡ out.old.items)
-        × (((20 < number) × (e ≡ BadType)) ⊎ ((number < 21) × (e ≡ OutOfMemory)))) }
-    ensures room { IfErr result (λ e. e ≡ OutOfMemory
-        → (t : DataType) × (type_number t ≡ number)
-        × (vec_capacity out.old < vec_len out.old + size_of_image t count)) }
-{
-    let size = image_size(number, count)?;
-    out.reserve(size)?;
-    put_zeros(size, out);
     Ok(())
 }

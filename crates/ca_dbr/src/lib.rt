@@ -16,7 +16,7 @@ mod value;
 
 pub use conversion::{convert, convert_to, has_conversion};
 pub use data_type::{BaseType, DataType, Form};
-pub use image::{image_size, write_value, write_zero_image};
+pub use image::{image_size, write_value};
 pub use laws::{one_number, one_reading, wanted_shown, why_not_shown};
 pub use reading::{read_value, read_value_into};
 pub use shown::write_shown;

@@ -174,7 +174,7 @@ pub fn read_value_into(
 // The memory of a value of texts, or none yet. These are in line: a vector that is handed back in memory is stored as words, and a load of 16 bytes of it
 // right after has to wait.
 #[inline(always)]
-pub(crate) fn texts_in(alloc: Global, room: Option<Value>) -> Vec<[u8; 40]> {
+fn texts_in(alloc: Global, room: Option<Value>) -> Vec<[u8; 40]> {
     match room {
         Some(Value::Strings(items)) => items,
         _ => Vec::new(alloc),
@@ -183,7 +183,7 @@ pub(crate) fn texts_in(alloc: Global, room: Option<Value>) -> Vec<[u8; 40]> {
 
 // The memory of a value of INTs, or none yet.
 #[inline(always)]
-pub(crate) fn ints_in(alloc: Global, room: Option<Value>) -> Vec<i16> {
+fn ints_in(alloc: Global, room: Option<Value>) -> Vec<i16> {
     match room {
         Some(Value::Ints(items)) => items,
         _ => Vec::new(alloc),
@@ -192,7 +192,7 @@ pub(crate) fn ints_in(alloc: Global, room: Option<Value>) -> Vec<i16> {
 
 // The memory of a value of FLOATs, or none yet.
 #[inline(always)]
-pub(crate) fn floats_in(alloc: Global, room: Option<Value>) -> Vec<u32> {
+fn floats_in(alloc: Global, room: Option<Value>) -> Vec<u32> {
     match room {
         Some(Value::Floats(items)) => items,
         _ => Vec::new(alloc),
@@ -201,7 +201,7 @@ pub(crate) fn floats_in(alloc: Global, room: Option<Value>) -> Vec<u32> {
 
 // The memory of a value of ENUMs, or none yet.
 #[inline(always)]
-pub(crate) fn enums_in(alloc: Global, room: Option<Value>) -> Vec<u16> {
+fn enums_in(alloc: Global, room: Option<Value>) -> Vec<u16> {
     match room {
         Some(Value::Enums(items)) => items,
         _ => Vec::new(alloc),
@@ -210,7 +210,7 @@ pub(crate) fn enums_in(alloc: Global, room: Option<Value>) -> Vec<u16> {
 
 // The memory of a value of CHARs, or none yet.
 #[inline(always)]
-pub(crate) fn chars_in(alloc: Global, room: Option<Value>) -> Vec<u8> {
+fn chars_in(alloc: Global, room: Option<Value>) -> Vec<u8> {
     match room {
         Some(Value::Chars(items)) => items,
         _ => Vec::new(alloc),
@@ -219,7 +219,7 @@ pub(crate) fn chars_in(alloc: Global, room: Option<Value>) -> Vec<u8> {
 
 // The memory of a value of LONGs, or none yet.
 #[inline(always)]
-pub(crate) fn longs_in(alloc: Global, room: Option<Value>) -> Vec<i32> {
+fn longs_in(alloc: Global, room: Option<Value>) -> Vec<i32> {
     match room {
         Some(Value::Longs(items)) => items,
         _ => Vec::new(alloc),
@@ -228,7 +228,7 @@ pub(crate) fn longs_in(alloc: Global, room: Option<Value>) -> Vec<i32> {
 
 // The memory of a value of DOUBLEs, or none yet.
 #[inline(always)]
-pub(crate) fn doubles_in(alloc: Global, room: Option<Value>) -> Vec<u64> {
+fn doubles_in(alloc: Global, room: Option<Value>) -> Vec<u64> {
     match room {
         Some(Value::Doubles(items)) => items,
         _ => Vec::new(alloc),

@@ -4,7 +4,6 @@ ghost use Rattle.ca_dbr.specs.Elements.{elements, base_of, count_of, IsValue};
 
 use crate::data_type::BaseType;
 use crate::element::know_all;
-use crate::reading::{chars_in, doubles_in, enums_in, floats_in, ints_in, longs_in, texts_in};
 use ca_text::{Refusal, Status};
 use std::alloc::{AllocError, Global};
 
@@ -119,33 +118,6 @@ impl Value {
             Value::Doubles(items) => Ok(Value::Doubles(copied(alloc, items)?)),
         }
     }
-
-    /// The same in the memory of a value that is used no more, if there is one of this type.
-    pub fn copy_into(&self, alloc: Global, room: Option<Value>) -> Result<Value, Refusal>
-        ensures ok { IfOk result (λ v. elements v ≡ elements self.now) }
-        ensures err { IfErr result (λ e. (e ≡ OutOfMemory) × (count_of (elements self.now) ≢ 0)) }
-    {
-        match self {
-            Value::Strings(items) => Ok(Value::Strings(copied_in(texts_in(alloc, room), items)?)),
-            Value::Ints(items) => Ok(Value::Ints(copied_in(ints_in(alloc, room), items)?)),
-            Value::Floats(items) => Ok(Value::Floats(copied_in(floats_in(alloc, room), items)?)),
-            Value::Enums(items) => Ok(Value::Enums(copied_in(enums_in(alloc, room), items)?)),
-            Value::Chars(items) => Ok(Value::Chars(copied_in(chars_in(alloc, room), items)?)),
-            Value::Longs(items) => Ok(Value::Longs(copied_in(longs_in(alloc, room), items)?)),
-            Value::Doubles(items) => Ok(Value::Doubles(copied_in(doubles_in(alloc, room), items)?)),
-        }
-    }
-}
-
-/// The same items in this room, of which nothing else is left. None take no memory.
-fn copied_in<T: Copy + Drop>(room: Vec<T>, items: &[T]) -> Result<Vec<T>, AllocError>
-    ensures ok { IfOk result (λ v. v.items ≡ items.now) }
-    ensures err { OnErr result (length items.now ≢ 0) }
-{
-    let mut copy = room;
-    copy.clear();
-    copy.extend_from_slice(items)?;
-    Ok(copy)
 }
 
 /// The same items in a Vec of their own. None take no memory.

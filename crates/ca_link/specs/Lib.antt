@@ -2,3 +2,4 @@ pub mod Link
 pub mod Calls
 pub mod Passing
 pub mod Steps
+pub mod Exits

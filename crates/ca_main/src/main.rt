@@ -1,8 +1,7 @@
 // The program `ca`: its words and the system's streams, handed to the library of that name.
 #![tactic(auto)]
 
-use ca_link::{Reader, Writer};
-use ca_outcome::{not_understood, report};
+use ca_link::{Reader, Writer, not_understood, report};
 use ca_text::Refusal;
 use std::env;
 use std::io::ErrorKind;

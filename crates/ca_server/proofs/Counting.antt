@@ -15,9 +15,9 @@ use Rattle.ca_records.specs.Rules.{Rule}
 use Rattle.ca_server_circuit.specs.Circuits.{is_open}
 use Rattle.ca_server_core.specs.Asking.{circuit_next, first_circuit, first_waiting}
 use Rattle.ca_text.specs.Limits.{applied_limit, arena_slots}
-use Rattle.ca_laws_counts.specs.Counts.{AreApart, CountsNext, CountsNothing}
-use Rattle.ca_laws_counts.proofs.Stepping.{steps, steps-closed}
-use Rattle.ca_laws_counts.proofs.Waits.{waits-cons}
+use Rattle.ca_server.specs.Counts.{AreApart, CountsNext, CountsNothing}
+use Rattle.ca_server.proofs.Stepping.{steps, steps-closed}
+use Rattle.ca_server.proofs.Waits.{waits-cons}
 use Rattle.ca_server.specs.Locked.{IsCounted}
 
 -- ---- lists of credits

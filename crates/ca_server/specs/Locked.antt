@@ -2,7 +2,7 @@
 use Rattle.std.specs.Prelude.{ℕ, ◌≡◌, ◌+◌, ◌<◌, ◌≤◌, ◌⊎◌, true, false, List, [], Option, Some, None, Result, Ok, Err, length, slice_index_or, slice_set, sum}
 use Rattle.ca_arena.specs.declared.handle.Handle.{Handle}
 use Rattle.ca_ids.specs.Table.{under}
-use Rattle.ca_laws_counts.specs.Counts.{AreApart}
+use Rattle.ca_server.specs.Counts.{AreApart}
 use Rattle.ca_model.specs.Ends as why
 use Rattle.ca_model.specs.Server.{Server}
 use Rattle.ca_model.specs.ServerCalls.{Finishes, waiting}

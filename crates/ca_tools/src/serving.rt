@@ -2,8 +2,7 @@ ghost use Rattle.std.specs.Prelude.{◌<◌, ◌^◌};
 
 use crate::line::ServeLine;
 use ca_dbr::Value;
-use ca_link::Sink;
-use ca_outcome::report;
+use ca_link::{Sink, report};
 use ca_script::{RecordFile, read_records};
 use ca_serve::{Device, Places, serve};
 use ca_text::Refusal;

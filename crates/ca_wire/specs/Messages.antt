@@ -17,7 +17,6 @@ use Rattle.ca_wire.specs.declared.alone.Alone.{Alone}
 use Rattle.ca_wire.specs.declared.done.Done.{Done}
 use Rattle.ca_wire.specs.declared.requests.Wanted.{Wanted}
 use Rattle.ca_wire.specs.declared.requests.ChannelIds.{ChannelIds}
-use Rattle.ca_wire.specs.declared.replies.Found.{Found}
 use Rattle.ca_wire.specs.declared.replies.Created.{Created}
 use Rattle.ca_wire.specs.declared.replies.Answered.{Answered}
 
@@ -162,10 +161,6 @@ wanted_in m = record { sid = m.p1; id = m.p2; data_type = m.data_type; count = m
 -- the ids in a CLEAR_CHANNEL and in its reply ("CA_PROTO_CLEAR_CHANNEL")
 abbrev pub ids_in : Fields → ChannelIds
 ids_in m = record { sid = m.p1; cid = m.p2 }
-
--- what a SEARCH that is a reply found ("CA_PROTO_SEARCH")
-abbrev pub found_in : Fields → Found
-found_in m = record { port = m.data_type; address = m.p1; cid = m.p2 }
 
 -- the channel in a reply to a CREATE_CHAN ("CA_PROTO_CREATE_CHAN")
 abbrev pub created_in : Fields → Created

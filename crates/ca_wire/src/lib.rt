@@ -28,9 +28,9 @@ pub use message::{Message, message_at, spell, spelled_size};
 pub use pipe::Pipe;
 pub use reading::{Head, One, read_one};
 pub use replies::{
-    Answered, Created, Found, cancel_reply, cleared_reply, created_reply, disconnect, error_reply,
-    failed_reply, no_cid, not_found_reply, put_status, read_head, read_status, rights_reply,
-    search_reply, status_reply, update, update_head, value_reply, version_header, version_reply,
+    Answered, Created, cancel_reply, cleared_reply, created_reply, disconnect, failed_reply,
+    no_cid, not_found_reply, put_status, read_head, read_status, rights_reply, search_reply,
+    update_head, version_header, version_reply,
 };
 pub use requests::{
     ChannelIds, Wanted, bare, clear_request, create_request, event_add_request,

@@ -1,28 +1,20 @@
 //! The messages of a server, by name: how each is made, and what it says (section "CA Protocol Messages"). `request` is the
 //! message that a reply answers.
-ghost use Rattle.std.specs.Prelude.{◌≡◌, ◌≢◌, ◌%◌, ◌≤◌, ◌++◌, [], IfOk, MatchOption, OnErr, length, replicate};
+ghost use Rattle.std.specs.Prelude.{◌≡◌, ◌++◌, [], IfOk, MatchOption, replicate};
 ghost use Rattle.ca_text.specs.declared.command.Command.TheVariants as command;
-ghost use Rattle.ca_text.specs.Limits.{minor_version, payload_limit};
-ghost use Rattle.ca_wire.specs.Header.{header_spelling, number16};
+ghost use Rattle.ca_text.specs.Limits.{minor_version};
+ghost use Rattle.ca_wire.specs.Header.{number16};
 ghost use Rattle.ca_wire.specs.Message.{header_of};
-ghost use Rattle.ca_wire.specs.Messages.{answer_in, cancel_reply, cleared_reply, created_in, created_reply, disconnect, error_reply, failed_reply, found_in, no_cid, not_found_reply, on_channel, read_request, rights_reply, search_reply, status_reply, update, value_reply, version_reply};
+ghost use Rattle.ca_wire.specs.Messages.{answer_in, cancel_reply, cleared_reply, created_in, created_reply, disconnect, failed_reply, no_cid, not_found_reply, on_channel, read_request, rights_reply, search_reply, status_reply, update, value_reply, version_reply};
 ghost use Rattle.ca_wire.specs.Reading.{BeginsHeader, NoHeader};
 
-use crate::header::{Header, spell_header};
+use crate::header::Header;
 use crate::ids::{Cid, Ioid, Sid};
 use crate::message::Message;
 use crate::reading::{Head, head_at};
 use crate::requests::{ChannelIds, Wanted, clear_request};
 use ca_text::{Command, MINOR_VERSION, Status};
 use std::alloc::{AllocError, Global};
-
-/// What a search found: a TCP port, at this address or at the sender's, and the CID.
-#[derive(Clone, Copy, Debug, PartialEq, Eq)]
-pub struct Found {
-    pub port: u16,
-    pub address: u32,
-    pub cid: Cid,
-}
 
 /// A channel as it was created: its ids, its native type and its greatest count.
 #[derive(Clone, Copy, Debug, PartialEq, Eq)]
@@ -120,17 +112,6 @@ pub fn cleared_reply(alloc: Global, request: &Message) -> Message
     clear_request(alloc, sid, cid)
 }
 
-/// READ_NOTIFY, answered by n elements and their image. Only padding takes memory.
-pub fn value_reply(request: &Message, count: u32, image: Vec<u8>) -> Result<Message, AllocError>
-    requires { length image.items ≤ payload_limit }
-    ensures ok { IfOk result (λ m. m ≡ value_reply request.now count image.items) }
-    ensures err { OnErr result (length image.items % 8 ≢ 0) }
-{
-    let (command, data_type) = (request.command(), request.data_type());
-    let normal = Status::NORMAL.number;
-    Message::with_padding(command, data_type, count, normal, request.p2(), image)
-}
-
 /// READ_NOTIFY of this, answered, with no image, which is to be made in its place.
 pub fn read_head(alloc: Global, wanted: &Wanted, count: u32) -> Message
     ensures { result ≡ value_reply (read_request wanted.now) count [] }
@@ -171,22 +152,6 @@ pub fn put_status(alloc: Global, wanted: &Wanted, status: Status) -> Message
     )
 }
 
-/// READ_NOTIFY or WRITE_NOTIFY, answered by a status alone.
-pub fn status_reply(alloc: Global, request: &Message, status: Status) -> Message
-    ensures { result ≡ status_reply request.now status.number }
-{
-    let (command, data_type, count) = (request.command(), request.data_type(), request.count());
-    let payload = Vec::new(alloc);
-    Message::of_fields(
-        command,
-        data_type,
-        count,
-        status.number,
-        request.p2(),
-        payload,
-    )
-}
-
 /// The confirmation of an EVENT_CANCEL.
 pub fn cancel_reply(alloc: Global, request: &Message) -> Message
     ensures { result ≡ cancel_reply request.now }
@@ -201,38 +166,6 @@ pub fn no_cid() -> Cid
     ensures { result ≡ no_cid }
 {
     Cid::new(u32::MAX)
-}
-
-/// ERROR, which quotes the request's header.
-pub fn error_reply(
-    alloc: Global,
-    cid: Cid,
-    status: Status,
-    request: &Message,
-) -> Result<Message, AllocError>
-    ensures { IfOk result (λ m. m ≡ error_reply cid status.number request.now) }
-{
-    let payload = quotation(alloc, request)?;
-    let command = Command::Error.number();
-    Ok(Message::of_fields(command, 0, 0, cid.number(), status.number, payload))
-}
-
-/// An update: n elements of this type and their image. Only padding takes memory.
-pub fn update(answered: Answered, image: Vec<u8>) -> Result<Message, AllocError>
-    requires { length image.items ≤ payload_limit }
-    ensures ok { IfOk result (λ m.
-        m
-        ≡ update answered.data_type answered.count answered.status.number answered.id image.items) }
-    ensures err { OnErr result (length image.items % 8 ≢ 0) }
-{
-    let Answered {
-        id,
-        status,
-        data_type,
-        count,
-    } = answered;
-    let command = Command::EventAdd.number();
-    Message::with_padding(command, data_type, count, status.number, id.number(), image)
 }
 
 /// An update with no image, which is to be made in its place.
@@ -266,17 +199,6 @@ pub fn disconnect(alloc: Global, cid: Cid) -> Message
 // ---- what they say
 
 impl Message {
-    /// What a SEARCH that is a reply found.
-    pub fn found(&self) -> Found
-        ensures { result ≡ found_in self.now }
-    {
-        Found {
-            port: self.data_type(),
-            address: self.p1(),
-            cid: Cid::new(self.p2()),
-        }
-    }
-
     /// The access rights in an ACCESS_RIGHTS: the bit 1 to read, the bit 2 to write.
     pub fn rights(&self) -> u32
         ensures { result ≡ self.now.p2 }
@@ -321,17 +243,6 @@ impl Message {
     {
         head_at(self.payload())
     }
-}
-
-/// The payload of an ERROR: the header of the request, and an empty text.
-fn quotation(alloc: Global, request: &Message) -> Result<Vec<u8>, AllocError>
-    ensures { IfOk result (λ v.
-        v.items ≡ header_spelling (header_of request.now) ++ replicate 8 0) }
-{
-    let mut bytes = Vec::with_capacity(alloc, 32)?;
-    spell_header(&request.header(), &mut bytes)?;
-    bytes.extend_from_slice(&[0; 8])?;
-    Ok(bytes)
 }
 
 /// The payload of the reply to a SEARCH: the minor version.

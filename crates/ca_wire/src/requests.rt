@@ -1,8 +1,8 @@
 //! The messages of a client, by name: how each is made, and what it says (section "CA Protocol Messages").
-ghost use Rattle.std.specs.Prelude.{◌≡◌, ◌≢◌, ◌==◌, ◌+◌, ◌%◌, ◌<◌, ◌≤◌, ◌++◌, ◌∷◌, [], IfOk, OnErr, length, position, slice_index_or};
+ghost use Rattle.std.specs.Prelude.{◌≡◌, ◌≢◌, ◌==◌, ◌+◌, ◌%◌, ◌<◌, ◌≤◌, ◌++◌, ◌∷◌, [], IfOk, OnErr, length, position};
 ghost use Rattle.ca_text.specs.Limits.{payload_limit};
 ghost use Rattle.ca_wire.specs.Message.{header_of};
-ghost use Rattle.ca_wire.specs.Messages.{bare, clear_request, create_request, event_add_request, event_cancel_request, ids_in, mask_in, mask_payload, name_request, on_channel, put_request, read_request, search_request, text_in, version_request, wanted_in};
+ghost use Rattle.ca_wire.specs.Messages.{bare, clear_request, create_request, event_add_request, event_cancel_request, ids_in, mask_payload, name_request, on_channel, put_request, read_request, search_request, text_in, version_request, wanted_in};
 
 use crate::header::Header;
 use crate::ids::{Cid, Ioid, Priority, Sid};
@@ -177,33 +177,11 @@ impl Message {
         }
     }
 
-    /// The CID in a CREATE_CHAN or its reply, a CREATE_CH_FAIL, an ACCESS_RIGHTS, a SERVER_DISCONN or an ERROR.
-    pub fn channel_cid(&self) -> Cid
-        ensures { result ≡ self.now.p1 }
-    {
-        Cid::new(self.p1())
-    }
-
-    /// The CID in a SEARCH, or in its reply.
-    pub fn searched_cid(&self) -> Cid
-        ensures { result ≡ self.now.p2 }
-    {
-        Cid::new(self.p2())
-    }
-
     /// The text in a CLIENT_NAME, HOST_NAME, SEARCH or CREATE_CHAN: up to the first zero of the payload, or all of it.
     pub fn text(&self) -> &[u8]
         ensures { result.now ≡ text_in self.now.payload }
     {
         text_in(self.payload())
-    }
-
-    /// The mask in an EVENT_ADD: 0 if the payload ends before it.
-    pub fn mask_bits(&self) -> u16
-        ensures { result ≡ mask_in self.now }
-    {
-        let payload = self.payload();
-        u16::from(byte_at(payload, 12)) * 256 + u16::from(byte_at(payload, 13))
     }
 }
 
@@ -253,11 +231,4 @@ fn first_zero(payload: &[u8]) -> Option<usize>
     ensures { result ≡ position (λ b. b == 0) payload.now }
 {
     payload.iter().position(|b| *b == 0)
-}
-
-/// The byte at this place, or 0.
-fn byte_at(bytes: &[u8], place: usize) -> u8
-    ensures { result ≡ slice_index_or bytes.now place 0 }
-{
-    if place < bytes.len() { bytes[place] } else { 0 }
 }

@@ -82,13 +82,6 @@ impl Stopped {
         &self.clients
     }
 
-    /// Its servers.
-    pub fn servers(&self) -> &[ServerSide]
-        ensures { map server_of result.now ≡ self.now.servers }
-    {
-        &self.servers
-    }
-
     /// Its circuits, in the order in which they were accepted.
     pub fn circuits(&self) -> &[Joined]
         ensures { map joined_of result.now ≡ self.now.circuits }
@@ -101,12 +94,5 @@ impl Stopped {
         ensures { lines_in result.now ≡ self.now.client_logs }
     {
         &self.client_logs
-    }
-
-    /// The logs of all lives of servers.
-    pub fn server_logs(&self) -> &[Vec<Entry>]
-        ensures { entries_in result.now ≡ self.now.server_logs }
-    {
-        &self.server_logs
     }
 }

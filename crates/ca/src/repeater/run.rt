@@ -2,8 +2,7 @@ ghost use Rattle.std.specs.Prelude.{◌≡◌, ◌<◌, ◌^◌, OnErr};
 ghost use Rattle.ca.specs.Repeating.{Repeats, RepeatsFrom, RepeatsTo, Sends, SendsOne, Takes};
 
 use crate::repeater::{Datagrams, RepeaterLine};
-use ca_link::{Fault, Sink};
-use ca_outcome::report;
+use ca_link::{Fault, Sink, report};
 use ca_repeat::{Outgoing, RepeaterCore};
 use ca_text::Refusal;
 use std::alloc::Global;

@@ -3,8 +3,7 @@ ghost use Rattle.ca.specs.Replaying.{ReplaysFrom};
 
 use crate::file::bytes_of;
 use crate::replay::replay_run;
-use ca_link::Sink;
-use ca_outcome::report;
+use ca_link::{Sink, report};
 use ca_text::Refusal;
 use std::alloc::Global;
 use std::io::{self, Read, Write};

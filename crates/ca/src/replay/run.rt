@@ -1,8 +1,7 @@
 ghost use Rattle.std.specs.Prelude.{◌≡◌, ◌<◌, ◌^◌};
 ghost use Rattle.ca.specs.Replaying.{Replays, ReplaysTo, ended};
 
-use ca_link::Sink;
-use ca_outcome::report as tell;
+use ca_link::{Sink, report as tell};
 use ca_replay::replay as replayed;
 use ca_text::Refusal;
 use std::alloc::Global;

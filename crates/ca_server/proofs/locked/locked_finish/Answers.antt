@@ -1,6 +1,6 @@
 use Rattle.std.proofs.Common.{◌+◌, ◌<◌, ◌∙◌, sym, subst, ℕ, arith}
 use Rattle.std.specs.Prelude.{slice_set}
-use Rattle.ca_laws_counts.proofs.Finishing.{finishes}
+use Rattle.ca_server.proofs.Finishing.{finishes}
 use Rattle.ca_server.specs.Locked.{IsCounted}
 use Rattle.ca_server.proofs.Counting.{any_default, counted_finish, counted_idle, credit_room, credits_of}
 use Rattle.ca_server.proofs.locked.locked_finish.Goals as goal

@@ -1,5 +1,0 @@
-use Rattle.ca_laws_counts.proofs.Finishing.{finish-refused, finishes}
-use Rattle.ca_laws_counts.proofs.laws.a_finish_applies_the_next_put.Goals as goal
-
-pub returns : goal.returns
-returns c = record { ok = finishes; err = finish-refused }

@@ -1,5 +1,0 @@
-use Rattle.ca_laws_counts.proofs.Stepping.{steps}
-use Rattle.ca_laws_counts.proofs.laws.a_step_counts_one_write.Goals as goal
-
-pub returns : goal.returns
-returns c old h did new l a is = steps old h did new l a is

@@ -1,0 +1,16 @@
+use Rattle.ca_server.proofs.Calls.{accepts, adds, beacons, cuts, gives, posts, pumps, removes, sends, stamps}
+use Rattle.ca_server.proofs.counts.other_calls_count_nothing.Goals as goal
+
+pub returns : goal.returns
+returns c = record {
+  accepts = accepts;
+  gives = gives;
+  sends = sends;
+  cuts = cuts;
+  pumps = pumps;
+  stamps = stamps;
+  beacons = beacons;
+  posts = posts;
+  removes = removes;
+  adds = adds;
+}
