@@ -21,3 +21,21 @@ impl Payload for Shown<'_> {
         write_shown(self.data_type, self.count, self.value, self.meta, out)
     }
 }
+
+/// As many zero bytes, in place of an image that a value has not.
+#[derive(Drop)]
+pub(crate) struct Zeros {
+    pub(crate) size: usize,
+}
+
+impl Payload for Zeros {
+    ghost use Rattle.std.specs.Prelude.{Ok, replicate};
+
+    ghost made = { λ p. Ok (replicate p.size 0) };
+
+    fn put(&self, out: &mut Vec<u8>) -> Result<(), Refusal> {
+        out.reserve(self.size)?;
+        out.resize(out.len() + self.size, 0)?;
+        Ok(())
+    }
+}

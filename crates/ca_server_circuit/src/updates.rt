@@ -12,15 +12,15 @@ ghost use Rattle.ca_server_circuit.specs.AtOnce.{ShowsAtOnce};
 ghost use Rattle.ca_server_circuit.specs.Pumping.{PumpsEnd, PumpsOne, update_alone};
 ghost use Rattle.ca_server_subscriptions.specs.Subscribed.{IsAskable, is_on};
 
-use crate::end::{End, send};
+use crate::end::End;
 use crate::read::status_of;
-use crate::shown::Shown;
+use crate::shown::{Shown, Zeros};
 use ca_dbr::image_size;
 use ca_link::Link;
 use ca_records::Record;
 use ca_server_subscriptions::Update;
 use ca_text::{Command, Status};
-use ca_wire::{Alone, Answered, Ioid, Wanted, update, update_head};
+use ca_wire::{Alone, Answered, Ioid, Wanted, update_head};
 use std::alloc::{AllocError, Global};
 
 impl End {
@@ -253,10 +253,11 @@ fn send_zeros(
         link.old) }
     ensures err { OnErr result (link.new ≡ link.old) }
 {
-    let zeros = vec![in alloc; 0u8; size]?;
-    let message = update(about, zeros)?;
-    send(link, &message)?;
-    Ok(())
+    let head = update_head(alloc, about);
+    match link.queue_made(&head, size, &Zeros { size }) {
+        Ok(()) => Ok(()),
+        Err(_) => Err(AllocError),
+    }
 }
 
 /// What an update is about, how it went, and how many elements it has.
