@@ -15,7 +15,7 @@ use Rattle.ca_model.specs.ServerCalls.{Finishes, Replies, after_next, waiting, w
 use Rattle.ca_server.specs.Counts.{CountsNext}
 use Rattle.ca_server.proofs.Names.{apart, distinct}
 use Rattle.ca_server.proofs.Waits.{finished-fewer, waits-next}
-use Rattle.ca_server.proofs.Calls.{Fewer, fewer-changed, fewer-then, fewer-withdrawn}
+use Rattle.ca_server.proofs.Counted.{Fewer, fewer-changed, fewer-then, fewer-withdrawn}
 
 finished-named : (s : Stamp) (r : Record) (ws : List WaitingPut) → (finished s r ws).state.name ≡ r.state.name
 finished-named s r [] = refl

@@ -16,7 +16,7 @@ use Rattle.ca_model.specs.ServerSteps.{Closed, Handled, Handles, LeftOf, NeedByt
 use Rattle.ca_server.specs.Counts.{AreApart, CountsNothing, CountsOne}
 use Rattle.ca_server.proofs.Names.{Distinct, apart, distinct, distinct-map}
 use Rattle.ca_server.proofs.Waits.{waits-more}
-use Rattle.ca_server.proofs.Calls.{Fewer, closed-nothing, fewer-changed, fewer-valued, fewer-withdrawn, named-so}
+use Rattle.ca_server.proofs.Counted.{Fewer, closed-nothing, fewer-changed, fewer-valued, fewer-withdrawn, named-so}
 
 -- what of a server is counted: how many writes were applied, and its records
 record Grows (n : ℕ) (rs : List Record) (new : Server) : Type 0 where

@@ -1,4 +1,4 @@
-use Rattle.ca_server.proofs.Calls.{accepts, adds, beacons, cuts, gives, posts, pumps, removes, sends, stamps}
+use Rattle.ca_server.proofs.Counted.{accepts, adds, beacons, cuts, gives, posts, pumps, removes, sends, stamps}
 use Rattle.ca_server.proofs.counts.other_calls_count_nothing.Goals as goal
 
 pub returns : goal.returns

@@ -1,6 +1,6 @@
 use Rattle.std.proofs.Common.{◌≡◌, ◌<◌, ◌+◌, ◌-◌, ◌∙◌, sym, subst, ℕ, get_or}
 use Rattle.std.specs.Prelude.{slice_set}
-use Rattle.ca_server.proofs.Calls.{cuts}
+use Rattle.ca_server.proofs.Counted.{cuts}
 use Rattle.ca_server.specs.Locked.{IsCounted}
 use Rattle.ca_server.proofs.Counting.{any_default, counted_nothing, counted_step, stays}
 use Rattle.ca_server.proofs.locked.locked_step.Goals as goal

@@ -1,4 +1,4 @@
-use Rattle.ca_server.proofs.Calls.{accepts}
+use Rattle.ca_server.proofs.Counted.{accepts}
 use Rattle.ca_server.proofs.Counting.{counted_nothing}
 use Rattle.ca_server.proofs.state.State.accept.Goals as goal
 

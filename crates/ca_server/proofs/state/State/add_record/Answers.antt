@@ -1,4 +1,4 @@
-use Rattle.ca_server.proofs.Calls.{adds}
+use Rattle.ca_server.proofs.Counted.{adds}
 use Rattle.ca_server.proofs.Counting.{counted_nothing}
 use Rattle.ca_server.proofs.state.State.add_record.Goals as goal
 

@@ -1,4 +1,4 @@
-use Rattle.ca_server.proofs.Calls.{beacons}
+use Rattle.ca_server.proofs.Counted.{beacons}
 use Rattle.ca_server.proofs.Counting.{counted_nothing}
 use Rattle.ca_server.proofs.state.State.beacon.Goals as goal
 

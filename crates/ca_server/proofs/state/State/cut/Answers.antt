@@ -1,4 +1,4 @@
-use Rattle.ca_server.proofs.Calls.{cuts}
+use Rattle.ca_server.proofs.Counted.{cuts}
 use Rattle.ca_server.proofs.Counting.{counted_nothing}
 use Rattle.ca_server.proofs.state.State.cut.Goals as goal
 

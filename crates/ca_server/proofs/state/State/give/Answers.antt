@@ -1,4 +1,4 @@
-use Rattle.ca_server.proofs.Calls.{gives}
+use Rattle.ca_server.proofs.Counted.{gives}
 use Rattle.ca_server.proofs.Counting.{counted_nothing}
 use Rattle.ca_server.proofs.state.State.give.Goals as goal
 

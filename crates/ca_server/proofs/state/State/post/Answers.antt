@@ -1,4 +1,4 @@
-use Rattle.ca_server.proofs.Calls.{posts}
+use Rattle.ca_server.proofs.Counted.{posts}
 use Rattle.ca_server.proofs.Counting.{counted_nothing}
 use Rattle.ca_server.proofs.state.State.post.Goals as goal
 

@@ -1,4 +1,4 @@
-use Rattle.ca_server.proofs.Calls.{pumps}
+use Rattle.ca_server.proofs.Counted.{pumps}
 use Rattle.ca_server.proofs.Counting.{counted_nothing}
 use Rattle.ca_server.proofs.state.State.pump.Goals as goal
 

@@ -1,4 +1,4 @@
-use Rattle.ca_server.proofs.Calls.{removes}
+use Rattle.ca_server.proofs.Counted.{removes}
 use Rattle.ca_server.proofs.Counting.{counted_nothing}
 use Rattle.ca_server.proofs.state.State.remove_record.Goals as goal
 

@@ -1,4 +1,4 @@
-use Rattle.ca_server.proofs.Calls.{sends}
+use Rattle.ca_server.proofs.Counted.{sends}
 use Rattle.ca_server.proofs.Counting.{counted_nothing}
 use Rattle.ca_server.proofs.state.State.sent.Goals as goal
 

@@ -1,4 +1,4 @@
-use Rattle.ca_server.proofs.Calls.{stamps}
+use Rattle.ca_server.proofs.Counted.{stamps}
 use Rattle.ca_server.proofs.Counting.{counted_nothing}
 use Rattle.ca_server.proofs.state.State.stamp.Goals as goal
 
