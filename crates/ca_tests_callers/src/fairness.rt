@@ -161,15 +161,7 @@ fn start_server<
     };
     let spawned = thread::spawn(&rt, move || {
         let RecordFile { records, rules } = file;
-        serve(
-            rt,
-            alloc,
-            places,
-            &records,
-            rules,
-            device,
-            Some(circuits),
-        )
+        serve(rt, alloc, places, &records, rules, device, Some(circuits))
     });
     match spawned {
         Ok(server) => Ok(server),
@@ -208,7 +200,11 @@ fn keep_two_busy<R: Net<Stream = TcpStream, Listener = TcpListener> + Clock, W: 
         }
     }
     tell(out, "puts of the two others that are done", done)?;
-    tell(out, "calls of the device", seen.calls.load(Ordering::SeqCst))?;
+    tell(
+        out,
+        "calls of the device",
+        seen.calls.load(Ordering::SeqCst),
+    )?;
     let is_alone = seen.doubled.load(Ordering::SeqCst) == 0;
     say_yes(out, "for one record one at a time:", is_alone)?;
     let is_together = seen.together.load(Ordering::SeqCst) != 0;

@@ -1,23 +1,21 @@
-//! Listeners that wait, and that take their time: neither hangs another caller, and waits end in their time. Then a caller waits as another clears its channel,
-//! as the client ends, and for a ticket that nobody fills; and a context is dropped.
+//! A listener that waits for a reply, which its own thread would read: its wait ends, and hangs no other caller.
 
+use crate::client::setting;
+use crate::say_yes;
 use crate::server::{bound, start_server};
-use crate::{say_yes, tell};
 use ca_arena::Handle;
 use ca_client::Caller;
-use ca_client_context::{Context, Engine, Listener, Setting, Waited, Work, start};
-use ca_client_core::{Address, ChannelState};
+use ca_client_context::{Context, Listener, start};
 use ca_dbr::{Outcome, Value};
 use ca_script::read_records;
 use ca_text::{Mask, Refusal};
 use std::alloc::Global;
 use std::io::Write;
-use std::net::{Ipv4Addr, Net, TcpListener, TcpStream};
+use std::net::{Net, TcpListener, TcpStream};
 use std::sync::atomic::{AtomicU64, Ordering};
 use std::sync::{Arc, Wait};
-use std::thread;
 use std::thread::Threads;
-use std::time::{Clock, Duration, Instant};
+use std::time::Clock;
 
 /// Waits for at most so many turns, which is long on an idle machine.
 const TURNS: u64 = 2_000;
@@ -42,17 +40,6 @@ impl<R: Wait + Clock + Drop> Listener for Waiting<R> {
         let ended = if outcome.is_none() { 1 } else { 2 };
         self.ended.store(ended, Ordering::SeqCst);
     }
-}
-
-fn setting(alloc: Global, port: u16) -> Result<Setting, Refusal> {
-    let host = Ipv4Addr::LOCALHOST.to_bits();
-    Ok(Setting {
-        user: Vec::from_slice(alloc, b"ca")?,
-        host: Vec::from_slice(alloc, b"localhost")?,
-        servers: Vec::from_slice(alloc, &[Address { host, port }])?,
-        names: Vec::new(alloc),
-        repeater: None,
-    })
 }
 
 pub(crate) fn show<
@@ -110,9 +97,17 @@ fn wait_in_listener<R: Wait + Clock + Copy + Drop, W: Write>(
     let mut caller = context.caller(&rt)?;
     let ticket = context.get(&rt, channel, 5, 1)?;
     let outcome = context.wait(&rt, &mut caller, ticket, TURNS);
-    say_yes(out, "a caller reads beside a listener that waits:", is_21(&outcome))?;
+    say_yes(
+        out,
+        "a caller reads beside a listener that waits:",
+        is_21(&outcome),
+    )?;
     let is_ended = ended.load(Ordering::SeqCst) == 1;
-    say_yes(out, "the wait of the listener ended with nothing:", is_ended)
+    say_yes(
+        out,
+        "the wait of the listener ended with nothing:",
+        is_ended,
+    )
 }
 
 fn is_21(outcome: &Option<Outcome>) -> bool {

@@ -3,13 +3,14 @@
 //! - a server whose device holds a put until a read on another circuit was answered (`holding`);
 //! - a server whose device takes a while, two slow records that are always busy and a third, and many that are busy at the end (`fairness`);
 //! - the lines `get`, `put` and `monitor`, what each says, and its status (`lines`);
-//! - a client whose callers are four threads (`callers`).
+//! - a client whose callers are four threads (`callers`), one whose listener waits (`listening`), and the calls that these do not make (`calls`).
 //!
 //! With the words PORT CALLERS READS WINDOW it prints instead the microseconds that so many reads of TEMP by each caller took, with so many outstanding
 //! at each, from when the channel was live (`timing`).
 #![tactic(auto)]
 
 mod callers;
+mod calls;
 mod client;
 mod desk;
 mod fairness;
@@ -74,7 +75,8 @@ fn show<
     fairness::show(rt, alloc, out)?;
     lines::show(rt, alloc, out, err)?;
     callers::show(rt, alloc, out)?;
-    listening::show(rt, alloc, out)
+    listening::show(rt, alloc, out)?;
+    calls::show(rt, alloc, out)
 }
 
 /// Tells a number.
