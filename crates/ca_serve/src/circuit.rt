@@ -193,8 +193,8 @@ fn take_in<L: Ledger>(locked: &mut Locked<L>, circuit: Handle, moved: Moved, buf
     }
 }
 
-// Handles messages of a circuit, up to a number of them, and then puts its updates out. Each write that they make has a time stamp of its own: the machine's
-// time is handed in before the first message, and after each that wrote.
+// Handles messages of a circuit, up to a number of them, and then puts its updates out. The machine's time is handed in first, and each write of the turn has
+// a time stamp of its own.
 fn steps<L: Ledger, R: Clock>(
     rt: &R,
     locked: &mut Locked<L>,
@@ -210,7 +210,7 @@ fn steps<L: Ledger, R: Clock>(
         match locked.step(circuit, share) {
             Some(Step::Handled) => {
                 if locked.state.applied() != applied {
-                    locked.stamp(rt);
+                    locked.stamp_again();
                 }
             }
             Some(Step::NeedBytes) => {

@@ -8,10 +8,15 @@ const NANOS: u64 = 1_000_000_000;
 // The last moment that a stamp can show.
 const LAST: u64 = (1 << 32) * NANOS - 1;
 
-/// The time stamp after this one, in nanoseconds since 1990-01-01 00:00:00 UTC: the machine's time. A clock that was set back, or shows no later time, counts
-/// as one nanosecond more: so no two stamps are equal, and none is before an earlier one.
+/// The machine's time as a time stamp, in nanoseconds since 1990-01-01 00:00:00 UTC, if it is after this one. A clock that was set back, or shows no later
+/// time, counts as one nanosecond more: so no two stamps are equal, and none is before an earlier one.
 pub(crate) fn stamp_after<R: Clock>(rt: &R, last: u64) -> u64 {
-    nanos_now(rt).max(last.saturating_add(1)).min(LAST)
+    nanos_now(rt).max(next_stamp(last))
+}
+
+/// The time stamp right after this one.
+pub(crate) fn next_stamp(last: u64) -> u64 {
+    last.saturating_add(1).min(LAST)
 }
 
 /// A time stamp as seconds, and nanoseconds.
@@ -30,6 +35,7 @@ fn nanos_now<R: Clock>(rt: &R) -> u64 {
     seconds
         .saturating_mul(NANOS)
         .saturating_add(u64::from(time.subsec_nanos()))
+        .min(LAST)
 }
 
 /// The moment in milliseconds, from some start.
