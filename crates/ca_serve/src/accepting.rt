@@ -327,7 +327,8 @@ fn reap<L: Ledger, R: Threads>(rt: &R, running: &mut Running<L>, number: u64, al
 pub(crate) fn join_all<L: Ledger, R: Threads>(rt: &R, running: &mut Running<L>, all: &mut Share<L>)
     ensures { all.new.parts ≡ all.old.parts + index_map_len running.old }
 {
-    while let Some((_, handle)) = running.pop() {
+    while let Some(one) = running.pop() {
+        let (_, handle) = one;
         merge(rt, handle, all);
     }
 }

@@ -6,4 +6,4 @@ abbrev pub invariant-loop-one : goal.invariant-loop-one
 invariant-loop-one g l = l.all.parts + index_map_len l.running ≡ l.initial.all.parts + index_map_len l.initial.running
 
 abbrev pub decreases-loop-one : goal.decreases-loop-one
-decreases-loop-one g l = goal.left-loop-one g l
+decreases-loop-one g l = index_map_len l.running
