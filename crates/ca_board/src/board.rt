@@ -13,7 +13,7 @@ use crate::steps::{
     Takes,
 };
 use crate::ticket::{Filled, Ticket};
-use crate::word::{State, has_ended, is_waiting, word};
+use crate::word::{State, has_ended, is_past, is_waiting, word};
 use ca_dbr::Outcome;
 use ca_text::{BOARD_CELLS, LAST_GENERATION, Refusal};
 use std::alloc::{AllocError, Global};
@@ -181,6 +181,16 @@ impl Board {
             return false;
         }
         true
+    }
+
+    /// Whether a ticket has ended, so that no outcome comes of it: it was collected or given up, or is for no cell. It is a look, which changes nothing.
+    pub fn has_ended(&self, ticket: Ticket) -> bool
+        ensures outside { board_cells ≤ ticket.cell → IsTrue result }
+    {
+        if ticket.cell >= BOARD_CELLS {
+            return true;
+        }
+        is_past(self.cells.shared.peek(ticket.cell), ticket)
     }
 
     /// Frees a cell whose outcome was taken, or whose ticket was given up, and says whether it did. At its last generation

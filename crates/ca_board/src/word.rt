@@ -1,5 +1,5 @@
 //! The words of cells. A word holds a cell's generation and its state, and only grows.
-ghost use Rattle.std.specs.Prelude.{◌≡◌, ◌<◌, ◌+◌, ◌*◌, ◌/◌, ◌⊎◌, ◌≢◌, IsFalse, IsTrue};
+ghost use Rattle.std.specs.Prelude.{◌≡◌, ◌<◌, ◌≤◌, ◌+◌, ◌*◌, ◌/◌, ◌⊎◌, ◌≢◌, IsFalse, IsTrue};
 ghost use Rattle.ca_board.specs.Words.{state_number, word_of};
 
 use crate::ticket::Ticket;
@@ -30,6 +30,14 @@ pub(crate) fn has_ended(word: u64) -> bool
         → (word ≢ 8 * (word / 8) + 4) × (word ≢ 8 * (word / 8) + 5) }
 {
     word % 8 == number(State::Empty) || word % 8 == number(State::GivenUp)
+}
+
+/// The cell of a ticket, with this word, is past the ticket's outcome: that was taken, or the ticket was given up. Words only grow, so none comes.
+pub(crate) fn is_past(word: u64, ticket: Ticket) -> bool
+    ensures past { IsTrue result → 8 * ticket.generation + 2 < word }
+    ensures not_yet { IsFalse result → word ≤ 8 * ticket.generation + 2 }
+{
+    word > self::word(ticket, State::Done)
 }
 
 /// The cell with this word waits.

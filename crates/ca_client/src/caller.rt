@@ -1,4 +1,6 @@
+ghost use Rattle.std.specs.Prelude.{◌≤◌, IsTrue};
 ghost use Rattle.ca_board.specs.Views.{HasCollected, HasGivenUp};
+ghost use Rattle.ca_text.specs.Limits.{board_cells};
 
 use ca_board::{Board, CallerSeat, Ticket};
 use ca_dbr::Outcome;
@@ -37,5 +39,12 @@ impl Caller {
         ensures { HasGivenUp self.old ticket result self.new }
     {
         self.board.give_up(&mut self.seat, ticket)
+    }
+
+    /// Whether a ticket has ended, so that no outcome comes of it. It waits for nobody.
+    pub fn has_ended(&self, ticket: Ticket) -> bool
+        ensures outside { board_cells ≤ ticket.cell → IsTrue result }
+    {
+        self.board.has_ended(ticket)
     }
 }

@@ -1,7 +1,8 @@
 ghost use Rattle.ca_board.specs.Views.{HasCollected, HasGivenUp};
 
 use crate::addresses::to_system;
-use crate::engine::{Engine, moment};
+use crate::deadline::{Deadline, time_of};
+use crate::engine::{Engine, Moments};
 use crate::lead::SocketPoll;
 use crate::links::Tries;
 use crate::listener::{Change, Ear, Ears, Listener};
@@ -18,7 +19,7 @@ use mio::{Events, Interest, Poll, Registry, Token, Waker};
 use std::alloc::{AllocError, Global};
 use std::net::{Ipv4Addr, Net, SocketAddr};
 use std::sync::{Arc, MutexGuard, Wait};
-use std::time::{Clock, Instant};
+use std::time::{Clock, Duration, Instant};
 
 const WAKER: Token = Token(0);
 
@@ -27,11 +28,21 @@ const DATAGRAMS: Token = Token(1);
 // So many requests are made under one hold of the lock at most: some microseconds, as long as a thread that finds the lock taken pauses between its tries.
 const AT_ONCE: usize = 32;
 
-/// A client that threads share, whose subscriptions are heard by an `L` each.
+/// A client that threads share, whose subscriptions are heard by an `L` each. Its thread of input and output ends once it is dropped, as after `end`.
 #[derive(Drop)]
 pub struct Context<L: Listener> {
     shared: Arc<Shared<L>>,
-    began: Instant,
+}
+
+/// What a wait for an outcome ended with.
+#[derive(Debug, Drop)]
+pub enum Waited {
+    /// The outcome: Disconnected if the circuit was lost.
+    Outcome(Outcome),
+    /// The time is over, and the outcome may still come.
+    TimedOut,
+    /// None comes: it was collected before, the ticket was given up, or the client has ended.
+    Over,
 }
 
 /// What a client begins with.
@@ -95,14 +106,11 @@ impl<L: Listener> Context<L> {
     }
 
     /// Opens a channel of this name, which is searched for from now on. Refused as `ClientCore::open`.
-    pub fn open<R: Wait + Clock>(
-        &self,
-        rt: &R,
-        name: &[u8],
-        priority: u16,
-    ) -> Result<Handle, Refusal> {
-        let now = moment(rt, &self.began);
-        let opened = self.shared.locked.lock(rt).desk.open(name, priority, now);
+    pub fn open<R: Wait>(&self, rt: &R, name: &[u8], priority: u16) -> Result<Handle, Refusal> {
+        let mut guard = self.shared.locked.lock(rt);
+        let now = guard.moment;
+        let opened = guard.desk.open(name, priority, now);
+        drop(guard);
         self.wake();
         opened
     }
@@ -233,7 +241,8 @@ impl<L: Listener> Context<L> {
         added
     }
 
-    /// Cancels a subscription. Refused as `ClientCore::unsubscribe`.
+    /// Cancels a subscription. Its listener may still hear what was read before: it waits for nobody, since a listener may make this call. Refused as
+    /// `ClientCore::unsubscribe`.
     pub fn unsubscribe<R: Wait>(&self, rt: &R, subscription: Handle) -> Result<(), Refusal> {
         let ended = self.shared.locked.lock(rt).unsubscribe(subscription);
         self.wake();
@@ -243,7 +252,7 @@ impl<L: Listener> Context<L> {
     /// Clears a channel: its requests are complete with Disconnected. Refused as `ClientCore::clear`.
     pub fn clear<R: Wait>(&self, rt: &R, channel: Handle) -> Result<(), Refusal> {
         let answer = self.shared.locked.lock(rt).desk.step(Ask::Clear(channel));
-        self.wake();
+        self.shared.call_all();
         match answer {
             Answer::Refused(refusal) => Err(refusal),
             _ => Ok(()),
@@ -255,71 +264,114 @@ impl<L: Listener> Context<L> {
         self.shared.locked.lock(rt).desk.channel_state(channel)
     }
 
-    /// Waits for the outcome of a ticket, for at most so many turns of the thread of input and output, or its own: a caller that waits alone moves the
-    /// bytes of circuits itself.
-    ///
-    /// A turn takes 10 ms if nothing comes, and less if messages come: so it is no measure of time on a busy client.
-    pub fn wait<R: Wait>(
+    /// Waits for the outcome of a ticket, for at most so many turns of 10 ms. None as `wait_for` says `TimedOut` or `Over`.
+    pub fn wait<R: Wait + Clock>(
         &self,
         rt: &R,
         caller: &mut Caller,
         ticket: Ticket,
         turns: u64,
     ) -> Option<Outcome> {
-        if let Some(outcome) = caller.collect(ticket) {
-            return Some(outcome);
+        match self.wait_for(rt, caller, ticket, time_of(turns)) {
+            Waited::Outcome(outcome) => Some(outcome),
+            _ => None,
         }
-        self.wait_on(rt, caller, ticket, turns)
+    }
+
+    /// Waits for the outcome of a ticket, for so long at most. A caller that waits alone moves the bytes of circuits itself.
+    pub fn wait_for<R: Wait + Clock>(
+        &self,
+        rt: &R,
+        caller: &mut Caller,
+        ticket: Ticket,
+        most: Duration,
+    ) -> Waited {
+        if let Some(outcome) = caller.collect(ticket) {
+            return Waited::Outcome(outcome);
+        }
+        self.wait_on(rt, caller, ticket, most)
     }
 
     // The same, of an outcome that was not there. Most are there, once one was waited for, and a function pays for the locals of all that it takes into
     // itself: so this stands out of line.
     #[inline(never)]
-    fn wait_on<R: Wait>(
+    fn wait_on<R: Wait + Clock>(
         &self,
         rt: &R,
         caller: &mut Caller,
         ticket: Ticket,
-        turns: u64,
-    ) -> Option<Outcome> {
-        for _ in 0..turns {
-            let seen = self.shared.turns();
-            match self.lead(rt, caller, ticket) {
-                Led::Found(outcome) => return Some(outcome),
+        most: Duration,
+    ) -> Waited {
+        let deadline = Deadline::new(rt, most);
+        for _ in rt.forever() {
+            let Some(left) = deadline.left(rt) else {
+                break;
+            };
+            match self.wait_once(rt, caller, ticket, left) {
+                Led::Found(outcome) => return Waited::Outcome(outcome),
                 Led::Moved => {}
-                Led::Left => {
-                    self.shared.flush();
-                    if let Some(outcome) = caller.collect(ticket) {
-                        return Some(outcome);
-                    }
-                    if self.shared.park(rt, seen) {
-                        break;
-                    }
-                }
-            }
-            if let Some(outcome) = caller.collect(ticket) {
-                return Some(outcome);
+                Led::Left => break,
             }
         }
-        self.collect(caller, ticket)
+        match self.collect(caller, ticket) {
+            Some(outcome) => Waited::Outcome(outcome),
+            None if self.shared.has_ended() || caller.has_ended(ticket) => Waited::Over,
+            None => Waited::TimedOut,
+        }
+    }
+
+    // Waits for a turn, of the thread of input and output or its own, for so long at most. It is Left if nothing is to be waited for any more: that thread, or
+    // the ticket, has ended.
+    fn wait_once<R: Wait + Clock>(
+        &self,
+        rt: &R,
+        caller: &mut Caller,
+        ticket: Ticket,
+        most: Duration,
+    ) -> Led {
+        let seen = self.shared.turns();
+        match self.lead(rt, caller, ticket, most) {
+            Led::Found(outcome) => return Led::Found(outcome),
+            Led::Moved => {}
+            Led::Left => {
+                self.shared.flush();
+                if let Some(outcome) = caller.collect(ticket) {
+                    return Led::Found(outcome);
+                }
+                if self.shared.park(rt, seen, most) {
+                    return Led::Left;
+                }
+            }
+        }
+        match caller.collect(ticket) {
+            Some(outcome) => Led::Found(outcome),
+            None if caller.has_ended(ticket) => Led::Left,
+            None => Led::Moved,
+        }
     }
 
     // Looks for the outcome of a ticket. If it is not there, it moves bytes in the place of the thread of input and output, unless others wait.
-    fn lead<R: Wait>(&self, rt: &R, caller: &mut Caller, ticket: Ticket) -> Led {
+    fn lead<R: Wait + Clock>(
+        &self,
+        rt: &R,
+        caller: &mut Caller,
+        ticket: Ticket,
+        most: Duration,
+    ) -> Led {
         let Some(guard) = self.shared.hold_to_lead(rt) else {
             return Led::Left;
         };
         let mut guard = guard;
-        let came = guard.move_all();
+        let brought = guard.move_all();
         let found = caller.collect(ticket);
-        let waits = !came && found.is_none();
+        let waits = !brought.any && !brought.more && found.is_none();
         if waits {
             guard.lead.begin();
         }
-        let calls = guard.calls();
+        let calls = guard.calls(brought);
         drop(guard);
         if waits {
-            self.follow(rt);
+            self.follow(rt, most);
         } else {
             self.shared.leave(calls);
         }
@@ -330,41 +382,51 @@ impl<L: Listener> Context<L> {
     }
 
     // Waits for the sockets, and reads what came.
-    fn follow<R: Wait>(&self, rt: &R) {
-        self.shared.watch(rt);
+    fn follow<R: Wait + Clock>(&self, rt: &R, most: Duration) {
+        self.shared.watch(rt, most);
         let mut guard = self.shared.hold(rt);
         guard.lead.end();
-        guard.move_all();
-        let calls = guard.calls();
+        let brought = guard.move_all();
+        let calls = guard.calls(brought);
         drop(guard);
         self.shared.leave(calls);
     }
 
-    /// Waits until a channel is live, for at most so many turns of the thread of input and output, and says whether it is.
-    pub fn wait_live<R: Wait>(&self, rt: &R, channel: Handle, turns: u64) -> bool {
-        for _ in 0..turns {
+    /// Waits until a channel is live, for at most so many turns of 10 ms, and says whether it is.
+    pub fn wait_live<R: Wait + Clock>(&self, rt: &R, channel: Handle, turns: u64) -> bool {
+        let state = self.wait_live_for(rt, channel, time_of(turns));
+        matches!(state, Ok(ChannelState::Live(_, _, _)))
+    }
+
+    /// Waits until a channel is live, for so long at most, and tells where it is then: one that is not live once the time is over, or the client has ended, may
+    /// be so later. Refused as StaleHandle, at once, if the handle is stale.
+    pub fn wait_live_for<R: Wait + Clock>(
+        &self,
+        rt: &R,
+        channel: Handle,
+        most: Duration,
+    ) -> Result<ChannelState, Refusal> {
+        let deadline = Deadline::new(rt, most);
+        for _ in rt.forever() {
             let seen = self.shared.turns();
-            if self.is_live(rt, channel) {
-                return true;
+            let state = self.channel_state(rt, channel)?;
+            if let ChannelState::Live(_, _, _) = state {
+                return Ok(state);
             }
-            if self.shared.park(rt, seen) {
+            let Some(left) = deadline.left(rt) else {
+                return Ok(state);
+            };
+            if self.shared.park(rt, seen, left) {
                 break;
             }
         }
-        self.is_live(rt, channel)
-    }
-
-    fn is_live<R: Wait>(&self, rt: &R, channel: Handle) -> bool {
-        match self.channel_state(rt, channel) {
-            Ok(ChannelState::Live(_, _, _)) => true,
-            _ => false,
-        }
+        self.channel_state(rt, channel)
     }
 
     /// Has the thread of input and output close all circuits, and end.
     pub fn end<R: Wait>(&self, rt: &R) {
         self.shared.locked.lock(rt).ending = true;
-        self.wake();
+        self.shared.call_all();
     }
 
     fn wake(&self) {
@@ -376,9 +438,9 @@ impl<L: Listener> Context<L> {
 #[derive(Drop)]
 enum Led {
     Found(Outcome),
-    // It is not there. Bytes were moved.
+    // It is not there. A turn is over.
     Moved,
-    // It is not there, and the thread of input and output moves the bytes.
+    // It is not there, and was left to the thread of input and output.
     Left,
 }
 
@@ -497,9 +559,9 @@ fn joined<R: Net + Clock + Copy + Drop, L: Listener>(
         tries: Tries::new(alloc),
         ears,
         told: Vec::new(alloc),
-        began,
+        moments: Moments::new(began),
     };
-    Ok((Context { shared, began }, engine))
+    Ok((Context { shared }, engine))
 }
 
 fn poll<R: Net>(rt: &R) -> Result<Poll, Refusal> {

@@ -1,5 +1,5 @@
 use crate::addresses::{from_system, to_system};
-use crate::lead::TURN;
+use crate::lead::{TURN, wait_at};
 use crate::links::{Brought, Heard, Link, Tries, close_all, connect, forget};
 use crate::listener::{Ears, Listener};
 use crate::shared::{Locked, Place, Shared};
@@ -22,6 +22,9 @@ const HURRY: u64 = 2;
 
 // At most so many datagrams are read in a turn.
 const DATAGRAMS: usize = 64;
+
+// A turn's moment is at most so many milliseconds after that of the turn before.
+const STEP: u64 = 1_000;
 
 /// Work for a thread of its own.
 pub trait Work: Drop {
@@ -56,7 +59,34 @@ pub struct Engine<N: Net + Drop, L: Listener> {
     pub(crate) tries: Tries,
     pub(crate) ears: Ears<L>,
     pub(crate) told: Vec<Heard>,
-    pub(crate) began: Instant,
+    pub(crate) moments: Moments,
+}
+
+// The moments of turns, in milliseconds. They follow the clock, but for a thread that stood still: what was not read meanwhile is no silence of a server.
+#[derive(Clone, Copy, Drop)]
+pub(crate) struct Moments {
+    began: Instant,
+    seen: u64,
+    moment: u64,
+}
+
+impl Moments {
+    pub(crate) fn new(began: Instant) -> Moments {
+        Moments {
+            began,
+            seen: 0,
+            moment: 0,
+        }
+    }
+
+    // The moment of a turn that begins now.
+    fn next<R: Clock>(&mut self, rt: &R) -> u64 {
+        let now = passed(rt, &self.began);
+        let step = now.saturating_sub(self.seen).min(STEP);
+        self.seen = now;
+        self.moment = self.moment.saturating_add(step);
+        self.moment
+    }
 }
 
 impl<N: Net + Drop, L: Listener> Work for Engine<N, L> {
@@ -70,7 +100,7 @@ impl<N: Net + Drop, L: Listener> Work for Engine<N, L> {
         let mut place = Place::Nowhere;
         for _ in rt.forever() {
             engine.rest(rt, place);
-            let now = moment(rt, &engine.began);
+            let now = engine.moments.next(rt);
             let (next, brought) = engine.work(rt, now);
             tell_all(&mut engine.ears, &mut engine.told);
             match next {
@@ -89,15 +119,12 @@ impl<N: Net + Drop, L: Listener> Work for Engine<N, L> {
 
 impl<N: Net + Drop, L: Listener> Engine<N, L> {
     // Waits at a place.
-    fn rest<R: Wait>(&mut self, rt: &R, place: Place) {
+    fn rest<R: Wait + Clock>(&mut self, rt: &R, place: Place) {
+        let most = Duration::from_millis(TURN);
         match place {
             Place::Nowhere => {}
-            Place::Sockets => self.shared.watch(rt),
-            Place::Call => {
-                let _ = self
-                    .call_poll
-                    .poll(&mut self.events, Some(Duration::from_millis(TURN)));
-            }
+            Place::Sockets => self.shared.watch(rt, most),
+            Place::Call => wait_at(rt, &mut self.call_poll, &mut self.events, most),
         }
         self.shared.rise();
     }
@@ -107,6 +134,8 @@ impl<N: Net + Drop, L: Listener> Engine<N, L> {
         self.shared.let_ask();
         let mut guard = self.shared.hold(rt);
         let locked = &mut *guard;
+        locked.moment = now;
+        locked.ending = locked.ending || self.is_left();
         if locked.lead.rise(now) {
             self.shared.tick();
         }
@@ -124,12 +153,21 @@ impl<N: Net + Drop, L: Listener> Engine<N, L> {
             close_all(&mut locked.desk, &mut locked.links);
             return (None, brought);
         }
-        let place = if brought.any {
+        // What it was brought may be the leader's.
+        if brought.any && locked.lead.is_led() {
+            self.shared.call_leader();
+        }
+        let place = if brought.any || brought.more {
             Place::Nowhere
         } else {
-            self.shared.doze(&mut locked.lead)
+            self.shared.doze(locked)
         };
         (Some(place), brought)
+    }
+
+    // Whether the context was dropped: nobody else has what the two share.
+    fn is_left(&self) -> bool {
+        Arc::strong_count(&self.shared) == 1
     }
 }
 
@@ -157,14 +195,15 @@ impl Waits {
 }
 
 // Milliseconds since the start.
-pub(crate) fn moment<R: Clock>(rt: &R, start: &Instant) -> u64 {
+fn passed<R: Clock>(rt: &R, start: &Instant) -> u64 {
     match start.elapsed(rt) {
         Ok(passed) => u64::try_from(passed.as_millis()).unwrap_or(u64::MAX),
         Err(_) => 0,
     }
 }
 
-// One turn, under the lock.
+// One turn, under the lock. What came is read before the moment is told, so that no circuit counts as silent whose bytes are there; what the moment asks and
+// what circuits begin with is sent after that.
 fn turn<N: Net, L: Listener>(
     net: &N,
     locked: &mut Locked<L>,
@@ -176,9 +215,9 @@ fn turn<N: Net, L: Listener>(
 ) -> Brought {
     // A caller found that a circuit ended.
     let told_before = !locked.told.is_empty();
-    locked.unsent = 0;
     ears.follow(&mut locked.changes);
-    hear(&mut locked.desk, datagrams, now);
+    let brought = locked.serve();
+    let hears = hear(&mut locked.desk, datagrams, now);
     let ended = tick(&mut locked.desk, datagrams, &mut locked.links, now);
     connect(
         net,
@@ -188,24 +227,27 @@ fn turn<N: Net, L: Listener>(
         tries,
         now,
     );
-    let brought = locked.serve();
+    let sent = locked.send_all();
+    let brought = brought.and(sent);
     Brought {
         any: brought.any || ended || told_before,
-        more: brought.more,
+        more: brought.more || hears,
+        news: brought.news,
     }
 }
 
-// Search replies and beacons.
-fn hear(desk: &mut Desk, datagrams: &UdpSocket, now: u64) {
+// Search replies and beacons. It says whether there may be more.
+fn hear(desk: &mut Desk, datagrams: &UdpSocket, now: u64) -> bool {
     let mut buffer = [0u8; 4096];
     for _ in 0..DATAGRAMS {
         let Ok((size, from)) = datagrams.recv_from(&mut buffer[..]) else {
-            return;
+            return false;
         };
         if let Some(address) = from_system(from) {
             let _ = desk.datagram(now, address, &buffer[..size.min(4096)]);
         }
     }
+    true
 }
 
 // A moment: its searches are sent, and circuits that were silent too long are let go. It says whether there were any.

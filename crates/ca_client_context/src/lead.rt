@@ -1,12 +1,16 @@
 use mio::{Events, Poll};
 use std::alloc::Global;
-use std::time::Duration;
+use std::thread;
+use std::time::{Clock, Duration};
 
-// A wait for the sockets takes at most so many milliseconds.
+// A wait of the thread of input and output, and one for the sockets, takes at most so many milliseconds.
 pub(crate) const TURN: u64 = 10;
 
 // What callers did is remembered for so many times 10 ms, the time that is under way among them.
 pub(crate) const LATELY: u64 = 2;
+
+// A caller that leads, and was not seen for so many times 10 ms, keeps nobody else from reading.
+const LATE: u64 = 2;
 
 // Waits for the sockets. One thread at a time does.
 #[derive(Drop)]
@@ -16,10 +20,21 @@ pub(crate) struct SocketPoll {
 }
 
 impl SocketPoll {
-    pub(crate) fn watch(&mut self) {
-        let _ = self
-            .poll
-            .poll(&mut self.events, Some(Duration::from_millis(TURN)));
+    pub(crate) fn watch<R: Clock>(&mut self, rt: &R, most: Duration) {
+        let most = most.min(Duration::from_millis(TURN));
+        wait_at(rt, &mut self.poll, &mut self.events, most);
+    }
+}
+
+// Waits for so long at most. A wait that the system refuses takes as long, so that a fault that lasts costs no processor.
+pub(crate) fn wait_at<R: Clock>(
+    rt: &R,
+    poll: &mut Poll,
+    events: &mut Events<Global>,
+    most: Duration,
+) {
+    if poll.poll(events, Some(most)).is_err() {
+        thread::sleep(rt, most);
     }
 }
 
@@ -43,6 +58,8 @@ pub(crate) struct Lead {
     hears: bool,
     // When it was last seen that 10 ms had passed.
     ticked: u64,
+    // For how many times 10 ms the caller that waits for the sockets was not seen.
+    unseen: u64,
 }
 
 impl Lead {
@@ -52,6 +69,7 @@ impl Lead {
             wished: 0,
             hears: false,
             ticked: 0,
+            unseen: 0,
         }
     }
 
@@ -80,9 +98,15 @@ impl Lead {
         matches!(self.watcher, Watcher::Caller)
     }
 
+    // Whether a caller waits for the sockets, and is to read what comes. One that was not seen for long may have no processor.
+    pub(crate) fn is_read(&self) -> bool {
+        self.is_led() && self.unseen < LATE
+    }
+
     // A caller waits for the sockets from now on.
     pub(crate) fn begin(&mut self) {
         self.watcher = Watcher::Caller;
+        self.unseen = 0;
     }
 
     // It does no longer.
@@ -100,16 +124,19 @@ impl Lead {
         if !self.is_led() {
             self.watcher = Watcher::Nobody;
         }
-        let ticks = now.saturating_sub(self.ticked) >= TURN;
-        if ticks {
-            self.ticked = now;
-            self.wished = self.wished.saturating_sub(1);
+        let passed = now.saturating_sub(self.ticked) / TURN;
+        if passed == 0 {
+            return false;
         }
-        ticks
+        self.ticked = now;
+        self.wished = self.wished.saturating_sub(1);
+        self.unseen = self.unseen.saturating_add(passed);
+        true
     }
 
-    // Whether the sockets are left to callers, where several waited at once lately or not.
-    pub(crate) fn is_left(&self, crowded: bool) -> bool {
-        self.is_led() || self.wished != 0 && !crowded && !self.hears
+    // Whether the sockets are left to callers. They are not where the thread of input and output has to serve them: several callers waited at once lately, or
+    // a socket has no room for what waits to be sent.
+    pub(crate) fn is_left(&self, serves: bool) -> bool {
+        self.is_led() || self.wished != 0 && !serves && !self.hears
     }
 }

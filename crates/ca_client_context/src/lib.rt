@@ -33,12 +33,13 @@
 
 mod addresses;
 mod context;
+mod deadline;
 mod engine;
 mod lead;
 mod links;
 mod listener;
 mod shared;
 
-pub use context::{Context, Setting};
+pub use context::{Context, Setting, Waited};
 pub use engine::{Engine, Work, start};
 pub use listener::{Listener, Nobody};

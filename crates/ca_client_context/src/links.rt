@@ -33,12 +33,16 @@ pub(crate) struct Link {
 #[derive(Drop)]
 struct Watched<S: Socket + Drop> {
     inner: S,
+    // Something was read in this turn.
+    came: bool,
     // Nothing more is read in this turn: the last read left nothing, or a caller sends.
     //
     // What came is handled before the next read, which may find that the server has closed the circuit.
     drained: bool,
     // The last write left something, and the system may have room for it.
     behind: bool,
+    // The system had no room for the last write: it tells once there is some.
+    full: bool,
 }
 
 impl<S: Socket + Drop> Socket for Watched<S> {
@@ -58,7 +62,10 @@ impl<S: Socket + Drop> Socket for Watched<S> {
         }
         let moved = self.inner.read(buffer);
         self.drained = match moved {
-            Moved::Count(count) => count < buffer.len(),
+            Moved::Count(count) => {
+                self.came = true;
+                count < buffer.len()
+            }
             _ => true,
         };
         moved
@@ -70,6 +77,7 @@ impl<S: Socket + Drop> Socket for Watched<S> {
             Moved::Count(count) => count < bytes.len(),
             _ => false,
         };
+        self.full = matches!(moved, Moved::Later);
         moved
     }
 
@@ -162,8 +170,10 @@ fn reach<R: Net>(rt: &R, registry: &Registry, wanted: WantedCircuit) -> Option<L
         circuit: wanted.circuit,
         wire: Watched {
             inner: Wire::new(stream),
+            came: false,
             drained: true,
             behind: false,
+            full: false,
         },
     })
 }
@@ -190,31 +200,63 @@ fn keep(told: &mut Vec<Heard>, notices: Told)
 pub(crate) struct Brought {
     // Messages came, or circuits ended: so there may be something to send at once.
     pub(crate) any: bool,
-    // Messages, or bytes, are left for the next turn.
+    // Messages, or bytes, are left for the next turn, or may be.
     pub(crate) more: bool,
+    // Messages came that complete no request, or circuits ended: so there may be something to do for the thread of input and output.
+    pub(crate) news: bool,
+}
+
+impl Brought {
+    pub(crate) fn nothing() -> Brought {
+        Brought {
+            any: false,
+            more: false,
+            news: false,
+        }
+    }
+
+    fn of_end() -> Brought {
+        Brought {
+            any: true,
+            more: false,
+            news: true,
+        }
+    }
+
+    pub(crate) fn and(self, other: Brought) -> Brought {
+        Brought {
+            any: self.any || other.any,
+            more: self.more || other.more,
+            news: self.news || other.news,
+        }
+    }
 }
 
 // Moves the bytes of all circuits, and reads their messages.
 pub(crate) fn serve(desk: &mut Desk, links: &mut Vec<Link>, told: &mut Vec<Heard>) -> Brought {
-    let mut any = false;
-    let mut more = false;
+    let mut brought = Brought::nothing();
     for turn in 0..links.len() {
         // From the last to the first, so that one that ends can be taken out.
         let index = links.len().saturating_sub(turn + 1);
         match serve_at(desk, links, index, told) {
-            Served::Idle => {}
-            Served::Busy => any = true,
-            Served::Behind => {
-                any = true;
-                more = true;
-            }
+            Served::On(one) => brought = brought.and(one),
             Served::Over => {
                 forget_at(links, index);
-                any = true;
+                brought = brought.and(Brought::of_end());
             }
         }
     }
-    Brought { any, more }
+    brought
+}
+
+// Whether what waits to be sent on a circuit waits for room in its socket.
+pub(crate) fn is_any_full(links: &[Link]) -> bool {
+    links.iter().any(|link| link.wire.full)
+}
+
+// Whether something waits to be sent on a circuit for which there may be room.
+pub(crate) fn is_any_behind(links: &[Link]) -> bool {
+    links.iter().any(|link| link.wire.behind)
 }
 
 // Sends what waits on all circuits, as far as that can be now. It says whether all went and no circuit ended.
@@ -223,8 +265,7 @@ pub(crate) fn send_all(desk: &mut Desk, links: &mut Vec<Link>, told: &mut Vec<He
     for turn in 0..links.len() {
         let index = links.len().saturating_sub(turn + 1);
         match send_at(desk, links, index, told) {
-            Served::Idle => {}
-            Served::Busy | Served::Behind => all = false,
+            Served::On(one) => all = all && !one.more,
             Served::Over => {
                 forget_at(links, index);
                 all = false;
@@ -237,32 +278,40 @@ pub(crate) fn send_all(desk: &mut Desk, links: &mut Vec<Link>, told: &mut Vec<He
 // What became of a circuit.
 #[derive(Drop)]
 enum Served {
-    Idle,
-    // Messages came.
-    Busy,
-    // Something is left to be moved or read.
-    Behind,
+    // It goes on.
+    On(Brought),
     Over,
+}
+
+impl Served {
+    // Something is left to be moved or read.
+    fn behind() -> Served {
+        Served::On(Brought {
+            any: true,
+            more: true,
+            news: false,
+        })
+    }
 }
 
 fn serve_at(desk: &mut Desk, links: &mut Vec<Link>, index: usize, told: &mut Vec<Heard>) -> Served {
     match links.get_mut(index) {
         Some(link) => serve_one(desk, link, told),
-        None => Served::Idle,
+        None => Served::On(Brought::nothing()),
     }
 }
 
 fn send_at(desk: &mut Desk, links: &mut Vec<Link>, index: usize, told: &mut Vec<Heard>) -> Served {
     match links.get_mut(index) {
         Some(link) => send_one(desk, link, told),
-        None => Served::Idle,
+        None => Served::On(Brought::nothing()),
     }
 }
 
 fn send_one(desk: &mut Desk, link: &mut Link, told: &mut Vec<Heard>) -> Served {
     // Nothing is sent without room for what a fault tells.
     if told.reserve(1).is_err() || link.wire.faults() >= MOST_FAULTS {
-        return Served::Behind;
+        return Served::behind();
     }
     link.wire.drained = true;
     if let Some(ended) = desk.turn(link.circuit, &mut link.wire) {
@@ -270,16 +319,16 @@ fn send_one(desk: &mut Desk, link: &mut Link, told: &mut Vec<Heard>) -> Served {
         return Served::Over;
     }
     if link.wire.behind {
-        Served::Behind
+        Served::behind()
     } else {
-        Served::Idle
+        Served::On(Brought::nothing())
     }
 }
 
 fn serve_one(desk: &mut Desk, link: &mut Link, told: &mut Vec<Heard>) -> Served {
     // Nothing is read without room for what it tells.
     if told.reserve(1).is_err() {
-        return Served::Idle;
+        return Served::On(Brought::nothing());
     }
     if link.wire.faults() >= MOST_FAULTS {
         if let Answer::Closed(ended) = desk.step(Ask::Cut(link.circuit)) {
@@ -288,44 +337,59 @@ fn serve_one(desk: &mut Desk, link: &mut Link, told: &mut Vec<Heard>) -> Served 
         return Served::Over;
     }
     link.wire.drained = false;
+    link.wire.came = false;
     if let Some(ended) = desk.turn(link.circuit, &mut link.wire) {
         keep(told, ended.told);
         return Served::Over;
     }
-    let is_done = link.wire.drained && !link.wire.behind;
     match handle_all(desk, link.circuit, told) {
-        Served::Idle | Served::Busy if !is_done => Served::Behind,
-        served => served,
+        Served::On(brought) => Served::On(brought.and(link.left(brought))),
+        Served::Over => Served::Over,
+    }
+}
+
+impl Link {
+    // What is left to be moved after a turn, and may be: after bytes that make no message there may be the end of the stream, of which nothing tells again.
+    fn left(&self, brought: Brought) -> Brought {
+        let is_behind = !self.wire.drained || self.wire.behind;
+        Brought {
+            any: is_behind,
+            more: is_behind || self.wire.came && !brought.any,
+            news: false,
+        }
     }
 }
 
 // Handles the messages that came on a circuit.
 fn handle_all(desk: &mut Desk, circuit: Handle, told: &mut Vec<Heard>) -> Served {
-    let mut served = Served::Idle;
+    let mut brought = Brought::nothing();
     let mut left = STEPS;
     for _ in 0..STEPS {
         if told.reserve(1).is_err() {
-            return served;
+            return Served::On(brought);
         }
         let steps = desk.step_all(circuit, left);
-        if steps.replies > 0 {
-            served = Served::Busy;
-        }
+        brought.any = brought.any || steps.replies > 0;
         left = left.saturating_sub(steps.replies.saturating_add(1));
         match steps.answer {
             Answer::Notices(notices) => {
                 keep(told, notices);
-                served = Served::Busy;
+                brought.any = true;
+                brought.news = true;
             }
-            Answer::Filled => return Served::Behind,
+            Answer::Filled => break,
             Answer::Closed(ended) => {
                 keep(told, ended.told);
                 return Served::Over;
             }
-            _ => return served,
+            _ => return Served::On(brought),
         }
     }
-    Served::Behind
+    Served::On(Brought {
+        any: true,
+        more: true,
+        news: brought.news,
+    })
 }
 
 fn forget_at(links: &mut Vec<Link>, index: usize) {

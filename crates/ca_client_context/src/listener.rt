@@ -4,6 +4,10 @@ use ca_text::ARENA_SLOTS;
 use std::alloc::{AllocError, Global};
 
 /// Hears the updates of a subscription, on the thread of input and output, with no lock held.
+///
+/// While it runs nothing is read or sent for the client, and the waits of all callers go on: so it is to be quick. It may make any call of the context that does
+/// not wait: `get`, `put`, `put_notify`, `monitor`, `unsubscribe`, `clear`, `collect`, `give_up`, `open`, `channel_state` and `end`. It is not to wait for a reply:
+/// `wait`, `wait_for`, `wait_live` and `wait_live_for` find none there, and return once their time is over.
 pub trait Listener: Drop {
     /// An update; or Failed, if the server refused the subscription, which is over then.
     fn heard(&mut self, outcome: &Outcome);

@@ -1,5 +1,5 @@
 use crate::lead::{LATELY, Lead, SocketPoll};
-use crate::links::{Brought, Heard, Link, send_all, serve};
+use crate::links::{Brought, Heard, Link, is_any_behind, is_any_full, send_all, serve};
 use crate::listener::{Change, Listener};
 use ca_board::Ticket;
 use ca_client::{Desk, Request};
@@ -9,6 +9,7 @@ use mio::Waker;
 use std::alloc::Global;
 use std::sync::atomic::{AtomicU64, Ordering};
 use std::sync::{Mutex, MutexGuard, Wait};
+use std::time::{Clock, Duration};
 
 // Requests that callers make while none of them looks for an outcome go out so many at a time: then the server answers them while the next are made.
 const TOGETHER: u64 = 256;
@@ -57,6 +58,8 @@ pub(crate) struct Locked<L: Listener> {
     // How many requests were made since all were last sent.
     pub(crate) unsent: u64,
     pub(crate) lead: Lead,
+    // The moment of the last turn of the thread of input and output.
+    pub(crate) moment: u64,
     pub(crate) ending: bool,
 }
 
@@ -69,6 +72,7 @@ impl<L: Listener> Locked<L> {
             changes: Vec::new(alloc),
             unsent: 0,
             lead: Lead::new(),
+            moment: 0,
             ending: false,
         }
     }
@@ -127,27 +131,36 @@ impl<L: Listener> Locked<L> {
         self.lead.may_lead() && !self.ending
     }
 
-    // Moves bytes for the thread of input and output, and reads what came. It reads nothing while a caller waits for the sockets, who may have been told of it.
+    // Moves bytes for the thread of input and output, and reads what came. While a caller waits for the sockets it leaves the reading to that one, who may have
+    // been told of what came, and is not late.
     pub(crate) fn serve(&mut self) -> Brought {
-        if self.lead.is_led() {
-            self.send();
-            return Brought {
-                any: false,
-                more: false,
-            };
+        if self.lead.is_read() {
+            return self.send_all();
         }
+        self.move_all()
+    }
+
+    // Sends what waits on all circuits, as far as that can be now. It says whether circuits ended, and whether something is left.
+    pub(crate) fn send_all(&mut self) -> Brought {
+        let links = self.links.len();
+        self.send();
+        let ended = self.links.len() < links;
+        Brought {
+            any: ended,
+            more: is_any_behind(&self.links),
+            news: ended,
+        }
+    }
+
+    // Moves bytes, and reads what came.
+    pub(crate) fn move_all(&mut self) -> Brought {
+        self.unsent = 0;
         serve(&mut self.desk, &mut self.links, &mut self.told)
     }
 
-    // Moves bytes for a caller, and reads what came. It says whether something came.
-    pub(crate) fn move_all(&mut self) -> bool {
-        self.unsent = 0;
-        serve(&mut self.desk, &mut self.links, &mut self.told).any
-    }
-
-    // Whether there is something for the thread of input and output to do.
-    pub(crate) fn calls(&self) -> bool {
-        self.lead.hears() || self.ending || !self.told.is_empty()
+    // Whether there is something for the thread of input and output to do, after what a caller moved.
+    pub(crate) fn calls(&self, brought: Brought) -> bool {
+        brought.news || self.lead.hears() || self.ending || !self.told.is_empty()
     }
 }
 
@@ -226,23 +239,24 @@ impl<L: Listener> Shared<L> {
     //
     // It says that it leaves the sockets to callers before it looks whether one waits that does not lead. Such a caller says that it waits before it
     // looks whether the sockets are left: so either the thread waits for them, or the caller wakes it.
-    pub(crate) fn doze(&self, lead: &mut Lead) -> Place {
+    pub(crate) fn doze(&self, locked: &mut Locked<L>) -> Place {
         self.asked.store(0, Ordering::SeqCst);
-        if lead.is_left(self.crowded.load(Ordering::SeqCst) != 0) {
+        let serves = self.crowded.load(Ordering::SeqCst) != 0 || is_any_full(&locked.links);
+        if locked.lead.is_left(serves) {
             self.asleep.store(AT_CALL, Ordering::SeqCst);
-            if lead.is_led() || !self.is_awaited() {
+            if locked.lead.is_led() || !self.is_awaited() {
                 return Place::Call;
             }
         }
-        lead.take();
+        locked.lead.take();
         self.asleep.store(AT_SOCKETS, Ordering::SeqCst);
         Place::Sockets
     }
 
-    // Waits for the sockets.
-    pub(crate) fn watch<R: Wait>(&self, rt: &R) {
+    // Waits for the sockets, for so long or a turn at most.
+    pub(crate) fn watch<R: Wait + Clock>(&self, rt: &R, most: Duration) {
         let mut guard = self.sockets.lock(rt);
-        guard.watch();
+        guard.watch(rt, most);
     }
 
     // Takes the lock for a caller that leads, if this one may: no other waits, or did lately, and nobody waits for the sockets.
@@ -287,13 +301,25 @@ impl<L: Listener> Shared<L> {
     }
 
     // A caller has moved bytes. Those that wait look for their outcomes, and the thread of input and output takes over, if there are some.
+    //
+    // The turn is counted before it is looked whether some wait, as `pass` says: so whoever is about to wait sees the new number.
     pub(crate) fn leave(&self, calls: bool) {
-        if self.is_awaited() {
-            self.pass(false);
-            self.wake();
-        } else if calls {
+        self.pass(false);
+        if calls || self.is_awaited() {
             self.wake();
         }
+    }
+
+    // Something was changed that may have ended the waits of others: all look, and the thread of input and output takes a turn.
+    pub(crate) fn call_all(&self) {
+        self.pass(false);
+        self.call_leader();
+        self.wake();
+    }
+
+    // Ends the wait of a caller for the sockets.
+    pub(crate) fn call_leader(&self) {
+        let _ = self.sockets_waker.wake();
     }
 
     // It has woken: its next turn begins after whatever was changed under the lock until now. So nobody need wake it before that turn is over.
@@ -360,8 +386,8 @@ impl<L: Listener> Shared<L> {
                     return false;
                 }
                 self.asked.store(0, Ordering::SeqCst);
-                guard.move_all();
-                let calls = guard.calls();
+                let brought = guard.move_all();
+                let calls = guard.calls(brought);
                 drop(guard);
                 self.leave(calls);
                 true
@@ -399,24 +425,23 @@ impl<L: Listener> Shared<L> {
         self.turns.load(Ordering::SeqCst)
     }
 
-    // Waits until another turn is over, and says whether the thread of input and output has ended.
-    pub(crate) fn park<R: Wait>(&self, rt: &R, seen: u64) -> bool {
+    // Waits until another turn is over, for so long at most, and says whether the thread of input and output has ended. It may return before that.
+    //
+    // The time ends a wait while a listener keeps that thread, and a wait that a listener makes.
+    pub(crate) fn park<R: Wait>(&self, rt: &R, seen: u64, most: Duration) -> bool {
         self.waiting.fetch_add(1, Ordering::SeqCst);
         if self.asleep.load(Ordering::SeqCst) == AT_CALL {
             self.wake();
         }
-        for _ in rt.forever() {
-            if self.turns() != seen || self.has_ended() {
-                break;
-            }
+        if self.turns() == seen && !self.has_ended() {
             // It sleeps only while no other turn is over.
-            self.turns.park(rt, (seen % (1 << 32)) as u32);
+            self.turns.park_timeout(rt, (seen % (1 << 32)) as u32, most);
         }
         self.waiting.fetch_sub(1, Ordering::SeqCst);
         self.has_ended()
     }
 
-    fn has_ended(&self) -> bool {
+    pub(crate) fn has_ended(&self) -> bool {
         self.ended.load(Ordering::SeqCst) == 1
     }
 }

@@ -1,4 +1,5 @@
-ghost use Rattle.std.specs.Prelude.{◌≡◌, ◌+◌, ◌-◌, ◌^◌, vec_len};
+ghost use Rattle.std.specs.Prelude.{◌≡◌, ◌+◌, ◌-◌, ◌^◌};
+ghost use Rattle.indexmap.specs.IndexMap.{index_map_len};
 
 use crate::circuit::{Circuit, Gathered};
 use crate::line::{Line, ROOM};
@@ -7,6 +8,7 @@ use crate::processing::Device;
 use crate::work::started_or_ended;
 use ca_arena::Handle;
 use ca_text::Refusal;
+use indexmap::IndexMap;
 use mio::net::{TcpListener, TcpStream};
 use mio::{Events, Interest, Poll, Token, Waker};
 use std::alloc::Global;
@@ -26,8 +28,11 @@ pub(crate) const SOCKET: Token = Token(0);
 
 const WAKER: Token = Token(1);
 
-// After a connection that could not be taken nothing is taken for so many milliseconds.
+// After a connection that could neither be taken nor closed nothing is taken for so many milliseconds.
 const PAUSE: u64 = 10;
+
+// What the system says if no descriptor is left: ENFILE and EMFILE.
+const NO_DESCRIPTOR: [i32; 2] = [23, 24];
 
 /// Where connections come in.
 #[derive(Drop)]
@@ -39,19 +44,19 @@ pub(crate) struct Door {
     pub(crate) spare: Option<Poll>,
 }
 
-/// A circuit's thread that was started, and whether it is done.
-#[derive(Drop)]
-pub(crate) struct Running<L: Ledger> {
-    handle: JoinHandle<Gathered<L>>,
-    done: Arc<AtomicBool>,
-}
+/// The circuits' threads, by the numbers of their circuits.
+pub(crate) type Running<L> = IndexMap<u64, JoinHandle<Gathered<L>>>;
 
 // What a circuit's thread needs beside its circuit and its share.
 #[derive(Drop)]
 struct Accepted<L: Ledger, D: Device> {
     shared: Arc<Shared<L, D>>,
     line: Line,
-    done: Arc<AtomicBool>,
+    number: u64,
+    // Whether the circuit is to be closed at once.
+    is_to_end: Arc<AtomicBool>,
+    // The same word, for the circuit's thread.
+    ends: Arc<AtomicBool>,
 }
 
 /// Accepts connections until so many circuits were closed, without a number for ever, or the server is to end. Each gets a thread and a share.
@@ -65,49 +70,71 @@ pub(crate) fn accept_all<
     shared: &Arc<Shared<L, D>>,
     door: &mut Door,
     circuits: Option<u64>,
-    running: &mut Vec<Running<L>>,
+    running: &mut Running<L>,
     all: &mut Share<L>,
 )
-    requires { all.old.parts + vec_len running.old ≡ 2 ^ 64 - 1 }
-    ensures { all.new.parts + vec_len running.new ≡ 2 ^ 64 - 1 }
+    requires { all.old.parts + index_map_len running.old ≡ 2 ^ 64 - 1 }
+    ensures { all.new.parts + index_map_len running.new ≡ 2 ^ 64 - 1 }
 {
-    let mut reaped = 0u64;
+    let mut number = 0u64;
     for _ in rt.forever() {
-        let (closed, is_ending) = closed_by_now(&rt, shared);
+        let (closed, gone, is_ending) = looked(&rt, shared);
         if is_ending || circuits.is_some_and(|circuits| closed >= circuits) {
             break;
         }
-        if closed != reaped {
-            reap(&rt, running, all);
-            reaped = closed;
+        if let Some(gone) = gone {
+            reap(&rt, running, gone, all);
         }
         match door.listener.accept() {
-            Ok((stream, _)) => accept_one(rt, alloc, shared, stream, running, all),
-            Err(error) => door.wait(&rt, &error),
+            Ok((stream, _)) => {
+                accept_one(rt, alloc, shared, stream, number, running, all);
+                number = number.wrapping_add(1);
+            }
+            Err(error) => {
+                if gone.is_none() {
+                    door.wait(&rt, &error);
+                }
+            }
         }
     }
 }
 
 impl Door {
-    // Waits until a connection may be there, or the thread is woken. If none could be taken though one was there, it is closed.
+    // Waits until a connection may be there, or the thread is woken. One for which there is no descriptor is closed; one that its client has given up is left.
     fn wait<R: Net + Clock>(&mut self, rt: &R, error: &io::Error) {
-        if error.kind() == io::ErrorKind::WouldBlock {
-            if self.poll.poll(&mut self.events, None).is_ok() {
-                return;
-            }
-        } else {
-            self.spare = None;
-            let _closed = self.listener.accept();
-            self.spare = Poll::new(rt).ok();
+        let goes_on = match error.kind() {
+            io::ErrorKind::WouldBlock => self.poll.poll(&mut self.events, None).is_ok(),
+            io::ErrorKind::Interrupted | io::ErrorKind::ConnectionAborted => true,
+            _ => has_no_descriptor(error) && self.turn_away(rt),
+        };
+        if !goes_on {
+            thread::sleep(rt, Duration::from_millis(PAUSE));
         }
-        thread::sleep(rt, Duration::from_millis(PAUSE));
+    }
+
+    // Closes a connection, and says whether it could. The spare descriptor serves for that, and is there again afterwards.
+    fn turn_away<R: Net>(&mut self, rt: &R) -> bool {
+        self.spare = None;
+        let is_closed = self.listener.accept().is_ok();
+        self.spare = Poll::new(rt).ok();
+        is_closed
     }
 }
 
-// How many circuits were closed, and whether the server is to end.
-fn closed_by_now<L: Ledger, D: Device, R: Wait>(rt: &R, shared: &Shared<L, D>) -> (u64, bool) {
-    let guard = shared.locked.lock(rt);
-    (guard.closed, guard.ending)
+fn has_no_descriptor(error: &io::Error) -> bool {
+    error
+        .raw_os_error()
+        .is_some_and(|code| NO_DESCRIPTOR.contains(&code))
+}
+
+// How many circuits were closed, the number of one whose thread is at its end, and whether the server is to end.
+fn looked<L: Ledger, D: Device, R: Wait>(
+    rt: &R,
+    shared: &Shared<L, D>,
+) -> (u64, Option<u64>, bool) {
+    let mut guard = shared.locked.lock(rt);
+    let gone = guard.gone.pop();
+    (guard.closed, gone, guard.ending)
 }
 
 // A connection for which there is no room is closed: its stream is dropped.
@@ -120,24 +147,25 @@ fn accept_one<
     alloc: Global,
     shared: &Arc<Shared<L, D>>,
     stream: TcpStream,
-    running: &mut Vec<Running<L>>,
+    number: u64,
+    running: &mut Running<L>,
     all: &mut Share<L>,
 )
-    requires { all.old.parts + vec_len running.old ≡ 2 ^ 64 - 1 }
-    ensures { all.new.parts + vec_len running.new ≡ 2 ^ 64 - 1 }
+    requires { all.old.parts + index_map_len running.old ≡ 2 ^ 64 - 1 }
+    ensures { all.new.parts + index_map_len running.new ≡ 2 ^ 64 - 1 }
 {
     if running.len() >= MOST_CIRCUITS || running.reserve(1).is_err() {
         return;
     }
-    let Ok((accepted, waker)) = prepared(&rt, alloc, shared, stream) else {
+    let Ok((accepted, waker)) = prepared(&rt, alloc, shared, number, stream) else {
         return;
     };
-    let Some(circuit) = entered(&rt, shared, waker, &accepted.done) else {
+    let Some(circuit) = entered(&rt, shared, waker, running.len(), &accepted.is_to_end) else {
         return;
     };
     let share = all.split_off(1, 0);
     match start_circuit(rt, accepted, circuit, share) {
-        Ok(one) => running.push_reserved(one),
+        Ok(handle) => keep(&rt, running, number, handle, all),
         Err(gathered) => {
             let Gathered { share } = gathered;
             all.merge(share);
@@ -145,15 +173,48 @@ fn accept_one<
     }
 }
 
+// Keeps a thread under its circuit's number. There is room, and no thread has the number; else the one that is left over is joined.
+fn keep<L: Ledger, R: Threads>(
+    rt: &R,
+    running: &mut Running<L>,
+    number: u64,
+    handle: JoinHandle<Gathered<L>>,
+    all: &mut Share<L>,
+)
+    ensures { all.new.parts + index_map_len running.new
+        ≡ all.old.parts + index_map_len running.old + 1 }
+{
+    match running.insert(number, handle) {
+        Ok(None) => {}
+        Ok(Some(other)) => merge(rt, other, all),
+        Err(failed) => {
+            let (_, handle) = failed.value;
+            merge(rt, handle, all);
+        }
+    }
+}
+
+// Joins a thread, and takes its share over.
+fn merge<L: Ledger, R: Threads>(rt: &R, handle: JoinHandle<Gathered<L>>, all: &mut Share<L>)
+    ensures { all.new.parts ≡ all.old.parts + 1 }
+{
+    let Gathered { share } = handle.join(rt);
+    all.merge(share);
+}
+
 // The circuit of a connection, whose thread is woken by this waker. Without memory for that the thread is to close it at once.
 fn entered<L: Ledger, D: Device, R: Wait>(
     rt: &R,
     shared: &Shared<L, D>,
     waker: Waker,
+    running: usize,
     is_to_end: &AtomicBool,
 ) -> Option<Handle> {
     let mut guard = shared.locked.lock(rt);
     let locked = &mut *guard;
+    if locked.gone.reserve(running.saturating_add(1)).is_err() {
+        return None;
+    }
     let Ok(circuit) = locked.state.accept() else {
         return None;
     };
@@ -172,19 +233,26 @@ fn prepared<L: Ledger, D: Device, R: Net>(
     rt: &R,
     alloc: Global,
     shared: &Arc<Shared<L, D>>,
+    number: u64,
     stream: TcpStream,
 ) -> Result<(Accepted<L, D>, Waker), Refusal> {
     let shared = Arc::try_clone(shared)?;
-    let done = Arc::new(alloc, AtomicBool::new(false))?;
-    let (line, waker) = new_line(rt, alloc, stream, Arc::try_clone(&done)?)?;
-    Ok((Accepted { shared, line, done }, waker))
+    let is_to_end = Arc::new(alloc, AtomicBool::new(false))?;
+    let (line, waker) = new_line(rt, alloc, stream)?;
+    let accepted = Accepted {
+        shared,
+        line,
+        number,
+        ends: Arc::try_clone(&is_to_end)?,
+        is_to_end,
+    };
+    Ok((accepted, waker))
 }
 
 fn new_line<R: Net>(
     rt: &R,
     alloc: Global,
     mut stream: TcpStream,
-    done: Arc<AtomicBool>,
 ) -> Result<(Line, Waker), Refusal> {
     let (poll, waker) = new_poll(rt)?;
     watch(&poll, &mut stream)?;
@@ -195,7 +263,6 @@ fn new_line<R: Net>(
         input: vec![in alloc; 0; ROOM]?,
         output: Vec::with_capacity(alloc, ROOM)?,
         written: 0,
-        done,
     };
     Ok((line, waker))
 }
@@ -232,43 +299,36 @@ fn start_circuit<
     accepted: Accepted<L, D>,
     circuit: Handle,
     share: Share<L>,
-) -> Result<Running<L>, Gathered<L>>
+) -> Result<JoinHandle<Gathered<L>>, Gathered<L>>
     requires { share.parts ≡ 1 }
 {
-    let Accepted { shared, line, done } = accepted;
-    let work = Circuit::new(shared, line, circuit, share);
-    match started_or_ended(rt, work, &done) {
-        Ok(handle) => Ok(Running { handle, done }),
-        Err(gathered) => Err(gathered),
-    }
+    let Accepted {
+        shared,
+        line,
+        number,
+        is_to_end,
+        ends,
+    } = accepted;
+    let work = Circuit::new(shared, line, circuit, number, ends, share);
+    started_or_ended(rt, work, &is_to_end)
 }
 
-// Joins the threads that are done, and takes their shares over.
-fn reap<L: Ledger, R: Threads>(rt: &R, running: &mut Vec<Running<L>>, all: &mut Share<L>)
-    ensures { all.new.parts + vec_len running.new ≡ all.old.parts + vec_len running.old }
+// Joins the thread of this number, which is at its end.
+fn reap<L: Ledger, R: Threads>(rt: &R, running: &mut Running<L>, number: u64, all: &mut Share<L>)
+    ensures { all.new.parts + index_map_len running.new
+        ≡ all.old.parts + index_map_len running.old }
 {
-    let mut left = running.len();
-    while left > 0 {
-        left -= 1;
-        if left < running.len() && running[left].done.load(Ordering::SeqCst) {
-            let Running { handle, .. } = running.swap_remove(left);
-            let Gathered { share } = handle.join(rt);
-            all.merge(share);
-        }
+    if let Some(handle) = running.swap_remove(&number) {
+        merge(rt, handle, all);
     }
 }
 
 /// Joins all threads, and takes their shares over.
-pub(crate) fn join_all<L: Ledger, R: Threads>(
-    rt: &R,
-    running: &mut Vec<Running<L>>,
-    all: &mut Share<L>,
-)
-    ensures { all.new.parts ≡ all.old.parts + vec_len running.old }
+pub(crate) fn join_all<L: Ledger, R: Threads>(rt: &R, running: &mut Running<L>, all: &mut Share<L>)
+    ensures { all.new.parts ≡ all.old.parts + index_map_len running.old }
 {
     while let Some(one) = running.pop() {
-        let Running { handle, .. } = one;
-        let Gathered { share } = handle.join(rt);
-        all.merge(share);
+        let (_, handle) = one;
+        merge(rt, handle, all);
     }
 }

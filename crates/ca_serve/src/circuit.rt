@@ -1,6 +1,5 @@
 ghost use Rattle.std.specs.Prelude.{◌≡◌, ◌<◌, ◌≤◌, length};
 
-use crate::clock::stamp_now;
 use crate::line::{Line, Moved, Written};
 use crate::locked::{Locked, Shared, ring};
 use crate::processing::Device;
@@ -8,7 +7,7 @@ use crate::work::Work;
 use ca_arena::Handle;
 use ca_server_core::Step;
 use ca_wire::Pipe;
-use std::sync::atomic::Ordering;
+use std::sync::atomic::{AtomicBool, Ordering};
 use std::sync::ledger::{Ledger, Share};
 use std::sync::{Arc, Wait};
 use std::thread;
@@ -20,8 +19,10 @@ const STEPS: u32 = 64;
 // A thread that finds no memory tries again after so many milliseconds.
 const PAUSE: u64 = 10;
 
-// What a closed circuit left is offered to its client so often, at most.
-const TRIES: u32 = 300;
+// A client that takes nothing of what its closed circuit left is waited for so many times, and for fewer once the server is to end.
+const WAITS: u32 = 300;
+
+const WAITS_AT_END: u32 = 10;
 
 /// What a circuit's thread hands back.
 #[derive(Drop)]
@@ -36,6 +37,9 @@ pub(crate) struct Circuit<L: Ledger, D: Device> {
     shared: Arc<Shared<L, D>>,
     line: Line,
     circuit: Handle,
+    number: u64,
+    // Whether the circuit is to be closed at once.
+    is_to_end: Arc<AtomicBool>,
     share: Share<L>,
     ghost one_part: { share.parts ≡ 1 },
 }
@@ -57,6 +61,8 @@ impl<L: Ledger, D: Device> Circuit<L, D> {
         shared: Arc<Shared<L, D>>,
         line: Line,
         circuit: Handle,
+        number: u64,
+        is_to_end: Arc<AtomicBool>,
         share: Share<L>,
     ) -> Circuit<L, D>
         requires { share.parts ≡ 1 }
@@ -65,6 +71,8 @@ impl<L: Ledger, D: Device> Circuit<L, D> {
             shared,
             line,
             circuit,
+            number,
+            is_to_end,
             share,
         }
     }
@@ -77,9 +85,11 @@ impl<L: Ledger, D: Device> Work<Gathered<L>> for Circuit<L, D> {
             shared,
             mut line,
             circuit,
+            number,
+            is_to_end,
             mut share,
         } = self;
-        let mut moved = if line.done.load(Ordering::SeqCst) {
+        let mut moved = if is_to_end.load(Ordering::SeqCst) {
             Moved::Ended
         } else {
             Moved::Later
@@ -87,14 +97,14 @@ impl<L: Ledger, D: Device> Work<Gathered<L>> for Circuit<L, D> {
         for _ in rt.forever() {
             match turned(rt, &shared, circuit, moved, &mut line, &mut share) {
                 Turn::Closed(left) => {
-                    write_left(rt, &mut line, &left);
+                    ring(&shared.accepting);
+                    write_left(rt, &shared, &mut line, &left);
                     break;
                 }
                 turn => moved = go_on(rt, &turn, &mut line),
             }
         }
-        line.done.store(true, Ordering::SeqCst);
-        note_closed(rt, &shared);
+        note_gone(rt, &shared, number);
         handed_back(share)
     }
 }
@@ -105,11 +115,9 @@ fn handed_back<L: Ledger>(share: Share<L>) -> Gathered<L>
     Gathered { share }
 }
 
-// The thread that accepts circuits takes this one over, or ends.
-fn note_closed<L: Ledger, D: Device, R: Wait>(rt: &R, shared: &Shared<L, D>) {
-    let mut guard = shared.locked.lock(rt);
-    guard.closed = guard.closed.saturating_add(1);
-    drop(guard);
+// The thread that accepts circuits is to join this one. Where there were no room for its number, it would be joined at the server's end.
+fn note_gone<L: Ledger, D: Device, R: Wait>(rt: &R, shared: &Shared<L, D>, number: u64) {
+    let _full = shared.locked.lock(rt).gone.push(number);
     ring(&shared.accepting);
 }
 
@@ -125,13 +133,11 @@ fn turned<L: Ledger, D: Device, R: Wait + Clock>(
     requires { 0 < share.old.parts }
     ensures { share.new.parts ≡ share.old.parts }
 {
-    let (seconds, nanos) = stamp_now(rt);
     let mut guard = shared.locked.lock(rt);
     let locked = &mut *guard;
     let applied = locked.state.applied();
     take_in(locked, circuit, moved, line.input.as_slice());
-    locked.state.stamp(seconds, nanos);
-    let turn = steps(locked, circuit, share);
+    let turn = steps(rt, locked, circuit, share);
     let turn = take_out(locked, circuit, turn, line);
     let is_stirred = locked.state.applied() != applied;
     if is_stirred {
@@ -187,14 +193,26 @@ fn take_in<L: Ledger>(locked: &mut Locked<L>, circuit: Handle, moved: Moved, buf
     }
 }
 
-// Handles messages of a circuit, up to a number of them, and then puts its updates out.
-fn steps<L: Ledger>(locked: &mut Locked<L>, circuit: Handle, share: &mut Share<L>) -> Turn
+// Handles messages of a circuit, up to a number of them, and then puts its updates out. The machine's time is handed in first, and each write of the turn has
+// a time stamp of its own.
+fn steps<L: Ledger, R: Clock>(
+    rt: &R,
+    locked: &mut Locked<L>,
+    circuit: Handle,
+    share: &mut Share<L>,
+) -> Turn
     requires { 0 < share.old.parts }
     ensures { share.new.parts ≡ share.old.parts }
 {
+    locked.stamp(rt);
     for _ in 0..STEPS {
+        let applied = locked.state.applied();
         match locked.step(circuit, share) {
-            Some(Step::Handled) => {}
+            Some(Step::Handled) => {
+                if locked.state.applied() != applied {
+                    locked.stamp_again();
+                }
+            }
             Some(Step::NeedBytes) => {
                 locked.state.pump(circuit);
                 return Turn::Idle;
@@ -208,7 +226,7 @@ fn steps<L: Ledger>(locked: &mut Locked<L>, circuit: Handle, share: &mut Share<L
     Turn::Busy
 }
 
-// Hands bytes that wait over to the line. A circuit is idle if nothing more waits then; one that is closed has no bell any more.
+// Hands bytes that wait over to the line. A circuit is idle if nothing more waits then; one that is closed is counted, and has no bell any more.
 fn take_out<L: Ledger>(
     locked: &mut Locked<L>,
     circuit: Handle,
@@ -217,6 +235,7 @@ fn take_out<L: Ledger>(
 ) -> Turn {
     if let Turn::Closed(left) = turn {
         locked.bells.swap_remove(&circuit.index);
+        locked.closed = locked.closed.saturating_add(1);
         return Turn::Closed(left);
     }
     let waiting = locked.state.out_bytes(circuit);
@@ -232,17 +251,35 @@ fn take_out<L: Ledger>(
 }
 
 // Writes what a closed circuit left. A client that takes nothing is waited for so many times.
-fn write_left<R: Clock>(rt: &R, line: &mut Line, left: &Pipe) {
+fn write_left<L: Ledger, D: Device, R: Wait + Clock>(
+    rt: &R,
+    shared: &Shared<L, D>,
+    line: &mut Line,
+    left: &Pipe,
+) {
     let mut rest = left.bytes();
-    for _ in 0..TRIES {
+    let mut waits = 0u32;
+    for _ in rt.forever() {
         let count = line.take_out(rest);
         let (_, after) = rest.split_at(count);
         rest = after;
+        let before = line.written;
         match line.write() {
             Written::Failed => return,
             Written::All if rest.is_empty() => return,
             Written::All => {}
-            Written::Some => thread::sleep(rt, Duration::from_millis(PAUSE)),
+            Written::Some => {
+                let is_ending = shared.locked.lock(rt).ending;
+                if line.written != before && !is_ending {
+                    waits = 0;
+                }
+                let most = if is_ending { WAITS_AT_END } else { WAITS };
+                if waits >= most {
+                    return;
+                }
+                waits = waits.saturating_add(1);
+                line.pause(rt);
+            }
         }
     }
 }

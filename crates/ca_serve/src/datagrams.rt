@@ -19,7 +19,7 @@ const FIRST: u64 = 20;
 
 const LAST: u64 = 15_000;
 
-// A wait that the system refuses is this many milliseconds long.
+// A wait that the system refuses is this many milliseconds long, and so is one after a read that it refuses.
 const PAUSE: u64 = 10;
 
 /// The thread that answers searches, and sends beacons.
@@ -57,11 +57,22 @@ impl<L: Ledger, D: Device> Work<()> for Datagrams<L, D> {
             if shared.locked.lock(rt).ending {
                 break;
             }
-            if !answer_some(rt, &shared, &mut desk) {
-                desk.wait(rt, due.saturating_sub(now));
+            match answer_some(rt, &shared, &mut desk) {
+                Answered::Some => {}
+                Answered::All => desk.wait(rt, due.saturating_sub(now)),
+                Answered::Failed => thread::sleep(rt, Duration::from_millis(PAUSE)),
             }
         }
     }
+}
+
+// What is left of the datagrams that came.
+enum Answered {
+    All,
+    // More may be there.
+    Some,
+    // No datagram could be read, for a fault that may last.
+    Failed,
 }
 
 impl Desk {
@@ -88,12 +99,12 @@ fn beacon<L: Ledger, D: Device, R: Wait>(
     true
 }
 
-// Answers some datagrams, and tells whether more may be there.
+// Answers some datagrams, and tells what may be left.
 fn answer_some<L: Ledger, D: Device, R: Wait>(
     rt: &R,
     shared: &Shared<L, D>,
     desk: &mut Desk,
-) -> bool {
+) -> Answered {
     for _ in 0..DATAGRAMS {
         match desk.socket.recv_from(desk.buffer.as_mut_slice()) {
             Ok((count, from)) => {
@@ -107,11 +118,15 @@ fn answer_some<L: Ledger, D: Device, R: Wait>(
                     );
                 }
             }
-            // Of another fault there is nothing to be done: it was of a datagram that was sent.
-            Err(error) => return error.kind() != io::ErrorKind::WouldBlock,
+            Err(error) => match error.kind() {
+                io::ErrorKind::WouldBlock => return Answered::All,
+                io::ErrorKind::Interrupted => {}
+                // Of another fault there is nothing to be done: it may be of a datagram that was sent.
+                _ => return Answered::Failed,
+            },
         }
     }
-    true
+    Answered::Some
 }
 
 // Answers the searches of a datagram. What cannot be sent is left out: a client searches again.

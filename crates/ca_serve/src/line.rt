@@ -4,8 +4,6 @@ use mio::net::TcpStream;
 use mio::{Events, Poll};
 use std::alloc::Global;
 use std::io::{Read, Write};
-use std::sync::Arc;
-use std::sync::atomic::AtomicBool;
 use std::time::{Clock, Duration};
 use std::{io, thread};
 
@@ -25,8 +23,6 @@ pub(crate) struct Line {
     pub(crate) output: Vec<u8>,
     /// How many bytes of the output were written.
     pub(crate) written: usize,
-    /// The thread is at its end. If it is set before the start, the circuit is to be closed at once.
-    pub(crate) done: Arc<AtomicBool>,
 }
 
 /// What a read did.
@@ -73,7 +69,16 @@ impl Line {
 
     /// Waits until the socket may be ready, or the thread is woken.
     pub(crate) fn wait<R: Clock>(&mut self, rt: &R) {
-        if self.poll.poll(&mut self.events, None).is_err() {
+        self.wait_at_most(rt, None);
+    }
+
+    /// The same, for a short time at most.
+    pub(crate) fn pause<R: Clock>(&mut self, rt: &R) {
+        self.wait_at_most(rt, Some(Duration::from_millis(PAUSE)));
+    }
+
+    fn wait_at_most<R: Clock>(&mut self, rt: &R, most: Option<Duration>) {
+        if self.poll.poll(&mut self.events, most).is_err() {
             thread::sleep(rt, Duration::from_millis(PAUSE));
         }
     }

@@ -1,8 +1,9 @@
 ghost use Rattle.std.specs.Prelude.{◌≡◌, ◌<◌};
 
+use crate::clock::{next_stamp, parts_of, stamp_after};
 use crate::processing::Device;
 use ca_arena::Handle;
-use ca_server::{State, locked_step};
+use ca_server::{State, locked_finish, locked_step};
 use ca_server_core::Step;
 use indexmap::IndexMap;
 use mio::Waker;
@@ -10,6 +11,13 @@ use std::alloc::Global;
 use std::collections::VecDeque;
 use std::sync::ledger::{Ledger, Share};
 use std::sync::{Condvar, Mutex, Wait};
+use std::time::Clock;
+
+// Circuits that are looked after under one hold of the lock, at most.
+const CIRCUITS: usize = 32;
+
+// A hold of the lock ends once so many bytes were pumped.
+const PUMPED: usize = 65_536;
 
 /// How the thread of a circuit is woken.
 #[derive(Drop)]
@@ -30,8 +38,12 @@ pub(crate) struct Locked<L: Ledger> {
     pub(crate) bells: IndexMap<u16, Bell>,
     /// How often something was done that may leave bytes to be sent on other circuits.
     pub(crate) rounds: u64,
+    /// The time stamp that was handed in last, in nanoseconds since 1990-01-01 00:00:00 UTC.
+    pub(crate) stamped: u64,
     /// How many circuits were closed.
     pub(crate) closed: u64,
+    /// The numbers of the circuits whose threads are at their end, and were not joined yet. There is room for all that run.
+    pub(crate) gone: Vec<u64>,
     /// The server is to end.
     pub(crate) ending: bool,
     pub(crate) alloc: Global,
@@ -67,7 +79,9 @@ impl<L: Ledger, D: Device> Shared<L, D> {
                 busy: VecDeque::new(alloc),
                 bells: IndexMap::new(alloc),
                 rounds: 0,
+                stamped: 0,
                 closed: 0,
+                gone: Vec::new(alloc),
                 ending: false,
                 alloc,
             }),
@@ -106,21 +120,54 @@ impl<L: Ledger> Locked<L> {
         requires { 0 < share.old.parts }
         ensures { share.new.parts ≡ share.old.parts }
     {
-        if self.busy.reserve(1).is_err() {
-            return None;
-        }
         let Some(name) = self.state.next_put(circuit) else {
             return Some(locked_step(&mut self.state, circuit, share));
         };
         let Ok(name) = Vec::from_slice(self.alloc, name) else {
             return None;
         };
+        if self.busy.reserve(1).is_err() {
+            return None;
+        }
         let was_busy = self.state.busy_value(&name).is_some();
         let step = locked_step(&mut self.state, circuit, share);
         if !was_busy && self.state.busy_value(&name).is_some() {
             self.busy.push_back_reserved(name);
         }
         Some(step)
+    }
+
+    /// Hands the machine's time in: the next write that is applied has this time stamp, and no write had it before.
+    pub(crate) fn stamp<R: Clock>(&mut self, rt: &R) {
+        self.hand_in(stamp_after(rt, self.stamped));
+    }
+
+    /// The same in the turn of a write: one nanosecond more. To read the clock takes as long as a third of a put.
+    pub(crate) fn stamp_again(&mut self) {
+        self.hand_in(next_stamp(self.stamped));
+    }
+
+    fn hand_in(&mut self, stamp: u64) {
+        self.stamped = stamp;
+        let (seconds, nanos) = parts_of(stamp);
+        self.state.stamp(seconds, nanos);
+    }
+
+    /// Finishes the put that makes the record of this name busy. If a put that waited makes it busy again, its name goes to the end of those that wait, so that
+    /// no record keeps others waiting. The name comes back if there is no memory for that.
+    pub(crate) fn finish<R: Clock>(&mut self, rt: &R, name: Vec<u8>) -> Option<Vec<u8>> {
+        self.stamp(rt);
+        // Its record may have been removed meanwhile.
+        let _refused = locked_finish(&mut self.state, &name);
+        self.stir();
+        if self.state.busy_value(&name).is_none() {
+            return None;
+        }
+        if self.busy.reserve(1).is_err() {
+            return Some(name);
+        }
+        self.busy.push_back_reserved(name);
+        None
     }
 
     /// Something was done that may leave bytes to be sent on other circuits.
@@ -135,27 +182,36 @@ impl<L: Ledger> Locked<L> {
         }
     }
 
-    /// Looks after the circuits at the places from the one to before the other, the last first.
-    pub(crate) fn look_after_each(&mut self, from: usize, to: usize) {
-        for place in (from..to).rev() {
-            self.look_after(place);
+    /// Looks after circuits at the places below this one, the last first, until some were or many bytes were pumped. It tells how many places are left.
+    pub(crate) fn look_after_some(&mut self, places: usize) -> usize {
+        let mut left = places;
+        let mut pumped = 0usize;
+        for _ in 0..CIRCUITS {
+            if left == 0 || pumped >= PUMPED {
+                break;
+            }
+            left -= 1;
+            pumped = pumped.saturating_add(self.look_after(left));
         }
+        left
     }
 
-    /// Pumps the updates of the circuit at this place among the bells, if its thread is idle. The thread is woken if there are bytes to be sent,
-    /// or if the circuit has ended.
-    fn look_after(&mut self, place: usize) {
+    /// Pumps the updates of the circuit at this place among the bells, if its thread is idle, and tells how many bytes there are to be sent. The thread is woken
+    /// if there are some, or if the circuit has ended.
+    fn look_after(&mut self, place: usize) -> usize {
         let Some(bell) = self.bells.get_index_mut(place) else {
-            return;
+            return 0;
         };
         if !bell.is_idle {
-            return;
+            return 0;
         }
         self.state.pump(bell.circuit);
-        if self.state.out_bytes(bell.circuit).is_empty() && self.state.is_open(bell.circuit) {
-            return;
+        let waiting = self.state.out_bytes(bell.circuit).len();
+        if waiting == 0 && self.state.is_open(bell.circuit) {
+            return 0;
         }
         bell.is_idle = false;
         ring(&bell.waker);
+        waiting
     }
 }

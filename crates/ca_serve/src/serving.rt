@@ -10,6 +10,7 @@ use crate::work::started;
 use ca_records::{Records, Rule};
 use ca_server::State;
 use ca_text::Refusal;
+use indexmap::IndexMap;
 use mio::net::{TcpListener, UdpSocket};
 use mio::{Events, Interest, Poll, Waker};
 use std::alloc::Global;
@@ -91,7 +92,7 @@ fn serve_as<
     if helped.is_err() {
         shared.end(&rt);
     }
-    let mut running = Vec::new(alloc);
+    let mut running = IndexMap::new(alloc);
     accept_all(
         rt,
         alloc,

@@ -5,9 +5,6 @@ use std::sync::ledger::Ledger;
 use std::sync::{Arc, Wait};
 use std::time::Clock;
 
-// Circuits that are looked after while the lock is held.
-const CIRCUITS: usize = 32;
-
 /// The thread that finds bytes to be sent on circuits whose own threads are idle: updates, and replies to puts that were processed.
 #[derive(Drop)]
 pub(crate) struct Updater<L: Ledger, D: Device> {
@@ -40,9 +37,11 @@ impl<L: Ledger, D: Device> Work<()> for Updater<L, D> {
 // One that is new looks after itself until it is idle.
 fn go_round<L: Ledger, D: Device, R: Wait>(rt: &R, shared: &Shared<L, D>, circuits: usize) {
     let mut left = circuits;
-    while left > 0 {
-        let next = left.saturating_sub(CIRCUITS);
-        shared.locked.lock(rt).look_after_each(next, left);
-        left = next;
+    // Each hold of the lock looks after one circuit at least.
+    for _ in 0..circuits {
+        if left == 0 {
+            break;
+        }
+        left = shared.locked.lock(rt).look_after_some(left);
     }
 }

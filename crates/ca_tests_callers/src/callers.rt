@@ -109,7 +109,7 @@ struct Part {
 }
 
 /// Four callers, with 256 tickets each.
-fn all_parts<R: Wait>(
+fn all_parts<R: Wait + Clock>(
     rt: &R,
     alloc: Global,
     context: &Arc<Context<Nobody>>,
@@ -123,7 +123,7 @@ fn all_parts<R: Wait>(
     Ok(parts)
 }
 
-fn make_part<R: Wait>(
+fn make_part<R: Wait + Clock>(
     rt: &R,
     alloc: Global,
     context: &Arc<Context<Nobody>>,
@@ -141,7 +141,7 @@ fn make_part<R: Wait>(
 }
 
 /// Reads of so many elements, of one more, and so on.
-fn asked<R: Wait>(
+fn asked<R: Wait + Clock>(
     rt: &R,
     alloc: Global,
     context: &Context<Nobody>,
@@ -191,7 +191,7 @@ impl Work for Part {
 }
 
 /// Whether a ticket's outcome has so many elements, and is there once.
-fn is_right<R: Wait>(
+fn is_right<R: Wait + Clock>(
     rt: &R,
     context: &Context<Nobody>,
     caller: &mut Caller,

@@ -37,7 +37,7 @@ pub(crate) fn use_client<
     talk_beside(rt, alloc, &context, engine, task, out)
 }
 
-fn setting(alloc: Global, port: u16) -> Result<Setting, Refusal> {
+pub(crate) fn setting(alloc: Global, port: u16) -> Result<Setting, Refusal> {
     let host = Ipv4Addr::LOCALHOST.to_bits();
     Ok(Setting {
         user: Vec::from_slice(alloc, b"ca")?,

@@ -1,13 +1,14 @@
 //! A server whose device holds a put until a read on another circuit was answered, and two clients of it, which speak the protocol by hand.
 
 use crate::server::bound;
-use crate::{say, tell};
+use crate::wire::{connected, greet, is_done, opened, put, read};
+use crate::{say_yes, tell};
 use ca_dbr::Value;
 use ca_script::{RecordFile, read_records};
 use ca_serve::{Device, Places, serve};
 use ca_text::Refusal;
 use std::alloc::Global;
-use std::io::{Read, Write};
+use std::io::Write;
 use std::net::{Net, SocketAddr, TcpListener, TcpStream};
 use std::sync::atomic::{AtomicU64, Ordering};
 use std::sync::{Arc, Wait};
@@ -123,7 +124,9 @@ fn talk<R: Net<Stream = TcpStream, Listener = TcpListener>, W: Write>(
 ) -> Result<(), Refusal> {
     let first = connected(rt, address)?;
     let second = connected(rt, address)?;
-    let sid = opened(&first)?;
+    greet(&first)?;
+    greet(&second)?;
+    let sid = opened(&first, b'W')?;
     put(&first, sid, 42)?;
     say_yes(out, "the device has the put:", is_set(&signs.entered))?;
     let read_beside = is_read(&second);
@@ -134,7 +137,7 @@ fn talk<R: Net<Stream = TcpStream, Listener = TcpListener>, W: Write>(
 
 /// Whether a read on this circuit is answered.
 fn is_read(stream: &TcpStream) -> bool {
-    match opened(stream) {
+    match opened(stream, b'W') {
         Ok(sid) => read(stream, sid).is_ok(),
         Err(_) => false,
     }
@@ -144,73 +147,4 @@ fn is_read(stream: &TcpStream) -> bool {
 fn end<W: Write>(stream: &TcpStream, sid: u32, out: &mut W) -> Result<(), Refusal> {
     say_yes(out, "the put is done:", is_done(stream)?)?;
     tell(out, "its circuit reads", read(stream, sid)?)
-}
-
-fn connected<R: Net<Stream = TcpStream, Listener = TcpListener>>(
-    rt: &R,
-    address: SocketAddr,
-) -> Result<TcpStream, Refusal> {
-    match TcpStream::connect(rt, address) {
-        Ok(stream) => Ok(stream),
-        Err(_) => Err(Refusal::Device),
-    }
-}
-
-/// Sends these bytes.
-fn send(stream: &TcpStream, bytes: &[u8]) -> Result<(), Refusal> {
-    let mut wire = stream;
-    match wire.write_all(bytes) {
-        Ok(()) => Ok(()),
-        Err(_) => Err(Refusal::Device),
-    }
-}
-
-/// Fills this place with the bytes that come.
-fn take(stream: &TcpStream, bytes: &mut [u8]) -> Result<(), Refusal> {
-    let mut wire = stream;
-    match wire.read_exact(bytes) {
-        Ok(()) => Ok(()),
-        Err(_) => Err(Refusal::Device),
-    }
-}
-
-/// Greets, opens a channel to the record, and tells its SID.
-fn opened(stream: &TcpStream) -> Result<u32, Refusal> {
-    send(stream, &[0, 0, 0, 0, 0, 0, 0, 13, 0, 0, 0, 0, 0, 0, 0, 0])?;
-    send(
-        stream,
-        b"\0\x12\0\x08\0\0\0\0\0\0\0\x07\0\0\0\x0DSLOW\0\0\0\0",
-    )?;
-    let mut replies = [0u8; 48];
-    take(stream, &mut replies)?;
-    Ok(u32::from_be_bytes([replies[44], replies[45], replies[46], replies[47]]))
-}
-
-/// Puts a value under IOID 1, with notification.
-fn put(stream: &TcpStream, sid: u32, value: u8) -> Result<(), Refusal> {
-    send(stream, &[0, 19, 0, 8, 0, 5, 0, 1])?;
-    send(stream, &sid.to_be_bytes())?;
-    send(stream, &[0, 0, 0, 1, 0, 0, 0, value, 0, 0, 0, 0])
-}
-
-/// Whether the put under IOID 1 is done, once its reply is there.
-fn is_done(stream: &TcpStream) -> Result<bool, Refusal> {
-    let mut reply = [0u8; 16];
-    take(stream, &mut reply)?;
-    Ok(reply == [0, 19, 0, 0, 0, 5, 0, 1, 0, 0, 0, 1, 0, 0, 0, 1])
-}
-
-/// The value that a read is answered with.
-fn read(stream: &TcpStream, sid: u32) -> Result<u64, Refusal> {
-    send(stream, &[0, 15, 0, 0, 0, 5, 0, 1])?;
-    send(stream, &sid.to_be_bytes())?;
-    send(stream, &[0, 0, 0, 2])?;
-    let mut reply = [0u8; 24];
-    take(stream, &mut reply)?;
-    Ok(reply[19] as u64)
-}
-
-/// Says whether something holds.
-fn say_yes<W: Write>(out: &mut W, what: &str, holds: bool) -> Result<(), Refusal> {
-    say(out, what, if holds { "yes" } else { "no" })
 }

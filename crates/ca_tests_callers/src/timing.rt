@@ -123,7 +123,7 @@ impl Work for Reader {
 }
 
 // So many reads, of which a window's are outstanding at once.
-fn read_all<R: Wait>(rt: &R, reader: &Reader) -> Result<(), Refusal> {
+fn read_all<R: Wait + Clock>(rt: &R, reader: &Reader) -> Result<(), Refusal> {
     let mut caller = reader.context.caller(rt)?;
     let mut tickets = Vec::new(reader.alloc);
     tickets.reserve(reader.window)?;
@@ -142,7 +142,7 @@ fn read_all<R: Wait>(rt: &R, reader: &Reader) -> Result<(), Refusal> {
     collect_all(rt, &reader.context, &mut caller, &mut tickets, &mut rooms)
 }
 
-fn collect_all<R: Wait>(
+fn collect_all<R: Wait + Clock>(
     rt: &R,
     context: &Context<Nobody>,
     caller: &mut Caller,

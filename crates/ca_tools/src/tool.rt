@@ -4,8 +4,7 @@ use crate::tool_line::{Task, ToolLine};
 use crate::turns::{TURN, Turns};
 use ca_arena::Handle;
 use ca_board::Ticket;
-use ca_client::Caller;
-use ca_client_context::{Context, Engine, Setting, start};
+use ca_client_context::{Context, Engine, Setting, Waited, start};
 use ca_client_core::{Address, ChannelState};
 use ca_dbr::{Outcome, Value};
 use ca_link::{Sink, report};
@@ -126,12 +125,7 @@ fn live_at<R: Wait + Clock>(
     channel: Handle,
     turns: &Turns,
 ) -> Result<(u16, u32), Refusal> {
-    for _ in 0..u64::MAX {
-        if !turns.are_left(rt) || context.wait_live(rt, channel, 1) {
-            break;
-        }
-    }
-    match context.channel_state(rt, channel)? {
+    match context.wait_live_for(rt, channel, turns.left(rt))? {
         ChannelState::Live(data_type, count, _) => Ok((data_type, count)),
         _ => Err(Refusal::Disconnected),
     }
@@ -177,25 +171,10 @@ fn outcome_of<R: Wait + Clock>(
     turns: &Turns,
 ) -> Result<Option<Outcome>, Refusal> {
     let mut caller = context.caller(rt)?;
-    Ok(awaited(rt, context, &mut caller, ticket, turns))
-}
-
-fn awaited<R: Wait + Clock>(
-    rt: &R,
-    context: &Context<Ear>,
-    caller: &mut Caller,
-    ticket: Ticket,
-    turns: &Turns,
-) -> Option<Outcome> {
-    for _ in 0..u64::MAX {
-        if !turns.are_left(rt) {
-            break;
-        }
-        if let Some(outcome) = context.wait(rt, caller, ticket, 1) {
-            return Some(outcome);
-        }
+    match context.wait_for(rt, &mut caller, ticket, turns.left(rt)) {
+        Waited::Outcome(outcome) => Ok(Some(outcome)),
+        _ => Ok(None),
     }
-    None
 }
 
 // Prints so many updates. If one was left out, the channel is subscribed to anew once all others were printed: that brings the newest value.
@@ -274,7 +253,7 @@ fn next_update<R: Clock>(
         if heard.has_missed() {
             return Ok(None);
         }
-        if !turns.are_left(rt) {
+        if turns.left(rt) == Duration::ZERO {
             break;
         }
         thread::sleep(rt, Duration::from_millis(TURN));

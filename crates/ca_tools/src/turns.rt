@@ -1,5 +1,5 @@
 use ca_text::Refusal;
-use std::time::{Clock, Instant};
+use std::time::{Clock, Duration, Instant};
 
 /// Milliseconds of a turn.
 pub(crate) const TURN: u64 = 10;
@@ -20,11 +20,12 @@ impl Turns {
         }
     }
 
-    /// Whether some are left.
-    pub(crate) fn are_left<R: Clock>(&self, rt: &R) -> bool {
+    /// The time that is left.
+    pub(crate) fn left<R: Clock>(&self, rt: &R) -> Duration {
+        let most = Duration::from_millis(self.most.saturating_mul(TURN));
         match self.began.elapsed(rt) {
-            Ok(passed) => passed.as_millis() / u128::from(TURN) < u128::from(self.most),
-            Err(_) => false,
+            Ok(passed) => most.saturating_sub(passed),
+            Err(_) => Duration::ZERO,
         }
     }
 }

@@ -1,0 +1,271 @@
+//! Calls of a context that the other programs do not make, against a server: requests by one call, a subscription that is refused and one that is cancelled,
+//! waits that end in their time, at once for a ticket that has ended, and at the end of the client; and a context that is dropped.
+
+use crate::client::setting;
+use crate::server::{bound, start_server};
+use crate::{say_yes, tell};
+use ca_arena::Handle;
+use ca_client::{Caller, Request};
+use ca_client_context::{Context, Listener, Waited, Work, start};
+use ca_client_core::ChannelState;
+use ca_dbr::{Outcome, Value};
+use ca_script::read_records;
+use ca_text::{Mask, Refusal};
+use std::alloc::Global;
+use std::io::Write;
+use std::net::{Net, TcpListener, TcpStream};
+use std::sync::atomic::{AtomicU64, Ordering};
+use std::sync::{Arc, Wait};
+use std::thread;
+use std::thread::Threads;
+use std::time::{Clock, Duration, Instant};
+
+/// Waits for at most so many turns, which is long on an idle machine.
+const TURNS: u64 = 2_000;
+
+/// A wait that is to end before this.
+fn long() -> Duration {
+    Duration::from_millis(20_000)
+}
+
+/// Counts what it hears.
+#[derive(Drop)]
+struct Counting {
+    heard: Arc<AtomicU64>,
+}
+
+impl Listener for Counting {
+    fn heard(&mut self, _outcome: &Outcome) {
+        self.heard.fetch_add(1, Ordering::SeqCst);
+    }
+}
+
+/// A thread that waits for a channel that nobody has.
+#[derive(Drop)]
+struct Searching {
+    context: Arc<Context<Counting>>,
+    channel: Handle,
+}
+
+impl Work for Searching {
+    fn run<R: Wait + Clock>(self, rt: &R) {
+        let _ = self.context.wait_live_for(rt, self.channel, long());
+    }
+}
+
+pub(crate) fn show<
+    R: Threads
+        + Wait
+        + Clock
+        + Net<Stream = TcpStream, Listener = TcpListener>
+        + Copy
+        + Drop
+        + Send
+        + 'static,
+    W: Write,
+>(rt: R, alloc: Global, out: &mut W) -> Result<(), Refusal> {
+    let file = read_records(alloc, b"record TEMP LONG 1 quick 21\n")?;
+    let (places, address) = bound(&rt)?;
+    let server = start_server(rt, alloc, places, file, 2)?;
+    let shown = show_ended(rt, alloc, address.port(), out);
+    let dropped = show_dropped(rt, alloc, address.port(), out);
+    let served = server.join(&rt);
+    shown?;
+    dropped?;
+    served?;
+    Ok(())
+}
+
+/// A client that makes its calls, and is ended while one of its threads waits.
+fn show_ended<
+    R: Threads
+        + Wait
+        + Clock
+        + Net<Stream = TcpStream, Listener = TcpListener>
+        + Copy
+        + Drop
+        + Send
+        + 'static,
+    W: Write,
+>(rt: R, alloc: Global, port: u16, out: &mut W) -> Result<(), Refusal> {
+    let (context, engine) = Context::<Counting>::new(rt, alloc, setting(alloc, port)?)?;
+    let context = Arc::new(alloc, context)?;
+    let thread = start(rt, engine)?;
+    let shown = show_calls(&rt, alloc, &context, out);
+    let channel = context.open(&rt, b"NONE", 0)?;
+    let searching = Searching {
+        context: Arc::try_clone(&context)?,
+        channel,
+    };
+    let waiter = start(rt, searching)?;
+    let began = began(&rt)?;
+    context.end(&rt);
+    waiter.join(&rt);
+    thread.join(&rt);
+    shown?;
+    say_yes(
+        out,
+        "the end ends the wait of another:",
+        is_soon(&rt, &began),
+    )
+}
+
+/// A client whose context is dropped, which ends its thread.
+fn show_dropped<
+    R: Threads
+        + Wait
+        + Clock
+        + Net<Stream = TcpStream, Listener = TcpListener>
+        + Copy
+        + Drop
+        + Send
+        + 'static,
+    W: Write,
+>(rt: R, alloc: Global, port: u16, out: &mut W) -> Result<(), Refusal> {
+    let (context, engine) = Context::<Counting>::new(rt, alloc, setting(alloc, port)?)?;
+    let thread = start(rt, engine)?;
+    let channel = context.open(&rt, b"TEMP", 0)?;
+    let is_live = context.wait_live(&rt, channel, TURNS);
+    drop(context);
+    thread.join(&rt);
+    say_yes(
+        out,
+        "a client whose context was dropped has ended:",
+        is_live,
+    )
+}
+
+fn show_calls<R: Wait + Clock, W: Write>(
+    rt: &R,
+    alloc: Global,
+    context: &Context<Counting>,
+    out: &mut W,
+) -> Result<(), Refusal> {
+    let channel = context.open(rt, b"TEMP", 0)?;
+    if !context.wait_live(rt, channel, TURNS) {
+        return Err(Refusal::NotLive);
+    }
+    let mut caller = context.caller(rt)?;
+    show_requests(rt, alloc, context, channel, &mut caller, out)?;
+    show_waits(rt, context, channel, &mut caller, out)?;
+    show_subscriptions(rt, alloc, context, channel, &mut caller, out)
+}
+
+/// A hundred reads by one call.
+fn show_requests<R: Wait + Clock, W: Write>(
+    rt: &R,
+    alloc: Global,
+    context: &Context<Counting>,
+    channel: Handle,
+    caller: &mut Caller,
+    out: &mut W,
+) -> Result<(), Refusal> {
+    let mut requests = Vec::new(alloc);
+    for _ in 0..100 {
+        requests.push(Request::Read(channel, 5, 1))?;
+    }
+    let mut rooms = Vec::new(alloc);
+    let mut tickets = Vec::new(alloc);
+    context.request_all(rt, &requests, &mut rooms, &mut tickets)?;
+    let mut right = 0u64;
+    for index in 0..tickets.len() {
+        if let Waited::Outcome(outcome) = context.wait_for(rt, caller, tickets[index], long()) {
+            right = right.wrapping_add(u64::from(is_21(&outcome)));
+        }
+    }
+    tell(out, "reads by one call", right)
+}
+
+fn is_21(outcome: &Outcome) -> bool {
+    match outcome {
+        Outcome::Value(Value::Longs(longs), _) => longs.first() == Some(&21),
+        _ => false,
+    }
+}
+
+/// A wait for a ticket that has ended, and one for a channel that nobody has.
+fn show_waits<R: Wait + Clock, W: Write>(
+    rt: &R,
+    context: &Context<Counting>,
+    channel: Handle,
+    caller: &mut Caller,
+    out: &mut W,
+) -> Result<(), Refusal> {
+    let ticket = context.get(rt, channel, 5, 1)?;
+    let first = context.wait_for(rt, caller, ticket, long());
+    let began = began(rt)?;
+    let second = context.wait_for(rt, caller, ticket, long());
+    let is_over = matches!(first, Waited::Outcome(_)) && matches!(second, Waited::Over);
+    let is_over = is_over && is_soon(rt, &began);
+    say_yes(out, "a ticket that has ended is told at once:", is_over)?;
+    let nobody = context.open(rt, b"NONE", 0)?;
+    let state = context.wait_live_for(rt, nobody, Duration::from_millis(50))?;
+    let is_searching = state == ChannelState::Searching && is_soon(rt, &began);
+    context.clear(rt, nobody)?;
+    let is_stale = context.wait_live_for(rt, nobody, long()) == Err(Refusal::StaleHandle);
+    say_yes(
+        out,
+        "a wait for a channel ends in its time:",
+        is_searching && is_stale,
+    )
+}
+
+/// A subscription that is refused, and one that is cancelled.
+fn show_subscriptions<R: Wait + Clock, W: Write>(
+    rt: &R,
+    alloc: Global,
+    context: &Context<Counting>,
+    channel: Handle,
+    caller: &mut Caller,
+    out: &mut W,
+) -> Result<(), Refusal> {
+    let heard = Arc::new(alloc, AtomicU64::new(0))?;
+    let Some(mask) = Mask::new(1) else {
+        return Err(Refusal::BadEvent);
+    };
+    let refused = Counting {
+        heard: Arc::try_clone(&heard)?,
+    };
+    let Err((again, Refusal::BadType)) = context.monitor(rt, channel, 99, 1, mask, refused) else {
+        return say_yes(out, "a refusal hands the listener back:", false);
+    };
+    let Ok(subscription) = context.monitor(rt, channel, 5, 1, mask, again) else {
+        return say_yes(out, "a refusal hands the listener back:", false);
+    };
+    for _ in 0..TURNS {
+        if heard.load(Ordering::SeqCst) != 0 {
+            break;
+        }
+        thread::sleep(rt, Duration::from_millis(10));
+    }
+    say_yes(
+        out,
+        "a refusal hands the listener back:",
+        heard.load(Ordering::SeqCst) == 1,
+    )?;
+    context.unsubscribe(rt, subscription)?;
+    for value in 0..20i32 {
+        let ticket = context.put_notify(rt, channel, Value::Longs(vec![in alloc; value]?))?;
+        let _ = context.wait_for(rt, caller, ticket, long());
+    }
+    say_yes(
+        out,
+        "after it was cancelled nothing more is heard:",
+        heard.load(Ordering::SeqCst) == 1,
+    )
+}
+
+fn began<R: Clock>(rt: &R) -> Result<Instant, Refusal> {
+    match Instant::now(rt) {
+        Ok(now) => Ok(now),
+        Err(_) => Err(Refusal::Device),
+    }
+}
+
+/// Whether much less time has passed than a long wait takes.
+fn is_soon<R: Clock>(rt: &R, began: &Instant) -> bool {
+    match began.elapsed(rt) {
+        Ok(passed) => passed < Duration::from_millis(5_000),
+        Err(_) => false,
+    }
+}

@@ -1,0 +1,62 @@
+/* Preloaded, it moves a program's clocks, and has calls of the system fail, as the words of a file say, which is mapped into memory.
+ *
+ * FAULTS is that file, of 64 bytes: eight numbers, in the order of `enum word`. It needs no header, so that any compiler does.
+ */
+typedef __SIZE_TYPE__ size;
+
+struct moment {
+    long seconds, nanos;
+};
+
+char *getenv(const char *name);
+int open(const char *path, int flags, ...);
+void *mmap(void *at, size bytes, int may, int kind, int file, long from);
+long syscall(long number, ...);
+int *__errno_location(void);
+void abort(void);
+
+enum { READ_AND_WRITE = 2, MAY_BOTH = 3, SHARED = 1 };
+
+enum { CLOCK = 228, WAIT_FOR_EVENTS = 232, RECEIVE_FROM = 45, ACCEPT = 288, REALTIME = 0, MONOTONIC = 1 };
+
+/* By how many nanoseconds each clock is moved; the fault of each wait for events, and of each read of a datagram, if it is not 0; the fault of so many accepts; and
+ * how many calls have failed. */
+enum word { OF_REALTIME, OF_MONOTONIC, OF_EVENTS, OF_DATAGRAMS, OF_ACCEPTS, ACCEPTS, FAILED };
+
+static volatile long *words;
+
+__attribute__((constructor)) static void begin(void) {
+    int file = open(getenv("FAULTS"), READ_AND_WRITE);
+    words = mmap(0, 64, MAY_BOTH, SHARED, file, 0);
+    if (file < 0 || words == (void *)-1)
+        abort();
+}
+
+static long failed(long fault) {
+    __sync_fetch_and_add(&words[FAILED], 1);
+    *__errno_location() = (int)fault;
+    return -1;
+}
+
+int clock_gettime(int clock, struct moment *now) {
+    long done = syscall(CLOCK, clock, now);
+    long moved = clock == REALTIME ? words[OF_REALTIME] : clock == MONOTONIC ? words[OF_MONOTONIC] : 0;
+    long nanos = now->nanos + moved % 1000000000;
+    now->seconds += moved / 1000000000 + (nanos >= 1000000000) - (nanos < 0);
+    now->nanos = nanos >= 1000000000 ? nanos - 1000000000 : nanos < 0 ? nanos + 1000000000 : nanos;
+    return (int)done;
+}
+
+int epoll_wait(int poll, void *events, int most, int milliseconds) {
+    return (int)(words[OF_EVENTS] ? failed(words[OF_EVENTS]) : syscall(WAIT_FOR_EVENTS, poll, events, most, milliseconds));
+}
+
+long recvfrom(int socket, void *to, size bytes, int flags, void *from, void *length) {
+    return words[OF_DATAGRAMS] ? failed(words[OF_DATAGRAMS]) : syscall(RECEIVE_FROM, socket, to, bytes, flags, from, length);
+}
+
+int accept4(int socket, void *from, void *length, int flags) {
+    if (words[ACCEPTS] > 0 && __sync_fetch_and_sub(&words[ACCEPTS], 1) > 0)
+        return (int)failed(words[OF_ACCEPTS]);
+    return (int)syscall(ACCEPT, socket, from, length, flags);
+}
