@@ -132,10 +132,12 @@ impl<N: Net + Drop, L: Listener> Engine<N, L> {
     // A turn, with the lock. It says where the thread waits for the next, or that there is none, since the client ends.
     fn work<R: Wait>(&mut self, rt: &R, now: u64) -> (Option<Place>, Brought) {
         self.shared.let_ask();
+        // The context was dropped if nobody else has what the two share.
+        let is_left = Arc::strong_count(&self.shared) == 1;
         let mut guard = self.shared.hold(rt);
         let locked = &mut *guard;
         locked.moment = now;
-        locked.ending = locked.ending || self.is_left();
+        locked.ending = locked.ending || is_left;
         if locked.lead.rise(now) {
             self.shared.tick();
         }
@@ -163,11 +165,6 @@ impl<N: Net + Drop, L: Listener> Engine<N, L> {
             self.shared.doze(locked)
         };
         (Some(place), brought)
-    }
-
-    // Whether the context was dropped: nobody else has what the two share.
-    fn is_left(&self) -> bool {
-        Arc::strong_count(&self.shared) == 1
     }
 }
 
