@@ -1,9 +1,8 @@
 //! What lies under a client's lock (`desk`), and servers and clients in one process, each with a thread of its own. What came of it is `stdout`:
 //!
 //! - a server whose device holds a put until a read on another circuit was answered (`holding`);
-//! - a server whose device takes a while, two slow records that are always busy and a third, and many that are busy at the end (`fairness`);
 //! - the lines `get`, `put` and `monitor`, what each says, and its status (`lines`);
-//! - a client whose callers are four threads (`callers`), one whose listener waits (`listening`), and the calls that these do not make (`calls`).
+//! - a client whose callers are four threads (`callers`), and the calls that these do not make (`calls`).
 //!
 //! With the words PORT CALLERS READS WINDOW it prints instead the microseconds that so many reads of TEMP by each caller took, with so many outstanding
 //! at each, from when the channel was live (`timing`).
@@ -13,10 +12,8 @@ mod callers;
 mod calls;
 mod client;
 mod desk;
-mod fairness;
 mod holding;
 mod lines;
-mod listening;
 mod server;
 mod timing;
 mod wire;
@@ -72,10 +69,8 @@ fn show<
 >(rt: R, alloc: Global, out: &mut W, err: &mut E) -> Result<(), Refusal> {
     desk::show(alloc, out)?;
     holding::show(rt, alloc, out)?;
-    fairness::show(rt, alloc, out)?;
     lines::show(rt, alloc, out, err)?;
     callers::show(rt, alloc, out)?;
-    listening::show(rt, alloc, out)?;
     calls::show(rt, alloc, out)
 }
 
