@@ -158,8 +158,8 @@ def build(crate, option, top=TOP):
 
 
 def program(crate):
-    """The program of a crate that ./ca would run: the proved one if it is current, else the unproved one, which is built if need be."""
-    return os.path.join(TOP, build(crate, "--program"))
+    """The program that ./ca would run: the proved one if it is current, else the unproved one, which is built if need be. One that only measures is never proved."""
+    return os.path.join(TOP, build(crate, "--program")) if crate == "ca_main" else aligned(crate, TOP)
 
 
 def aligned(crate, top):
@@ -169,7 +169,9 @@ def aligned(crate, top):
 
 
 def proved(crate):
-    """The program of a crate that `./test` proved, built and left."""
+    """The program that `./test` proved, built and left. One that only measures is never proved."""
+    if crate != "ca_main":
+        return aligned(crate, TOP)
     path = os.path.join(TOP, "crates", crate, "out", crate)
     return path if os.path.exists(path) else sys.exit(f"there is no {path}: ./test makes it")
 

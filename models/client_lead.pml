@@ -11,7 +11,8 @@
  * The number of turns has no end. Here each caller has a bit, whether the number is another than it saw (`stale`). A request goes through three bits: out (it
  * waits in the core), net (the server has it), rx (its reply is in the socket); `filled` is its ticket. Edges are kept until a poll takes them.
  *
- * Left out: bytes and messages, searches and datagrams, memory, the length of a wait, the tries before the mutex sleeps, more than one circuit.
+ * Left out: bytes and messages, searches and datagrams, memory, the length of a wait, the tries before the mutex sleeps, subscriptions that are cancelled, more
+ * than one circuit.
  *
  * -D switches:
  *   N=2          callers that ask and wait

@@ -13,15 +13,16 @@ int open(const char *path, int flags, ...);
 void *mmap(void *at, size bytes, int may, int kind, int file, long from);
 long syscall(long number, ...);
 int *__errno_location(void);
+void *dlsym(void *of, const char *name);
 void abort(void);
 
 enum { READ_AND_WRITE = 2, MAY_BOTH = 3, SHARED = 1 };
 
 enum { CLOCK = 228, WAIT_FOR_EVENTS = 232, RECEIVE_FROM = 45, ACCEPT = 288, REALTIME = 0, MONOTONIC = 1 };
 
-/* By how many nanoseconds each clock is moved; the fault of each wait for events, and of each read of a datagram, if it is not 0; the fault of so many accepts; and
- * how many calls have failed. */
-enum word { OF_REALTIME, OF_MONOTONIC, OF_EVENTS, OF_DATAGRAMS, OF_ACCEPTS, ACCEPTS, FAILED };
+/* By how many nanoseconds each clock is moved; the fault of each wait for events, and of each read of a datagram, if it is not 0; the fault of so many accepts;
+ * how many calls have failed; and the fault of each new thread. */
+enum word { OF_REALTIME, OF_MONOTONIC, OF_EVENTS, OF_DATAGRAMS, OF_ACCEPTS, ACCEPTS, FAILED, OF_THREADS };
 
 static volatile long *words;
 
@@ -59,4 +60,9 @@ int accept4(int socket, void *from, void *length, int flags) {
     if (words[ACCEPTS] > 0 && __sync_fetch_and_sub(&words[ACCEPTS], 1) > 0)
         return (int)failed(words[OF_ACCEPTS]);
     return (int)syscall(ACCEPT, socket, from, length, flags);
+}
+
+int pthread_create(void *thread, const void *attributes, void *(*work)(void *), void *words_of) {
+    int (*create)(void *, const void *, void *(*)(void *), void *) = dlsym((void *)-1L, "pthread_create");
+    return words[OF_THREADS] ? (int)words[OF_THREADS] : create(thread, attributes, work, words_of);
 }

@@ -12,9 +12,10 @@ char *getenv(const char *name);
 unsigned long strtoul(const char *text, char **end, int base);
 int open(const char *path, int flags, ...);
 long write(int file, const void *from, size bytes);
+int *__errno_location(void);
 void abort(void);
 
-enum { WRITE_AND_APPEND = 02001 };
+enum { WRITE_AND_APPEND = 02001, NO_MEMORY = 12 };
 
 static int log = -1;
 static unsigned long made, refused;
@@ -33,7 +34,10 @@ static int is_refused(void) {
     made++;
     if (write(log, made == refused ? "-" : "+", 1) != 1)
         abort();
-    return made == refused;
+    if (made != refused)
+        return 0;
+    *__errno_location() = NO_MEMORY;
+    return 1;
 }
 
 void *malloc(size bytes) {

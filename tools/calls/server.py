@@ -202,7 +202,7 @@ class Server:
         return "ok"
 
     def add(self, name, most, pace, value):
-        if not 1 <= len(name) <= 60:
+        if not 1 <= len(name) <= 60 or b"\0" in name:
             refuse(12)
         if name in self.records:
             refuse(28)

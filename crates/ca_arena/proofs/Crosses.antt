@@ -1,51 +1,33 @@
--- The parts of a buffer may cross threads as its items and its allocator may.
-use Rattle.std.specs.Prelude.{ℕ, ◌+◌, List, [], ◌∷◌, Option, Some, None}
-use Rattle.std.specs.Mem.{type_size}
-use base.Fraction.{full_share}
+-- A block may cross threads as its items and its allocator may.
+use Rattle.std.specs.Prelude.{List, length}
+use base.Fml.{Fml}
 use base.Shift.{Keyless}
+use mir.Syntax.{Ty}
+use denote.Array.{Array}
 use denote.RattleType.{RattleType}
 use denote.RawPtr.{Ptr, block_ptr, null_ptr}
 use denote.Struct.Struct.{exits_of}
 use denote.Struct.Owning.{shape, fields, to}
-use denote.Param.Send.{IsSend, IsSync, Common, AllSend, part_keyless, owning_send, struct_send, struct_sync, sendable}
+use denote.Param.Send.{IsSend, IsSync, AllSend, array_send, array_sync, owning_send, struct_send, struct_sync, sendable}
 use Rattle.core.specs.declared.alloc.Allocator.{Ghosts}
-use Rattle.std_alloc.proofs.SendSync.{FreesAnywhere, quiet}
-use Rattle.ca_arena.specs.Ownership.{slots, slots_lent, cells_own, cells_lent}
-use Rattle.ca_arena.specs.contracts.cells.Cells as Cells
-use Rattle.ca_arena.specs.contracts.cells.Deed as Deed
+use Rattle.std_alloc.proofs.SendSync.{FreesAnywhere, lies, quiet, seen}
+use Rattle.ca_arena.specs.Block.{owns_slots}
+use Rattle.ca_arena.specs.contracts.block.Block as block
 
-module _ (R : RattleType) where
-  slots-Keyless : IsSend R → (b o : ℕ) (cs : List (Option R.Denot)) → Keyless (slots R b o cs)
-  slots-Keyless s b o [] = tt
-  slots-Keyless s b o (Some x ∷ cs) = (part_keyless R s full_share x b o, slots-Keyless s b (o + type_size R) cs)
-  slots-Keyless s b o (None ∷ cs) = (tt, slots-Keyless s b (o + type_size R) cs)
+module _ (R A : RattleType) (g : Ghosts A.Denot) where
+  owns-keyless : IsSend R → (right : Ty → Ptr → Fml) → ((ty : Ty) (p : Ptr) → Keyless (right ty p)) → (first : Ptr) (items : List R.Denot) → Keyless (owns_slots R right first items)
+  owns-keyless sent right free (block_ptr b o) items = (tt, (lies (Array R (length items)) (array_send R (length items) sent) (block_ptr b o) items, (tt, free _ _)))
+  owns-keyless sent right free null_ptr items = (tt, tt)
 
-  slots_lent-Common : IsSync R → (b o : ℕ) (cs : List (Option R.Denot)) → Common (slots_lent R b o cs)
-  slots_lent-Common y b o [] κ = tt
-  slots_lent-Common y b o (Some x ∷ cs) κ = (y.shared x b o κ, slots_lent-Common y b (o + type_size R) cs κ)
-  slots_lent-Common y b o (None ∷ cs) κ = (tt, slots_lent-Common y b (o + type_size R) cs κ)
+  pub block-send : IsSend R → FreesAnywhere A.Denot g → IsSend (block.the_row R A g)
+  block-send sent frees =
+      let type = block.the_type R A g in
+      let all : AllSend (fields type) = (search sendable, (search sendable, tt)) in
+      owning_send type all (λ d. owns-keyless sent (g.dealloc_token d.alloc) (λ ty p. frees.frees d.alloc ty p) d.first d.items) (λ k. quiet (to type) (exits_of k (fields type)) ((struct_send (shape type) all).leaving k))
 
-  cells-Keyless : IsSend R → (p : Ptr) (cs : List (Option R.Denot)) → Keyless (cells_own R p cs)
-  cells-Keyless s (block_ptr b o) cs = (tt, slots-Keyless s b o cs)
-  cells-Keyless s null_ptr cs = tt
-
-  cells_lent-Common : IsSync R → (p : Ptr) (cs : List (Option R.Denot)) → Common (cells_lent R p cs)
-  cells_lent-Common y (block_ptr b o) cs κ = (tt, slots_lent-Common y b o cs κ)
-  cells_lent-Common y null_ptr cs κ = tt
-
-  pub Cells-send : IsSend R → IsSend (Cells.the_row R)
-  Cells-send s =
-      let O = Cells.the_type R in let all : AllSend (fields O) = (search sendable, tt) in
-      owning_send O all (λ d. cells-Keyless s d.at d.slots) (λ k. quiet (to O) (exits_of k (fields O)) ((struct_send (shape O) all).leaving k))
-
-  pub Cells-sync : IsSync R → IsSync (Cells.the_row R)
-  Cells-sync y = let O = Cells.the_type R in record { shared = λ d b o κ. ((struct_sync (shape O) (search sendable, tt)).shared (to O d) b o κ, cells_lent-Common y d.at d.slots κ) }
-
-  module _ (A : RattleType) (g : Ghosts A.Denot) where
-    pub Deed-send : FreesAnywhere A.Denot g → IsSend (Deed.the_row R A g)
-    Deed-send f =
-        let O = Deed.the_type R A g in let all : AllSend (fields O) = (search sendable, tt) in
-        owning_send O all (λ d. f.frees d.alloc _ d.at) (λ k. quiet (to O) (exits_of k (fields O)) ((struct_send (shape O) all).leaving k))
-
-    pub Deed-sync : IsSync (Deed.the_row R A g)
-    Deed-sync = let O = Deed.the_type R A g in record { shared = λ d b o κ. ((struct_sync (shape O) (search sendable, tt)).shared (to O d) b o κ, tt) }
+  pub block-sync : IsSync R → IsSync (block.the_row R A g)
+  block-sync shared =
+      let type = block.the_type R A g in
+      record {
+        shared = λ d b o κ. ((struct_sync (shape type) (search sendable, (search sendable, tt))).shared (to type d) b o κ, (tt, seen (Array R (length d.items)) (array_sync R (length d.items) shared) d.first d.items κ));
+      }

@@ -14,7 +14,6 @@ use Rattle.ca_arena.specs.Slot.{link_of, place_of}
 use Rattle.ca_arena.specs.Sound.{IsSound, IsFree}
 use Rattle.ca_arena.specs.Layout.{contents_of, freed_end, freed_from, link_read, IsLaidOut}
 use Rattle.ca_arena.proofs.Places.{one_if, value_for-some, within_from_value, live_count-set, live_value, apart_from_value, IsSound-appended, IsSound-filled, IsSound-lowered, IsSound-removed, IsSound-shorter, IsSound-written}
-use Rattle.ca_arena.proofs.Stored.{get-set_same, get-set_other, get_push_other}
 
 -- all but the last of a list
 take_push : {X : Type 0} (xs : List X) (x : X) (n : ℕ) → n ≡ length xs → take n (xs ++ x ∷ []) ≡ xs
@@ -22,6 +21,26 @@ take_push [] x zero at = refl
 take_push [] x (suc n) at = absurd (omega arith)
 take_push (y ∷ xs) x zero at = absurd (omega arith)
 take_push (y ∷ xs) x (suc n) at = ap (λ rest. y ∷ rest) (take_push xs x n (omega arith))
+
+-- what stands at an index of a list that was changed at one index, or has one more at its end
+module _ {X : Type 0} where
+  get-set_same : (xs : List X) (index : ℕ) (x : X) → index < length xs → slice_get (set xs index x) index ≡ Some x
+  get-set_same [] index x within = absurd (omega arith)
+  get-set_same (y ∷ xs) zero x within = refl
+  get-set_same (y ∷ xs) (suc index) x within = get-set_same xs index x (omega arith)
+
+  get-set_other : (xs : List X) (index k : ℕ) (x : X) → k ≢ index → slice_get (set xs index x) k ≡ slice_get xs k
+  get-set_other [] index k x other = refl
+  get-set_other (y ∷ xs) zero zero x other = absurd (other refl)
+  get-set_other (y ∷ xs) zero (suc k) x other = refl
+  get-set_other (y ∷ xs) (suc index) zero x other = refl
+  get-set_other (y ∷ xs) (suc index) (suc k) x other = get-set_other xs index k x (λ same. other (ap suc same))
+
+  get_push_other : (xs : List X) (x : X) (k : ℕ) → k ≢ length xs → slice_get (xs ++ x ∷ []) k ≡ slice_get xs k
+  get_push_other [] x zero other = absurd (other refl)
+  get_push_other [] x (suc k) other = refl
+  get_push_other (y ∷ xs) x zero other = refl
+  get_push_other (y ∷ xs) x (suc k) other = get_push_other xs x k (λ same. other (ap suc same))
 
 module _ {T : Type 0} where
   -- a place with this generation and this value

@@ -1,14 +1,12 @@
 -- What the blocks stand for, before and after each change.
-use Rattle.std.proofs.Common.{◌≡◌, ◌≢◌, ℕ, zero, suc, ◌+◌, ◌*◌, ◌/◌, ◌%◌, ◌<◌, List, [], ◌∷◌, ◌++◌, length, get_or, set, slice_get, Option, Some, None, refl, sym, ap, ◌∙◌, subst, inl, inr, arith, length-set, replicate, ext_get_or, lit<}
-use Rattle.std.proofs.lemmas.Bool.{cases_eq, cases_lt}
-use Rattle.std.proofs.lemmas.List.{get_or_past, get_or_read, get_or-set_same, get_or-set_other, get_or_push, get_or_append_left, length_push, length-replicate}
-use Rattle.std.proofs.lemmas.Nat.{div-add-mod', mod_below, div_below}
-use Rattle.std.proofs.lemmas.Option.{slice_get-get_or, slice_get_past}
-use Rattle.ca_arena.specs.Filled.{block_slots}
-use Rattle.ca_arena.specs.Stored.{pushed, with_item}
-use Rattle.ca_arena.specs.StoredLayout.{cell_at, prepended, items_from, stored_of, IsStored}
+use Rattle.std.proofs.Common.{◌≡◌, ℕ, zero, suc, ◌+◌, ◌-◌, ◌*◌, ◌/◌, ◌%◌, ◌<◌, ◌≤◌, List, [], ◌∷◌, ◌++◌, length, get_or, set, slice_get, refl, sym, ap, ◌∙◌, subst, arith, append_assoc, append-nil, length-append, length-set}
+use Rattle.std.proofs.lemmas.List.{length_push, set-append_left, set-append_right}
+use Rattle.ca_arena.specs.declared.block.Block.{Block}
+use Rattle.ca_arena.specs.Block.{block_slots}
+use Rattle.ca_arena.specs.BlockLending.{with_items}
+use Rattle.ca_arena.specs.StoredLayout.{all_items, stored_of, AreFilled}
 
--- which block, and which of its places
+-- which block an index lies in, and in which of its slots
 abbrev pub block_of : ℕ → ℕ
 block_of index = index / block_slots
 
@@ -16,337 +14,198 @@ abbrev pub slot_of : ℕ → ℕ
 slot_of index = index % block_slots
 
 pub slot_below : (index : ℕ) → slot_of index < block_slots
-slot_below index = mod_below index block_slots (lit< tt)
+slot_below index = omega arith
 
--- an index in a block that is there is within the room
-pub below_room : (index blocks : ℕ) → block_of index < blocks → index < blocks * block_slots
-below_room index blocks inside = omega (arith, div-add-mod' index block_slots, slot_below index)
+divided : (index : ℕ) → index ≡ block_of index * block_slots + slot_of index
+divided index = omega arith
 
--- two indices in one place are one
-one_index : (i k : ℕ) → block_of i ≡ block_of k → slot_of i ≡ slot_of k → i ≡ k
-one_index i k blocks slots = omega (arith, div-add-mod' i block_slots, div-add-mod' k block_slots)
+-- an index in the second of two lists, one in the first
+module _ {X : Type 0} where
+  get_right : (xs ys : List X) (i k : ℕ) → i ≡ length xs + k → slice_get (xs ++ ys) i ≡ slice_get ys k
+  get_right [] ys i k at = let same : i ≡ k = omega arith in ap (slice_get ys) same
+  get_right (x ∷ xs) ys zero k at = absurd (omega arith)
+  get_right (x ∷ xs) ys (suc i) k at = get_right xs ys i k (omega arith)
 
-module _ {T : Type 0} where
-  abbrev nothing_there : Option T
-  nothing_there = None
+  get_left : (xs ys : List X) (i : ℕ) → i < length xs → slice_get (xs ++ ys) i ≡ slice_get xs i
+  get_left [] ys i within = absurd (omega arith)
+  get_left (x ∷ xs) ys zero within = refl
+  get_left (x ∷ xs) ys (suc i) within = get_left xs ys i (omega arith)
 
-  -- there is an item in each of so many places from this index on
-  abbrev AreFilled : ℕ → ℕ → List (List (Option T)) → Type 0
-  AreFilled index count blocks = (k : ℕ) → k < count → (item : T) × (cell_at blocks (index + k) ≡ Some item)
+  none_left : (xs ys : List X) → xs ++ ys ≡ [] → (xs ≡ []) × (ys ≡ [])
+  none_left [] ys none = (refl, none)
+  none_left (x ∷ xs) ys none = absurd (cc)
 
-  later_filled : (index count : ℕ) (blocks : List (List (Option T))) → AreFilled index (suc count) blocks → AreFilled (suc index) count blocks
-  later_filled index count blocks filled k below =
-      let there = filled (suc k) (omega arith) in
-      let same : index + suc k ≡ suc index + k = omega arith in
-      (there.0, ap (cell_at blocks) (sym same) ∙ there.1)
+module _ {X A : Type 0} where
+  pub length-all : (count : ℕ) (blocks : List (Block X A)) → AreFilled count blocks → length (all_items blocks) ≡ count
+  length-all count [] filled = sym filled
+  length-all count (block ∷ rest) filled = omega (arith, filled.0, length-append block.items (all_items rest), length-all (count - block_slots) rest filled.1)
 
-  -- one item is read, and the others follow
-  first_item : (cell : Option T) (item : T) (rest : List T) → cell ≡ Some item → prepended cell rest ≡ item ∷ rest
-  first_item cell item rest is = ap (λ (c : Option T). prepended c rest) is
+  pub within_room : (count : ℕ) (blocks : List (Block X A)) → AreFilled count blocks → count ≤ length blocks * block_slots
+  within_room count [] filled = omega arith
+  within_room count (block ∷ rest) filled = omega (arith, within_room (count - block_slots) rest filled.1)
 
-  length-items : (index count : ℕ) (blocks : List (List (Option T))) → AreFilled index count blocks → length (items_from index count blocks) ≡ count
-  length-items index zero blocks filled = refl
-  length-items index (suc count) blocks filled =
-      let there = filled 0 (omega arith) in
-      let same : index + 0 ≡ index = omega arith in
-      ap length (first_item (cell_at blocks index) there.0 (items_from (suc index) count blocks) (ap (cell_at blocks) (sym same) ∙ there.1))
-      ∙ ap suc (length-items (suc index) count blocks (later_filled index count blocks filled))
-
-  item-at : (index count k : ℕ) (blocks : List (List (Option T))) → AreFilled index count blocks → k < count → slice_get (items_from index count blocks) k ≡ cell_at blocks (index + k)
-  item-at index zero k blocks filled below = absurd (omega arith)
-  item-at index (suc count) zero blocks filled below =
-      let there = filled 0 (omega arith) in
-      let same : index + 0 ≡ index = omega arith in
-      ap (λ (items : List T). slice_get items 0) (first_item (cell_at blocks index) there.0 (items_from (suc index) count blocks) (ap (cell_at blocks) (sym same) ∙ there.1)) ∙ sym there.1
-  item-at index (suc count) (suc k) blocks filled below =
-      let there = filled 0 (omega arith) in
-      let same : index + 0 ≡ index = omega arith in
-      let next : suc index + k ≡ index + suc k = omega arith in
-      ap (λ (items : List T). slice_get items (suc k)) (first_item (cell_at blocks index) there.0 (items_from (suc index) count blocks) (ap (cell_at blocks) (sym same) ∙ there.1))
-      ∙ item-at (suc index) count k blocks (later_filled index count blocks filled) (omega arith) ∙ ap (cell_at blocks) next
-
-  -- what stands in the places
-  abbrev pub items_of : List (List (Option T)) → ℕ → List T
-  items_of blocks len = items_from 0 len blocks
-
-  from_first : (blocks : List (List (Option T))) (len : ℕ) → IsStored blocks len → AreFilled 0 len blocks
-  from_first blocks len stored k below =
-      let same : 0 + k ≡ k = omega arith in
-      let there = stored.filled k below in
-      (there.0, ap (cell_at blocks) same ∙ there.1)
-
-  pub length-stored : (blocks : List (List (Option T))) (len : ℕ) → IsStored blocks len → length (items_of blocks len) ≡ len
-  length-stored blocks len stored = length-items 0 len blocks (from_first blocks len stored)
-
-  -- the item at an index is what lies in its place
-  pub stands : (blocks : List (List (Option T))) (len : ℕ) → IsStored blocks len → (k : ℕ) → slice_get (items_of blocks len) k ≡ cell_at blocks k
-  stands blocks len stored k =
-      elim (cases_lt k len) [
-        | inl below ↦ let same : 0 + k ≡ k = omega arith in item-at 0 len k blocks (from_first blocks len stored) below ∙ ap (cell_at blocks) same
-        | inr beyond ↦ slice_get_past (items_of blocks len) k (omega (arith, length-stored blocks len stored)) ∙ sym (stored.vacant k beyond)
-      ]
-
-  -- two lists with the same items are one
-  same_list : (xs ys : List T) → ((k : ℕ) → slice_get xs k ≡ slice_get ys k) → xs ≡ ys
-  same_list [] [] same = refl
-  same_list [] (y ∷ ys) same = absurd (let first = same 0 in cc)
-  same_list (x ∷ xs) [] same = absurd (let first = same 0 in cc)
-  same_list (x ∷ xs) (y ∷ ys) same =
-      let first : Some x ≡ Some y = same 0 in
-      let rest : xs ≡ ys = same_list xs ys (λ k. same (suc k)) in
-      cc
-
-  -- the items are known index by index
-  same_items : (blocks : List (List (Option T))) (len : ℕ) (items : List T) → IsStored blocks len → ((k : ℕ) → slice_get items k ≡ cell_at blocks k) → items_of blocks len ≡ items
-  same_items blocks len items stored at = same_list (items_of blocks len) items (λ k. stands blocks len stored k ∙ sym (at k))
-
-  -- the blocks with another block where this index lies
-  abbrev pub with_block : List (List (Option T)) → ℕ → List (Option T) → List (List (Option T))
-  with_block blocks index block = set blocks (block_of index) block
-
-  cell-same : (blocks : List (List (Option T))) (index : ℕ) (old : List (Option T)) (value : Option T) → block_of index < length blocks → length old ≡ block_slots → cell_at (with_block blocks index (set old (slot_of index) value)) index ≡ value
-  cell-same blocks index old value within sized =
-      ap (λ (b : List (Option T)). get_or b (slot_of index) None) (get_or-set_same blocks (block_of index) (set old (slot_of index) value) [] within) ∙ get_or-set_same old (slot_of index) value None (omega (arith, slot_below index))
-
-  cell-other : (blocks : List (List (Option T))) (index k : ℕ) (value : Option T) → block_of index < length blocks → k ≢ index → cell_at (with_block blocks index (set (get_or blocks (block_of index) []) (slot_of index) value)) k ≡ cell_at blocks k
-  cell-other blocks index k value within other =
-      let old = get_or blocks (block_of index) [] in
-      elim (cases_eq (block_of k) (block_of index)) [
-        | inl same ↦
-            let apart : slot_of k ≢ slot_of index = λ slots. other (one_index k index same slots) in
-            let here : get_or (with_block blocks index (set old (slot_of index) value)) (block_of k) [] ≡ set old (slot_of index) value =
-            ap (λ n. get_or (with_block blocks index (set old (slot_of index) value)) n []) same ∙ get_or-set_same blocks (block_of index) (set old (slot_of index) value) [] within in
-            ap (λ (b : List (Option T)). get_or b (slot_of k) None) here ∙ (get_or-set_other old (slot_of index) (slot_of k) value None apart ∙ ap (λ n. get_or (get_or blocks n []) (slot_of k) None) (sym same))
-        | inr apart ↦ ap (λ (b : List (Option T)). get_or b (slot_of k) None) (get_or-set_other blocks (block_of index) (block_of k) (set old (slot_of index) value) [] apart)
-      ]
-
-  -- the block of an index that has room
-  pub block_below : (blocks : List (List (Option T))) (index : ℕ) → index < length blocks * block_slots → block_of index < length blocks
-  block_below blocks index within = div_below index block_slots (length blocks) (lit< tt) within
-
-  -- a block that was read
-  abbrev pub Reads : List (List (Option T)) → ℕ → List (Option T) → Type 0
-  Reads blocks index old = old ≡ get_or blocks (block_of index) old
-
-  -- what a read block has in the place of the index
-  pub read_cell : (blocks : List (List (Option T))) (index : ℕ) (old : List (Option T)) → block_of index < length blocks → Reads blocks index old → get_or old (slot_of index) None ≡ cell_at blocks index
-  read_cell blocks index old inside read = ap (λ (b : List (Option T)). get_or b (slot_of index) None) (get_or_read blocks (block_of index) old inside read [])
-
-  -- the place of an index with an item
-  pub record Holds (blocks : List (List (Option T))) (index : ℕ) : Type 0 where
-    pub inside : block_of index < length blocks
-    pub cell : (item : T) × (cell_at blocks index ≡ Some item)
-
-  pub holds : (blocks : List (List (Option T))) (len index : ℕ) → IsStored blocks len → index < len → Holds blocks index
-  holds blocks len index stored below =
-      record { inside = block_below blocks index (omega (arith, stored.within)); cell = stored.filled index below }
-
-  -- what was read there is the item
-  pub item_read : (blocks : List (List (Option T))) (len index : ℕ) (old : List (Option T)) (item : Option T) → IsStored blocks len → index < len → Reads blocks index old → get_or old (slot_of index) None ≡ item → slice_get (items_of blocks len) index ≡ item
-  item_read blocks len index old item stored below read found =
-      stands blocks len stored index ∙ (sym (read_cell blocks index old (holds blocks len index stored below).inside read) ∙ found)
-
-  -- each block keeps its size where one place is written
-  sized-after : (blocks : List (List (Option T))) (index : ℕ) (value : Option T) → ((k : ℕ) → k < length blocks → length (get_or blocks k []) ≡ block_slots) → block_of index < length blocks → (k : ℕ) → k < length (with_block blocks index (set (get_or blocks (block_of index) []) (slot_of index) value)) → length (get_or (with_block blocks index (set (get_or blocks (block_of index) []) (slot_of index) value)) k []) ≡ block_slots
-  sized-after blocks index value sized inside k below =
-      let first = get_or blocks (block_of index) [] in
-      let next = set first (slot_of index) value in
-      let long = length-set blocks (block_of index) next in
-      elim (cases_eq k (block_of index)) [
-        | inl same ↦ subst (λ n. length (get_or (with_block blocks index next) n []) ≡ block_slots) (sym same) (ap length (get_or-set_same blocks (block_of index) next [] inside) ∙ (length-set first (slot_of index) value ∙ sized (block_of index) inside))
-        | inr other ↦ ap length (get_or-set_other blocks (block_of index) k next [] other) ∙ sized k (omega arith)
-      ]
-
-  -- what a write to one place leaves
-  record Changed (blocks after : List (List (Option T))) (index : ℕ) (value : Option T) : Type 0 where
-    sized : (k : ℕ) → k < length after → length (get_or after k []) ≡ block_slots
-    long : length after ≡ length blocks
-    here : cell_at after index ≡ value
-    others : (k : ℕ) → k ≢ index → cell_at after k ≡ cell_at blocks k
-
-  changes : (blocks : List (List (Option T))) (len index : ℕ) (old block : List (Option T)) (value : Option T) → IsStored blocks len → block_of index < length blocks → Reads blocks index old → block ≡ set old (slot_of index) value → Changed blocks (with_block blocks index block) index value
-  changes blocks len index old block value stored inside read made =
-      let was : old ≡ get_or blocks (block_of index) [] = get_or_read blocks (block_of index) old inside read [] in
-      let block_is : block ≡ set (get_or blocks (block_of index) []) (slot_of index) value = made ∙ ap (λ (b : List (Option T)). set b (slot_of index) value) was in
-      let first = get_or blocks (block_of index) [] in
-      let next = set first (slot_of index) value in
-      let on : Changed blocks (with_block blocks index next) index value = record {
-        sized = sized-after blocks index value stored.sized inside;
-        long = length-set blocks (block_of index) next;
-        here = cell-same blocks index first value inside (stored.sized (block_of index) inside);
-        others = λ k other. cell-other blocks index k value inside other;
-      } in
-      subst (λ (b : List (Option T)). Changed blocks (with_block blocks index b) index value) (sym block_is) on
-
-  -- the item at an index of a list that was changed there
-  pub get-set_same : (items : List T) (index : ℕ) (item : T) → index < length items → slice_get (set items index item) index ≡ Some item
-  get-set_same items index item within =
-      slice_get-get_or (set items index item) index item (omega (arith, length-set items index item)) ∙ ap Some (get_or-set_same items index item item within)
-
-  pub get-set_other : (items : List T) (index k : ℕ) (item : T) → k ≢ index → slice_get (set items index item) k ≡ slice_get items k
-  get-set_other [] index k item other = refl
-  get-set_other (x ∷ items) zero zero item other = absurd (other refl)
-  get-set_other (x ∷ items) zero (suc k) item other = refl
-  get-set_other (x ∷ items) (suc index) zero item other = refl
-  get-set_other (x ∷ items) (suc index) (suc k) item other = get-set_other items index k item (λ same. other (ap suc same))
-
-  -- what writing over an item leaves
-  pub record Written (blocks after : List (List (Option T))) (len index : ℕ) (item : T) : Type 0 where
-    pub laid_out : IsStored after len
-    pub contents : stored_of after len ≡ with_item (stored_of blocks len) index item
-
-  pub writes : (blocks : List (List (Option T))) (len index : ℕ) (old : List (Option T)) (item : T) → IsStored blocks len → index < len → Reads blocks index old → Written blocks (with_block blocks index (set old (slot_of index) (Some item))) len index item
-  writes blocks len index old item stored below read =
-      let held = holds blocks len index stored below in
-      let block = set old (slot_of index) (Some item) in
-      let after = with_block blocks index block in
-      let done = changes blocks len index old block (Some item) stored held.inside read refl in
-      let long = done.long in
-      let laid_out : IsStored after len = record {
-        sized = done.sized;
-        filled = λ k less. elim (cases_eq k index) [
-          | inl same ↦ (item, ap (cell_at after) same ∙ done.here)
-          | inr other ↦ let there = stored.filled k less in (there.0, done.others k other ∙ there.1)
-        ];
-        vacant = λ k beyond. done.others k (λ same. omega arith) ∙ stored.vacant k beyond;
-        within = omega (arith, stored.within);
-      } in
-      let items = items_of blocks len in
-      let count = length-stored blocks len stored in
-      let same : items_of after len ≡ set items index item =
-      same_items after len (set items index item) laid_out (λ k. elim (cases_eq k index) [
-        | inl here ↦ ap (slice_get (set items index item)) here ∙ (get-set_same items index item (omega arith) ∙ (sym done.here ∙ ap (cell_at after) (sym here)))
-        | inr other ↦ get-set_other items index k item other ∙ (stands blocks len stored k ∙ sym (done.others k other))
-      ]) in
-      record { laid_out = laid_out; contents = λ i. record { items = same i; room = long i * block_slots } }
-
-  -- the item after the others
-  get_push_end : (items : List T) (item : T) (k : ℕ) → k ≡ length items → slice_get (items ++ item ∷ []) k ≡ Some item
-  get_push_end [] item zero at = refl
-  get_push_end [] item (suc k) at = absurd (omega arith)
-  get_push_end (x ∷ items) item zero at = absurd (omega arith)
-  get_push_end (x ∷ items) item (suc k) at = get_push_end items item k (omega arith)
-
-  pub get_push_other : (items : List T) (item : T) (k : ℕ) → k ≢ length items → slice_get (items ++ item ∷ []) k ≡ slice_get items k
-  get_push_other [] item zero other = absurd (other refl)
-  get_push_other [] item (suc k) other = refl
-  get_push_other (x ∷ items) item zero other = refl
-  get_push_other (x ∷ items) item (suc k) other = get_push_other items item k (λ same. other (ap suc same))
-
-  -- what writing to the place after the last leaves
-  pub record Pushed (blocks after : List (List (Option T))) (len : ℕ) (item : T) : Type 0 where
-    pub laid_out : IsStored after (len + 1)
-    pub contents : stored_of after (len + 1) ≡ pushed (stored_of blocks len) item
-
-  pub pushes : (blocks : List (List (Option T))) (len : ℕ) (old block : List (Option T)) (item : T) → IsStored blocks len → len < length blocks * block_slots → Reads blocks len old → block ≡ set old (slot_of len) (Some item) → Pushed blocks (with_block blocks len block) len item
-  pushes blocks len old block item stored below read made =
-      let after = with_block blocks len block in
-      let done = changes blocks len len old block (Some item) stored (block_below blocks len below) read made in
-      let long = done.long in
-      let laid_out : IsStored after (len + 1) = record {
-        sized = done.sized;
-        filled = λ k less. elim (cases_eq k len) [
-          | inl same ↦ (item, ap (cell_at after) same ∙ done.here)
-          | inr other ↦ let there = stored.filled k (omega (arith, other)) in (there.0, done.others k other ∙ there.1)
-        ];
-        vacant = λ k beyond. done.others k (λ same. omega arith) ∙ stored.vacant k (omega arith);
-        within = omega arith;
-      } in
-      let items = items_of blocks len in
-      let count = length-stored blocks len stored in
-      let same : items_of after (len + 1) ≡ items ++ item ∷ [] =
-      same_items after (len + 1) (items ++ item ∷ []) laid_out (λ k. elim (cases_eq k len) [
-        | inl here ↦ get_push_end items item k (here ∙ sym count) ∙ (sym done.here ∙ ap (cell_at after) (sym here))
-        | inr other ↦ get_push_other items item k (λ end. other (end ∙ count)) ∙ (stands blocks len stored k ∙ sym (done.others k other))
-      ]) in
-      record { laid_out = laid_out; contents = λ i. record { items = same i; room = long i * block_slots } }
-
-  -- what emptying the last place leaves
-  pub record Popped (blocks after : List (List (Option T))) (len last : ℕ) (item : T) : Type 0 where
-    pub laid_out : IsStored after last
-    pub contents : stored_of blocks len ≡ pushed (stored_of after last) item
-
-  pops_end : (blocks : List (List (Option T))) (last : ℕ) (old block : List (Option T)) (item : T) → IsStored blocks (last + 1) → Reads blocks last old → get_or old (slot_of last) None ≡ Some item → block ≡ set old (slot_of last) None → Popped blocks (with_block blocks last block) (last + 1) last item
-  pops_end blocks last old block item stored read found made =
-      let after = with_block blocks last block in
-      let below : last < last + 1 = omega arith in
-      let held = holds blocks (last + 1) last stored below in
-      let was : cell_at blocks last ≡ Some item = sym (read_cell blocks last old held.inside read) ∙ found in
-      let done = changes blocks (last + 1) last old block None stored held.inside read made in
-      let long = done.long in
-      let laid_out : IsStored after last = record {
-        sized = done.sized;
-        filled = λ k less. let there = stored.filled k (omega arith) in (there.0, done.others k (λ same. omega arith) ∙ there.1);
-        vacant = λ k beyond. elim (cases_eq k last) [
-          | inl same ↦ ap (cell_at after) same ∙ done.here
-          | inr other ↦ done.others k other ∙ stored.vacant k (omega (arith, other))
-        ];
-        within = omega (arith, stored.within);
-      } in
-      let items = items_of after last in
-      let count = length-stored after last laid_out in
-      let same : items_of blocks (last + 1) ≡ items ++ item ∷ [] =
-      same_items blocks (last + 1) (items ++ item ∷ []) stored (λ k. elim (cases_eq k last) [
-        | inl here ↦ get_push_end items item k (here ∙ sym count) ∙ (sym was ∙ ap (cell_at blocks) (sym here))
-        | inr other ↦ get_push_other items item k (λ end. other (end ∙ count)) ∙ (stands after last laid_out k ∙ done.others k other)
-      ]) in
-      record { laid_out = laid_out; contents = λ i. record { items = same i; room = sym long i * block_slots } }
-
-  pub pops : (blocks : List (List (Option T))) (len last : ℕ) (old block : List (Option T)) (item : T) → IsStored blocks len → len ≡ last + 1 → Reads blocks last old → get_or old (slot_of last) None ≡ Some item → block ≡ set old (slot_of last) None → Popped blocks (with_block blocks last block) len last item
-  pops blocks len last old block item stored end read found made =
-      subst (λ (n : ℕ). IsStored blocks n → Popped blocks (with_block blocks last block) n last item) (sym end) (λ at_end. pops_end blocks last old block item at_end read found made) stored
-
-  -- a further block
-  pub record Grown (blocks : List (List (Option T))) (len : ℕ) (block : List (Option T)) : Type 0 where
-    pub laid_out : IsStored (blocks ++ block ∷ []) len
-    pub items : items_of (blocks ++ block ∷ []) len ≡ items_of blocks len
-
-  empty_slot : (n k : ℕ) → ◌≡◌ {A = Option T} (get_or (replicate n None) k None) None
-  empty_slot zero k = refl
-  empty_slot (suc n) zero = refl
-  empty_slot (suc n) (suc k) = empty_slot n k
-
-  cell-grown : (blocks : List (List (Option T))) (k : ℕ) → cell_at (blocks ++ replicate block_slots None ∷ []) k ≡ cell_at blocks k
-  cell-grown blocks k =
-      let block : List (Option T) = replicate block_slots None in
-      elim (cases_lt (block_of k) (length blocks)) [
-        | inl within ↦ ap (λ (b : List (Option T)). get_or b (slot_of k) None) (get_or_append_left blocks (block ∷ []) [] (block_of k) within)
-        | inr beyond ↦
-            let past : cell_at blocks k ≡ None = ap (λ (b : List (Option T)). get_or b (slot_of k) None) (get_or_past blocks (block_of k) [] beyond) in
-            elim (cases_eq (block_of k) (length blocks)) [
-              | inl same ↦ ap (λ (b : List (Option T)). get_or b (slot_of k) None) (get_or_push blocks block [] (block_of k) (sym same)) ∙ (empty_slot block_slots (slot_of k) ∙ sym past)
-              | inr other ↦ ap (λ (b : List (Option T)). get_or b (slot_of k) None) (get_or_past (blocks ++ block ∷ []) (block_of k) [] (omega (arith, length_push blocks block, other))) ∙ sym past
-            ]
-      ]
-
-  pub grows : (blocks : List (List (Option T))) (len : ℕ) (block : List (Option T)) → IsStored blocks len → block ≡ replicate block_slots None → Grown blocks len block
-  grows blocks len block stored is = subst (Grown blocks len) (sym is) on
+  -- no item in any block
+  nothing_in : (blocks : List (Block X A)) → AreFilled 0 blocks → all_items blocks ≡ []
+  nothing_in [] filled = refl
+  nothing_in (block ∷ rest) filled = none block.items (all_items rest) filled.0 (nothing_in rest filled.1)
     where
-      on : Grown blocks len (replicate block_slots None)
-      on =
-          let empty : List (Option T) = replicate block_slots None in
-          let long = length_push blocks empty in
-          let laid_out : IsStored (blocks ++ empty ∷ []) len = record {
-            sized = λ k below. elim (cases_lt k (length blocks)) [
-              | inl within ↦ ap length (get_or_append_left blocks (empty ∷ []) [] k within) ∙ stored.sized k within
-              | inr beyond ↦ ap length (get_or_push blocks empty [] k (omega arith)) ∙ length-replicate block_slots nothing_there
-            ];
-            filled = λ k less. let there = stored.filled k less in (there.0, cell-grown blocks k ∙ there.1);
-            vacant = λ k beyond. cell-grown blocks k ∙ stored.vacant k beyond;
-            within = omega (arith, stored.within);
-          } in
-          record {
-            laid_out = laid_out;
-            items = same_items (blocks ++ empty ∷ []) len (items_of blocks len) laid_out (λ k. stands blocks len stored k ∙ sym (cell-grown blocks k));
-          }
+      none : (xs ys : List X) → length xs ≡ 0 → ys ≡ [] → xs ++ ys ≡ []
+      none [] ys no_x no_y = no_y
+      none (x ∷ xs) ys no_x no_y = absurd (omega arith)
 
-  -- where no item is left, each block is empty
-  pub all_empty : (blocks : List (List (Option T))) (len : ℕ) → IsStored blocks len → items_of blocks len ≡ [] → (j : ℕ) → j < length blocks → get_or blocks j [] ≡ replicate block_slots None
-  all_empty blocks len stored none j below =
-      ext_get_or None (get_or blocks j []) (replicate block_slots None) (stored.sized j below ∙ sym (length-replicate block_slots nothing_there)) (λ k less.
-      let inside : k < block_slots = omega (arith, stored.sized j below) in
-      let index = j * block_slots + k in
-      let in_block : block_of index ≡ j = omega (arith, div-add-mod' index block_slots, slot_below index) in
-      let in_slot : slot_of index ≡ k = omega (arith, div-add-mod' index block_slots, slot_below index) in
-      let nothing : cell_at blocks index ≡ None = sym (stands blocks len stored index) ∙ ap (λ (items : List T). slice_get items index) none in
-      (λ i. get_or (get_or blocks (sym in_block i) []) (sym in_slot i) None) ∙ (nothing ∙ sym (empty_slot block_slots k)))
+  -- the block of an index, as it is read: one that there is
+  pub record Reads (blocks : List (Block X A)) (q : ℕ) (block : Block X A) : Type 0 where
+    pub within : q < length blocks
+    pub read : block ≡ get_or blocks q block
+
+  later : (first : Block X A) (rest : List (Block X A)) (q : ℕ) (block : Block X A) → Reads (first ∷ rest) (suc q) block → Reads rest q block
+  later first rest q block reads = record { within = omega (arith, reads.within); read = reads.read }
+
+  -- ---- an item that there is
+
+  pub record Finds (items : List X) (index : ℕ) (block : Block X A) (slot : ℕ) : Type 0 where
+    pub used : slot < length block.items
+    pub same : slice_get block.items slot ≡ slice_get items index
+
+  pub finds : (count index q slot : ℕ) (blocks : List (Block X A)) (block : Block X A) → AreFilled count blocks → index < count → index ≡ q * block_slots + slot → slot < block_slots → Reads blocks q block → Finds (all_items blocks) index block slot
+  finds count index q slot [] block filled within at below reads = absurd (omega (arith, reads.within))
+  finds count index zero slot (first ∷ rest) block filled within at below reads =
+      let here : slot ≡ index = omega arith in
+      let used : slot < length first.items = omega (arith, filled.0) in
+      let on : Finds (all_items (first ∷ rest)) index first slot = record { used = used; same = sym (get_left first.items (all_items rest) slot used) ∙ ap (slice_get (first.items ++ all_items rest)) here } in
+      subst (λ b. Finds (all_items (first ∷ rest)) index b slot) (sym reads.read) on
+  finds count index (suc q) slot (first ∷ rest) block filled within at below reads =
+      let on = finds (count - block_slots) (index - block_slots) q slot rest block filled.1 (omega arith) (omega arith) below (later first rest q block reads) in
+      record { used = on.used; same = on.same ∙ sym (get_right first.items (all_items rest) index (index - block_slots) (omega (arith, filled.0))) }
+
+  -- ---- another item in its place
+
+  pub record Leaves (blocks : List (Block X A)) (count : ℕ) (now : List X) : Type 0 where
+    pub filled : AreFilled count blocks
+    pub items : all_items blocks ≡ now
+
+  pub changes : (count index q slot : ℕ) (blocks : List (Block X A)) (block : Block X A) (item : X) → AreFilled count blocks → index < count → index ≡ q * block_slots + slot → slot < block_slots → Reads blocks q block
+      → Leaves (set blocks q (with_items block (set block.items slot item))) count (set (all_items blocks) index item)
+  changes count index q slot [] block item filled within at below reads = absurd (omega (arith, reads.within))
+  changes count index zero slot (first ∷ rest) block item filled within at below reads =
+      let here : slot ≡ index = omega arith in
+      let used : slot < length first.items = omega (arith, filled.0) in
+      let on : Leaves (with_items first (set first.items slot item) ∷ rest) count (set (all_items (first ∷ rest)) index item) = record {
+        filled = (length-set first.items slot item ∙ filled.0, filled.1);
+        items = sym (set-append_left first.items (all_items rest) slot item used) ∙ ap (λ i. set (first.items ++ all_items rest) i item) here;
+      } in
+      subst (λ b. Leaves (with_items b (set b.items slot item) ∷ rest) count (set (all_items (first ∷ rest)) index item)) (sym reads.read) on
+  changes count index (suc q) slot (first ∷ rest) block item filled within at below reads =
+      let on = changes (count - block_slots) (index - block_slots) q slot rest block item filled.1 (omega arith) (omega arith) below (later first rest q block reads) in
+      record {
+        filled = (filled.0, on.filled);
+        items = ap (λ l. first.items ++ l) on.items ∙ sym (set-append_right first.items (all_items rest) block_slots index item (omega (arith, filled.0)) (omega arith));
+      }
+
+  -- ---- an item after the others
+
+  pub record Pushed (count q slot : ℕ) (blocks : List (Block X A)) (block : Block X A) (item : X) : Type 0 where
+    pub next : slot ≡ length block.items
+    pub after : Leaves (set blocks q (with_items block (block.items ++ item ∷ []))) (count + 1) (all_items blocks ++ item ∷ [])
+
+  pub pushes : (count q slot : ℕ) (blocks : List (Block X A)) (block : Block X A) (item : X) → AreFilled count blocks → count ≡ q * block_slots + slot → slot < block_slots → Reads blocks q block → Pushed count q slot blocks block item
+  pushes count q slot [] block item filled at below reads = absurd (omega (arith, reads.within))
+  pushes count zero slot (first ∷ rest) block item filled at below reads =
+      let none : count - block_slots ≡ 0 = omega arith in
+      let more : count + 1 - block_slots ≡ 0 = omega arith in
+      let empty : AreFilled 0 rest = subst (λ n. AreFilled n rest) none filled.1 in
+      let behind : all_items rest ≡ [] = nothing_in rest empty in
+      let long = length_push first.items item in
+      let on : Pushed count 0 slot (first ∷ rest) first item = record {
+        next = omega (arith, filled.0);
+        after = record {
+          filled = (omega (arith, filled.0, long), subst (λ n. AreFilled n rest) (sym more) empty);
+          items = ap (λ l. (first.items ++ item ∷ []) ++ l) behind ∙ (append-nil (first.items ++ item ∷ []) ∙ ap (λ l. l ++ item ∷ []) (sym (append-nil first.items) ∙ ap (λ l. first.items ++ l) (sym behind)));
+        };
+      } in
+      subst (λ b. Pushed count 0 slot (first ∷ rest) b item) (sym reads.read) on
+  pushes count (suc q) slot (first ∷ rest) block item filled at below reads =
+      let on = pushes (count - block_slots) q slot rest block item filled.1 (omega arith) below (later first rest q block reads) in
+      let more : count - block_slots + 1 ≡ count + 1 - block_slots = omega arith in
+      record {
+        next = on.next;
+        after = record {
+          filled = (omega (arith, filled.0), subst (λ n. AreFilled n (set rest q (with_items block (block.items ++ item ∷ [])))) more on.after.filled);
+          items = ap (λ l. first.items ++ l) on.after.items ∙ sym (append_assoc first.items (all_items rest) (item ∷ []));
+        };
+      }
+
+  -- ---- the last item is not there
+
+  pub record Popped (last q : ℕ) (blocks : List (Block X A)) (left : Block X A) (item : X) : Type 0 where
+    pub filled : AreFilled last (set blocks q left)
+    pub items : all_items blocks ≡ all_items (set blocks q left) ++ item ∷ []
+
+  pub is_last : (last q slot : ℕ) (blocks : List (Block X A)) (block : Block X A) → AreFilled (last + 1) blocks → last ≡ q * block_slots + slot → slot < block_slots → Reads blocks q block → slot + 1 ≡ length block.items
+  is_last last q slot [] block filled at below reads = absurd (omega (arith, reads.within))
+  is_last last zero slot (first ∷ rest) block filled at below reads = omega (arith, filled.0, ap (λ b. length b.items) reads.read)
+  is_last last (suc q) slot (first ∷ rest) block filled at below reads =
+      let fewer : last + 1 - block_slots ≡ last - block_slots + 1 = omega arith in
+      is_last (last - block_slots) q slot rest block (subst (λ n. AreFilled n rest) fewer filled.1) (omega arith) below (later first rest q block reads)
+
+  pub pops : (last q slot : ℕ) (blocks : List (Block X A)) (block left : Block X A) (item : X) → AreFilled (last + 1) blocks → last ≡ q * block_slots + slot → slot < block_slots → Reads blocks q block → block ≡ with_items left (left.items ++ item ∷ []) → Popped last q blocks left item
+  pops last q slot [] block left item filled at below reads made = absurd (omega (arith, reads.within))
+  pops last zero slot (first ∷ rest) block left item filled at below reads made =
+      let none : last + 1 - block_slots ≡ 0 = omega arith in
+      let fewer : last - block_slots ≡ 0 = omega arith in
+      let empty : AreFilled 0 rest = subst (λ n. AreFilled n rest) none filled.1 in
+      let behind : all_items rest ≡ [] = nothing_in rest empty in
+      let was : first.items ≡ left.items ++ item ∷ [] = ap (λ b. b.items) (sym reads.read ∙ made) in
+      let long : length first.items ≡ length left.items + 1 = ap length was ∙ length_push left.items item in
+      record {
+        filled = (omega (arith, filled.0), subst (λ n. AreFilled n rest) (sym fewer) empty);
+        items = ap (λ l. first.items ++ l) behind ∙ (append-nil first.items ∙ (was ∙ ap (λ l. l ++ item ∷ []) (sym (append-nil left.items) ∙ ap (λ l. left.items ++ l) (sym behind))));
+      }
+  pops last (suc q) slot (first ∷ rest) block left item filled at below reads made =
+      let fewer : last + 1 - block_slots ≡ last - block_slots + 1 = omega arith in
+      let on = pops (last - block_slots) q slot rest block left item (subst (λ n. AreFilled n rest) fewer filled.1) (omega arith) below (later first rest q block reads) made in
+      record { filled = (omega (arith, filled.0), on.filled); items = ap (λ l. first.items ++ l) on.items ∙ sym (append_assoc first.items (all_items (set rest q left)) (item ∷ [])) }
+
+  -- ---- a further block, with no item
+
+  pub grows : (count : ℕ) (blocks : List (Block X A)) (block : Block X A) → AreFilled count blocks → block.items ≡ [] → Leaves (blocks ++ block ∷ []) count (all_items blocks)
+  grows count [] block filled empty = record { filled = (omega (arith, ap length empty), omega arith); items = ap (λ l. l ++ []) empty }
+  grows count (first ∷ rest) block filled empty =
+      let on = grows (count - block_slots) rest block filled.1 empty in
+      record { filled = (filled.0, on.filled); items = ap (λ l. first.items ++ l) on.items }
+
+  -- where no block has an item, none of the first ones has, and the last one has none
+  pub none_before : (blocks more : List (Block X A)) → all_items (blocks ++ more) ≡ [] → all_items blocks ≡ []
+  none_before [] more none = refl
+  none_before (block ∷ rest) more none =
+      let both = none_left block.items (all_items (rest ++ more)) none in
+      ap (λ l. l ++ all_items rest) both.0 ∙ none_before rest more both.1
+
+  pub none_in_last : (blocks : List (Block X A)) (block : Block X A) → all_items (blocks ++ block ∷ []) ≡ [] → block.items ≡ []
+  none_in_last [] block none = (none_left block.items [] none).0
+  none_in_last (first ∷ rest) block none = none_in_last rest block (none_left first.items (all_items (rest ++ block ∷ [])) none).1
+
+  -- where the items are these, and there are as many blocks
+  pub stands_for : (blocks after : List (Block X A)) (items : List X) → all_items after ≡ items → length after ≡ length blocks → stored_of after ≡ record { items = items; room = length blocks * block_slots }
+  stands_for blocks after items same long = λ i. record { items = same i; room = long i * block_slots }
+
+  -- ---- the same where an index says which block and which slot
+
+  module _ (count index : ℕ) (blocks : List (Block X A)) (block : Block X A) (filled : AreFilled count blocks) (read : block ≡ get_or blocks (block_of index) block) where
+    there : index < length blocks * block_slots → Reads blocks (block_of index) block
+    there within = record { within = omega arith; read = read }
+
+    pub found : index < count → Finds (all_items blocks) index block (slot_of index)
+    found within = finds count index (block_of index) (slot_of index) blocks block filled within (divided index) (slot_below index) (there (omega (arith, within_room count blocks filled)))
+
+    pub changed : index < count → (item : X) → Leaves (set blocks (block_of index) (with_items block (set block.items (slot_of index) item))) count (set (all_items blocks) index item)
+    changed within item = changes count index (block_of index) (slot_of index) blocks block item filled within (divided index) (slot_below index) (there (omega (arith, within_room count blocks filled)))
+
+    pub pushed : index ≡ count → index < length blocks * block_slots → (item : X) → Pushed count (block_of index) (slot_of index) blocks block item
+    pushed end within item = pushes count (block_of index) (slot_of index) blocks block item filled (omega arith) (slot_below index) (there within)
+
+    pub ends : count ≡ index + 1 → slot_of index + 1 ≡ length block.items
+    ends end = is_last index (block_of index) (slot_of index) blocks block (subst (λ n. AreFilled n blocks) end filled) (divided index) (slot_below index) (there (omega (arith, within_room count blocks filled)))
+
+    pub popped : count ≡ index + 1 → (left : Block X A) (item : X) → block ≡ with_items left (left.items ++ item ∷ []) → Popped index (block_of index) blocks left item
+    popped end left item made = pops index (block_of index) (slot_of index) blocks block left item (subst (λ n. AreFilled n blocks) end filled) (divided index) (slot_below index) (there (omega (arith, within_room count blocks filled))) made

@@ -1,8 +1,6 @@
 pub mod Arena
 pub mod Block
 pub mod BlockLending
-pub mod Cells
-pub mod Filled
 pub mod Sound
 pub mod Slot
 pub mod SlotLending
@@ -12,4 +10,3 @@ pub mod StoredLending
 pub mod Traces
 pub mod Layout
 pub mod Lending
-pub mod Ownership

@@ -1,92 +1,95 @@
-//! A block of 64 places, each empty or holding a value. It never moves.
-ghost use Rattle.std.specs.Prelude.{◌≡◌, ◌<◌, None, Some, get_or, length, replicate, slice_set, IfOk};
+//! A block of the arena: 64 slots in memory of their own, which never move. Items go into them in order.
+ghost use Rattle.std.specs.Prelude.{◌≡◌, ◌+◌, ◌++◌, ◌∷◌, ◌<◌, List, Some, [], length, slice_get, IfOk};
 ghost use Rattle.std.specs.Borrow.{sem};
-ghost use Rattle.ca_arena.specs.Filled.{block_slots, IsFilled};
+ghost use Rattle.std.specs.Vec.Ownership.{FitsInBlock};
+ghost use Rattle.ca_arena.specs.Block.{block_slots, owns_slots, lends_slots};
 
-use crate::cells::{Base, Cells, Deed, allocate, deallocate};
-use std::alloc::{AllocError, Global};
-use std::marker::Model;
-use std_alloc::room::may_hold;
+use std::alloc::{AllocError, Allocator};
+use std::marker::{Model, PhantomData, Send, Sync};
+use std::mem::{align_of, size_of};
 
-/// How many places a block has.
+/// How many slots a block has.
 pub(crate) const BLOCK_SLOTS: usize = 64;
 
-/// A block: where it begins, its places, and the right to free it.
-pub struct Block<T> {
-    base: Base<T>,
-    cells: Cells<T>,
-    deed: Deed<T, Global>,
+/// The owner of 64 slots, of which the first ones hold an item each, and of the right to give their memory back.
+pub struct Block<T, A: Allocator> {
+    first: *mut T,
+    by: PhantomData<A>,
+    ghost alloc: { A },
+    ghost items: { List T },
 }
 
-impl<T> Model for Block<T> {
-    ghost use Rattle.std.specs.Prelude.{List, Option};
-    ghost use Rattle.std.specs.Coded.{coded_list, coded_option};
+impl<T, A: Allocator> Model for Block<T, A> {
+    ghost also_owns = { λ b. owns_slots T.row (A.dealloc_token b.alloc) b.first b.items };
 
-    ghost Value = { List (Option T) };
-
-    ghost coded = { coded_list (coded_option T.code) };
-
-    ghost use Rattle.ca_arena.specs.Block.{IsBlock};
-
-    ghost view = { λ b. b.cells.slots };
-
-    ghost invariant = { λ b. IsBlock b.base b.cells b.deed };
+    ghost also_shares = { λ b _ κ. lends_slots T.row b.first b.items κ };
 }
 
-impl<T> Block<T> {
-    ghost use Rattle.ca_arena.specs.BlockLending.{lends_place};
+unsafe impl<T: Send, A: Allocator + Send> Send for Block<T, A> {}
 
-    // A block with no value.
-    pub(crate) fn new(alloc: &Global) -> Result<Self, AllocError>
-        ensures { IfOk result (λ b. b ≡ replicate block_slots None) }
+unsafe impl<T: Sync, A: Allocator + Sync> Sync for Block<T, A> {}
+
+impl<T, A: Allocator> Block<T, A> {
+    ghost use Rattle.ca_arena.specs.BlockLending.{lends_slot, with_items};
+
+    // A block with no item.
+    pub(crate) fn new(alloc: &A) -> Result<Self, AllocError>
+        requires { FitsInBlock T.row block_slots }
+        ensures { IfOk result (λ b. (b.items ≡ []) × (b.alloc ≡ alloc.now)) }
     {
-        if !may_hold::<T>(BLOCK_SLOTS) {
-            return Err(AllocError);
+        match alloc.allocate(BLOCK_SLOTS * size_of::<T>(), align_of::<T>()) {
+            Ok(memory) => Ok(Block {
+                first: memory as *mut T,
+                by: PhantomData,
+            }),
+            Err(refused) => Err(refused),
         }
-        let (base, cells, deed) = allocate(alloc, BLOCK_SLOTS)?;
-        Ok(Block { base, cells, deed })
     }
 
-    // Writes a value to an empty place.
-    pub(crate) fn write(&mut self, index: usize, value: T)
-        requires { (index < block_slots) × (get_or self.old index None ≡ None) }
-        ensures { self.new ≡ slice_set self.old index (Some value) }
+    // Writes an item to the first slot that has none.
+    pub(crate) fn write(&mut self, index: usize, item: T)
+        requires { (index ≡ length self.old.items) × (index < block_slots) }
+        ensures { self.new ≡ with_items self.old (self.old.items ++ item ∷ []) }
     {
-        self.cells.write(self.base, index, value);
+        unsafe { self.first.add(index).write(item) }
     }
 
-    // Takes a value out.
+    // Takes the item of the last slot that has one out.
     pub(crate) fn take_out(&mut self, index: usize) -> T
-        requires { IsFilled self.old index }
-        ensures value { get_or self.old index None ≡ Some result }
-        ensures left { self.new ≡ slice_set self.old index None }
+        requires { (index + 1 ≡ length self.old.items) × (index < block_slots) }
+        ensures { self.old ≡ with_items self.new (self.new.items ++ result ∷ []) }
     {
-        self.cells.read(self.base, index)
+        unsafe { self.first.add(index).read() }
     }
 
-    // Lends a value.
+    // Lends an item.
     pub(crate) fn lend(&self, index: usize) -> &T
-        requires { IsFilled self.now index }
-        ensures { get_or self.now index None ≡ Some result.now }
+        requires { (index < length self.now.items) × (index < block_slots) }
+        ensures { slice_get self.now.items index ≡ Some result.now }
     {
-        self.cells.get(self.base, index)
+        unsafe { &*self.first.add(index) }
     }
 
-    // Lends a value for writing.
+    // Lends an item for writing.
     pub(crate) fn lend_mut(&mut self, index: usize) -> &mut T
-        requires { IsFilled self.old index }
-        ensures* writes_back { sem 𝓛 (lends_place T.row self.entry index result) }
-        ensures value { get_or self.old index None ≡ Some result.now }
+        requires { (index < length self.old.items) × (index < block_slots) }
+        ensures* writes_back { sem 𝓛 (lends_slot T.row A.row A.Allocator self.entry index result) }
+        ensures value { slice_get self.old.items index ≡ Some result.now }
     {
-        let base = self.base;
-        self.cells.get_mut(base, index)
+        unsafe { &mut *self.first.add(index) }
     }
 
-    // Frees a block that has no value any more.
-    pub(crate) fn free(self, alloc: &Global)
-        requires { self ≡ replicate block_slots None }
+    // Gives the memory of a block with no item back.
+    pub(crate) fn free(self, alloc: &A)
+        requires { (self.items ≡ []) × (self.alloc ≡ alloc.now) }
     {
-        let Block { base, cells, deed } = self;
-        deallocate(alloc, base, BLOCK_SLOTS, cells, deed);
+        let Block { first, by: _ } = self;
+        unsafe {
+            alloc.deallocate(
+                first as *mut u8,
+                BLOCK_SLOTS * size_of::<T>(),
+                align_of::<T>(),
+            );
+        }
     }
 }

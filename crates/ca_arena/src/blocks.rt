@@ -7,10 +7,11 @@ ghost use Rattle.ca_arena.specs.Stored.{nothing, pushed};
 use crate::block::{BLOCK_SLOTS, Block};
 use std::alloc::{AllocError, Global};
 use std::marker::Model;
+use std_alloc::room::may_hold;
 
 /// Items by index from 0 on, in blocks of 64 that never move.
 pub struct Blocks<T> {
-    blocks: Vec<Block<T>>,
+    blocks: Vec<Block<T, Global>>,
     // How many items there are. They stand in the first places.
     len: usize,
     alloc: Global,
@@ -23,11 +24,11 @@ impl<T> Model for Blocks<T> {
 
     ghost coded = { stored_code T.code };
 
-    ghost use Rattle.ca_arena.specs.StoredLayout.{stored_of, IsStored};
+    ghost use Rattle.ca_arena.specs.StoredLayout.{stored_of, AreFilled};
 
-    ghost view = { λ b. stored_of b.blocks.items b.len };
+    ghost view = { λ b. stored_of b.blocks.items };
 
-    ghost invariant = { λ b. IsStored b.blocks.items b.len };
+    ghost invariant = { λ b. AreFilled b.len b.blocks.items };
 }
 
 impl<T> Blocks<T> {
@@ -99,6 +100,9 @@ impl<T> Blocks<T> {
         let full = self.len / BLOCK_SLOTS;
         if full < self.blocks.len() {
             return Ok(());
+        }
+        if !may_hold::<T>(BLOCK_SLOTS) {
+            return Err(AllocError);
         }
         self.blocks.reserve(1)?;
         let block = Block::new(&self.alloc)?;

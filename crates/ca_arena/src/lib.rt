@@ -7,7 +7,6 @@
 mod arena;
 mod block;
 mod blocks;
-mod cells;
 mod handle;
 mod laws;
 mod slot;

@@ -14,7 +14,7 @@ use Rattle.ca_board.specs.declared.ticket.Ticket.{Ticket}
 use Rattle.ca_dbr.specs.declared.value.Outcome.{Outcome}
 use Rattle.ca_board.specs.declared.steps.CoreLog.{CoreLog}
 use Rattle.ca_board.specs.declared.steps.View.{View}
-use Rattle.ca_board.specs.History.{ticket, Has, Entry, Slot, Table, Sat, caller_log, caller_view, CellOk, TakeOk, GiveOk, IsGivenUp, SeatOk, KeptAt, Kept, IsOpen, Reading, took, gave_back, gave_up}
+use Rattle.ca_board.specs.History.{ticket, Has, Entry, Slot, Table, Sat, caller_log, caller_view, CellOk, TakeOk, GiveOk, IsGivenUp, SeatOk, KeptAt, Kept, IsOpen, Reading, found_out, took, gave_back, gave_up}
 use Rattle.ca_board.proofs.Rule.{Takers, grows, others_know, seats_stay, More, given_stays, wait_same, wait_stays}
 
 -- a step of a caller gives a taker to a ticket
@@ -135,6 +135,25 @@ takes_as slots id k g first second m tk gs sn is inside one two = subst (λ (x :
       looks_kept s id k tk gs sn r at,
       λ h e. ((λ hit. absurd (miss hit)), λ _. ((λ m has. (r.3.each_seat id v at).seen has.0 (k, m) has.1), refl)),
     )))
+
+-- a look, which changes nothing
+pub finds_as : (slots id k : ℕ) (m : Sat) (tk : List Entry) (gs : List Ticket) (sn : List Reading) → m ≡ caller_sat tk gs sn 0 0 [] → k < slots
+    → Allows Kept slots id m k (λ n. n) (found_out (step slots k 0 0 maybe.none) m)
+finds_as slots id k m tk gs sn is inside = subst (λ (x : Sat). Allows Kept slots id x k (λ n. n) (found_out (step slots k 0 0 maybe.none) x)) (sym is) (λ s r long at _.
+    let n : ℕ = get_or s.words k 0 in let v : View = caller_view (caller_log tk gs sn 0 0) in let mine = r.3.each_seat id v at in (
+      caller_view (caller_log tk gs (sn ++ (k, n) ∷ []) 0 0),
+      keeps,
+      tt,
+      looks_kept s id k tk gs sn r at,
+      (
+        ((λ w has. mine.seen has.0 (k, w) has.1), refl),
+        λ g low. (
+          (λ o has. let t = (mine.takes has.0 (ticket k g, o) has.1).2 in absurd (omega arith)),
+          (λ has. let t = (mine.gives has.0 (ticket k g) has.1).1 in absurd (omega arith)),
+          λ past. let t = mine.seen past.1.0 (k, past.0) past.1.1 in let y = past.2 in absurd (omega arith),
+        ),
+      ),
+    ))
 
 -- the hand-back
 pub hands_kept : (s : Table) (id k g : ℕ) (tk : List Entry) (gs : List Ticket) (sn : List Reading) (o : Outcome) (keeper : ℕ) (log : CoreLog) (taker : Takers) → KeptAt keeper log taker s → get_elem? s.views id ≡ some (caller_view (caller_log tk gs sn (suc k) g)) → k < length s.homes → Has tk (ticket k g, o)

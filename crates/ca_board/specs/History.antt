@@ -227,6 +227,11 @@ IsLatest seen k n = (m : ℕ) → Has seen (k, m) → m ≤ n
 abbrev pub looked : ℕ → Sat → ℕ → Sat → Type 0
 looked k m r m' = IsLatest m.0.caller.seen k r × (m' ≡ (read_too m.0 k r, m.1))
 
+-- a caller looked at a cell: no ticket of it past which its word is not was taken or given up by this seat, or found ended
+abbrev pub found_out : Step Slot → Sat → ℕ → Sat → Type 0
+found_out st m r m' = looked st.word m r m'
+    × ((g : ℕ) → r ≤ 8 * g + 2 → IsOpen m.0.caller.takes m.0.caller.gives m.0.caller.seen (ticket st.word g))
+
 abbrev pub took : Step Slot → Sat → ℕ → Sat → Type 0
 took st m r m' = (g : ℕ) → st.first ≡ 8 * g + 2
     → (r ≡ st.first → (o : Outcome) × IsOpen m.0.caller.takes m.0.caller.gives m.0.caller.seen (ticket st.word g)

@@ -107,6 +107,14 @@ HasGivenUp old t result new = MatchOption result
     ⊎ ((m : ℕ) × (n : ℕ) × (new ≡ with_reading (with_reading old t.cell m) t.cell n) × (HasEnded new.seen t ⊎ IsEarly new.seen t))))
     (λ o. (n : ℕ) × (new ≡ with_take (with_reading old t.cell n) t o) × IsOwnOpen old t)
 
+-- What a look at the ticket says: that it has ended, since the word of its cell was found past it, or since it is of no cell
+abbrev pub HasFoundEnded : CallerView → Ticket → CallerView → Type 0
+HasFoundEnded old t new = IsOutside old t new ⊎ ((n : ℕ) × (8 * t.generation + 3 ≤ n) × Found old t n new)
+
+-- or that it has not, since the word was found not to be past it; then this seat did not end it, nor find it ended before
+abbrev pub HasFoundOpen : CallerView → Ticket → CallerView → Type 0
+HasFoundOpen old t new = IsOwnOpen old t × ((n : ℕ) × (n ≤ 8 * t.generation + 2) × Found old t n new)
+
 -- What a recycle of the cell did where it answers true: the cell is free for its next generation
 abbrev pub HasRecycled : CoreView → ℕ → CoreView → Type 0
 HasRecycled old k new = (g : ℕ) × Frees old.arms old.recycles k g × (new ≡ with_recycle old (ticket k g))

@@ -4,13 +4,13 @@ ghost use Rattle.ca_text.specs.Limits.{board_cells};
 ghost use Rattle.ca_text.specs.declared.refusal.Refusal.TheVariants.{OutOfMemory};
 ghost use Rattle.ca_board.specs.History.{IsStock, holding, refused_too};
 ghost use Rattle.ca_board.specs.Seats.{IsIdle, IsWaiting};
-ghost use Rattle.ca_board.specs.Views.{core_start, caller_start, with_give_up, Found, IsDue, IsOutside, IsOwnOpen};
+ghost use Rattle.ca_board.specs.Views.{core_start, caller_start, with_give_up, Found, HasFoundEnded, HasFoundOpen, IsDue, IsOutside, IsOwnOpen};
 ghost use Rattle.ca_board.specs.Views.{HasArmed, HasCollected, HasFilled, HasGivenUp, HasRecycled};
 
 use crate::seats::{CallerSeat, CoreSeat};
 use crate::steps::{
-    Arms, BoardSeat, Cells, GivesUp, Grabs, HandsBack, Looks, Newcomer, Puts, Recycles, Returns,
-    Takes,
+    Arms, BoardSeat, Cells, FindsOut, GivesUp, Grabs, HandsBack, Looks, Newcomer, Puts, Recycles,
+    Returns, Takes,
 };
 use crate::ticket::{Filled, Ticket};
 use crate::word::{State, has_ended, is_past, is_waiting, word};
@@ -183,14 +183,18 @@ impl Board {
         true
     }
 
-    /// Whether a ticket has ended, so that no outcome comes of it: it was collected or given up, or is for no cell. It is a look, which changes nothing.
-    pub fn has_ended(&self, ticket: Ticket) -> bool
-        ensures outside { board_cells ≤ ticket.cell → IsTrue result }
+    /// Whether a ticket has ended, so that no outcome comes of it: it was collected or given up, by whomever, or is for no cell. It is a look, which changes nothing.
+    pub fn has_ended(&self, caller: &mut CallerSeat, ticket: Ticket) -> bool
+        requires { caller.old.board ≡ self.now }
+        ensures ended { IsTrue result → HasFoundEnded caller.old ticket caller.new }
+        ensures open { IsFalse result → HasFoundOpen caller.old ticket caller.new }
     {
         if ticket.cell >= BOARD_CELLS {
             return true;
         }
-        is_past(self.cells.shared.peek(ticket.cell), ticket)
+        let words = &self.cells.shared;
+        let found = words.load::<FindsOut>(&mut caller.seat, ticket.cell);
+        is_past(found, ticket)
     }
 
     /// Frees a cell whose outcome was taken, or whose ticket was given up, and says whether it did. At its last generation

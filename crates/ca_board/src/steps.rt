@@ -129,6 +129,15 @@ impl Play<Option<Outcome>, View> for Takes {
     ghost then = { took };
 }
 
+/// A caller looks at a cell, and changes nothing.
+pub(crate) struct FindsOut;
+
+impl Play<Option<Outcome>, View> for FindsOut {
+    ghost use Rattle.ca_board.specs.History.{found_out};
+
+    ghost then = { found_out };
+}
+
 /// A caller gives the slot back, and the cell is empty.
 pub(crate) struct HandsBack;
 

@@ -1,6 +1,5 @@
-ghost use Rattle.std.specs.Prelude.{◌≤◌, IsTrue};
-ghost use Rattle.ca_board.specs.Views.{HasCollected, HasGivenUp};
-ghost use Rattle.ca_text.specs.Limits.{board_cells};
+ghost use Rattle.std.specs.Prelude.{IsFalse, IsTrue};
+ghost use Rattle.ca_board.specs.Views.{HasCollected, HasFoundEnded, HasFoundOpen, HasGivenUp};
 
 use ca_board::{Board, CallerSeat, Ticket};
 use ca_dbr::Outcome;
@@ -41,10 +40,11 @@ impl Caller {
         self.board.give_up(&mut self.seat, ticket)
     }
 
-    /// Whether a ticket has ended, so that no outcome comes of it. It waits for nobody.
-    pub fn has_ended(&self, ticket: Ticket) -> bool
-        ensures outside { board_cells ≤ ticket.cell → IsTrue result }
+    /// Whether a ticket has ended, so that no outcome comes of it. It waits for nobody, and changes nothing.
+    pub fn has_ended(&mut self, ticket: Ticket) -> bool
+        ensures ended { IsTrue result → HasFoundEnded self.old ticket self.new }
+        ensures open { IsFalse result → HasFoundOpen self.old ticket self.new }
     {
-        self.board.has_ended(ticket)
+        self.board.has_ended(&mut self.seat, ticket)
     }
 }

@@ -107,10 +107,19 @@ impl<L: Listener> Context<L> {
 
     /// Opens a channel of this name, which is searched for from now on. Refused as `ClientCore::open`.
     pub fn open<R: Wait>(&self, rt: &R, name: &[u8], priority: u16) -> Result<Handle, Refusal> {
-        let mut guard = self.shared.locked.lock(rt);
-        let now = guard.moment;
-        let opened = guard.desk.open(name, priority, now);
-        drop(guard);
+        let opened = self.shared.locked.lock(rt).open(name, priority);
+        self.wake();
+        opened
+    }
+
+    /// Opens a channel as `open` does, at the lowest priority at which fewer than 288 channels of this client are open.
+    ///
+    /// A client has one circuit to a server for each priority, and a server takes 288 subscriptions on a circuit. So channels that are opened by this call can have
+    /// a subscription each, also if many thousands are of one server: 28,800 at once. The places of channels that were cleared are used again.
+    ///
+    /// Refused as BadPriority if there are 288 at each of the priorities 0 to 99, and then as `open`.
+    pub fn open_spread<R: Wait>(&self, rt: &R, name: &[u8]) -> Result<Handle, Refusal> {
+        let opened = self.shared.locked.lock(rt).open_spread(name);
         self.wake();
         opened
     }
@@ -241,22 +250,24 @@ impl<L: Listener> Context<L> {
         added
     }
 
-    /// Cancels a subscription. Its listener may still hear what was read before: it waits for nobody, since a listener may make this call. Refused as
-    /// `ClientCore::unsubscribe`.
+    /// Cancels a subscription. Refused as `ClientCore::unsubscribe`.
+    ///
+    /// Its listener hears nothing more that was read before: but for the one update that it hears, or is about to hear, as this call is made in another thread. The call
+    /// waits for nobody, since a listener may make it.
     pub fn unsubscribe<R: Wait>(&self, rt: &R, subscription: Handle) -> Result<(), Refusal> {
         let ended = self.shared.locked.lock(rt).unsubscribe(subscription);
+        if ended.is_ok() {
+            self.shared.cancel();
+        }
         self.wake();
         ended
     }
 
     /// Clears a channel: its requests are complete with Disconnected. Refused as `ClientCore::clear`.
     pub fn clear<R: Wait>(&self, rt: &R, channel: Handle) -> Result<(), Refusal> {
-        let answer = self.shared.locked.lock(rt).desk.step(Ask::Clear(channel));
+        let cleared = self.shared.locked.lock(rt).clear(channel);
         self.shared.call_all();
-        match answer {
-            Answer::Refused(refusal) => Err(refusal),
-            _ => Ok(()),
-        }
+        cleared
     }
 
     /// Where a channel is. Refused as StaleHandle if the handle is stale.
@@ -445,6 +456,29 @@ enum Led {
 }
 
 impl<L: Listener> Locked<L> {
+    fn open(&mut self, name: &[u8], priority: u16) -> Result<Handle, Refusal> {
+        let channel = self.desk.open(name, priority, self.moment)?;
+        self.spread.add(channel, priority);
+        Ok(channel)
+    }
+
+    fn open_spread(&mut self, name: &[u8]) -> Result<Handle, Refusal> {
+        match self.spread.lowest() {
+            Some(priority) => self.open(name, priority),
+            None => Err(Refusal::BadPriority),
+        }
+    }
+
+    fn clear(&mut self, channel: Handle) -> Result<(), Refusal> {
+        match self.desk.step(Ask::Clear(channel)) {
+            Answer::Refused(refusal) => Err(refusal),
+            _ => {
+                self.spread.remove(channel);
+                Ok(())
+            }
+        }
+    }
+
     fn monitor(
         &mut self,
         channel: Handle,
@@ -544,7 +578,7 @@ fn joined<R: Net + Clock + Copy + Drop, L: Listener>(
         ears,
         began,
     } = parts;
-    let locked = Locked::new(alloc, desk);
+    let locked = Locked::new(alloc, desk)?;
     let shared = Arc::new(
         alloc,
         Shared::new(locked, sockets, sockets_waker, thread_waker),

@@ -102,7 +102,8 @@ impl<N: Net + Drop, L: Listener> Work for Engine<N, L> {
             engine.rest(rt, place);
             let now = engine.moments.next(rt);
             let (next, brought) = engine.work(rt, now);
-            tell_all(&mut engine.ears, &mut engine.told);
+            let own = &mut engine;
+            tell_all(rt, &own.shared, &mut own.ears, &mut own.told);
             match next {
                 Some(next) => place = next,
                 None => {
@@ -269,22 +270,35 @@ fn tick(desk: &mut Desk, datagrams: &UdpSocket, links: &mut Vec<Link>, now: u64)
 }
 
 // Tells the listeners, in order.
-fn tell_all<L: Listener>(ears: &mut Ears<L>, told: &mut Vec<Heard>) {
+fn tell_all<R: Wait, L: Listener>(
+    rt: &R,
+    shared: &Shared<L>,
+    ears: &mut Ears<L>,
+    told: &mut Vec<Heard>,
+) {
     for index in 0..told.len() {
-        tell_each(ears, &mut told[index]);
+        tell_each(rt, shared, ears, &mut told[index]);
     }
     told.clear();
 }
 
-fn tell_each<L: Listener>(ears: &mut Ears<L>, heard: &mut Heard) {
-    tell(ears, &heard.first);
+fn tell_each<R: Wait, L: Listener>(
+    rt: &R,
+    shared: &Shared<L>,
+    ears: &mut Ears<L>,
+    heard: &mut Heard,
+) {
+    tell(rt, shared, ears, &heard.first);
     while let Some(notice) = heard.rest.next() {
-        tell(ears, &notice);
+        tell(rt, shared, ears, &notice);
     }
 }
 
-// Channels that are live or lost are seen by `wait_live` and `channel_state`.
-fn tell<L: Listener>(ears: &mut Ears<L>, notice: &Notice) {
+// Channels that are live or lost are seen by `wait_live` and `channel_state`. A subscription that was cancelled meanwhile is told nothing more.
+fn tell<R: Wait, L: Listener>(rt: &R, shared: &Shared<L>, ears: &mut Ears<L>, notice: &Notice) {
+    if ears.is_behind(shared.cancels()) {
+        ears.forget_cancelled(&shared.hold(rt).changes);
+    }
     match notice {
         Notice::Update(subscription, outcome) => ears.tell(*subscription, outcome),
         Notice::SubscriptionEnded(subscription, status) => {

@@ -39,6 +39,7 @@ mod lead;
 mod links;
 mod listener;
 mod shared;
+mod spread;
 
 pub use context::{Context, Setting, Waited};
 pub use engine::{Engine, Work, start};

@@ -41,6 +41,8 @@ pub(crate) enum Change<L: Listener> {
 #[derive(Drop)]
 pub(crate) struct Ears<L: Listener> {
     places: Vec<Option<Ear<L>>>,
+    // How many subscriptions were cancelled when that was last asked.
+    cancels: u64,
 }
 
 impl<L: Listener> Ears<L> {
@@ -50,7 +52,7 @@ impl<L: Listener> Ears<L> {
         for _ in 0..ARENA_SLOTS {
             places.push(None)?;
         }
-        Ok(Ears { places })
+        Ok(Ears { places, cancels: 0 })
     }
 
     // Takes in what has changed, in the order of the calls that changed it.
@@ -61,6 +63,22 @@ impl<L: Listener> Ears<L> {
                 Some(Change::Hears(ear)) => self.adopt(ear),
                 Some(Change::Ends(subscription)) => self.forget(subscription),
                 None => {}
+            }
+        }
+    }
+
+    // Whether others were cancelled, now that so many were, since this was last asked.
+    pub(crate) fn is_behind(&mut self, cancels: u64) -> bool {
+        let is_behind = self.cancels != cancels;
+        self.cancels = cancels;
+        is_behind
+    }
+
+    // Drops the listeners of the subscriptions that were cancelled, before the changes are taken in: nothing more is told to them.
+    pub(crate) fn forget_cancelled(&mut self, changes: &[Change<L>]) {
+        for change in changes {
+            if let Change::Ends(subscription) = change {
+                self.forget(*subscription);
             }
         }
     }

@@ -1,12 +1,13 @@
 use crate::lead::{LATELY, Lead, SocketPoll};
 use crate::links::{Brought, Heard, Link, is_any_behind, is_any_full, send_all, serve};
 use crate::listener::{Change, Listener};
+use crate::spread::Spread;
 use ca_board::Ticket;
 use ca_client::{Desk, Request};
 use ca_dbr::Value;
 use ca_text::Refusal;
 use mio::Waker;
-use std::alloc::Global;
+use std::alloc::{AllocError, Global};
 use std::sync::atomic::{AtomicU64, Ordering};
 use std::sync::{Mutex, MutexGuard, Wait};
 use std::time::{Clock, Duration};
@@ -51,6 +52,7 @@ pub(crate) enum Place {
 pub(crate) struct Locked<L: Listener> {
     pub(crate) desk: Desk,
     pub(crate) links: Vec<Link>,
+    pub(crate) spread: Spread,
     // What listeners have not been told yet.
     pub(crate) told: Vec<Heard>,
     // What became of listeners, in the order of the calls. The thread of input and output has not followed yet.
@@ -64,17 +66,18 @@ pub(crate) struct Locked<L: Listener> {
 }
 
 impl<L: Listener> Locked<L> {
-    pub(crate) fn new(alloc: Global, desk: Desk) -> Locked<L> {
-        Locked {
+    pub(crate) fn new(alloc: Global, desk: Desk) -> Result<Locked<L>, AllocError> {
+        Ok(Locked {
             desk,
             links: Vec::new(alloc),
+            spread: Spread::new(alloc)?,
             told: Vec::new(alloc),
             changes: Vec::new(alloc),
             unsent: 0,
             lead: Lead::new(),
             moment: 0,
             ending: false,
-        }
+        })
     }
 
     // A request was made. It says whether there is nothing more to be done for it now.
@@ -186,6 +189,8 @@ pub(crate) struct Shared<L: Listener> {
     crowded: AtomicU64,
     // 1 if the thread of input and output has ended.
     ended: AtomicU64,
+    // How many subscriptions were cancelled.
+    cancels: AtomicU64,
 }
 
 impl<L: Listener> Shared<L> {
@@ -206,6 +211,7 @@ impl<L: Listener> Shared<L> {
             waiting: AtomicU64::new(0),
             crowded: AtomicU64::new(0),
             ended: AtomicU64::new(0),
+            cancels: AtomicU64::new(0),
         }
     }
 
@@ -443,6 +449,16 @@ impl<L: Listener> Shared<L> {
 
     pub(crate) fn has_ended(&self) -> bool {
         self.ended.load(Ordering::SeqCst) == 1
+    }
+
+    // A subscription was cancelled, which lies among the changes.
+    pub(crate) fn cancel(&self) {
+        self.cancels.fetch_add(1, Ordering::SeqCst);
+    }
+
+    // How many were cancelled.
+    pub(crate) fn cancels(&self) -> u64 {
+        self.cancels.load(Ordering::SeqCst)
     }
 }
 

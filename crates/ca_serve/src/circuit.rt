@@ -1,5 +1,6 @@
 ghost use Rattle.std.specs.Prelude.{◌≡◌, ◌<◌, ◌≤◌, length};
 
+use crate::ahead::Ahead;
 use crate::line::{Line, Moved, Written};
 use crate::locked::{Locked, Shared, ring};
 use crate::processing::Device;
@@ -137,7 +138,7 @@ fn turned<L: Ledger, D: Device, R: Wait + Clock>(
     let locked = &mut *guard;
     let applied = locked.state.applied();
     take_in(locked, circuit, moved, line.input.as_slice());
-    let turn = steps(rt, locked, circuit, share);
+    let turn = steps(rt, locked, circuit, share, &mut line.ahead);
     let turn = take_out(locked, circuit, turn, line);
     let is_stirred = locked.state.applied() != applied;
     if is_stirred {
@@ -193,27 +194,26 @@ fn take_in<L: Ledger>(locked: &mut Locked<L>, circuit: Handle, moved: Moved, buf
     }
 }
 
-// Handles messages of a circuit, up to a number of them, and then puts its updates out. The machine's time is handed in first, and each write of the turn has
-// a time stamp of its own.
+// Handles messages of a circuit, up to a number of them, and then puts its updates out. While a message that may apply a write is ahead the machine's time is
+// handed in before each: to read the clock takes as long as a third of a put, so that messages which all read are spared it.
 fn steps<L: Ledger, R: Clock>(
     rt: &R,
     locked: &mut Locked<L>,
     circuit: Handle,
     share: &mut Share<L>,
+    ahead: &mut Ahead,
 ) -> Turn
     requires { 0 < share.old.parts }
     ensures { share.new.parts ≡ share.old.parts }
 {
-    locked.stamp(rt);
     for _ in 0..STEPS {
-        let applied = locked.state.applied();
+        if ahead.writes() {
+            locked.stamp(rt);
+        }
         match locked.step(circuit, share) {
-            Some(Step::Handled) => {
-                if locked.state.applied() != applied {
-                    locked.stamp_again();
-                }
-            }
+            Some(Step::Handled) => {}
             Some(Step::NeedBytes) => {
+                ahead.all_handled();
                 locked.state.pump(circuit);
                 return Turn::Idle;
             }

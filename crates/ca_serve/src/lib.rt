@@ -6,6 +6,7 @@
 #![tactic(auto)]
 
 mod accepting;
+mod ahead;
 mod circuit;
 mod clock;
 mod datagrams;

@@ -1,6 +1,6 @@
 ghost use Rattle.std.specs.Prelude.{◌≡◌, ◌<◌};
 
-use crate::clock::{next_stamp, parts_of, stamp_after};
+use crate::clock::{parts_of, stamp_after};
 use crate::processing::Device;
 use ca_arena::Handle;
 use ca_server::{State, locked_finish, locked_step};
@@ -139,17 +139,8 @@ impl<L: Ledger> Locked<L> {
 
     /// Hands the machine's time in: the next write that is applied has this time stamp, and no write had it before.
     pub(crate) fn stamp<R: Clock>(&mut self, rt: &R) {
-        self.hand_in(stamp_after(rt, self.stamped));
-    }
-
-    /// The same in the turn of a write: one nanosecond more. To read the clock takes as long as a third of a put.
-    pub(crate) fn stamp_again(&mut self) {
-        self.hand_in(next_stamp(self.stamped));
-    }
-
-    fn hand_in(&mut self, stamp: u64) {
-        self.stamped = stamp;
-        let (seconds, nanos) = parts_of(stamp);
+        self.stamped = stamp_after(rt, self.stamped);
+        let (seconds, nanos) = parts_of(self.stamped);
         self.state.stamp(seconds, nanos);
     }
 

@@ -1,5 +1,5 @@
-//! The tests of the libraries, a module for each, in a crate of their own: a crate with tests is proved a second time, with them, and this one has
-//! nothing else to prove. They show what no contract says. What a core shows of these libraries is a line of `tools/calls/by-hand`, and each
+//! The tests of the libraries, a module for each, in a crate of their own, which is run and not proved: a crate with tests would be proved a second time,
+//! with them. They show what no contract says. What a core shows of these libraries is a line of `tools/calls/by-hand`, and each
 //! growth of theirs is refused there by `tools/growths`; what the program shows is a case in `vectors`.
 #![tactic(auto)]
 
@@ -13,6 +13,8 @@ mod dbr;
 mod dgram;
 #[cfg(test)]
 mod drawn;
+#[cfg(test)]
+mod ids;
 #[cfg(test)]
 mod lines;
 #[cfg(test)]

@@ -55,3 +55,16 @@ fn a_beacon_goes_to_the_others(rt: HostRuntime) -> Result<(), Fail> {
     assert!(rt; fans(&mut repeater, 40_000, BLANK, &[40_002], FILLED)?);
     Ok(())
 }
+
+#[test]
+fn a_65th_member_gets_nothing(rt: HostRuntime) -> Result<(), Fail> {
+    let mut repeater = RepeaterCore::new(rt.alloc());
+    for port in 40_000..40_064 {
+        assert!(rt; fans(&mut repeater, port, REGISTER, &[port], CONFIRM)?);
+    }
+    assert!(rt; fans(&mut repeater, 40_064, REGISTER, &[], CONFIRM)?);
+    assert!(rt; fans(&mut repeater, 40_063, REGISTER, &[40_063], CONFIRM)?);
+    let sends = repeater.receive(local(40_064), BLANK)?;
+    assert!(rt; sends.len() == 64 && sends.iter().all(|sent| sent.to() != local(40_064)));
+    Ok(())
+}

@@ -1,10 +1,13 @@
-//! Calls of a context that the other programs do not make, against a server: requests by one call, a subscription that is refused and one that is cancelled,
-//! waits that end in their time, at once for a ticket that has ended, and at the end of the client; and a context that is dropped.
+//! Calls of a context that the other programs do not make, against a server: requests by one call, reads into the memory of a value and reads that nobody waits
+//! for, a subscription that is refused and one that is cancelled, waits that end in their time, at once for a ticket that has ended, and at the end of the client;
+//! and a context that is dropped.
 
 use crate::client::setting;
+use crate::moments::{began, is_within};
 use crate::server::{bound, start_server};
 use crate::{say_yes, tell};
 use ca_arena::Handle;
+use ca_board::Ticket;
 use ca_client::{Caller, Request};
 use ca_client_context::{Context, Listener, Waited, Work, start};
 use ca_client_core::ChannelState;
@@ -18,10 +21,18 @@ use std::sync::atomic::{AtomicU64, Ordering};
 use std::sync::{Arc, Wait};
 use std::thread;
 use std::thread::Threads;
-use std::time::{Clock, Duration, Instant};
+use std::time::{Clock, Duration};
 
 /// Waits for at most so many turns, which is long on an idle machine.
 const TURNS: u64 = 2_000;
+
+/// What is there at once is there within so many milliseconds: much less than a long wait takes.
+const SOON: u64 = 5_000;
+
+/// Reads one after another, each of which is waited for. They take some milliseconds, and this many if each is left to a turn of another thread.
+const READS: u64 = 500;
+
+const LEFT: u64 = 4_000;
 
 /// A wait that is to end before this.
 fn long() -> Duration {
@@ -106,7 +117,7 @@ fn show_ended<
     say_yes(
         out,
         "the end ends the wait of another:",
-        is_soon(&rt, &began),
+        is_within(&rt, &began, SOON),
     )
 }
 
@@ -147,6 +158,7 @@ fn show_calls<R: Wait + Clock, W: Write>(
     }
     let mut caller = context.caller(rt)?;
     show_requests(rt, alloc, context, channel, &mut caller, out)?;
+    show_reads(rt, alloc, context, channel, &mut caller, out)?;
     show_waits(rt, context, channel, &mut caller, out)?;
     show_subscriptions(rt, alloc, context, channel, &mut caller, out)
 }
@@ -176,6 +188,54 @@ fn show_requests<R: Wait + Clock, W: Write>(
     tell(out, "reads by one call", right)
 }
 
+/// Reads into the memory of a value, reads that are looked for and not waited for, and many that are waited for in turn.
+fn show_reads<R: Wait + Clock, W: Write>(
+    rt: &R,
+    alloc: Global,
+    context: &Context<Counting>,
+    channel: Handle,
+    caller: &mut Caller,
+    out: &mut W,
+) -> Result<(), Refusal> {
+    let began = began(rt)?;
+    let mut right = 0u64;
+    for _ in 0..READS {
+        let room = Value::Longs(vec![in alloc; 5; 3]?);
+        let ticket = context.get_into(rt, channel, 5, 1, room)?;
+        if let Waited::Outcome(outcome) = context.wait_for(rt, caller, ticket, long()) {
+            right = right.wrapping_add(u64::from(is_21(&outcome)));
+        }
+    }
+    tell(out, "reads into the memory of a value", right)?;
+    say_yes(
+        out,
+        "each is read by whoever waits for it:",
+        is_within(rt, &began, LEFT),
+    )?;
+    let mut found = 0u64;
+    for _ in 0..10 {
+        let ticket = context.get(rt, channel, 5, 1)?;
+        found = found.wrapping_add(u64::from(is_found(rt, context, caller, ticket)));
+    }
+    tell(out, "reads that nobody waits for", found)
+}
+
+/// Whether an outcome comes that is looked for every millisecond.
+fn is_found<R: Wait + Clock>(
+    rt: &R,
+    context: &Context<Counting>,
+    caller: &mut Caller,
+    ticket: Ticket,
+) -> bool {
+    for _ in 0..SOON {
+        if let Some(outcome) = context.collect(caller, ticket) {
+            return is_21(&outcome);
+        }
+        thread::sleep(rt, Duration::from_millis(1));
+    }
+    false
+}
+
 fn is_21(outcome: &Outcome) -> bool {
     match outcome {
         Outcome::Value(Value::Longs(longs), _) => longs.first() == Some(&21),
@@ -196,11 +256,11 @@ fn show_waits<R: Wait + Clock, W: Write>(
     let began = began(rt)?;
     let second = context.wait_for(rt, caller, ticket, long());
     let is_over = matches!(first, Waited::Outcome(_)) && matches!(second, Waited::Over);
-    let is_over = is_over && is_soon(rt, &began);
+    let is_over = is_over && is_within(rt, &began, SOON);
     say_yes(out, "a ticket that has ended is told at once:", is_over)?;
     let nobody = context.open(rt, b"NONE", 0)?;
     let state = context.wait_live_for(rt, nobody, Duration::from_millis(50))?;
-    let is_searching = state == ChannelState::Searching && is_soon(rt, &began);
+    let is_searching = state == ChannelState::Searching && is_within(rt, &began, SOON);
     context.clear(rt, nobody)?;
     let is_stale = context.wait_live_for(rt, nobody, long()) == Err(Refusal::StaleHandle);
     say_yes(
@@ -253,19 +313,4 @@ fn show_subscriptions<R: Wait + Clock, W: Write>(
         "after it was cancelled nothing more is heard:",
         heard.load(Ordering::SeqCst) == 1,
     )
-}
-
-fn began<R: Clock>(rt: &R) -> Result<Instant, Refusal> {
-    match Instant::now(rt) {
-        Ok(now) => Ok(now),
-        Err(_) => Err(Refusal::Device),
-    }
-}
-
-/// Whether much less time has passed than a long wait takes.
-fn is_soon<R: Clock>(rt: &R, began: &Instant) -> bool {
-    match began.elapsed(rt) {
-        Ok(passed) => passed < Duration::from_millis(5_000),
-        Err(_) => false,
-    }
 }

@@ -1,7 +1,8 @@
-//! A server whose device holds a put until a read on another circuit was answered, and two clients of it, which speak the protocol by hand.
+//! A server whose device holds a put until a read on another circuit was answered, and two clients of it, which speak the protocol by hand. More puts come
+//! meanwhile than may wait.
 
 use crate::server::bound;
-use crate::wire::{connected, greet, is_done, opened, put, read};
+use crate::wire::{connected, greet, is_done, is_refused, opened, put, read};
 use crate::{say_yes, tell};
 use ca_dbr::Value;
 use ca_script::{RecordFile, read_records};
@@ -30,7 +31,10 @@ struct Gate {
     signs: Arc<Signs>,
 }
 
-const TURNS: u32 = 1_000_000;
+const TURNS: u32 = 20_000_000;
+
+/// Puts that may wait for a busy record.
+const WAITING: u8 = 16;
 
 impl Device for Gate {
     fn process(&self, _record: &[u8], _value: &Value) {
@@ -129,22 +133,20 @@ fn talk<R: Net<Stream = TcpStream, Listener = TcpListener>, W: Write>(
     let sid = opened(&first, b'W')?;
     put(&first, sid, 42)?;
     say_yes(out, "the device has the put:", is_set(&signs.entered))?;
-    let read_beside = is_read(&second);
+    let other = opened(&second, b'W')?;
+    let read_beside = read(&second, other).is_ok();
     say_yes(out, "a read on another circuit is answered:", read_beside)?;
-    signs.opened.store(1, Ordering::SeqCst);
-    end(&first, sid, out)
-}
-
-/// Whether a read on this circuit is answered.
-fn is_read(stream: &TcpStream) -> bool {
-    match opened(stream, b'W') {
-        Ok(sid) => read(stream, sid).is_ok(),
-        Err(_) => false,
+    for value in 0..=WAITING {
+        put(&second, other, value)?;
     }
-}
-
-/// The put on this circuit was let go.
-fn end<W: Write>(stream: &TcpStream, sid: u32, out: &mut W) -> Result<(), Refusal> {
-    say_yes(out, "the put is done:", is_done(stream)?)?;
-    tell(out, "its circuit reads", read(stream, sid)?)
+    let is_full = is_refused(&second)?;
+    say_yes(out, "one put more than may wait is refused:", is_full)?;
+    signs.opened.store(1, Ordering::SeqCst);
+    say_yes(out, "the put is done:", is_done(&first)?)?;
+    let mut done = 0u64;
+    for _ in 0..WAITING {
+        done = done.wrapping_add(u64::from(is_done(&second)?));
+    }
+    tell(out, "puts that waited and are done", done)?;
+    tell(out, "its circuit reads", read(&first, sid)?)
 }

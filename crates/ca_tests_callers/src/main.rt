@@ -2,7 +2,11 @@
 //!
 //! - a server whose device holds a put until a read on another circuit was answered (`holding`);
 //! - the lines `get`, `put` and `monitor`, what each says, and its status (`lines`);
-//! - a client whose callers are four threads (`callers`), and the calls that these do not make (`calls`).
+//! - servers whose device takes its time (`fairness`);
+//! - a client whose callers are four threads (`callers`), and the calls that these do not make (`calls`);
+//! - listeners that take their time (`listening`);
+//! - what a client does on its circuits, seen by a server by hand (`conduct`, `peer`), and clients of name servers, a repeater and two servers (`settings`);
+//! - a client with 10,000 subscriptions on one server (`spreading`).
 //!
 //! With the words PORT CALLERS READS WINDOW it prints instead the microseconds that so many reads of TEMP by each caller took, with so many outstanding
 //! at each, from when the channel was live (`timing`).
@@ -11,10 +15,17 @@
 mod callers;
 mod calls;
 mod client;
+mod conduct;
 mod desk;
+mod fairness;
 mod holding;
 mod lines;
+mod listening;
+mod moments;
+mod peer;
 mod server;
+mod settings;
+mod spreading;
 mod timing;
 mod wire;
 
@@ -69,9 +80,15 @@ fn show<
 >(rt: R, alloc: Global, out: &mut W, err: &mut E) -> Result<(), Refusal> {
     desk::show(alloc, out)?;
     holding::show(rt, alloc, out)?;
+    fairness::show(rt, alloc, out)?;
     lines::show(rt, alloc, out, err)?;
     callers::show(rt, alloc, out)?;
-    calls::show(rt, alloc, out)
+    listening::show(rt, alloc, out)?;
+    calls::show(rt, alloc, out)?;
+    let conduct = conduct::show(rt, alloc, out);
+    settings::show(rt, alloc, out)?;
+    spreading::show(rt, alloc, out)?;
+    conduct
 }
 
 /// Tells a number.

@@ -16,7 +16,7 @@ pub(crate) fn connected<R: Net<Stream = TcpStream, Listener = TcpListener>>(
 }
 
 /// Sends these bytes.
-fn send(stream: &TcpStream, bytes: &[u8]) -> Result<(), Refusal> {
+pub(crate) fn send(stream: &TcpStream, bytes: &[u8]) -> Result<(), Refusal> {
     let mut wire = stream;
     match wire.write_all(bytes) {
         Ok(()) => Ok(()),
@@ -25,7 +25,7 @@ fn send(stream: &TcpStream, bytes: &[u8]) -> Result<(), Refusal> {
 }
 
 /// Fills this place with the bytes that come.
-fn take(stream: &TcpStream, bytes: &mut [u8]) -> Result<(), Refusal> {
+pub(crate) fn take(stream: &TcpStream, bytes: &mut [u8]) -> Result<(), Refusal> {
     let mut wire = stream;
     match wire.read_exact(bytes) {
         Ok(()) => Ok(()),
@@ -63,6 +63,13 @@ pub(crate) fn is_done(stream: &TcpStream) -> Result<bool, Refusal> {
     let mut reply = [0u8; 16];
     take(stream, &mut reply)?;
     Ok(reply == [0, 19, 0, 0, 0, 5, 0, 1, 0, 0, 0, 1, 0, 0, 0, 1])
+}
+
+/// Whether the put under IOID 1 is refused with PUTFAIL.
+pub(crate) fn is_refused(stream: &TcpStream) -> Result<bool, Refusal> {
+    let mut reply = [0u8; 16];
+    take(stream, &mut reply)?;
+    Ok(reply == [0, 19, 0, 0, 0, 5, 0, 1, 0, 0, 0, 160, 0, 0, 0, 1])
 }
 
 /// The value that a read is answered with.

@@ -9,18 +9,18 @@ use std::sync::atomic::{AtomicBool, Ordering};
 // Updates that wait to be printed, at most.
 const UPDATES: usize = 1_024;
 
-// Hears the updates of a monitor, and hands them over to the thread that prints them. One for which there is no room or no memory is left out, which
-// that thread is told.
+/// Hears the updates of a monitor, on the thread of input and output, and hands them over to the thread that prints them. One for which there is no room or no
+/// memory is left out, which that thread is told.
 #[derive(Drop)]
-pub(crate) struct Ear {
+pub struct Ear {
     alloc: Global,
     updates: Producer<Outcome>,
     missed: Arc<AtomicBool>,
 }
 
-// Where what an ear hears comes out.
+/// Where what an ear hears comes out, in order: up to 1,024 updates wait there.
 #[derive(Drop)]
-pub(crate) struct Heard {
+pub struct Heard {
     updates: Consumer<Outcome>,
     missed: Arc<AtomicBool>,
 }
@@ -54,8 +54,8 @@ impl Heard {
     }
 }
 
-// A listener, and where what it hears comes out.
-pub(crate) fn new_ear(alloc: Global) -> Result<(Ear, Heard), Refusal> {
+/// A listener, and where what it hears comes out. Refused as OutOfMemory.
+pub fn new_ear(alloc: Global) -> Result<(Ear, Heard), Refusal> {
     let missed = Arc::new(alloc, AtomicBool::new(false))?;
     let told = Arc::try_clone(&missed)?;
     let (heard, updates) = RingBuffer::new(alloc, UPDATES)?;

@@ -12,6 +12,7 @@ mod tool;
 mod tool_line;
 mod turns;
 
+pub use ear::{Ear, Heard, new_ear};
 pub use line::{ServeLine, read_serve};
 pub use program::{run, takes};
 pub use serving::serve_run;

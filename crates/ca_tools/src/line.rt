@@ -1,9 +1,9 @@
-use ca_script::decimal;
+use ca_script::{Words, decimal, read_server};
 use ca_text::Refusal;
 use clap::error::ErrorKind;
 use clap::{Arg, Command};
 use std::alloc::{AllocError, Global};
-use std::net::SocketAddrV4;
+use std::net::{Ipv4Addr, SocketAddrV4};
 
 /// `serve --records FILE --listen A:P [--circuits N]`: the file of the records, where circuits and datagrams are taken, and how many circuits
 /// are to be closed until it ends, if it ends at all.
@@ -56,9 +56,7 @@ fn meant<'a>(
     circuits: Option<&str>,
 ) -> Option<ServeLine<'a>> {
     let records = records?;
-    let Ok(listen) = listen?.parse::<SocketAddrV4>() else {
-        return None;
-    };
+    let listen = socket_address(listen?)?;
     let circuits = match circuits {
         None => None,
         Some(text) => Some(decimal(text.as_bytes())?),
@@ -68,4 +66,10 @@ fn meant<'a>(
         listen,
         circuits,
     })
+}
+
+/// The address that a word is, dotted and with a port, in decimal numbers as scripts have them: none if it is no such word.
+pub(crate) fn socket_address(word: &str) -> Option<SocketAddrV4> {
+    let (address, port) = read_server(Words::new(word.as_bytes())).ok()?;
+    Some(SocketAddrV4::new(Ipv4Addr::from_bits(address), port))
 }

@@ -1,13 +1,17 @@
 ghost use Rattle.std.specs.Prelude.{◌<◌, ◌^◌};
 
-use crate::line::read_serve;
+use crate::ear::new_ear;
+use crate::line::{ServeLine, read_serve};
 use crate::serving::serve_run;
 use crate::tool::tool_run;
-use crate::tool_line::{Verb, read_tool, verb_of};
+use crate::tool_line::{ToolLine, Verb, read_tool, verb_of};
 use ca_link::{Sink, not_understood, report};
+use ca_script::{RecordFile, read_records};
+use ca_text::Refusal;
 use std::alloc::Global;
-use std::io::Write;
-use std::net::{Net, TcpListener, TcpStream};
+use std::fs::File;
+use std::io::{ErrorKind, Read, Write};
+use std::net::{Net, SocketAddr, SocketAddrV4, TcpListener, TcpStream, UdpSocket};
 use std::rt::Files;
 use std::sync::Wait;
 use std::thread::Threads;
@@ -63,9 +67,83 @@ fn run_serve<
     requires sink_faults { K.fault_count sink.old < 2 ^ 63 }
 {
     match read_serve(alloc, words) {
-        Ok(Some(line)) => serve_run(rt, alloc, line, sink, err),
+        Ok(Some(line)) => serve_line(rt, alloc, line, sink, err),
         Ok(None) => not_understood(err),
         Err(refusal) => report(Err(refusal), err),
+    }
+}
+
+// The file is judged first, then the sockets are bound.
+fn serve_line<
+    R: Threads
+        + Wait
+        + Clock
+        + Net<Stream = TcpStream, Listener = TcpListener>
+        + Files
+        + Copy
+        + Send
+        + 'static,
+    K: Sink,
+    W: Write,
+>(rt: R, alloc: Global, line: ServeLine<'_>, sink: &mut K, err: &mut W) -> u8
+    requires sink_calls { K.call_count sink.old < 2 ^ 63 }
+    requires sink_faults { K.fault_count sink.old < 2 ^ 63 }
+{
+    match made_ready(&rt, alloc, line) {
+        Ok((file, listener, datagrams)) => serve_run(
+            rt,
+            alloc,
+            file,
+            listener,
+            datagrams,
+            line.circuits,
+            sink,
+            err,
+        ),
+        Err(refusal) => report(Err(refusal), err),
+    }
+}
+
+// Refused as Device if the file cannot be read or a socket cannot be bound, as BadText if the file is not understood, and as OutOfMemory.
+fn made_ready<R: Net<Stream = TcpStream, Listener = TcpListener> + Files>(
+    rt: &R,
+    alloc: Global,
+    line: ServeLine<'_>,
+) -> Result<(RecordFile, TcpListener, UdpSocket), Refusal> {
+    let text = bytes_of(rt, alloc, line.records)?;
+    let file = read_records(alloc, &text)?;
+    let (listener, datagrams) = bound(rt, line.listen)?;
+    Ok((file, listener, datagrams))
+}
+
+fn bytes_of<R: Files>(rt: &R, alloc: Global, file: &str) -> Result<Vec<u8>, Refusal> {
+    let Ok(mut file) = File::open(rt, file) else {
+        return Err(Refusal::Device);
+    };
+    let mut bytes = Vec::new(alloc);
+    match file.read_to_end(&mut bytes) {
+        Ok(_) => Ok(bytes),
+        Err(error) => match error.kind() {
+            ErrorKind::OutOfMemory => Err(Refusal::OutOfMemory),
+            _ => Err(Refusal::Device),
+        },
+    }
+}
+
+// The listener first, and then the socket for datagrams, on its port.
+fn bound<R: Net<Stream = TcpStream, Listener = TcpListener>>(
+    rt: &R,
+    listen: SocketAddrV4,
+) -> Result<(TcpListener, UdpSocket), Refusal> {
+    let Ok(listener) = TcpListener::bind(rt, SocketAddr::V4(listen)) else {
+        return Err(Refusal::Device);
+    };
+    let Ok(address) = listener.local_addr() else {
+        return Err(Refusal::Device);
+    };
+    match UdpSocket::bind(rt, address) {
+        Ok(datagrams) => Ok((listener, datagrams)),
+        Err(_) => Err(Refusal::Device),
     }
 }
 
@@ -82,8 +160,26 @@ fn run_tool<
     W: Write,
 >(rt: R, alloc: Global, verb: Verb, words: &[String], sink: &mut K, err: &mut W) -> u8 {
     match read_tool(alloc, verb, words) {
-        Ok(Some(line)) => tool_run(rt, alloc, line, sink, err),
+        Ok(Some(line)) => use_tool(rt, alloc, line, sink, err),
         Ok(None) => not_understood(err),
+        Err(refusal) => report(Err(refusal), err),
+    }
+}
+
+fn use_tool<
+    R: Threads
+        + Wait
+        + Clock
+        + Net<Stream = TcpStream, Listener = TcpListener>
+        + Copy
+        + Drop
+        + Send
+        + 'static,
+    K: Sink,
+    W: Write,
+>(rt: R, alloc: Global, line: ToolLine<'_>, sink: &mut K, err: &mut W) -> u8 {
+    match new_ear(alloc) {
+        Ok(ear) => tool_run(rt, alloc, line, ear, sink, err),
         Err(refusal) => report(Err(refusal), err),
     }
 }

@@ -21,6 +21,8 @@ use std::time::{Clock, Duration};
 const VALUES: u16 = 1;
 
 /// Reads, puts or monitors a channel: tells on the sink what came, and a refusal on `err`, and returns the exit status.
+///
+/// A monitor's updates are heard by this ear, and printed as they come out of what belongs to it; and if one was left out by a further pair, as `new_ear` makes it.
 pub fn tool_run<
     R: Threads
         + Wait
@@ -32,8 +34,8 @@ pub fn tool_run<
         + 'static,
     K: Sink,
     W: Write,
->(rt: R, alloc: Global, line: ToolLine<'_>, sink: &mut K, err: &mut W) -> u8 {
-    let outcome = used(rt, alloc, line, sink);
+>(rt: R, alloc: Global, line: ToolLine<'_>, ear: (Ear, Heard), sink: &mut K, err: &mut W) -> u8 {
+    let outcome = used(rt, alloc, line, ear, sink);
     report(outcome, err)
 }
 
@@ -48,11 +50,17 @@ fn used<
         + Send
         + 'static,
     K: Sink,
->(rt: R, alloc: Global, line: ToolLine<'_>, sink: &mut K) -> Result<(), Refusal> {
+>(
+    rt: R,
+    alloc: Global,
+    line: ToolLine<'_>,
+    ear: (Ear, Heard),
+    sink: &mut K,
+) -> Result<(), Refusal> {
     ChannelName::read(line.name.as_bytes())?;
     let setting = setting_of(alloc, line.server)?;
     let (context, engine) = Context::new(rt, alloc, setting)?;
-    run_beside(rt, alloc, &context, engine, line, sink)
+    run_beside(rt, alloc, &context, engine, line, ear, sink)
 }
 
 fn run_beside<
@@ -71,10 +79,11 @@ fn run_beside<
     context: &Context<Ear>,
     engine: Engine<R, Ear>,
     line: ToolLine<'_>,
+    ear: (Ear, Heard),
     sink: &mut K,
 ) -> Result<(), Refusal> {
     let thread = start(rt, engine)?;
-    let outcome = done(&rt, alloc, context, line, sink);
+    let outcome = done(&rt, alloc, context, line, ear, sink);
     context.end(&rt);
     thread.join(&rt);
     outcome
@@ -104,6 +113,7 @@ fn done<R: Wait + Clock, K: Sink>(
     alloc: Global,
     context: &Context<Ear>,
     line: ToolLine<'_>,
+    ear: (Ear, Heard),
     sink: &mut K,
 ) -> Result<(), Refusal> {
     let turns = Turns::new(rt, line.turns)?;
@@ -113,7 +123,7 @@ fn done<R: Wait + Clock, K: Sink>(
         Task::Get => get(rt, alloc, context, channel, shape, line.name, &turns, sink),
         Task::Put(text) => put(rt, alloc, context, channel, text, line.name, &turns, sink),
         Task::Monitor(updates) => monitor(
-            rt, alloc, context, channel, shape, updates, line.name, &turns, sink,
+            rt, alloc, context, channel, shape, updates, line.name, ear, &turns, sink,
         ),
     }
 }
@@ -186,18 +196,21 @@ fn monitor<R: Wait + Clock, K: Sink>(
     shape: (u16, u32),
     updates: u64,
     name: &str,
+    ear: (Ear, Heard),
     turns: &Turns,
     sink: &mut K,
 ) -> Result<(), Refusal> {
     let mut left = updates;
+    let mut pair = ear;
     for _ in 0..u64::MAX {
-        let (ear, mut heard) = new_ear(alloc)?;
+        let (ear, mut heard) = pair;
         let subscription = subscribe(rt, context, channel, shape, ear)?;
         left = print_updates(rt, alloc, &mut heard, left, name, turns, sink)?;
         if left == 0 {
             break;
         }
         context.unsubscribe(rt, subscription)?;
+        pair = new_ear(alloc)?;
     }
     Ok(())
 }

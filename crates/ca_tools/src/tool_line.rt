@@ -1,6 +1,7 @@
 ghost use Rattle.std.specs.Prelude.{◌≡◌, MatchOption, codes};
 ghost use Rattle.ca_tools.specs.Tools.{name_of};
 
+use crate::line::socket_address;
 use ca_script::decimal;
 use ca_text::Refusal;
 use clap::error::ErrorKind;
@@ -99,7 +100,7 @@ fn grammar<'a>(alloc: Global, verb: Verb) -> Result<Command<'a>, AllocError> {
 /// What the words mean: nothing if one is missing, is no address, no number, or too long.
 fn meant<'a>(verb: Verb, matches: &ArgMatches<'a>) -> Option<ToolLine<'a>> {
     let name = matches.get_str("name")?;
-    let server = matches.get_str("server")?.parse::<SocketAddrV4>().ok()?;
+    let server = socket_address(matches.get_str("server")?)?;
     let turns = match matches.get_str("turns") {
         None => TURNS,
         Some(text) => decimal(text.as_bytes())?,

@@ -1,7 +1,6 @@
-use Rattle.std.proofs.Common.{◌≡◌, ◌+◌, ◌<◌, ℕ, [], None, length, get_or, replicate}
-use Rattle.ca_arena.specs.Filled.{block_slots}
+use Rattle.std.proofs.Common.{◌≡◌, ◌+◌, [], length}
+use Rattle.ca_arena.specs.StoredLayout.{all_items}
 use Rattle.ca_arena.proofs.blocks.Blocks.free.Given as goal
 
 abbrev pub invariant-loop-freed : goal.invariant-loop-freed
-invariant-loop-freed g l =
-    (l._freed + length l.blocks.items ≡ l._freed-end) × ((j : ℕ) → j < length l.blocks.items → get_or l.blocks.items j [] ≡ replicate block_slots None)
+invariant-loop-freed g l = (l._freed + length l.blocks.items ≡ l._freed-end) × (all_items l.blocks.items ≡ [])

@@ -1,0 +1,358 @@
+//! What a client does on its circuits, seen by a server that speaks by hand: its priority, its subscriptions and their ends, and what becomes of requests that
+//! are given up, are not answered, or whose channel is cleared or lost.
+
+use crate::client::setting;
+use crate::moments::is_within;
+use crate::peer::{Message, Peer, header_of, heard, tell_message, tell_value};
+use crate::{moments, say_yes};
+use ca_arena::Handle;
+use ca_client::Caller;
+use ca_client_context::{Context, Listener, Waited, start};
+use ca_client_core::ChannelState;
+use ca_dbr::{Outcome, Value};
+use ca_text::{Mask, Refusal};
+use std::alloc::Global;
+use std::io::Write;
+use std::net::{Net, TcpListener, TcpStream};
+use std::sync::atomic::{AtomicU64, Ordering};
+use std::sync::{Arc, Wait};
+use std::thread;
+use std::thread::Threads;
+use std::time::{Clock, Duration};
+
+const VERSION: u16 = 0;
+
+const EVENT_ADD: u16 = 1;
+
+const EVENT_CANCEL: u16 = 2;
+
+const WRITE: u16 = 4;
+
+const ERROR: u16 = 11;
+
+const CLEAR: u16 = 12;
+
+const READ_NOTIFY: u16 = 15;
+
+/// A status that a server refuses a subscription with.
+const NO_READ_ACCESS: u32 = 376;
+
+/// Writes one after another: they take some milliseconds, and this many if each is left to a turn.
+const WRITES: u64 = 100;
+
+const LEFT: u64 = 600;
+
+/// Updates that come after a subscription was cancelled.
+const LATE: u8 = 25;
+
+fn long() -> Duration {
+    Duration::from_secs(10)
+}
+
+/// What listeners heard: how many values, and with which status a subscription ended.
+#[derive(Drop)]
+struct Log {
+    values: AtomicU64,
+    status: AtomicU64,
+}
+
+#[derive(Drop)]
+struct Keeping {
+    log: Arc<Log>,
+}
+
+impl Listener for Keeping {
+    fn heard(&mut self, outcome: &Outcome) {
+        match outcome {
+            Outcome::Value(_, _) => {
+                self.log.values.fetch_add(1, Ordering::SeqCst);
+            }
+            Outcome::Failed(status) => {
+                let number = u64::from(status.number);
+                self.log.status.store(number, Ordering::SeqCst);
+            }
+            _ => {}
+        }
+    }
+}
+
+/// A client, a server by hand, and what both use.
+#[derive(Drop)]
+struct Both {
+    alloc: Global,
+    context: Context<Keeping>,
+    caller: Caller,
+    peer: Peer,
+    log: Arc<Log>,
+}
+
+pub(crate) fn show<
+    R: Threads
+        + Wait
+        + Clock
+        + Net<Stream = TcpStream, Listener = TcpListener>
+        + Copy
+        + Drop
+        + Send
+        + 'static,
+    W: Write,
+>(rt: R, alloc: Global, out: &mut W) -> Result<(), Refusal> {
+    let peer = Peer::new(&rt)?;
+    let (context, engine) = Context::<Keeping>::new(rt, alloc, setting(alloc, peer.port)?)?;
+    let log = Log {
+        values: AtomicU64::new(0),
+        status: AtomicU64::new(0),
+    };
+    let thread = start(rt, engine)?;
+    let mut both = Both {
+        alloc,
+        caller: context.caller(&rt)?,
+        context,
+        peer,
+        log: Arc::new(alloc, log)?,
+    };
+    let shown = both.show_all(&rt, out);
+    both.context.end(&rt);
+    thread.join(&rt);
+    shown
+}
+
+impl Both {
+    fn show_all<R: Wait + Clock, W: Write>(&mut self, rt: &R, out: &mut W) -> Result<(), Refusal> {
+        let channel = self.context.open(rt, b"TEMP", 7)?;
+        let (stream, greeting) = self.peer.live(rt)?;
+        let is_first = greeting.command == VERSION && greeting.data_type == 7;
+        say_yes(out, "the first message has the priority:", is_first)?;
+        let state = self.context.wait_live_for(rt, channel, long())?;
+        let is_live = state == ChannelState::Live(5, 1, 3);
+        say_yes(out, "the channel is as it was created:", is_live)?;
+        self.show_requests(rt, channel, &stream, out)?;
+        self.show_refused(rt, channel, &stream, out)?;
+        self.show_cancelled(rt, channel, &stream, out)?;
+        self.show_cleared(rt, channel, &stream, out)?;
+        self.show_lost(rt, out)
+    }
+
+    /// A request that is not answered for a while, one that is given up, and a write.
+    fn show_requests<R: Wait + Clock, W: Write>(
+        &mut self,
+        rt: &R,
+        channel: Handle,
+        stream: &TcpStream,
+        out: &mut W,
+    ) -> Result<(), Refusal> {
+        let ticket = self.context.get(rt, channel, 5, 1)?;
+        let began = moments::began(rt)?;
+        let most = Duration::from_millis(200);
+        let first = self.context.wait_for(rt, &mut self.caller, ticket, most);
+        let is_late = !is_within(rt, &began, 200) && is_within(rt, &began, 5_000);
+        let is_timed = matches!(first, Waited::TimedOut) && is_late;
+        say_yes(out, "a wait ends in its time:", is_timed)?;
+        let began = moments::began(rt)?;
+        let turns = self.context.wait(rt, &mut self.caller, ticket, 20);
+        let is_late = !is_within(rt, &began, 200) && is_within(rt, &began, 1_500);
+        say_yes(out, "and one of twenty turns:", turns.is_none() && is_late)?;
+        let request = heard(stream)?;
+        tell_value(stream, request, 21)?;
+        let then = self.context.wait_for(rt, &mut self.caller, ticket, long());
+        let is_read = request.command == READ_NOTIFY && has(&then, 21);
+        say_yes(out, "its outcome comes later all the same:", is_read)?;
+        let given = self.context.get(rt, channel, 5, 1)?;
+        let other = heard(stream)?;
+        let none = self.context.give_up(&mut self.caller, given);
+        tell_value(stream, other, 22)?;
+        let next = self.read(rt, channel, stream, 23)?;
+        let over = self.context.wait_for(rt, &mut self.caller, given, long());
+        let is_over = none.is_none() && next && matches!(over, Waited::Over);
+        say_yes(out, "a request that was given up has no outcome:", is_over)?;
+        self.show_writes(rt, channel, stream, out)
+    }
+
+    /// Writes one after another, each once the one before has come.
+    fn show_writes<R: Wait + Clock, W: Write>(
+        &mut self,
+        rt: &R,
+        channel: Handle,
+        stream: &TcpStream,
+        out: &mut W,
+    ) -> Result<(), Refusal> {
+        let value = Value::Longs(vec![in self.alloc; 24]?);
+        let began = moments::began(rt)?;
+        let mut written = 0u64;
+        for _ in 0..WRITES {
+            self.context.put(rt, channel, &value)?;
+            written = written.wrapping_add(u64::from(heard(stream)?.command == WRITE));
+        }
+        let is_soon = written == WRITES && is_within(rt, &began, LEFT);
+        say_yes(out, "writes without an outcome go out at once:", is_soon)
+    }
+
+    /// Reads, and answers with this value.
+    fn read<R: Wait + Clock>(
+        &mut self,
+        rt: &R,
+        channel: Handle,
+        stream: &TcpStream,
+        value: u8,
+    ) -> Result<bool, Refusal> {
+        let ticket = self.context.get(rt, channel, 5, 1)?;
+        let request = heard(stream)?;
+        tell_value(stream, request, value)?;
+        let outcome = self.context.wait_for(rt, &mut self.caller, ticket, long());
+        Ok(request.command == READ_NOTIFY && has(&outcome, value))
+    }
+
+    /// Subscribes, and tells what came at the server, and the subscription.
+    fn subscribe<R: Wait + Clock>(
+        &mut self,
+        rt: &R,
+        channel: Handle,
+        stream: &TcpStream,
+    ) -> Result<(Message, Handle), Refusal> {
+        let Some(mask) = Mask::new(1) else {
+            return Err(Refusal::BadEvent);
+        };
+        let listener = Keeping {
+            log: Arc::try_clone(&self.log)?,
+        };
+        match self.context.monitor(rt, channel, 5, 1, mask, listener) {
+            Ok(subscription) => Ok((heard(stream)?, subscription)),
+            Err((_, refusal)) => Err(refusal),
+        }
+    }
+
+    /// A subscription that the server refuses.
+    fn show_refused<R: Wait + Clock, W: Write>(
+        &mut self,
+        rt: &R,
+        channel: Handle,
+        stream: &TcpStream,
+        out: &mut W,
+    ) -> Result<(), Refusal> {
+        let (added, subscription) = self.subscribe(rt, channel, stream)?;
+        let error = Message {
+            command: ERROR,
+            data_type: 0,
+            count: 0,
+            p1: 0,
+            p2: NO_READ_ACCESS,
+        };
+        tell_message(stream, error, &quoted(added))?;
+        let is_told = reaches(rt, &self.log.status, u64::from(NO_READ_ACCESS));
+        let is_over = self.context.unsubscribe(rt, subscription) == Err(Refusal::StaleHandle);
+        let is_ended = added.command == EVENT_ADD && is_told && is_over;
+        say_yes(
+            out,
+            "a subscription that is refused ends with its status:",
+            is_ended,
+        )
+    }
+
+    /// A subscription that is cancelled: one message goes out, and what comes after it is heard by nobody.
+    fn show_cancelled<R: Wait + Clock, W: Write>(
+        &mut self,
+        rt: &R,
+        channel: Handle,
+        stream: &TcpStream,
+        out: &mut W,
+    ) -> Result<(), Refusal> {
+        let (added, subscription) = self.subscribe(rt, channel, stream)?;
+        tell_value(stream, added, 1)?;
+        let is_heard = reaches(rt, &self.log.values, 1);
+        self.context.unsubscribe(rt, subscription)?;
+        let cancelled = heard(stream)?;
+        for value in 0..LATE {
+            tell_value(stream, added, value)?;
+        }
+        // It is the only one if the next message is the read's.
+        let is_only = self.read(rt, channel, stream, 25)?;
+        let is_one = cancelled.command == EVENT_CANCEL && cancelled.p2 == added.p2 && is_only;
+        say_yes(
+            out,
+            "a cancelled subscription sends one message:",
+            is_heard && is_one,
+        )?;
+        let is_quiet = self.log.values.load(Ordering::SeqCst) == 1;
+        say_yes(out, "and hears nothing more:", is_quiet)
+    }
+
+    /// A channel that is cleared while a request is open.
+    fn show_cleared<R: Wait + Clock, W: Write>(
+        &mut self,
+        rt: &R,
+        channel: Handle,
+        stream: &TcpStream,
+        out: &mut W,
+    ) -> Result<(), Refusal> {
+        let ticket = self.context.get(rt, channel, 5, 1)?;
+        let request = heard(stream)?;
+        self.context.clear(rt, channel)?;
+        let began = moments::began(rt)?;
+        let outcome = self.context.wait_for(rt, &mut self.caller, ticket, long());
+        let is_told = is_disconnected(&outcome) && is_within(rt, &began, 5_000);
+        let cleared = heard(stream)?;
+        let is_sent = request.command == READ_NOTIFY && cleared.command == CLEAR;
+        let is_stale = self.context.channel_state(rt, channel) == Err(Refusal::StaleHandle);
+        say_yes(
+            out,
+            "a channel that is cleared ends its requests:",
+            is_told && is_sent && is_stale,
+        )
+    }
+
+    /// A circuit that ends while a request is open: its channel is searched again, and live on another.
+    fn show_lost<R: Wait + Clock, W: Write>(&mut self, rt: &R, out: &mut W) -> Result<(), Refusal> {
+        let channel = self.context.open(rt, b"TEMP", 0)?;
+        let (stream, _) = self.peer.live(rt)?;
+        let _ = self.context.wait_live_for(rt, channel, long())?;
+        let ticket = self.context.get(rt, channel, 5, 1)?;
+        let _ = heard(&stream)?;
+        drop(stream);
+        let outcome = self.context.wait_for(rt, &mut self.caller, ticket, long());
+        say_yes(
+            out,
+            "a circuit that is lost ends its requests:",
+            is_disconnected(&outcome),
+        )?;
+        let (again, _) = self.peer.live(rt)?;
+        let state = self.context.wait_live_for(rt, channel, long())?;
+        let is_back = matches!(state, ChannelState::Live(_, _, _));
+        let is_read = self.read(rt, channel, &again, 26)?;
+        say_yes(
+            out,
+            "and its channel is live on another:",
+            is_back && is_read,
+        )
+    }
+}
+
+/// What an ERROR says after its header: the header of the request, and no text.
+fn quoted(request: Message) -> [u8; 24] {
+    let mut payload = [0u8; 24];
+    payload[0..16].copy_from_slice(&header_of(request, 16));
+    payload
+}
+
+/// Whether a number comes to be this one within some seconds.
+fn reaches<R: Clock>(rt: &R, number: &AtomicU64, wanted: u64) -> bool {
+    for _ in 0..1_000 {
+        if number.load(Ordering::SeqCst) == wanted {
+            return true;
+        }
+        thread::sleep(rt, Duration::from_millis(10));
+    }
+    false
+}
+
+fn has(outcome: &Waited, value: u8) -> bool {
+    match outcome {
+        Waited::Outcome(Outcome::Value(Value::Longs(longs), _)) => {
+            longs.first() == Some(&i32::from(value))
+        }
+        _ => false,
+    }
+}
+
+fn is_disconnected(outcome: &Waited) -> bool {
+    matches!(outcome, Waited::Outcome(Outcome::Disconnected))
+}
