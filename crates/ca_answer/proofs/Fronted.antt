@@ -25,7 +25,8 @@ use Rattle.ca_model.specs.ServerSteps as did
 use Rattle.ca_model.specs.Speech.{Stored}
 use Rattle.ca_server_circuit.proofs.Cleared.{is-same, same-is}
 use Rattle.ca_server_circuit.proofs.Tables.{changed-own}
-use Rattle.ca_server_core.specs.Noting.{HandlesAndFinishes, Notes, Tries, action_at, wrote_busy}
+use Rattle.ca_server_core.specs.Effects.{action_at}
+use Rattle.ca_server_core.specs.Noting.{HandlesAndFinishes, Notes, Tries, wrote_busy}
 use Rattle.ca_server_core.proofs.Each.{each-back, each-ext, each-fuse, each-one-more, under-each}
 use Rattle.ca_server_core.proofs.Finished.{one-changes}
 use Rattle.ca_answer.specs.Fronting.{fronted, fronted_at, fronting, with_front}

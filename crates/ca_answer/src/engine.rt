@@ -94,7 +94,7 @@ impl Engine {
     {
         let mut waiting = 0;
         match self.serve_next(&mut waiting) {
-            Step::Handled => {
+            Step::Handled(_) => {
                 self.keep(waiting, sink, turns)?;
                 Ok(true)
             }

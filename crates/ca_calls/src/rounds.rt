@@ -76,7 +76,7 @@ pub fn handles(alloc: Global, core: &mut ServerCore, mut words: Words<'_>) -> Re
 
 fn handle(core: &mut ServerCore, circuit: Handle, message: &[u8]) -> Result<(), Refusal> {
     core.give(circuit, message)?;
-    let Step::Handled = core.step(circuit) else {
+    let Step::Handled(_) = core.step(circuit) else {
         return Err(Refusal::BadText);
     };
     send(core, circuit);

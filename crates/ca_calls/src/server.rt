@@ -73,7 +73,7 @@ fn give(alloc: Global, core: &mut ServerCore, mut words: Words<'_>) -> Result<()
 /// `step CIRCUIT`.
 fn step(core: &mut ServerCore, mut words: Words<'_>, answer: &mut Answer) -> Result<(), Refusal> {
     match core.step(words.handle()?) {
-        Step::Handled => Ok(()),
+        Step::Handled(_) => Ok(()),
         Step::NeedBytes => answer.word("needs bytes"),
         Step::OutputFull => answer.word("output full"),
         Step::Closed(cause, left) => closed(cause, &left, answer),
@@ -91,7 +91,7 @@ fn handle(
     core.give(circuit, &words.bytes(alloc)?)?;
     for _ in 0..MESSAGES {
         match core.step(circuit) {
-            Step::Handled => {}
+            Step::Handled(_) => {}
             Step::NeedBytes => break,
             Step::OutputFull => return answer.word("output full"),
             Step::Closed(cause, left) => return closed(cause, &left, answer),

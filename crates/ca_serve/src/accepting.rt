@@ -1,7 +1,6 @@
 ghost use Rattle.std.specs.Prelude.{◌≡◌, ◌+◌, ◌-◌, ◌^◌};
 ghost use Rattle.indexmap.specs.IndexMap.{index_map_len};
 
-use crate::ahead::Ahead;
 use crate::circuit::{Circuit, Gathered};
 use crate::line::{Line, ROOM};
 use crate::locked::{Bell, Shared};
@@ -262,7 +261,6 @@ fn new_line<R: Net>(
         poll,
         events: Events::with_capacity(alloc, 4)?,
         input: vec![in alloc; 0; ROOM]?,
-        ahead: Ahead::new(),
         output: Vec::with_capacity(alloc, ROOM)?,
         written: 0,
     };

@@ -1,6 +1,5 @@
 ghost use Rattle.std.specs.Prelude.{◌≡◌, ◌<◌, ◌≤◌, length};
 
-use crate::ahead::Ahead;
 use crate::line::{Line, Moved, Written};
 use crate::locked::{Locked, Shared, ring};
 use crate::processing::Device;
@@ -8,17 +7,14 @@ use crate::work::Work;
 use ca_arena::Handle;
 use ca_server_core::Step;
 use ca_wire::Pipe;
+use indexmap::IndexSet;
 use std::sync::atomic::{AtomicBool, Ordering};
 use std::sync::ledger::{Ledger, Share};
 use std::sync::{Arc, Wait};
-use std::thread;
-use std::time::{Clock, Duration};
+use std::time::Clock;
 
 // Messages that are handled while the lock is held.
 const STEPS: u32 = 64;
-
-// A thread that finds no memory tries again after so many milliseconds.
-const PAUSE: u64 = 10;
 
 // A client that takes nothing of what its closed circuit left is waited for so many times, and for fewer once the server is to end.
 const WAITS: u32 = 300;
@@ -50,8 +46,6 @@ pub(crate) struct Circuit<L: Ledger, D: Device> {
 enum Turn {
     // Messages wait, or bytes to be sent.
     Busy,
-    // A message waits, for which there was no memory.
-    NoMemory,
     // It waits for bytes.
     Idle,
     Closed(Pipe),
@@ -138,7 +132,7 @@ fn turned<L: Ledger, D: Device, R: Wait + Clock>(
     let locked = &mut *guard;
     let applied = locked.state.applied();
     take_in(locked, circuit, moved, line.input.as_slice());
-    let turn = steps(rt, locked, circuit, share, &mut line.ahead);
+    let turn = steps(rt, locked, &shared.slow, circuit, share);
     let turn = take_out(locked, circuit, turn, line);
     let is_stirred = locked.state.applied() != applied;
     if is_stirred {
@@ -165,10 +159,6 @@ fn go_on<R: Clock>(rt: &R, turn: &Turn, line: &mut Line) -> Moved {
         }
         Written::All => match turn {
             Turn::Idle => line.read(rt),
-            Turn::NoMemory => {
-                thread::sleep(rt, Duration::from_millis(PAUSE));
-                Moved::Later
-            }
             _ => Moved::Later,
         },
     }
@@ -194,32 +184,30 @@ fn take_in<L: Ledger>(locked: &mut Locked<L>, circuit: Handle, moved: Moved, buf
     }
 }
 
-// Handles messages of a circuit, up to a number of them, and then puts its updates out. While a message that may apply a write is ahead the machine's time is
-// handed in before each: to read the clock takes as long as a third of a put, so that messages which all read are spared it.
+// Handles messages of a circuit, up to a number of them, and then puts its updates out. The machine's time is handed in before each that may be a write: to read
+// the clock takes as long as a third of a put.
 fn steps<L: Ledger, R: Clock>(
     rt: &R,
     locked: &mut Locked<L>,
+    slow: &IndexSet<Vec<u8>>,
     circuit: Handle,
     share: &mut Share<L>,
-    ahead: &mut Ahead,
 ) -> Turn
     requires { 0 < share.old.parts }
     ensures { share.new.parts ≡ share.old.parts }
 {
     for _ in 0..STEPS {
-        if ahead.writes() {
+        if locked.state.may_write(circuit) {
             locked.stamp(rt);
         }
-        match locked.step(circuit, share) {
-            Some(Step::Handled) => {}
-            Some(Step::NeedBytes) => {
-                ahead.all_handled();
+        match locked.step(slow, circuit, share) {
+            Step::Handled(_) => {}
+            Step::NeedBytes => {
                 locked.state.pump(circuit);
                 return Turn::Idle;
             }
-            Some(Step::OutputFull) => return Turn::Busy,
-            Some(Step::Closed(_, left)) => return Turn::Closed(left),
-            None => return Turn::NoMemory,
+            Step::OutputFull => return Turn::Busy,
+            Step::Closed(_, left) => return Turn::Closed(left),
         }
     }
     locked.state.pump(circuit);

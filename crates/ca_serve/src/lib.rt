@@ -6,7 +6,6 @@
 #![tactic(auto)]
 
 mod accepting;
-mod ahead;
 mod circuit;
 mod clock;
 mod datagrams;

@@ -1,6 +1,5 @@
 ghost use Rattle.std.specs.Prelude.{◌≤◌, length};
 
-use crate::ahead::Ahead;
 use mio::net::TcpStream;
 use mio::{Events, Poll};
 use std::alloc::Global;
@@ -21,8 +20,6 @@ pub(crate) struct Line {
     pub(crate) poll: Poll,
     pub(crate) events: Events<Global>,
     pub(crate) input: Vec<u8>,
-    /// What lies ahead by all that was read.
-    pub(crate) ahead: Ahead,
     pub(crate) output: Vec<u8>,
     /// How many bytes of the output were written.
     pub(crate) written: usize,
@@ -60,12 +57,7 @@ impl Line {
     fn read_some(&mut self) -> Moved {
         match self.stream.read(self.input.as_mut_slice()) {
             Ok(0) => Moved::Ended,
-            Ok(count) => {
-                if let Some(bytes) = self.input.get(..count) {
-                    self.ahead.take(bytes);
-                }
-                Moved::Count(count)
-            }
+            Ok(count) => Moved::Count(count),
             Err(error) => match error.kind() {
                 io::ErrorKind::WouldBlock => Moved::Later,
                 // It is made again after a turn.

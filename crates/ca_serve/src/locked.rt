@@ -4,10 +4,10 @@ use crate::clock::{parts_of, stamp_after};
 use crate::processing::Device;
 use ca_arena::Handle;
 use ca_server::{State, locked_finish, locked_step};
-use ca_server_core::Step;
-use indexmap::IndexMap;
+use ca_server_core::{Effect, Step};
+use indexmap::{IndexMap, IndexSet};
 use mio::Waker;
-use std::alloc::Global;
+use std::alloc::{AllocError, Global};
 use std::collections::VecDeque;
 use std::sync::ledger::{Ledger, Share};
 use std::sync::{Condvar, Mutex, Wait};
@@ -32,8 +32,8 @@ pub(crate) struct Bell {
 #[derive(Drop)]
 pub(crate) struct Locked<L: Ledger> {
     pub(crate) state: State<L>,
-    /// The names of records that a put made busy, and that no thread has taken up yet.
-    pub(crate) busy: VecDeque<Vec<u8>>,
+    /// The records that a put made busy, and that no thread has taken up yet, by their places among the slow ones. There is room for all.
+    pub(crate) busy: VecDeque<usize>,
     /// The bells of the circuits that have a thread, by the index of their handle.
     pub(crate) bells: IndexMap<u16, Bell>,
     /// How often something was done that may leave bytes to be sent on other circuits.
@@ -46,7 +46,6 @@ pub(crate) struct Locked<L: Ledger> {
     pub(crate) gone: Vec<u64>,
     /// The server is to end.
     pub(crate) ending: bool,
-    pub(crate) alloc: Global,
 }
 
 /// What the threads share.
@@ -62,6 +61,9 @@ pub(crate) struct Shared<L: Ledger, D: Device> {
     /// Wakes the thread that answers datagrams.
     pub(crate) answering: Waker,
     pub(crate) device: D,
+    /// The names of the slow records.
+    pub(crate) slow: IndexSet<Vec<u8>>,
+    pub(crate) alloc: Global,
 }
 
 impl<L: Ledger, D: Device> Shared<L, D> {
@@ -69,28 +71,31 @@ impl<L: Ledger, D: Device> Shared<L, D> {
     pub(crate) fn new(
         alloc: Global,
         state: State<L>,
+        slow: IndexSet<Vec<u8>>,
         accepting: Waker,
         answering: Waker,
         device: D,
-    ) -> Shared<L, D> {
-        Shared {
+    ) -> Result<Shared<L, D>, AllocError> {
+        let busy = VecDeque::with_capacity(alloc, slow.len())?;
+        Ok(Shared {
             locked: Mutex::new(Locked {
                 state,
-                busy: VecDeque::new(alloc),
+                busy,
                 bells: IndexMap::new(alloc),
                 rounds: 0,
                 stamped: 0,
                 closed: 0,
                 gone: Vec::new(alloc),
                 ending: false,
-                alloc,
             }),
             given: Condvar::new(),
             stirred: Condvar::new(),
             accepting,
             answering,
             device,
-        }
+            slow,
+            alloc,
+        })
     }
 
     /// Has all threads end.
@@ -115,26 +120,30 @@ pub(crate) fn ring(waker: &Waker) {
 }
 
 impl<L: Ledger> Locked<L> {
-    /// One step of a circuit. A record that it makes busy is handed on. None where there is no memory for that: nothing was done.
-    pub(crate) fn step(&mut self, circuit: Handle, share: &mut Share<L>) -> Option<Step>
+    /// One step of a circuit. A record that it makes busy is handed on.
+    pub(crate) fn step(
+        &mut self,
+        slow: &IndexSet<Vec<u8>>,
+        circuit: Handle,
+        share: &mut Share<L>,
+    ) -> Step
         requires { 0 < share.old.parts }
         ensures { share.new.parts ≡ share.old.parts }
     {
-        let Some(name) = self.state.next_put(circuit) else {
-            return Some(locked_step(&mut self.state, circuit, share));
-        };
-        let Ok(name) = Vec::from_slice(self.alloc, name) else {
-            return None;
-        };
-        if self.busy.reserve(1).is_err() {
-            return None;
-        }
-        let was_busy = self.state.busy_value(&name).is_some();
         let step = locked_step(&mut self.state, circuit, share);
-        if !was_busy && self.state.busy_value(&name).is_some() {
-            self.busy.push_back_reserved(name);
+        if let Step::Handled(Effect::Busied(sid)) = step {
+            if let Some(name) = self.state.served_name(circuit, sid) {
+                if let Some(place) = slow.get_index_of(name) {
+                    self.hand_on(place);
+                }
+            }
         }
-        Some(step)
+        step
+    }
+
+    // A record is to be processed. It is not among those that wait for it, so that there is room.
+    fn hand_on(&mut self, place: usize) {
+        let _full = self.busy.push_back(place);
     }
 
     /// Hands the machine's time in: the next write that is applied has this time stamp, and no write had it before.
@@ -144,21 +153,16 @@ impl<L: Ledger> Locked<L> {
         self.state.stamp(seconds, nanos);
     }
 
-    /// Finishes the put that makes the record of this name busy. If a put that waited makes it busy again, its name goes to the end of those that wait, so that
-    /// no record keeps others waiting. The name comes back if there is no memory for that.
-    pub(crate) fn finish<R: Clock>(&mut self, rt: &R, name: Vec<u8>) -> Option<Vec<u8>> {
+    /// Finishes the put that makes the record of this name busy. If a put that waited makes it busy again, it goes to the end of those that wait to be
+    /// processed, so that no record keeps others waiting.
+    pub(crate) fn finish<R: Clock>(&mut self, rt: &R, place: usize, name: &[u8]) {
         self.stamp(rt);
-        // Its record may have been removed meanwhile.
-        let _refused = locked_finish(&mut self.state, &name);
+        // It is busy.
+        let _refused = locked_finish(&mut self.state, name);
         self.stir();
-        if self.state.busy_value(&name).is_none() {
-            return None;
+        if self.state.busy_value(name).is_some() {
+            self.hand_on(place);
         }
-        if self.busy.reserve(1).is_err() {
-            return Some(name);
-        }
-        self.busy.push_back_reserved(name);
-        None
     }
 
     /// Something was done that may leave bytes to be sent on other circuits.

@@ -1,6 +1,8 @@
 use crate::locked::{Locked, Shared};
 use crate::work::Work;
 use ca_dbr::Value;
+use ca_text::Refusal;
+use std::alloc::Global;
 use std::sync::ledger::Ledger;
 use std::sync::{Arc, Wait};
 use std::thread;
@@ -20,14 +22,6 @@ pub(crate) struct Processor<L: Ledger, D: Device> {
     pub(crate) shared: Arc<Shared<L, D>>,
 }
 
-// What is to be done for a record.
-enum Task {
-    Process(Value),
-    NoMemory,
-    // It is busy no more, or the server is to end.
-    Nothing,
-}
-
 impl<L: Ledger, D: Device> Work<()> for Processor<L, D> {
     // Takes up one record after another, until the server is to end: nobody would hear of a put that is finished then.
     fn run<R: Wait + Clock>(self, rt: &R) {
@@ -41,54 +35,51 @@ impl<L: Ledger, D: Device> Work<()> for Processor<L, D> {
             if guard.ending {
                 break;
             }
-            let Some(name) = guard.busy.pop_front() else {
+            let Some(place) = guard.busy.pop_front() else {
                 break;
             };
             drop(guard);
-            process(rt, &shared, name);
-        }
-    }
-}
-
-// Has the device process the put that makes a record busy. If its name cannot be handed on, the next put of the record is processed here.
-fn process<L: Ledger, D: Device, R: Wait + Clock>(rt: &R, shared: &Shared<L, D>, name: Vec<u8>) {
-    let mut name = name;
-    for _ in rt.forever() {
-        let task = task_of(&*shared.locked.lock(rt), &name);
-        match task {
-            Task::Nothing => break,
-            // A copy that finds no memory is tried again.
-            Task::NoMemory => thread::sleep(rt, Duration::from_millis(1)),
-            Task::Process(value) => {
-                shared.device.process(&name, &value);
-                match finish(rt, shared, name) {
-                    Some(kept) => name = kept,
-                    None => break,
-                }
+            if let Some(name) = shared.slow.get_index(place) {
+                process(rt, &shared, place, name);
             }
         }
     }
 }
 
-fn task_of<L: Ledger>(locked: &Locked<L>, name: &[u8]) -> Task {
-    if locked.ending {
-        return Task::Nothing;
-    }
-    match locked.state.busy_value(name) {
-        None => Task::Nothing,
-        Some(value) => match value.copy(locked.alloc) {
-            Ok(value) => Task::Process(value),
-            Err(_) => Task::NoMemory,
-        },
+// Has the device process the put that makes the record of this name busy.
+fn process<L: Ledger, D: Device, R: Wait + Clock>(
+    rt: &R,
+    shared: &Shared<L, D>,
+    place: usize,
+    name: &[u8],
+) {
+    for _ in rt.forever() {
+        let value = value_of(&*shared.locked.lock(rt), shared.alloc, name);
+        match value {
+            None => break,
+            // A copy that finds no memory is tried again.
+            Some(Err(_)) => thread::sleep(rt, Duration::from_millis(1)),
+            Some(Ok(value)) => {
+                shared.device.process(name, &value);
+                shared.locked.lock(rt).finish(rt, place, name);
+                shared.stirred.notify_all();
+                break;
+            }
+        }
     }
 }
 
-fn finish<L: Ledger, D: Device, R: Wait + Clock>(
-    rt: &R,
-    shared: &Shared<L, D>,
-    name: Vec<u8>,
-) -> Option<Vec<u8>> {
-    let kept = shared.locked.lock(rt).finish(rt, name);
-    shared.stirred.notify_all();
-    kept
+// What was put to the record of this name, unless the server is to end.
+fn value_of<L: Ledger>(
+    locked: &Locked<L>,
+    alloc: Global,
+    name: &[u8],
+) -> Option<Result<Value, Refusal>> {
+    if locked.ending {
+        return None;
+    }
+    match locked.state.busy_value(name) {
+        Some(value) => Some(value.copy(alloc)),
+        None => None,
+    }
 }

@@ -10,7 +10,7 @@ use crate::work::started;
 use ca_records::{Records, Rule};
 use ca_server::State;
 use ca_text::Refusal;
-use indexmap::IndexMap;
+use indexmap::{IndexMap, IndexSet};
 use mio::net::{TcpListener, UdpSocket};
 use mio::{Events, Interest, Poll, Waker};
 use std::alloc::Global;
@@ -85,7 +85,14 @@ fn serve_as<
     let (mut door, desk, accepting, answering) = opened(&rt, alloc, places)?;
     let shared = Arc::new(
         alloc,
-        Shared::new(alloc, state, accepting, answering, device),
+        Shared::new(
+            alloc,
+            state,
+            slow_names(alloc, records)?,
+            accepting,
+            answering,
+            device,
+        )?,
     )?;
     let mut helpers = Vec::with_capacity(alloc, 4)?;
     let helped = start_helpers(rt, &shared, desk, &mut helpers);
@@ -107,6 +114,18 @@ fn serve_as<
     join_helpers(&rt, &mut helpers);
     helped?;
     Ok(shared.locked.lock(&rt).state.audit(&mut all))
+}
+
+// The names of the slow records.
+fn slow_names(alloc: Global, records: &Records) -> Result<IndexSet<Vec<u8>>, Refusal> {
+    let mut names = IndexSet::new(alloc);
+    for place in 0..records.len() {
+        let record = records.at(place);
+        if record.is_slow() {
+            names.insert(Vec::from_slice(alloc, record.name())?)?;
+        }
+    }
+    Ok(names)
 }
 
 // The port of the listener. No call of either socket waits from here on.

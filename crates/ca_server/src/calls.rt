@@ -6,13 +6,13 @@ ghost use Rattle.ca_model.specs.ServerCalls.{AddsRecord, AnswersDatagram, Beacon
 ghost use Rattle.ca_model.specs.ServerSteps.{Accepts, Cuts, Gives, Pumps, Sends, Update, output_of};
 ghost use Rattle.ca_records.specs.Record.{unset};
 ghost use Rattle.ca_server_circuit.specs.Circuits.{is_open};
-ghost use Rattle.ca_server_core.specs.Asking.{busy_value};
-ghost use Rattle.ca_server_core.specs.NextPut.{IsNextPut};
+ghost use Rattle.ca_server_core.specs.Asking.{MayWrite, NamesUnder, busy_value};
 
 use crate::state::State;
 use ca_arena::Handle;
 use ca_dbr::{Meta, Value};
 use ca_text::Refusal;
+use ca_wire::Sid;
 use std::sync::ledger::Ledger;
 
 // The server's other calls under the lock. None of them counts a write.
@@ -79,11 +79,19 @@ impl<L: Ledger> State<L> {
         self.core.cut(circuit);
     }
 
-    /// The name of the record to which the next message of a circuit puts a value with notification, if there is one.
-    pub fn next_put(&self, circuit: Handle) -> Option<&[u8]>
-        ensures { IsNextPut self.now.core circuit (option_map (λ t. t.now) result) }
+    /// Whether the next message of a circuit may be a write, by the low byte of its command.
+    pub fn may_write(&self, circuit: Handle) -> bool
+        ensures { MayWrite self.now.core circuit result }
     {
-        self.core.next_put(circuit)
+        self.core.may_write(circuit)
+    }
+
+    /// The name of the record of the open channel of this SID on a circuit, if that record was not removed. None if its end is not open.
+    pub fn served_name(&self, circuit: Handle, sid: Sid) -> Option<&[u8]>
+        ensures { NamesUnder (under self.now.core.circuits circuit) sid
+            (option_map (λ t. t.now) result) }
+    {
+        self.core.served_name(circuit, sid)
     }
 
     /// The value of the record of this name, if a put makes it busy: what a device is to process.

@@ -4,6 +4,7 @@ ghost use Rattle.ca_ids.specs.Table.{under};
 ghost use Rattle.ca_model.specs.ServerCalls.{waiting};
 ghost use Rattle.ca_server.specs.Locked.{IsAtMost, LockedFinish, LockedStep};
 ghost use Rattle.ca_server_circuit.specs.Circuits.{is_open};
+ghost use Rattle.ca_server_core.specs.Effects.{TellsEffect};
 ghost use Rattle.ca_server_core.specs.Serving.{stepped};
 ghost use Rattle.ca_text.specs.Limits.{applied_limit, arena_slots};
 ghost use Rattle.ca_wire.specs.Fields.{Fields};
@@ -25,6 +26,7 @@ pub fn locked_step<L: Ledger>(state: &mut State<L>, circuit: Handle, share: &mut
     ensures step { LockedStep state.old.core state.old.count state.old.credits.items
         share.old.amount circuit (stepped result) state.new.core state.new.count
         state.new.credits.items share.new.amount }
+    ensures tells { TellsEffect state.old.core circuit result state.new.core }
     ensures parts { share.new.parts ≡ share.old.parts }
 {
     let State {
@@ -54,7 +56,7 @@ fn is_at_most(core: &ServerCore, circuit: Handle) -> bool
     ensures no { IsFalse result → (is_open (under core.now.circuits circuit) ≡ false)
         ⊎ (core.now.applied + waiting core.now < applied_limit) }
 {
-    core.is_open(circuit) && core.applied() + core.waiting() == APPLIED_LIMIT
+    core.applied() + core.waiting() == APPLIED_LIMIT && core.is_open(circuit)
 }
 
 // The place of a circuit's credits.

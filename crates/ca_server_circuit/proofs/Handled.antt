@@ -16,8 +16,8 @@ use Rattle.ca_model.specs.Due.{Action, Clears, Drops, Due, Greets, Names, Nothin
 use Rattle.ca_model.specs.Ends.{Peer}
 use Rattle.ca_model.specs.Server.{ServerEnd, with_events, without_subscriptions}
 use Rattle.ca_model.specs.ServerSteps.{without_channel}
-use Rattle.ca_server_circuit.specs.declared.step.Effect.{Effect}
-use Rattle.ca_server_circuit.specs.declared.step.Effect.TheVariants as effect
+use Rattle.ca_server_circuit.specs.declared.step.FollowUp.{FollowUp}
+use Rattle.ca_server_circuit.specs.declared.step.FollowUp.TheVariants as effect
 use Rattle.ca_server_circuit.specs.Clearing.{Withdraws}
 use Rattle.ca_server_circuit.specs.Creating.{CreatesBy}
 use Rattle.ca_server_circuit.specs.Handling.{Does, Replies, known, replied}
@@ -33,7 +33,7 @@ module _ (port : ℕ) (s : Store) (h : Handle) (e : ServerEnd) (m : Fields) wher
   DueHere r a = Due (known port s e) m r a
 
   -- what was done by the relation of a command was done by what is due
-  pub does-for : (did : Effect) (t : Store) (new : ServerEnd) (c : Command) → m.command ≡ command_number c → is_known (command_number c) ≡ true → command_at (command_number c) ≡ c → Does (DueFor c) s h e m did t new → Does DueHere s h e m did t new
+  pub does-for : (did : FollowUp) (t : Store) (new : ServerEnd) (c : Command) → m.command ≡ command_number c → is_known (command_number c) ≡ true → command_at (command_number c) ≡ c → Does (DueFor c) s h e m did t new → Does DueHere s h e m did t new
   does-for did t new c is yes_it one d = record {
     replies = d.replies;
     action = d.action;
@@ -127,7 +127,7 @@ module _ (port : ℕ) (s : Store) (h : Handle) (e : ServerEnd) (m : Fields) wher
   does-search new is done =
       does-reply new command.Search is refl refl (record { replies = search_due (known port s e) m; due = (refl, refl); leaves = done })
 
-  pub does-create : (new : ServerEnd) (did : Effect) → m.command ≡ command_number command.CreateChannel → CreatesBy port s e m did new → Does DueHere s h e m did s new
+  pub does-create : (new : ServerEnd) (did : FollowUp) → m.command ≡ command_number command.CreateChannel → CreatesBy port s e m did new → Does DueHere s h e m did s new
   does-create new did is (c, told) = record {
     replies = c.replies;
     action = c.action;

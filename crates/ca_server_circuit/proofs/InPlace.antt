@@ -34,7 +34,7 @@ use Rattle.ca_model.specs.Faults.{base_type_of, early_put_fault}
 use Rattle.ca_model.specs.Server.{Server, ServerEnd, new_server}
 use Rattle.ca_model.specs.ServerSteps.{Acts}
 use Rattle.ca_server_circuit.specs.declared.seek.Seat.{Seat}
-use Rattle.ca_server_circuit.specs.declared.step.Effect.{Effect}
+use Rattle.ca_server_circuit.specs.declared.step.FollowUp.{FollowUp}
 use Rattle.ca_server_circuit.specs.declared.cause.Cause.TheVariants as cause
 use Rattle.ca_server_circuit.specs.declared.step.EndStep.TheVariants.{Breaks, Handled}
 use Rattle.ca_server_circuit.specs.Handling as here
@@ -131,12 +131,12 @@ header-first bytes head whole =
     ap made long
 
 -- what came is as it was after what was done
-kept-input : (s t : Store) (h : Handle) (e new : ServerEnd) (m : Fields) (D : List Fields → Action → Type 0) (did : Effect) → Does D s h e m did t new → new.link.input ≡ e.link.input
+kept-input : (s t : Store) (h : Handle) (e new : ServerEnd) (m : Fields) (D : List Fields → Action → Type 0) (did : FollowUp) → Does D s h e m did t new → new.link.input ≡ e.link.input
 kept-input s t h e new m D did d =
     let y : Server = record (new_server 0 0 [] []) { records = records_of s } in
     ap (λ (x : ServerEnd). x.link.input) d.leaves ∙ ap (λ (l : LinkState). l.input) (link-kept y e d.action d.acted (d.acts y refl))
 
-pub whole-still : (s t : Store) (h : Handle) (e new : ServerEnd) (m : Fields) (D : List Fields → Action → Type 0) (did : Effect) (head : Head) → Does D s h e m did t new → IsWhole e.link.input.bytes head → IsWhole new.link.input.bytes head
+pub whole-still : (s t : Store) (h : Handle) (e new : ServerEnd) (m : Fields) (D : List Fields → Action → Type 0) (did : FollowUp) (head : Head) → Does D s h e m did t new → IsWhole e.link.input.bytes head → IsWhole new.link.input.bytes head
 whole-still s t h e new m D did head d whole =
     subst (λ (b : List ℕ). IsWhole b head) (sym (ap (λ (x : Held). x.bytes) (kept-input s t h e new m D did d))) whole
 
@@ -184,7 +184,7 @@ left-fits rs e m rest (Drops k) is = is
 left-fits rs e m rest (Switches on) is = is
 
 -- what was done while the message was there was done without it, once it is dropped
-pub does-dropped : (port : ℕ) (s t : Store) (h : Handle) (e new after : ServerEnd) (m : Fields) (did : Effect) (head : Head)
+pub does-dropped : (port : ℕ) (s t : Store) (h : Handle) (e new after : ServerEnd) (m : Fields) (did : FollowUp) (head : Head)
     → Does (Due (known port s e) m) s h e m did t new → after ≡ after_head head new → Does (Due (known port s (after_head head e)) m) s h (after_head head e) m did t after
 does-dropped port s t h e new after m did head d gone =
     let n = head.start + head.header.size in
@@ -220,7 +220,7 @@ takes-first e head room whole =
     record { room = room; m = first_at bytes head; rest = drop n bytes; takes = (take n bytes, spells-fields_at bytes head whole, sym (take-append-drop n bytes)) }
 
 -- the message was handled, and dropped then
-pub steps-first : (port : ℕ) (h : Handle) (s t : Store) (e mid new : ServerEnd) (head : Head) (did : Effect) → length e.link.output < output_limit → IsWhole e.link.input.bytes head
+pub steps-first : (port : ℕ) (h : Handle) (s t : Store) (e mid new : ServerEnd) (head : Head) (did : FollowUp) → length e.link.output < output_limit → IsWhole e.link.input.bytes head
     → Does (Due (known port s e) (first_at e.link.input.bytes head)) s h e (first_at e.link.input.bytes head) did t mid → new ≡ after_head head mid → EndSteps port h e s (Handled did) new t
 steps-first port h s t e mid new head did room whole d gone =
     (takes-first e head room whole, does-dropped port s t h e mid new (first_at e.link.input.bytes head) did head d gone)

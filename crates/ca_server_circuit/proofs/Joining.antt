@@ -19,7 +19,7 @@ use Rattle.ca_server_circuit.specs.declared.seek.Seat.{Seat}
 use Rattle.ca_server_circuit.specs.Clearing.{without_sid}
 use Rattle.ca_server_circuit.specs.Handling.{Does, Replies, Subscribes, known, replied}
 use Rattle.ca_server_circuit.specs.Seeking.{IsServed}
-use Rattle.ca_server_circuit.specs.declared.step.Effect.TheVariants as effect
+use Rattle.ca_server_circuit.specs.declared.step.FollowUp.TheVariants as effect
 use Rattle.ca_server_circuit.specs.Subscribing.{CanJoin, HasJoined, MayBegin, events_of}
 use Rattle.ca_server_subscriptions.specs.Subscribed.{Joins, Subscribed, has_key, is_of_sid, without_those}
 use Rattle.ca_server_circuit.proofs.Known.{serves}

@@ -1,29 +1,21 @@
--- The put with notification that comes next, by its header and the channel of its SID.
-use Rattle.std.proofs.Common.{◌≡◌, ◌+◌, ℕ, ◌≤◌, ◌⊎◌, inl, inr, true, false, List, ◌++◌, take, drop, length, get_or, Option, Some, None, sym, ap, ◌∙◌, subst, append_assoc, arith}
-use Rattle.std.proofs.lemmas.List.{take-append-drop}
+-- What is asked of a circuit before its next message is handled, and of its channels by their SIDs.
+use Rattle.std.proofs.Common.{◌≡◌, ◌<◌, ℕ, ◌≤◌, ◌⊎◌, inl, inr, true, false, Bool, List, [], ◌∷◌, ◌++◌, length, get_or, Option, Some, None, refl, sym, ap, ◌∙◌, subst, append_assoc, arith}
 use Rattle.ca_arena.specs.declared.handle.Handle.{Handle}
 use Rattle.ca_ids.specs.Table.{Table, by_wire, held}
 use Rattle.ca_ids.specs.Wire.{wire_of}
 use Rattle.ca_link.specs.Link.{TakesFirst}
-use Rattle.ca_text.specs.declared.refusal.Refusal.{Refusal}
 use Rattle.ca_text.specs.Command.{command_number}
 use Rattle.ca_text.specs.Limits.{arena_slots}
 use Rattle.ca_text.specs.declared.command.Command.TheVariants as command
 use Rattle.ca_text.proofs.Places.{some_is}
 use Rattle.ca_wire.specs.Fields.{Fields}
 use Rattle.ca_wire.specs.Message.{header_of}
-use Rattle.ca_wire.specs.Reading.{IsOne}
 use Rattle.ca_wire.specs.declared.header.Header.{Header}
-use Rattle.ca_wire.specs.declared.reading.Head.{Head}
-use Rattle.ca_wire.specs.declared.reading.One.{One}
-use Rattle.ca_wire.specs.declared.reading.One.TheVariants.{Bad, More, Whole}
 use Rattle.ca_wire.specs.Header.{HeaderSpells, SpellsExtended, SpellsShort, number16, number32}
 use Rattle.ca_wire.proofs.Headers.{extended-behind, narrowed, short-behind}
-use Rattle.ca_wire.proofs.Messages.{one-again}
-use Rattle.ca_dgram.proofs.Readings.{fields_at, spells-fields_at}
 use Rattle.ca_model.specs.Server.{OpenChannel, ServerEnd}
 use Rattle.ca_model.specs.Speech.{In}
-use Rattle.ca_server_circuit.specs.NextPut.{NamesBy, PutsBy, PutsFirst}
+use Rattle.ca_server_circuit.specs.Peeking.{FirstWritesNothing, is_write, may_write}
 use Rattle.ca_server_circuit.proofs.Tables.{listed-under, none-some, under-listed, under-wire, wire-under}
 
 -- ---- by SID
@@ -51,11 +43,6 @@ module _ (t : Table OpenChannel) (sid : ℕ) (few : length t ≤ arena_slots) wh
       true-not-false : true ≡ false → ⊥
       true-not-false same = cc
 
--- a header of a put with notification puts to what its SID stands for
-pub puts-named : (e : ServerEnd) (h : Header) (name : Option (List ℕ)) → h.command ≡ command_number command.WriteNotify → NamesBy e h.p1 name → PutsBy e h name
-puts-named e h (Some name) is named = (is, named.0, named.1)
-puts-named e h None is named = λ again. named
-
 -- ---- by the bytes that came
 
 -- the command stands first in either form
@@ -69,55 +56,39 @@ command-first h head back s = by s.form
       ap (λ (z : List ℕ). z ++ back) f.are ∙ extended-behind f.count16 h back ∙ short-behind (narrowed f.count16 h) (number32 h.size ++ (number32 h.count ++ back)),
     )
 
--- bytes of which the second is another one do not begin so
-pub second-is : (bytes rest : List ℕ) → bytes ≡ number16 (command_number command.WriteNotify) ++ rest → (2 ≤ length bytes) × (get_or bytes 1 0 ≡ command_number command.WriteNotify)
+-- fewer than two bytes are no command
+pub few-write : (bytes : List ℕ) → length bytes < 2 → may_write bytes ≡ false
+few-write [] few = refl
+few-write (high ∷ []) few = refl
+few-write (high ∷ low ∷ rest) few = absurd (omega (arith, few))
+
+-- the low byte is the second
+pub low-writes : (bytes : List ℕ) → 2 ≤ length bytes → is_write (get_or bytes 1 0) ≡ may_write bytes
+low-writes [] some = absurd (omega (arith, some))
+low-writes (high ∷ []) some = absurd (omega (arith, some))
+low-writes (high ∷ low ∷ rest) some = refl
+
+-- the command of a message stands first
+begins-with : (e : ServerEnd) (m : Fields) (rest : List ℕ) → TakesFirst e.link m rest → (x : List ℕ) × (e.link.input.bytes ≡ number16 m.command ++ x)
+begins-with e m rest t =
+    let s = t.1 in
+    let f = command-first (header_of m) s.head (m.payload ++ rest) s.header in
+    (f.0, t.2 ∙ ap (λ (z : List ℕ). z ++ rest) s.are ∙ append_assoc s.head m.payload rest ∙ f.1)
+
+true-not-false : true ≡ false → ⊥
+true-not-false same = cc
+
+write-seen : (x : List ℕ) → may_write (number16 (command_number command.Write) ++ x) ≡ true
 unfolding number16
-second-is bytes rest e = (subst (λ (b : List ℕ). 2 ≤ length b) (sym e) (omega arith), ap (λ (b : List ℕ). get_or b 1 0) e)
+write-seen x = refl
 
-module _ (e : ServerEnd) (bytes : List ℕ) (are : bytes ≡ e.link.input.bytes) where
-  -- what stands first is the message that is taken from there
-  first-is : (one : One) (m : Fields) (rest : List ℕ) → TakesFirst e.link m rest → IsOne bytes one → (head : Head) × (one ≡ Whole head) × (head.header ≡ header_of m)
-  first-is one m rest t is = one-again m t.0 rest one t.1 (subst (λ (b : List ℕ). IsOne b one) (are ∙ t.2) is)
+put-seen : (x : List ℕ) → may_write (number16 (command_number command.WriteNotify) ++ x) ≡ true
+unfolding number16
+put-seen x = refl
 
-  whole-is : (g h : Head) → let x : One = Whole g in x ≡ Whole h → g ≡ h
-  whole-is g h same = cc
-
-  whole-header : (head : Head) (m : Fields) (rest : List ℕ) → IsOne bytes (Whole head) → TakesFirst e.link m rest → head.header ≡ header_of m
-  whole-header head m rest is t = (let w = first-is (Whole head) m rest t is in ap (λ (h : Head). h.header) (whole-is head w.0 w.1) ∙ w.2)
-
-  pub puts-whole : (head : Head) (put : Option (List ℕ)) → IsOne bytes (Whole head) → PutsBy e head.header put → PutsFirst e put
-  puts-whole head (Some name) is puts = (
-    (
-      fields_at bytes head,
-      drop (head.start + head.header.size) bytes,
-      (take (head.start + head.header.size) bytes, spells-fields_at bytes head is, sym are ∙ sym (take-append-drop (head.start + head.header.size) bytes)),
-    ),
-    λ m rest t.
-        let h : head.header ≡ header_of m = whole-header head m rest is t in
-        let p : PutsBy e (header_of m) (Some name) = subst (λ (x : Header). PutsBy e x (Some name)) h puts in
-        record { puts = p.0; channel = (p.1.0, (p.1.1, p.1.2, p.1.3)); named = λ c there. p.2 c there.0 there.1 there.2 },
-  )
-  puts-whole head None is puts = λ m rest c t put there.
-      let h : head.header ≡ header_of m = whole-header head m rest is t in
-      let p : PutsBy e (header_of m) None = subst (λ (x : Header). PutsBy e x None) h puts in
-      p put c there.0 there.1 there.2
-
-  -- another command stands first
-  pub puts-other : ((x : List ℕ) → bytes ≡ number16 (command_number command.WriteNotify) ++ x → ⊥) → PutsFirst e None
-  puts-other other = λ m rest c t put there.
-      let s = t.1 in
-      let f = command-first (header_of m) s.head (m.payload ++ rest) s.header in
-      let all : bytes ≡ s.head ++ (m.payload ++ rest) = are ∙ t.2 ∙ ap (λ (z : List ℕ). z ++ rest) s.are ∙ append_assoc s.head m.payload rest in
-      other f.0 (subst (λ (n : ℕ). bytes ≡ number16 n ++ f.0) put (all ∙ f.1))
-
-  pub puts-more : IsOne bytes More → PutsFirst e None
-  puts-more is = λ m rest c t put there. (let w = first-is More m rest t is in never w.0 w.1)
-    where
-      never : (head : Head) → let x : One = More in x ≡ Whole head → ⊥
-      never head same = cc
-
-  pub puts-bad : (r : Refusal) → IsOne bytes (Bad r) → PutsFirst e None
-  puts-bad r is = λ m rest c t put there. (let w = first-is (Bad r) m rest t is in never w.0 w.1)
-    where
-      never : (head : Head) → let x : One = Bad r in x ≡ Whole head → ⊥
-      never head same = cc
+-- a message that is not seen to be a write is none
+pub no-write-first : (e : ServerEnd) → may_write e.link.input.bytes ≡ false → FirstWritesNothing e
+no-write-first e none = λ m rest t. (let f = begins-with e m rest t in (
+  (λ is. true-not-false (sym (write-seen f.0) ∙ sym (ap may_write (f.1 ∙ ap (λ (n : ℕ). number16 n ++ f.0) is)) ∙ none)),
+  (λ is. true-not-false (sym (put-seen f.0) ∙ sym (ap may_write (f.1 ∙ ap (λ (n : ℕ). number16 n ++ f.0) is)) ∙ none)),
+))

@@ -13,7 +13,7 @@ use Rattle.ca_wire.specs.declared.requests.Wanted.{Wanted}
 use Rattle.ca_model.specs.Due.{is_known}
 use Rattle.ca_model.specs.Server.{ServerEnd}
 use Rattle.ca_server_circuit.specs.declared.seek.Seat.{Seat}
-use Rattle.ca_server_circuit.specs.declared.step.Effect.{Effect}
+use Rattle.ca_server_circuit.specs.declared.step.FollowUp.{FollowUp}
 use Rattle.ca_server_circuit.specs.declared.step.EndStep.TheVariants.{Handled}
 use Rattle.ca_server_circuit.specs.Handling.{Does, replied}
 use Rattle.ca_server_circuit.specs.Seeking.{IsServed}
@@ -41,7 +41,7 @@ abbrev takes-short : (e : ServerEnd) (c : Command) (w : Wanted) → length e.lin
 takes-short e c w room short = record { room = room; m = short_in e.link.input.bytes c w; rest = drop 24 e.link.input.bytes; takes = short.takes }
 
 -- a step that handled it
-pub steps-short : (port : ℕ) (h : Handle) (s : Store) (e : ServerEnd) (c : Command) (w : Wanted) (did : Effect) (t : Store) (new : ServerEnd) → length e.link.output < output_limit → HasShort c e.link w → is_known (command_number c) ≡ true → command_at (command_number c) ≡ c
+pub steps-short : (port : ℕ) (h : Handle) (s : Store) (e : ServerEnd) (c : Command) (w : Wanted) (did : FollowUp) (t : Store) (new : ServerEnd) → length e.link.output < output_limit → HasShort c e.link w → is_known (command_number c) ≡ true → command_at (command_number c) ≡ c
     → Does (DueFor port s h (after_short e) (short_in e.link.input.bytes c w) c) s h (after_short e) (short_in e.link.input.bytes c w) did t new → EndSteps port h e s (Handled did) new t
 steps-short port h s e c w did t new room short is one d =
     (takes-short e c w room short, does-for port s h (after_short e) (short_in e.link.input.bytes c w) did t new c refl is one d)

@@ -16,7 +16,7 @@ use Rattle.ca_wire.specs.Messages.{created_reply, rights_reply, text_in}
 use Rattle.ca_model.specs.Due.{Action}
 use Rattle.ca_model.specs.Server.{Server, ServerEnd}
 use Rattle.ca_model.specs.ServerSteps.{Acts}
-use Rattle.ca_server_circuit.specs.declared.step.Effect.{Effect}
+use Rattle.ca_server_circuit.specs.declared.step.FollowUp.{FollowUp}
 use Rattle.ca_server_circuit.specs.Handling.{Creates, Fits, Recorded, Tells, known, replied}
 
 -- the replies by which a channel to a record is created, under this SID
@@ -49,5 +49,5 @@ pub record Creation (port : ℕ) (s : Store) (e : ServerEnd) (m : Fields) (new :
   pub leaves : new ≡ replied replies acted
 
 -- the same, with what it leaves the server to do
-abbrev pub CreatesBy : (port : ℕ) → Store → ServerEnd → Fields → Effect → ServerEnd → Type 0
-CreatesBy port s e m did new = (c : Creation port s e m new) × Tells c.action did s
+abbrev pub CreatesBy : (port : ℕ) → Store → ServerEnd → Fields → FollowUp → ServerEnd → Type 0
+CreatesBy port s e m did new = (c : Creation port s e m new) × Tells m c.action did s

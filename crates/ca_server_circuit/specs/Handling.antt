@@ -1,5 +1,5 @@
 -- Working: what the end of a circuit makes of one message, with the records of its server.
-use Rattle.std.specs.Prelude.{ℕ, ◌≡◌, ◌≢◌, ◌==◌, ◌&&◌, ◌⊎◌, Bool, true, false, List, [], Some, map, option_map}
+use Rattle.std.specs.Prelude.{ℕ, ◌≡◌, ◌≢◌, ◌==◌, ◌&&◌, ◌⊎◌, Bool, true, false, List, [], None, Option, Some, if◌then◌else◌, map, option_map}
 use Rattle.ca_arena.specs.declared.handle.Handle.{Handle}
 use Rattle.ca_ids.specs.Table.{Table, by_wire, held, is_full, same_handle, under}
 use Rattle.ca_ids.specs.Wire.{wire_of}
@@ -17,8 +17,8 @@ use Rattle.ca_wire.specs.Messages.{error_reply, status_reply, text_in}
 use Rattle.ca_model.specs.Due.{Action, Adds, Applies, Clears, Due, EventDue, IsCreated, IsNotCreated, Knows, Names, Nothing, Opens, PutDue, ReadDue, StrayDue, Waits, WriteDue}
 use Rattle.ca_model.specs.Server.{OpenChannel, Server, ServerEnd, key_of}
 use Rattle.ca_model.specs.ServerSteps.{Acts, IsPut, known_channel, known_record}
-use Rattle.ca_server_circuit.specs.declared.step.Effect.{Effect}
-use Rattle.ca_server_circuit.specs.declared.step.Effect.TheVariants as effect
+use Rattle.ca_server_circuit.specs.declared.step.FollowUp.{FollowUp}
+use Rattle.ca_server_circuit.specs.declared.step.FollowUp.TheVariants as effect
 
 -- ---- the end
 
@@ -79,22 +79,26 @@ pub record IsQuiet (c : Command) (m : Fields) : Type 0 where
   pub no_creation : c ≡ command.CreateChannel → ⊥
 
 -- whether a write was applied
-abbrev pub is_wrote : Effect → Bool
-is_wrote (effect.Wrote place) = true
+abbrev pub is_wrote : FollowUp → Bool
+is_wrote (effect.Wrote place by) = true
 is_wrote _ = false
+
+-- the SID of the channel of a put, if that made its record busy
+abbrev pub busied : (sid : ℕ) → Bool → Option ℕ
+busied sid busies = if busies then Some sid else None
 
 -- What an action leaves the server to do, by the places of records: a write that was applied is to reach the subscriptions of its record,
 -- which has its value and the stamp now; and a subscription began, or a channel was created.
-abbrev pub Tells : Action → Effect → Store → Type 0
-Tells (Applies name value busies) did t =
-    (place : ℕ) × (r : Record) × (did ≡ effect.Wrote place) × HasAt t place r × (r.state.name ≡ name) × (r.state.value ≡ value)
+abbrev pub Tells : Fields → Action → FollowUp → Store → Type 0
+Tells m (Applies name value busies) did t =
+    (place : ℕ) × (r : Record) × (did ≡ effect.Wrote place (busied m.p1 busies)) × HasAt t place r × (r.state.name ≡ name) × (r.state.value ≡ value)
     × (r.state.meta ≡ written_meta t.stamp)
-Tells (Adds x) did t = (place : ℕ) × (r : Record) × (did ≡ effect.Began place) × HasAt t place r × (r.state.name ≡ x.name)
-Tells (Opens c) did t = (place : ℕ) × (r : Record) × (did ≡ effect.Opened place) × HasAt t place r × (r.state.name ≡ c.name)
-Tells action did t = did ≡ effect.Quiet
+Tells m (Adds x) did t = (place : ℕ) × (r : Record) × (did ≡ effect.Began place) × HasAt t place r × (r.state.name ≡ x.name)
+Tells m (Opens c) did t = (place : ℕ) × (r : Record) × (did ≡ effect.Opened place) × HasAt t place r × (r.state.name ≡ c.name)
+Tells m action did t = did ≡ effect.Quiet
 
 -- What is due by this relation was done: the replies wait, and so the records and the end are after it.
-pub record Does (D : List Fields → Action → Type 0) (s : Store) (h : Handle) (e : ServerEnd) (m : Fields) (did : Effect) (t : Store) (new : ServerEnd) : Type 0 where
+pub record Does (D : List Fields → Action → Type 0) (s : Store) (h : Handle) (e : ServerEnd) (m : Fields) (did : FollowUp) (t : Store) (new : ServerEnd) : Type 0 where
   pub replies : List Fields
   pub action : Action
   pub due : D replies action
@@ -103,7 +107,7 @@ pub record Does (D : List Fields → Action → Type 0) (s : Store) (h : Handle)
   pub records : Recorded (records_of s) s.stamp h e m action (records_of t)
   pub rules : t.rules ≡ s.rules
   pub stamp : t.stamp ≡ s.stamp
-  pub tells : Tells action did t
+  pub tells : Tells m action did t
   pub fits : Fits (records_of s) e m action
   pub leaves : new ≡ replied replies acted
 

@@ -15,7 +15,7 @@ pub mod Subscribing
 pub mod Posting
 pub mod Pumping
 pub mod Removing
-pub mod NextPut
+pub mod Peeking
 pub mod Imaging
 pub mod Concerned
 pub mod Names

@@ -24,7 +24,7 @@ use Rattle.ca_model.specs.Ends as why
 use Rattle.ca_model.specs.Server.{ServerEnd}
 use Rattle.ca_server_circuit.specs.declared.cause.Cause.{Cause}
 use Rattle.ca_server_circuit.specs.declared.cause.Cause.TheVariants as cause
-use Rattle.ca_server_circuit.specs.declared.step.Effect.{Effect}
+use Rattle.ca_server_circuit.specs.declared.step.FollowUp.{FollowUp}
 use Rattle.ca_server_circuit.specs.declared.step.EndStep.{EndStep}
 use Rattle.ca_server_circuit.specs.declared.step.EndStep.TheVariants.{Breaks, Handled, NeedBytes, OutputFull}
 use Rattle.ca_server_circuit.specs.Handling.{AllStay, Does, MayLack, known}
@@ -74,7 +74,7 @@ abbrev pub after_short : ServerEnd → ServerEnd
 after_short e = record e { link = with_rest (drop 24 e.link.input.bytes) e.link }
 
 -- What is due by this relation was done for the first message, which is of this command, names this, and is 24 bytes.
-abbrev pub DoesShort : (Knows → Fields → List Fields → Action → Type 0) → Command → Wanted → Handle → Store → ServerEnd → Effect → Store → ServerEnd → Type 0
+abbrev pub DoesShort : (Knows → Fields → List Fields → Action → Type 0) → Command → Wanted → Handle → Store → ServerEnd → FollowUp → Store → ServerEnd → Type 0
 DoesShort D c w h s e did t new =
     (port : ℕ) → Does (D (known port s (after_short e)) (short_in e.link.input.bytes c w)) s h (after_short e) (short_in e.link.input.bytes c w) did t new
 

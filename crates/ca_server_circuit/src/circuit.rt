@@ -9,7 +9,7 @@ ghost use Rattle.ca_server_circuit.specs.Clearing.{ArePuts};
 ghost use Rattle.ca_server_circuit.specs.Concerned.{ConcernsOn, bytes_on, channels_on};
 ghost use Rattle.ca_server_circuit.specs.Ending.{ArePutsAt, EndsAt, IsLeft, WithdrawsAll};
 ghost use Rattle.ca_server_circuit.specs.Finishing.{RepliesAt};
-ghost use Rattle.ca_server_circuit.specs.NextPut.{IsPutAt, NamesAt};
+ghost use Rattle.ca_server_circuit.specs.Peeking.{NamesAt, may_write_at};
 ghost use Rattle.ca_server_circuit.specs.Posting.{PostsAt, WatchesAt};
 ghost use Rattle.ca_server_circuit.specs.Pumping.{PumpsAt};
 ghost use Rattle.ca_server_circuit.specs.Removing.{LosesAt, MayLose};
@@ -333,8 +333,7 @@ impl Circuit {
         }
     }
 
-    /// The name of the record of the open channel of this SID, if that record was not removed: none if its end is not open. Only whoever
-    /// records histories needs it.
+    /// The name of the record of the open channel of this SID, if that record was not removed: none if its end is not open.
     pub fn served_name(&self, sid: Sid) -> Option<&[u8]>
         ensures { NamesAt self.now sid (option_map (λ t. t.now) result) }
     {
@@ -344,13 +343,13 @@ impl Circuit {
         }
     }
 
-    /// The name of the record to which the next message puts with notification: none if its end is not open.
-    pub fn next_put(&self) -> Option<&[u8]>
-        ensures { IsPutAt self.now (option_map (λ t. t.now) result) }
+    /// Whether the next message may be a write, by the low byte of its command: not if its end is not open.
+    pub fn may_write(&self) -> bool
+        ensures { result ≡ may_write_at self.now }
     {
         match &self.state {
-            State::Open(end) => end.next_put(),
-            State::Ended(_, _) => None,
+            State::Open(end) => end.may_write(),
+            State::Ended(_, _) => false,
         }
     }
 }

@@ -6,14 +6,14 @@ ghost use Rattle.ca_wire.specs.Messages.{failed_reply, text_in};
 ghost use Rattle.ca_wire.specs.Reading.{IsWhole};
 ghost use Rattle.ca_server_circuit.specs.Cids.{UsesCid};
 ghost use Rattle.ca_server_circuit.specs.Creating.{CreatesBy, IsCreation};
-ghost use Rattle.ca_server_circuit.specs.declared.step.Effect.TheVariants.{Opened, Quiet};
+ghost use Rattle.ca_server_circuit.specs.declared.step.FollowUp.TheVariants.{Opened, Quiet};
 ghost use Rattle.ca_server_circuit.specs.Handling.{AllStay, replied};
 ghost use Rattle.ca_server_circuit.specs.Stepping.{first_at, message_of};
 
 use crate::channel::Channel;
 use crate::end::{End, send};
 use crate::in_place::bare_of;
-use crate::step::Effect;
+use crate::step::FollowUp;
 use ca_ids::WireId;
 use ca_records::ServedRecords;
 use ca_wire::{Cid, Head, Header, Sid, created_reply, failed_reply, rights_reply};
@@ -26,7 +26,7 @@ impl End {
         &mut self,
         records: &ServedRecords,
         head: &Head,
-    ) -> Result<Effect, AllocError>
+    ) -> Result<FollowUp, AllocError>
         requires open { IsOpen self.old.link }
         requires whole { IsWhole self.old.link.input.bytes head.now }
         ensures ok { IfOk result (λ effect. (port : ℕ)
@@ -48,7 +48,7 @@ impl End {
     }
 
     /// CREATE_CH_FAIL.
-    fn refuse_channel(&mut self, header: &Header) -> Result<Effect, AllocError>
+    fn refuse_channel(&mut self, header: &Header) -> Result<FollowUp, AllocError>
         requires { IsOpen self.old.link }
         ensures ok { IfOk result (λ effect.
             (effect ≡ Quiet)
@@ -58,7 +58,7 @@ impl End {
     {
         let reply = failed_reply(self.alloc, &bare_of(self.alloc, header));
         send(&mut self.link, &reply)?;
-        Ok(Effect::Quiet)
+        Ok(FollowUp::Quiet)
     }
 
     /// Opens a channel to the record at this place: ACCESS_RIGHTS goes before the reply, and is taken back if there is no memory for that.
@@ -67,7 +67,7 @@ impl End {
         records: &ServedRecords,
         place: usize,
         head: &Head,
-    ) -> Result<Effect, AllocError>
+    ) -> Result<FollowUp, AllocError>
         requires open { IsOpen self.old.link }
         requires found { Finds records.now
             (text_in (first_at self.old.link.input.bytes head.now).payload) place }
@@ -95,7 +95,7 @@ impl End {
         match send(&mut self.link, &reply) {
             Ok(()) => {
                 self.settled = true;
-                Ok(Effect::Opened(place))
+                Ok(FollowUp::Opened(place))
             }
             Err(error) => {
                 self.link.truncate(waited);

@@ -16,7 +16,7 @@ ghost use Rattle.ca_server_circuit.specs.Subscribing.{CanJoin, HasJoined, MayBeg
 use crate::end::{End, send};
 use crate::in_place::{bare_of, named_by};
 use crate::seek::{Seat, Sought};
-use crate::step::Effect;
+use crate::step::FollowUp;
 use ca_dbr::{DataType, has_conversion, image_size};
 use ca_queue::SubKey;
 use ca_records::{Record, ServedRecords};
@@ -35,7 +35,7 @@ impl End {
         &mut self,
         records: &ServedRecords,
         head: &Head,
-    ) -> Result<Effect, AllocError>
+    ) -> Result<FollowUp, AllocError>
         requires open { IsOpen self.old.link }
         requires served { AreServed (records_of records.now) self.old.channels }
         requires whole { IsWhole self.old.link.input.bytes head.now }
@@ -50,7 +50,7 @@ impl End {
         match self.seek(records, wanted.sid) {
             Sought::Stray(cid) => {
                 self.refuse(cid, Status::BADCHID, head)?;
-                Ok(Effect::Quiet)
+                Ok(FollowUp::Quiet)
             }
             Sought::Served(seat) => self.subscribe_on(seat, records, head),
         }
@@ -62,7 +62,7 @@ impl End {
         seat: Seat,
         records: &ServedRecords,
         head: &Head,
-    ) -> Result<Effect, AllocError>
+    ) -> Result<FollowUp, AllocError>
         requires open { IsOpen self.old.link }
         requires served { IsServed records.now self.old head.now.header.p1 seat }
         requires whole { IsWhole self.old.link.input.bytes head.now }
@@ -81,11 +81,11 @@ impl End {
         match event_fault(state, rights, in_use, others, &head.header, payload) {
             None => {
                 self.join(state, head)?;
-                Ok(Effect::Began(seat.place))
+                Ok(FollowUp::Began(seat.place))
             }
             Some(status) => {
                 self.refuse(seat.cid, status, head)?;
-                Ok(Effect::Quiet)
+                Ok(FollowUp::Quiet)
             }
         }
     }

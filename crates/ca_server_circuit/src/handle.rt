@@ -6,13 +6,13 @@ ghost use Rattle.ca_records.specs.Store.{records_of};
 ghost use Rattle.ca_wire.specs.Reading.{IsWhole};
 ghost use Rattle.ca_model.specs.Due.{Due};
 ghost use Rattle.ca_server_circuit.specs.Clearing.{ArePuts};
-ghost use Rattle.ca_server_circuit.specs.declared.step.Effect.TheVariants.{Quiet};
+ghost use Rattle.ca_server_circuit.specs.declared.step.FollowUp.TheVariants.{Quiet};
 ghost use Rattle.ca_server_circuit.specs.Handling.{AllStay, AreServed, Does, IsQuiet, MayLack, known};
 ghost use Rattle.ca_server_circuit.specs.Stepping.{first_at};
 
 use crate::end::End;
 use crate::in_place::named_by;
-use crate::step::Effect;
+use crate::step::FollowUp;
 use ca_arena::Handle;
 use ca_records::ServedRecords;
 use ca_text::Command;
@@ -30,7 +30,7 @@ impl End {
         circuit: Handle,
         records: &mut ServedRecords,
         head: &Head,
-    ) -> Result<Effect, AllocError>
+    ) -> Result<FollowUp, AllocError>
         requires open { IsOpen self.old.link }
         requires served { AreServed (records_of records.old) self.old.channels }
         requires puts { ArePuts circuit (records_of records.old) self.old.channels }
@@ -48,14 +48,14 @@ impl End {
             (first_at self.old.link.input.bytes head.now)) }
     {
         let Some(command) = Command::of(head.header.command) else {
-            return Ok(Effect::Quiet);
+            return Ok(FollowUp::Quiet);
         };
         match command {
             Command::EventAdd => self.subscribe(records, head),
             Command::CreateChannel => self.create(records, head),
             _ => {
                 self.handle_quiet(port, circuit, records, command, head)?;
-                Ok(Effect::Quiet)
+                Ok(FollowUp::Quiet)
             }
         }
     }

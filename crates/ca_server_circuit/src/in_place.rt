@@ -15,7 +15,7 @@ ghost use Rattle.ca_server_circuit.specs.Stepping.{EndSteps, after_head, cause_f
 use crate::bytes::know_bytes;
 use crate::cause::Cause;
 use crate::end::End;
-use crate::step::{Effect, EndStep};
+use crate::step::{FollowUp, EndStep};
 use ca_arena::Handle;
 use ca_records::ServedRecords;
 use ca_text::{Command, Refusal};
@@ -104,7 +104,7 @@ impl End {
 
     /// Drops the first message, which has this header and was handled with this effect.
     #[inline(always)]
-    fn handled(&mut self, head: &Head, effect: Effect) -> EndStep
+    fn handled(&mut self, head: &Head, effect: FollowUp) -> EndStep
         requires { IsWhole self.old.link.input.bytes head.now }
         ensures step { result ≡ Handled effect }
         ensures dropped { self.new ≡ after_head head.now self.old }

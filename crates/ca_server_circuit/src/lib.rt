@@ -25,7 +25,7 @@ mod line;
 mod losing;
 mod name;
 mod names;
-mod next_put;
+mod next_write;
 mod put;
 mod read;
 mod search;
@@ -40,4 +40,4 @@ mod write_notify;
 
 pub use cause::Cause;
 pub use circuit::Circuit;
-pub use step::{Effect, EndStep};
+pub use step::{EndStep, FollowUp};

@@ -1,5 +1,5 @@
 //! Writes of one element, which are handled where they came: no message is made of them, and they take no memory.
-ghost use Rattle.std.specs.Prelude.{ℕ, ◌≡◌, ◌<◌, [], ◌∷◌, MatchOption, false, length, true};
+ghost use Rattle.std.specs.Prelude.{ℕ, ◌≡◌, ◌<◌, [], ◌∷◌, MatchOption, None, false, length, true};
 ghost use Rattle.ca_text.specs.declared.command.Command.TheVariants as command;
 ghost use Rattle.ca_text.specs.Limits.{output_limit};
 ghost use Rattle.ca_link.specs.Calls.{HasShort, IsOpen};
@@ -7,7 +7,7 @@ ghost use Rattle.ca_link.specs.Link.{with_sent};
 ghost use Rattle.ca_records.specs.Store.{records_of};
 ghost use Rattle.ca_wire.specs.Messages.{done};
 ghost use Rattle.ca_server_circuit.specs.Clearing.{ArePuts};
-ghost use Rattle.ca_server_circuit.specs.declared.step.Effect.TheVariants.{Wrote};
+ghost use Rattle.ca_server_circuit.specs.declared.step.FollowUp.TheVariants.{Wrote};
 ghost use Rattle.ca_arena.specs.declared.handle.Handle.{Handle};
 ghost use Rattle.ca_server_circuit.specs.Handling.{AreServed, Puts, Writes};
 ghost use Rattle.ca_server_circuit.specs.Stepping.{DoesShort, EndSteps, done_for};
@@ -15,7 +15,7 @@ ghost use Rattle.ca_server_circuit.specs.Stepping.{DoesShort, EndSteps, done_for
 use crate::end::End;
 use crate::put::{put_from, put_one, write_one};
 use crate::seek::Sought;
-use crate::step::{Effect, EndStep};
+use crate::step::{FollowUp, EndStep};
 use ca_arena::Handle;
 use ca_link::Link;
 use ca_records::ServedRecords;
@@ -55,13 +55,13 @@ impl End {
     {
         if let Some(wanted) = self.link.first_short(Command::Write) {
             return match self.write_short(records, &wanted) {
-                Some(place) => Some(EndStep::Handled(Effect::Wrote(place))),
+                Some(place) => Some(EndStep::Handled(FollowUp::Wrote(place, None))),
                 None => None,
             };
         }
         if let Some(wanted) = self.link.first_short(Command::WriteNotify) {
             return match self.put_short(circuit, records, &wanted) {
-                Some(place) => Some(EndStep::Handled(Effect::Wrote(place))),
+                Some(left) => Some(EndStep::Handled(left)),
                 None => None,
             };
         }
@@ -76,7 +76,7 @@ impl End {
         ensures { MatchOption result ((self.new ≡ self.old) × (records.new ≡ records.old))
             (λ place. (h : Handle)
             → DoesShort Writes command.Write wanted.now h records.old self.old
-            (Wrote place) records.new self.new) }
+            (Wrote place None) records.new self.new) }
     {
         let Sought::Served(seat) = self.seek(records, wanted.sid) else {
             return None;
@@ -91,7 +91,7 @@ impl End {
         Some(seat.place)
     }
 
-    /// WRITE_NOTIFY, if it is such a one. Says where it was applied. On a slow record its reply comes as it is finished. On a quick one it goes
+    /// WRITE_NOTIFY, if it is such a one. On a slow record its reply comes as it is finished. On a quick one it goes
     /// first, so that none is applied for whose reply there is no memory; it is taken back if the put is another.
     #[inline(never)]
     fn put_short(
@@ -99,12 +99,12 @@ impl End {
         circuit: Handle,
         records: &mut ServedRecords,
         wanted: &Wanted,
-    ) -> Option<usize>
+    ) -> Option<FollowUp>
         requires served { AreServed (records_of records.old) self.old.channels }
         requires short { HasShort command.WriteNotify self.old.link wanted.now }
         ensures { MatchOption result ((self.new ≡ self.old) × (records.new ≡ records.old))
-            (λ place. DoesShort Puts command.WriteNotify wanted.now circuit records.old self.old
-            (Wrote place) records.new self.new) }
+            (λ left. DoesShort Puts command.WriteNotify wanted.now circuit records.old self.old
+            left records.new self.new) }
     {
         if wanted.count != 1 {
             return None;
@@ -127,7 +127,7 @@ impl End {
             return None;
         }
         self.link.drop_front(24);
-        Some(seat.place)
+        Some(FollowUp::Wrote(seat.place, None))
     }
 
     /// The same on a slow record, whose put stays busy: its reply comes as it is finished.
@@ -137,12 +137,12 @@ impl End {
         circuit: Handle,
         records: &mut ServedRecords,
         wanted: &Wanted,
-    ) -> Option<usize>
+    ) -> Option<FollowUp>
         requires served { AreServed (records_of records.old) self.old.channels }
         requires short { HasShort command.WriteNotify self.old.link wanted.now }
         ensures { MatchOption result ((self.new ≡ self.old) × (records.new ≡ records.old))
-            (λ place. DoesShort Puts command.WriteNotify wanted.now circuit records.old self.old
-            (Wrote place) records.new self.new) }
+            (λ left. DoesShort Puts command.WriteNotify wanted.now circuit records.old self.old
+            left records.new self.new) }
     {
         let Sought::Served(seat) = self.seek(records, wanted.sid) else {
             return None;
@@ -158,7 +158,7 @@ impl End {
             return None;
         }
         self.link.drop_front(24);
-        Some(seat.place)
+        Some(FollowUp::Wrote(seat.place, Some(wanted.sid)))
     }
 }
 

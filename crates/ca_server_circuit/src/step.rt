@@ -11,14 +11,16 @@ use crate::end::End;
 use ca_arena::Handle;
 use ca_records::ServedRecords;
 use ca_text::Command;
+use ca_wire::Sid;
 
 /// What a message that was handled leaves its server to do.
 #[derive(Clone, Copy, Debug, PartialEq, Eq)]
-pub enum Effect {
+pub enum FollowUp {
     /// Nothing.
     Quiet,
-    /// The write to the record at this place was applied, and is to reach its subscriptions.
-    Wrote(usize),
+    /// The write to the record at this place was applied, and is to reach its subscriptions. It was a put on the channel of the SID, if there is one, which made
+    /// the record busy.
+    Wrote(usize, Option<Sid>),
     /// A subscription to the record at this place began.
     Began(usize),
     /// A channel to the record at this place was created.
@@ -29,7 +31,7 @@ pub enum Effect {
 #[derive(Clone, Copy, Debug, PartialEq, Eq)]
 pub enum EndStep {
     /// It handled a message.
-    Handled(Effect),
+    Handled(FollowUp),
     /// No complete message is there.
     NeedBytes,
     /// So much waits to be sent that no message is handled.
@@ -38,13 +40,13 @@ pub enum EndStep {
     Breaks(Cause),
 }
 
-impl Effect {
+impl FollowUp {
     /// Whether a write was applied.
     pub fn is_write(self) -> bool
         ensures { result ≡ is_wrote self }
     {
         match self {
-            Effect::Wrote(_) => true,
+            FollowUp::Wrote(_, _) => true,
             _ => false,
         }
     }
@@ -71,7 +73,7 @@ impl End {
         // A read is what comes most often, and has no payload that takes memory.
         match self.link.next_bare(Command::ReadNotify) {
             Some(wanted) => match self.read(records, &wanted) {
-                Ok(()) => EndStep::Handled(Effect::Quiet),
+                Ok(()) => EndStep::Handled(FollowUp::Quiet),
                 Err(_) => EndStep::Breaks(Cause::OutOfMemory),
             },
             None => self.step_by_write(port, circuit, records),

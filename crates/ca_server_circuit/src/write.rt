@@ -14,20 +14,20 @@ use crate::end::{End, send};
 use crate::in_place::named_by;
 use crate::put::begin;
 use crate::seek::{Seat, Sought};
-use crate::step::Effect;
+use crate::step::FollowUp;
 use ca_records::{Begun, ServedRecords};
 use ca_text::{Command, Status};
 use ca_wire::{Cid, Head, Header, Message, spell_header};
 use std::alloc::{AllocError, Global};
 
 impl End {
-    /// WRITE: applied at once, with no reply; a refused one is answered by ERROR. Says where it was applied.
+    /// WRITE: applied at once, with no reply; a refused one is answered by ERROR.
     #[inline(always)]
     pub(crate) fn write(
         &mut self,
         records: &mut ServedRecords,
         head: &Head,
-    ) -> Result<Effect, AllocError>
+    ) -> Result<FollowUp, AllocError>
         requires open { IsOpen self.old.link }
         requires served { AreServed (records_of records.old) self.old.channels }
         requires whole { IsWhole self.old.link.input.bytes head.now }
@@ -44,7 +44,7 @@ impl End {
         match self.seek(records, wanted.sid) {
             Sought::Stray(cid) => {
                 self.refuse(cid, Status::BADCHID, head)?;
-                Ok(Effect::Quiet)
+                Ok(FollowUp::Quiet)
             }
             Sought::Served(seat) => self.write_on(seat, records, head),
         }
@@ -57,7 +57,7 @@ impl End {
         seat: Seat,
         records: &mut ServedRecords,
         head: &Head,
-    ) -> Result<Effect, AllocError>
+    ) -> Result<FollowUp, AllocError>
         requires open { IsOpen self.old.link }
         requires served { IsServed records.old self.old head.now.header.p1 seat }
         requires whole { IsWhole self.old.link.input.bytes head.now }
@@ -78,11 +78,11 @@ impl End {
             self.alloc, records, seat.place, rights, None, &wanted, payload,
         )?;
         match begun {
-            Begun::Applied(_) => Ok(Effect::Wrote(seat.place)),
+            Begun::Applied(_) => Ok(FollowUp::Wrote(seat.place, None)),
             Begun::Waiting => unreachable!(),
             Begun::Refused(status) => {
                 self.refuse(seat.cid, status, head)?;
-                Ok(Effect::Quiet)
+                Ok(FollowUp::Quiet)
             }
         }
     }

@@ -7,7 +7,7 @@ ghost use Rattle.ca_link.specs.Link.{with_sent};
 ghost use Rattle.ca_records.specs.Store.{records_of};
 ghost use Rattle.ca_wire.specs.Messages.{on_channel, status_reply};
 ghost use Rattle.ca_wire.specs.Reading.{IsWhole};
-ghost use Rattle.ca_server_circuit.specs.Handling.{AreServed, Does, Puts, known, replied};
+ghost use Rattle.ca_server_circuit.specs.Handling.{AreServed, Does, Puts, busied, known, replied};
 ghost use Rattle.ca_server_circuit.specs.Seeking.{IsServed};
 ghost use Rattle.ca_server_circuit.specs.Stepping.{first_at};
 
@@ -15,16 +15,16 @@ use crate::end::{End, send};
 use crate::in_place::named_by;
 use crate::put::{begin, put_from};
 use crate::seek::{Seat, Sought};
-use crate::step::Effect;
+use crate::step::FollowUp;
 use ca_arena::Handle;
 use ca_records::{Begun, ServedRecords};
 use ca_text::Status;
-use ca_wire::{Head, Wanted, put_status};
+use ca_wire::{Head, Sid, Wanted, put_status};
 use std::alloc::AllocError;
 
 impl End {
     /// WRITE_NOTIFY on this circuit: refused in its reply, or applied at once, or it waits until the record is free. On a slow
-    /// record its reply comes as it is finished. Says where it was applied.
+    /// record its reply comes as it is finished.
     ///
     /// The reply of a quick one goes first, so that none is applied for whose reply there is no memory. It is taken back if the put is
     /// refused, or if there is no memory for the put itself.
@@ -34,7 +34,7 @@ impl End {
         circuit: Handle,
         records: &mut ServedRecords,
         head: &Head,
-    ) -> Result<Effect, AllocError>
+    ) -> Result<FollowUp, AllocError>
         requires open { IsOpen self.old.link }
         requires served { AreServed (records_of records.old) self.old.channels }
         requires whole { IsWhole self.old.link.input.bytes head.now }
@@ -51,7 +51,7 @@ impl End {
         match self.seek(records, wanted.sid) {
             Sought::Stray(_) => {
                 self.refuse_put(&wanted, Status::BADCHID)?;
-                Ok(Effect::Quiet)
+                Ok(FollowUp::Quiet)
             }
             Sought::Served(seat) => self.put_on(seat, circuit, records, head),
         }
@@ -65,7 +65,7 @@ impl End {
         circuit: Handle,
         records: &mut ServedRecords,
         head: &Head,
-    ) -> Result<Effect, AllocError>
+    ) -> Result<FollowUp, AllocError>
         requires open { IsOpen self.old.link }
         requires served { IsServed records.old self.old head.now.header.p1 seat }
         requires whole { IsWhole self.old.link.input.bytes head.now }
@@ -100,12 +100,12 @@ impl End {
             return Err(AllocError);
         };
         match begun {
-            Begun::Applied(_) => Ok(Effect::Wrote(place)),
-            Begun::Waiting => Ok(Effect::Quiet),
+            Begun::Applied(busies) => Ok(FollowUp::Wrote(place, busied(wanted.sid, busies))),
+            Begun::Waiting => Ok(FollowUp::Quiet),
             Begun::Refused(status) => {
                 self.link.truncate(waited);
                 self.refuse_put(&wanted, status)?;
-                Ok(Effect::Quiet)
+                Ok(FollowUp::Quiet)
             }
         }
     }
@@ -138,4 +138,11 @@ impl End {
         send(&mut self.link, &reply)?;
         Ok(())
     }
+}
+
+/// The SID of the channel of a put, if that made its record busy.
+fn busied(sid: Sid, busies: bool) -> Option<Sid>
+    ensures { result ≡ busied sid busies }
+{
+    if busies { Some(sid) } else { None }
 }

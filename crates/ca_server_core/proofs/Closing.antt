@@ -11,7 +11,7 @@ use Rattle.ca_wire.specs.Fields.{Fields}
 use Rattle.ca_model.specs.Due.{Action}
 use Rattle.ca_model.specs.Ends.{Why}
 use Rattle.ca_model.specs.Server.{Ended, Open, OpenChannel, Server, ServerCircuit, ServerEnd}
-use Rattle.ca_server_circuit.specs.declared.step.Effect.{Effect}
+use Rattle.ca_server_circuit.specs.declared.step.FollowUp.{FollowUp}
 use Rattle.ca_server_circuit.specs.Handling.{Does}
 use Rattle.ca_server_circuit.specs.Sound.{EndIsSound}
 use Rattle.ca_server_core.specs.Sound.{IsSound}
@@ -52,7 +52,7 @@ end-stays rs qs g x St New k none i = record {
 -- ---- a message is handled
 
 -- the end that handled it is sound
-handled-end : (y : Server) (s t : Store) (h : Handle) (e : ServerEnd) (m : Fields) (did : Effect) (D : List Fields → Action → Type 0) (new : ServerEnd) → y.records ≡ records_of s → Does D s h e m did t new → EndIsSound (records_of s) h e → HasRoom (events_of new) → length new.channels ≤ arena_slots → EndIsSound (records_of t) h new
+handled-end : (y : Server) (s t : Store) (h : Handle) (e : ServerEnd) (m : Fields) (did : FollowUp) (D : List Fields → Action → Type 0) (new : ServerEnd) → y.records ≡ records_of s → Does D s h e m did t new → EndIsSound (records_of s) h e → HasRoom (events_of new) → length new.channels ≤ arena_slots → EndIsSound (records_of t) h new
 handled-end y s t h e m did D new same d i room few =
     let k = recorded-keeps (records_of s) (records_of t) s.stamp h e m d.action d.records in
     let acts = d.acts y same in
@@ -85,7 +85,7 @@ stands c h was new there g x at = by (same_handle g h) refl
     by true hit = (new, subst (λ (k : Handle). under (with_changed (λ (z : ServerCircuit). Open new) h c) k ≡ Some (Open new)) (sym (same-is g h hit)) (changed-own (λ (z : ServerCircuit). Open new) c h (Open was) there))
     by false miss = (x, changed-other (λ (z : ServerCircuit). Open new) c g h (Open x) at (λ one. both (same_handle g h) (is-same g h one) miss))
 
-pub sound-handled : (y : Server) (s t : Store) (h : Handle) (was e : ServerEnd) (m : Fields) (did : Effect) (D : List Fields → Action → Type 0) (new : ServerEnd) (c : Circuits) → y.records ≡ records_of s → IsSound (records_of s) c → under c h ≡ Some (Open was) → EndIsSound (records_of s) h e → Does D s h e m did t new → HasRoom (events_of new) → length new.channels ≤ arena_slots → IsSound (records_of t) (with_changed (λ (z : ServerCircuit). Open new) h c)
+pub sound-handled : (y : Server) (s t : Store) (h : Handle) (was e : ServerEnd) (m : Fields) (did : FollowUp) (D : List Fields → Action → Type 0) (new : ServerEnd) (c : Circuits) → y.records ≡ records_of s → IsSound (records_of s) c → under c h ≡ Some (Open was) → EndIsSound (records_of s) h e → Does D s h e m did t new → HasRoom (events_of new) → length new.channels ≤ arena_slots → IsSound (records_of t) (with_changed (λ (z : ServerCircuit). Open new) h c)
 sound-handled y s t h was e m did D new c same i there sound d room few =
     let k = recorded-keeps (records_of s) (records_of t) s.stamp h e m d.action d.records in
     record {

@@ -22,8 +22,8 @@ use Rattle.ca_model.specs.ServerSteps.{Acts, MayEnd, Next, Reaches, Stepped, Ste
 use Rattle.ca_model.specs.ServerSteps as steps
 use Rattle.ca_model.specs.Speech.{In, Stored}
 use Rattle.ca_server_circuit.specs.declared.cause.Cause.{Cause}
-use Rattle.ca_server_circuit.specs.declared.step.Effect.{Effect}
-use Rattle.ca_server_circuit.specs.declared.step.Effect.TheVariants as effect
+use Rattle.ca_server_circuit.specs.declared.step.FollowUp.{FollowUp}
+use Rattle.ca_server_circuit.specs.declared.step.FollowUp.TheVariants as effect
 use Rattle.ca_server_circuit.specs.declared.step.EndStep.TheVariants as step
 use Rattle.ca_server_core.specs.declared.stepping.Step.{Step}
 use Rattle.ca_server_core.specs.Covering.{AreLed, AreListed, Covers, HasTo, Leads}
@@ -34,7 +34,7 @@ use Rattle.ca_server_circuit.specs.Circuits.{is_open}
 use Rattle.ca_server_circuit.specs.Handling.{AsksMemory, Does, Fits, Recorded, Tells, is_wrote}
 use Rattle.ca_server_core.specs.Reaching.{ReachesAll}
 use Rattle.ca_server_circuit.specs.Serving.{CircuitSteps}
-use Rattle.ca_server_core.specs.Noting.{action_at, action_of}
+use Rattle.ca_server_core.specs.Effects.{action_at, action_of, message_at, message_of}
 use Rattle.ca_server_core.specs.Serving.{Closes, ClosesAt, LacksItself, Reports, StepsIn, more_applied, stepped}
 use Rattle.ca_server_core.specs.Sound.{IsSound}
 use Rattle.ca_server_circuit.specs.Stepping.{EndSteps, after_first, why_is}
@@ -125,28 +125,28 @@ led-by y e (Switches on) new n is to = to-same new e n (ap (λ (x : ServerEnd). 
 -- ---- what a message was
 
 -- a write was applied, a subscription began, a channel was created, or none of these
-pub data Kind (a : Action) (did : Effect) (u : Store) : Type 0 where
-  Writes : (name : List ℕ) → (value : Elements) → (busies : Bool) → a ≡ Applies name value busies → Tells (Applies name value busies) did u → Kind a did u
-  Begins : (x : Subscription) → a ≡ Adds x → Tells (Adds x) did u → Kind a did u
-  Creates : (c : KnownChannel) → a ≡ Opens c → Tells (Opens c) did u → Kind a did u
-  Rests : did ≡ effect.Quiet → ((y : Server) → Reaches a (λ (h : Handle). false) y y) → ((e : ServerEnd) (s : Subscription) → Joined a e s → In e.subscriptions s) → ((e : ServerEnd) (n : List ℕ) → Led a e n → HasTo e n) → Kind a did u
+pub data Kind (m : Fields) (a : Action) (did : FollowUp) (u : Store) : Type 0 where
+  Writes : (name : List ℕ) → (value : Elements) → (busies : Bool) → a ≡ Applies name value busies → Tells m (Applies name value busies) did u → Kind m a did u
+  Begins : (x : Subscription) → a ≡ Adds x → Tells m (Adds x) did u → Kind m a did u
+  Creates : (c : KnownChannel) → a ≡ Opens c → Tells m (Opens c) did u → Kind m a did u
+  Rests : did ≡ effect.Quiet → ((y : Server) → Reaches a (λ (h : Handle). false) y y) → ((e : ServerEnd) (s : Subscription) → Joined a e s → In e.subscriptions s) → ((e : ServerEnd) (n : List ℕ) → Led a e n → HasTo e n) → Kind m a did u
 
-kind-of : (a : Action) (did : Effect) (u : Store) → Tells a did u → Kind a did u
-kind-of (Applies name value busies) did u is = Writes name value busies refl is
-kind-of (Adds x) did u is = Begins x refl is
-kind-of Nothing did u is = Rests is (λ y. ((λ h. refl), refl)) (λ e s i. i) (λ e n i. i)
-kind-of Greets did u is = Rests is (λ y. ((λ h. refl), refl)) (λ e s i. i) (λ e n i. i)
-kind-of (Names p) did u is = Rests is (λ y. ((λ h. refl), refl)) (λ e s i. i) (λ e n i. i)
-kind-of (Opens c) did u is = Creates c refl is
-kind-of (Clears sid) did u is = Rests is (λ y. ((λ h. refl), refl)) (λ e s i. i) (λ e n i. i)
-kind-of (Waits name value) did u is = Rests is (λ y. ((λ h. refl), refl)) (λ e s i. i) (λ e n i. i)
-kind-of (Drops k) did u is = Rests is (λ y. ((λ h. refl), refl)) (λ e s i. i) (λ e n i. i)
-kind-of (Switches on) did u is = Rests is (λ y. ((λ h. refl), refl)) (λ e s i. i) (λ e n i. i)
+kind-of : (m : Fields) (a : Action) (did : FollowUp) (u : Store) → Tells m a did u → Kind m a did u
+kind-of m (Applies name value busies) did u is = Writes name value busies refl is
+kind-of m (Adds x) did u is = Begins x refl is
+kind-of m Nothing did u is = Rests is (λ y. ((λ h. refl), refl)) (λ e s i. i) (λ e n i. i)
+kind-of m Greets did u is = Rests is (λ y. ((λ h. refl), refl)) (λ e s i. i) (λ e n i. i)
+kind-of m (Names p) did u is = Rests is (λ y. ((λ h. refl), refl)) (λ e s i. i) (λ e n i. i)
+kind-of m (Opens c) did u is = Creates c refl is
+kind-of m (Clears sid) did u is = Rests is (λ y. ((λ h. refl), refl)) (λ e s i. i) (λ e n i. i)
+kind-of m (Waits name value) did u is = Rests is (λ y. ((λ h. refl), refl)) (λ e s i. i) (λ e n i. i)
+kind-of m (Drops k) did u is = Rests is (λ y. ((λ h. refl), refl)) (λ e s i. i) (λ e n i. i)
+kind-of m (Switches on) did u is = Rests is (λ y. ((λ h. refl), refl)) (λ e s i. i) (λ e n i. i)
 
 -- ---- who watches then
 
-covers-handled : (w : Watched) (y : Server) (s u : Store) (t : Circuits) (h : Handle) (was e new : ServerEnd) (m : Fields) (did : Effect) (D : List Fields → Action → Type 0) → y.records ≡ records_of s → e.subscriptions ≡ was.subscriptions → under t h ≡ Some (Open was) → Does D s h e m did u new → Covers w t → CoversFor did h u w (with_changed (λ (c : ServerCircuit). Open new) h t)
-covers-handled w y s u t h was e new m did D same subs there d covers = by (kind-of d.action did u d.tells)
+covers-handled : (w : Watched) (y : Server) (s u : Store) (t : Circuits) (h : Handle) (was e new : ServerEnd) (m : Fields) (did : FollowUp) (D : List Fields → Action → Type 0) → y.records ≡ records_of s → e.subscriptions ≡ was.subscriptions → under t h ≡ Some (Open was) → Does D s h e m did u new → Covers w t → CoversFor did h u w (with_changed (λ (c : ServerCircuit). Open new) h t)
+covers-handled w y s u t h was e new m did D same subs there d covers = by (kind-of m d.action did u d.tells)
   where
     after : Circuits
     after = with_changed (λ (c : ServerCircuit). Open new) h t
@@ -160,16 +160,16 @@ covers-handled w y s u t h was e new m did D same subs there d covers = by (kind
     thinner : ((x : Subscription) → Joined d.action e x → In e.subscriptions x) → Covers w after
     thinner none = covers-changed w t h was new there (λ x i. old-in x (none x (joined x i))) covers
 
-    by : Kind d.action did u → CoversFor did h u w after
-    by (Rests quiet reach none less) = subst (λ (k : Effect). CoversFor k h u w after) (sym quiet) (thinner (λ x j. none e x j))
+    by : Kind m d.action did u → CoversFor did h u w after
+    by (Rests quiet reach none less) = subst (λ (k : FollowUp). CoversFor k h u w after) (sym quiet) (thinner (λ x j. none e x j))
     by (Creates c is told) =
-        subst (λ (k : Effect). CoversFor k h u w after) (sym told.2)
+        subst (λ (k : FollowUp). CoversFor k h u w after) (sym told.2)
         (thinner (λ x j. subst (λ (a : Action). Joined a e x → In e.subscriptions x) (sym is) (λ i. i) j))
     by (Writes name value busies is told) =
-        subst (λ (k : Effect). CoversFor k h u w after) (sym told.2)
+        subst (λ (k : FollowUp). CoversFor k h u w after) (sym told.2)
         ((told.1, told.3), thinner (λ x j. subst (λ (a : Action). Joined a e x → In e.subscriptions x) (sym is) (λ i. i) j))
     by (Begins x is told) =
-        subst (λ (k : Effect). CoversFor k h u w after) (sym told.2) (
+        subst (λ (k : FollowUp). CoversFor k h u w after) (sym told.2) (
           told.1,
           told.3,
           (Open new, changed-own (λ (c : ServerCircuit). Open new) t h (Open was) there),
@@ -184,7 +184,7 @@ covers-handled w y s u t h was e new m did D same subs there d covers = by (kind
           ]),
         )
 
-pub step-covers : (port : ℕ) (w : Watched) (s u : Store) (t after : Circuits) (h : Handle) (did : Effect) → StepsIn port t h s (Some (step.Handled did)) after u → Covers w t → CoversFor did h u w after
+pub step-covers : (port : ℕ) (w : Watched) (s u : Store) (t after : Circuits) (h : Handle) (did : FollowUp) → StepsIn port t h s (Some (step.Handled did)) after u → Covers w t → CoversFor did h u w after
 step-covers port w s u t after h did (inr none) covers = not-some (step.Handled did) none.1
 step-covers port w s u t after h did (inl g) covers = by g.0 g.1 g.2 g.3 g.4
   where
@@ -199,8 +199,8 @@ step-covers port w s u t after h did (inl g) covers = by g.0 g.1 g.2 g.3 g.4
 
 -- ---- who leads to records then
 
-led-handled : (l : Watched) (y : Server) (s u : Store) (t : Circuits) (h : Handle) (was e new : ServerEnd) (m : Fields) (did : Effect) (D : List Fields → Action → Type 0) → y.records ≡ records_of s → e.channels ≡ was.channels → under t h ≡ Some (Open was) → Does D s h e m did u new → Leads l t → AreListed (records_of u) l → LedFor did h u l (with_changed (λ (c : ServerCircuit). Open new) h t)
-led-handled l y s u t h was e new m did D same chans there d leads listed = by (kind-of d.action did u d.tells)
+led-handled : (l : Watched) (y : Server) (s u : Store) (t : Circuits) (h : Handle) (was e new : ServerEnd) (m : Fields) (did : FollowUp) (D : List Fields → Action → Type 0) → y.records ≡ records_of s → e.channels ≡ was.channels → under t h ≡ Some (Open was) → Does D s h e m did u new → Leads l t → AreListed (records_of u) l → LedFor did h u l (with_changed (λ (c : ServerCircuit). Open new) h t)
+led-handled l y s u t h was e new m did D same chans there d leads listed = by (kind-of m d.action did u d.tells)
   where
     after : Circuits
     after = with_changed (λ (c : ServerCircuit). Open new) h t
@@ -214,16 +214,16 @@ led-handled l y s u t h was e new m did D same chans there d leads listed = by (
     fewer : ((n : List ℕ) → Led d.action e n → HasTo e n) → AreLed (records_of u) l after
     fewer none = record { leads = leads-changed l t h was new there (λ n to. old-to n (none n (led n to))) leads; listed = listed }
 
-    by : Kind d.action did u → LedFor did h u l after
-    by (Rests quiet reach none less) = subst (λ (k : Effect). LedFor k h u l after) (sym quiet) (fewer (λ n to. less e n to))
+    by : Kind m d.action did u → LedFor did h u l after
+    by (Rests quiet reach none less) = subst (λ (k : FollowUp). LedFor k h u l after) (sym quiet) (fewer (λ n to. less e n to))
     by (Writes name value busies is told) =
-        subst (λ (k : Effect). LedFor k h u l after) (sym told.2)
+        subst (λ (k : FollowUp). LedFor k h u l after) (sym told.2)
         (fewer (λ n to. subst (λ (a : Action). Led a e n → HasTo e n) (sym is) (λ i. i) to))
     by (Begins x is told) =
-        subst (λ (k : Effect). LedFor k h u l after) (sym told.2)
+        subst (λ (k : FollowUp). LedFor k h u l after) (sym told.2)
         (fewer (λ n to. subst (λ (a : Action). Led a e n → HasTo e n) (sym is) (λ i. i) to))
     by (Creates c is told) =
-        subst (λ (k : Effect). LedFor k h u l after) (sym told.2) (
+        subst (λ (k : FollowUp). LedFor k h u l after) (sym told.2) (
           told.1,
           told.3,
           (Open new, changed-own (λ (c : ServerCircuit). Open new) t h (Open was) there),
@@ -239,7 +239,7 @@ led-handled l y s u t h was e new m did D same chans there d leads listed = by (
           listed,
         )
 
-pub step-led : (port : ℕ) (l : Watched) (s u : Store) (t after : Circuits) (h : Handle) (did : Effect) → StepsIn port t h s (Some (step.Handled did)) after u → AreListed (records_of u) l → AreLed (records_of s) l t → LedFor did h u l after
+pub step-led : (port : ℕ) (l : Watched) (s u : Store) (t after : Circuits) (h : Handle) (did : FollowUp) → StepsIn port t h s (Some (step.Handled did)) after u → AreListed (records_of u) l → AreLed (records_of s) l t → LedFor did h u l after
 step-led port l s u t after h did (inr none) listed led = not-some (step.Handled did) none.1
 step-led port l s u t after h did (inl g) listed led = by g.0 g.1 g.2 g.3 g.4
   where
@@ -265,32 +265,32 @@ first-left l ms = by l.output
         none ys = refl
     by (x ∷ xs) = ap (λ (zs : List ℕ). x ∷ zs) (by xs)
 
-handled-output : (y : Server) (s u : Store) (h : Handle) (was e new : ServerEnd) (m : Fields) (did : Effect) (D : List Fields → Action → Type 0) → y.records ≡ records_of s → e.link.output ≡ was.link.output → Does D s h e m did u new → take (length was.link.output) new.link.output ≡ was.link.output
+handled-output : (y : Server) (s u : Store) (h : Handle) (was e new : ServerEnd) (m : Fields) (did : FollowUp) (D : List Fields → Action → Type 0) → y.records ≡ records_of s → e.link.output ≡ was.link.output → Does D s h e m did u new → take (length was.link.output) new.link.output ≡ was.link.output
 handled-output y s u h was e new m did D same out d =
     let kept : d.acted.link ≡ e.link = link-kept y e d.action d.acted (d.acts y same) in
     let sent : new.link.output ≡ was.link.output ++ spelled d.replies = ap (λ (x : ServerEnd). x.link.output) d.leaves ∙ ap (λ (l : LinkState). l.output ++ spelled d.replies) kept ∙ ap (λ (o : List ℕ). o ++ spelled d.replies) out in
     ap (λ (o : List ℕ). take (length was.link.output) o) sent ∙ first-left was.link d.replies
 
 -- a step that handled a message whose action is one of these, and when it closes the end
-abbrev pub HandledBy : (P : Action → Type 0) → Server → Handle → Server → Type 0
-HandledBy P old h new = (d : Steps old h steps.Handled new) × P (action_of old h new d) × Closes old h steps.Handled new
+abbrev pub HandledBy : (P : Fields → Action → Type 0) → Server → Handle → Server → Type 0
+HandledBy P old h new = (d : Steps old h steps.Handled new) × P (message_of old h new d) (action_of old h new d) × Closes old h steps.Handled new
 
 -- any step, and that of it
-abbrev pub MakesBy : (P : Action → Type 0) → Server → Handle → Stepped → Server → Type 0
+abbrev pub MakesBy : (P : Fields → Action → Type 0) → Server → Handle → Stepped → Server → Type 0
 MakesBy P old h steps.Handled new = HandledBy P old h new
 MakesBy P old h did new = Steps old h did new × Closes old h did new
 
-made-by : (P : Action → Type 0) (y : Server) (h : Handle) (did : Stepped) (new : Server) → MakesBy P y h did new → Makes y h did new
+made-by : (P : Fields → Action → Type 0) (y : Server) (h : Handle) (did : Stepped) (new : Server) → MakesBy P y h did new → Makes y h did new
 made-by P y h steps.Handled new made = (made.0, made.2)
 made-by P y h steps.NeedBytes new made = made
 made-by P y h steps.OutputFull new made = made
 made-by P y h (steps.Closed w left) new made = made
 
-step-by : (P : Action → Type 0) (y : Server) (h : Handle) (e : ServerEnd) (new : Server) → under y.circuits h ≡ Some (Open e) → (d : StepsAt y h (Some (Open e)) steps.Handled new) → P d.0.action → HandledBy P y h new
+step-by : (P : Fields → Action → Type 0) (y : Server) (h : Handle) (e : ServerEnd) (new : Server) → under y.circuits h ≡ Some (Open e) → (d : StepsAt y h (Some (Open e)) steps.Handled new) → P d.0.m d.0.action → HandledBy P y h new
 step-by P y h e new there d p =
-    subst (λ (o : Option ServerCircuit). (z : StepsAt y h o steps.Handled new) × P (action_at y h new o z) × ClosesAt y h o steps.Handled new) (sym there) (d, p, tt)
+    subst (λ (o : Option ServerCircuit). (z : StepsAt y h o steps.Handled new) × P (message_at y h new o z) (action_at y h new o z) × ClosesAt y h o steps.Handled new) (sym there) (d, p, tt)
 
-module _ (port now n : ℕ) (b : Clock) (s u : Store) (t : Circuits) (h : Handle) (e new : ServerEnd) (did : Effect) (there : under t h ≡ Some (Open e)) (d : EndSteps port h e s (step.Handled did) new u) (P : Action → Type 0) (holds : P d.1.action) where
+module _ (port now n : ℕ) (b : Clock) (s u : Store) (t : Circuits) (h : Handle) (e new : ServerEnd) (did : FollowUp) (there : under t h ≡ Some (Open e)) (d : EndSteps port h e s (step.Handled did) new u) (P : Fields → Action → Type 0) (holds : P d.0.m d.1.action) where
   abbrev y : Server
   y = server_of port s now t b n
 
@@ -320,7 +320,7 @@ module _ (port now n : ℕ) (b : Clock) (s u : Store) (t : Circuits) (h : Handle
       let same : final ≡ last = settled.1 ∙ ap (λ (o : Option ServerCircuit). cond (is_open o) last (with_freed h last)) at in
       subst (λ (r : Stepped). MakesBy P y h r (server_of port x now final b k)) (sym answer)
       (subst (λ (c : Circuits). MakesBy P y h steps.Handled (server_of port x now c b k)) (sym same)
-      (step-by P y h e (server_of port x now last b k) there (the-next.0, gone, stays, reach) (subst P (sym the-next.2) holds)))
+      (step-by P y h e (server_of port x now last b k) there (the-next.0, gone, stays, reach) (subst (λ (z : Fields). P z the-next.0.action) (sym the-next.3) (subst (λ (a : Action). P d.0.m a) (sym the-next.2) holds))))
 
   -- it has ended out of memory for what follows
   ended-after : (x : Store) (last : Circuits) (result : Step) (final : Circuits) (left : List ℕ) → under last h ≡ Some (Ended why.OutOfMemory left) → take (length e.link.output) left ≡ e.link.output → Settles last h (length e.link.output) result final → LacksItself y h e (server_of port x now (with_freed h last) b k)
@@ -339,16 +339,16 @@ module _ (port now n : ℕ) (b : Clock) (s u : Store) (t : Circuits) (h : Handle
   rests : (x : Store) (last : Circuits) (result : Step) (final : Circuits) → did ≡ effect.Quiet → ((z : Server) → Reaches the-next.0.action (λ (g : Handle). false) z z) → Follows did h mid_table u last x → Settles last h (length e.link.output) result final
       → MakesBy P y h (stepped result) (server_of port x now final b k)
   rests x last result final quiet reach f settled =
-      let same = subst (λ (q : Effect). Follows q h mid_table u last x) quiet f in
+      let same = subst (λ (q : FollowUp). Follows q h mid_table u last x) quiet f in
       let whole : server_of port x now last b k ≡ the-next.0.after = ap (λ (z : Store). server_of port z now last b k) same.1 ∙ ap (λ (z : Circuits). server_of port u now z b k) same.0 ∙ sym the-next.1 in
       stays-open x last result final new (λ (g : Handle). false) refl (ap (λ (z : Circuits). under z h) same.0 ∙ here) settled
       (subst (λ (z : Server). Reaches the-next.0.action (λ (g : Handle). false) the-next.0.after z) (sym whole) (reach the-next.0.after))
 
   -- a write
-  writes : (x : Store) (last : Circuits) (result : Step) (final : Circuits) (name : List ℕ) (value : Elements) (busies : Bool) → the-next.0.action ≡ Applies name value busies → Tells (Applies name value busies) did u → Follows did h mid_table u last x → IsSound (records_of x) last → Settles last h (length e.link.output) result final
+  writes : (x : Store) (last : Circuits) (result : Step) (final : Circuits) (name : List ℕ) (value : Elements) (busies : Bool) → the-next.0.action ≡ Applies name value busies → Tells d.0.m (Applies name value busies) did u → Follows did h mid_table u last x → IsSound (records_of x) last → Settles last h (length e.link.output) result final
       → MakesBy P y h (stepped result) (server_of port x now final b k)
   writes x last result final name value busies is told f sound settled =
-      let from = subst (λ (q : Effect). Follows q h mid_table u last x) told.2 f in
+      let from = subst (λ (q : FollowUp). Follows q h mid_table u last x) told.2 f in
       let r = from.0 in
       let same : told.1 ≡ r = there-is u told.0 told.1 r told.3 from.1 in
       let v : Stored = stored_now mid value in
@@ -432,9 +432,9 @@ module _ (port now n : ℕ) (b : Clock) (s u : Store) (t : Circuits) (h : Handle
               })
 
   pub handled-all : (x : Store) (last : Circuits) (result : Step) (final : Circuits) → Follows did h mid_table u last x → IsSound (records_of x) last → Settles last h (length e.link.output) result final → MakesBy P y h (stepped result) (server_of port x now final b k)
-  handled-all x last result final f sound settled = by (kind-of d.1.action did u d.1.tells)
+  handled-all x last result final f sound settled = by (kind-of d.0.m d.1.action did u d.1.tells)
     where
-      by : Kind d.1.action did u → MakesBy P y h (stepped result) (server_of port x now final b k)
+      by : Kind d.0.m d.1.action did u → MakesBy P y h (stepped result) (server_of port x now final b k)
       by (Rests quiet reach none less) =
           rests x last result final quiet (λ z. subst (λ (a : Action). Reaches a (λ (g : Handle). false) z z) (sym the-next.2) (reach z)) f settled
       by (Writes name value busies is told) = writes x last result final name value busies (the-next.2 ∙ is) told f sound settled
@@ -445,7 +445,7 @@ module _ (port now n : ℕ) (b : Clock) (s u : Store) (t : Circuits) (h : Handle
           (subst (λ (a : Action). AsksMemory the-next.0.m the-next.0.replies a) (sym action) tt)
           (subst (λ (a : Action). Recorded (records_of s) s.stamp h (after_first d.0) d.0.m a (records_of u)) is d.1.records)
           (ap is_wrote told.2)
-          (subst (λ (z : Effect). Follows z h mid_table u last x) told.2 f) settled
+          (subst (λ (z : FollowUp). Follows z h mid_table u last x) told.2 f) settled
       by (Creates c is told) =
           let action = the-next.2 ∙ is in
           let fits = subst (λ (a : Action). Fits (records_of s) (after_first d.0) d.0.m a) is d.1.fits in
@@ -454,12 +454,12 @@ module _ (port now n : ℕ) (b : Clock) (s u : Store) (t : Circuits) (h : Handle
           (lack-create the-next.0.m _ (ap (λ (z : Fields). z.command) the-next.3 ∙ fits.2) the-next.0.replies the-next.0.action the-next.0.handles.due)
           (subst (λ (a : Action). Recorded (records_of s) s.stamp h (after_first d.0) d.0.m a (records_of u)) is d.1.records)
           (ap is_wrote told.2)
-          (subst (λ (z : Effect). Follows z h mid_table u last x) told.2 f) settled
+          (subst (λ (z : FollowUp). Follows z h mid_table u last x) told.2 f) settled
 
 -- ---- the same along the view of the fields
 
-pub made-followed-by : (y : Server) (port now n k waited : ℕ) (b : Clock) (s u x : Store) (t after last final : Circuits) (h : Handle) (did : Effect) (q : Bool) (result : Step) → server_of port s now t b n ≡ y → q ≡ is_wrote did → k ≡ more_applied q n → waited ≡ length (output_of (under y.circuits h))
-    → StepsIn port t h s (Some (step.Handled did)) after u → Follows did h after u last x → IsSound (records_of x) last → Settles last h waited result final → (P : Action → Type 0) → ((a : Action) → Tells a did u → P a) → MakesBy P y h (stepped result) (server_of port x now final b k)
+pub made-followed-by : (y : Server) (port now n k waited : ℕ) (b : Clock) (s u x : Store) (t after last final : Circuits) (h : Handle) (did : FollowUp) (q : Bool) (result : Step) → server_of port s now t b n ≡ y → q ≡ is_wrote did → k ≡ more_applied q n → waited ≡ length (output_of (under y.circuits h))
+    → StepsIn port t h s (Some (step.Handled did)) after u → Follows did h after u last x → IsSound (records_of x) last → Settles last h waited result final → (P : Fields → Action → Type 0) → ((m : Fields) (a : Action) → Tells m a did u → P m a) → MakesBy P y h (stepped result) (server_of port x now final b k)
 made-followed-by y port now n k waited b s u x t after last final h did q result is wrote more long steps_in f sound settled P holds =
     subst (λ (z : Server). MakesBy P z h (stepped result) (server_of port x now final b k)) is
     (subst (λ (m : ℕ). MakesBy P (server_of port s now t b n) h (stepped result) (server_of port x now final b m)) (sym (more ∙ ap (λ (z : Bool). more_applied z n) wrote))
@@ -476,14 +476,14 @@ made-followed-by y port now n k waited b s u x t after last final h did q result
         by (Open e) new there d changed =
             let at = became t after h new (Open d.0) changed d.4 in
             let output : waited ≡ length e.link.output = long_is ∙ ap (λ (o : Option ServerCircuit). length (output_of o)) there in
-            handled-all port now n b s u t h e d.0 did there d.1 P (holds d.1.1.action d.1.1.tells) x last result final (subst (λ (z : Circuits). Follows did h z u last x) at f) sound (subst (λ (m : ℕ). Settles last h m result final) output settled)
+            handled-all port now n b s u t h e d.0 did there d.1 P (holds d.1.0.m d.1.1.action d.1.1.tells) x last result final (subst (λ (z : Circuits). Follows did h z u last x) at f) sound (subst (λ (m : ℕ). Settles last h m result final) output settled)
         by (Ended v left) new there d changed = not-some (step.Handled did) d.0
 
-pub made-followed : (y : Server) (port now n k waited : ℕ) (b : Clock) (s u x : Store) (t after last final : Circuits) (h : Handle) (did : Effect) (q : Bool) (result : Step) → server_of port s now t b n ≡ y → q ≡ is_wrote did → k ≡ more_applied q n → waited ≡ length (output_of (under y.circuits h))
+pub made-followed : (y : Server) (port now n k waited : ℕ) (b : Clock) (s u x : Store) (t after last final : Circuits) (h : Handle) (did : FollowUp) (q : Bool) (result : Step) → server_of port s now t b n ≡ y → q ≡ is_wrote did → k ≡ more_applied q n → waited ≡ length (output_of (under y.circuits h))
     → StepsIn port t h s (Some (step.Handled did)) after u → Follows did h after u last x → IsSound (records_of x) last → Settles last h waited result final → Makes y h (stepped result) (server_of port x now final b k)
 made-followed y port now n k waited b s u x t after last final h did q result is wrote more long steps_in f sound settled =
-    made-by (λ (a : Action). Unit {0}) y h (stepped result) (server_of port x now final b k)
-    (made-followed-by y port now n k waited b s u x t after last final h did q result is wrote more long steps_in f sound settled (λ (a : Action). Unit {0}) (λ a told. tt))
+    made-by (λ (m : Fields) (a : Action). Unit {0}) y h (stepped result) (server_of port x now final b k)
+    (made-followed-by y port now n k waited b s u x t after last final h did q result is wrote more long steps_in f sound settled (λ (m : Fields) (a : Action). Unit {0}) (λ m a told. tt))
 
 -- ---- what holds then
 
@@ -529,7 +529,7 @@ none-thins port s u t after last h did (inl g) r = by g.0 g.1 g.2 g.3 g.4
         subst (λ (z : Circuits). Thins t z) (sym (r.1 ∙ ap (λ (z : Circuits). with_freed h z) (stayed t after h new (Ended w left) there changed was.1))) (thins-freed t h)
 
 -- what the statement says of it
-pub viewed-followed : (y : Server) (port now n k waited : ℕ) (b : Clock) (s u x : Store) (t after last final : Circuits) (h : Handle) (did : Effect) (q : Bool) (result : Step) → server_of port s now t b n ≡ y → q ≡ is_wrote did → k ≡ more_applied q n → waited ≡ length (output_of (under y.circuits h))
+pub viewed-followed : (y : Server) (port now n k waited : ℕ) (b : Clock) (s u x : Store) (t after last final : Circuits) (h : Handle) (did : FollowUp) (q : Bool) (result : Step) → server_of port s now t b n ≡ y → q ≡ is_wrote did → k ≡ more_applied q n → waited ≡ length (output_of (under y.circuits h))
     → StepsIn port t h s (Some (step.Handled did)) after u → Follows did h after u last x → IsSound (records_of x) last → Settles last h waited result final → Steps y h (stepped result) (server_of port x now final b k)
 viewed-followed y port now n k waited b s u x t after last final h did q result is wrote more long steps_in f sound settled =
     (made-followed y port now n k waited b s u x t after last final h did q result is wrote more long steps_in f sound settled).0

@@ -8,7 +8,7 @@ use Rattle.ca_text.specs.Place.{At}
 use Rattle.ca_server_watchers.specs.Watching.{AreApart, Watched, watching}
 use Rattle.ca_model.specs.Server.{Ended, Open, ServerCircuit}
 use Rattle.ca_model.specs.ServerSteps.{write_mask}
-use Rattle.ca_server_circuit.specs.declared.step.Effect.TheVariants.{Wrote}
+use Rattle.ca_server_circuit.specs.declared.step.FollowUp.TheVariants.{Wrote}
 use Rattle.ca_server_circuit.specs.Circuits.{is_open}
 use Rattle.ca_server_circuit.specs.Posting.{PostsAt, WatchesAt}
 use Rattle.ca_server_circuit.specs.Pumping.{PumpsAt}
@@ -45,8 +45,8 @@ shows-in place h t s c new there watches (mid, posts, pumps) opened =
 
 -- nobody watches the record, and the circuit is idle
 pub goes-idle : (place : ℕ) (h : Handle) (w : Watched) (t : Circuits) (s : Store) (r : Record) → HasAt s place r → record_named (records_of s) r.state.name ≡ Some r → is_some r.busy ≡ false → AreApart (watching w r.state.name) → length (watching w r.state.name) ≡ 0
-    → IsSound (records_of s) t → Covers w t → IsIdleIn t h → GoesThrough (Wrote place) h w t s t
-goes-idle place h w t s r at found free apart none sound covered idle =
+    → IsSound (records_of s) t → Covers w t → IsIdleIn t h → (by : Option ℕ) → GoesThrough (Wrote place by) h w t s t
+goes-idle place h w t s r at found free apart none sound covered idle by =
     let k = length (watching w r.state.name) in
     record {
       writes = refl;
@@ -61,8 +61,8 @@ goes-idle place h w t s r at found free apart none sound covered idle =
 
 -- this circuit alone watches it
 pub goes-shown : (place : ℕ) (h : Handle) (w : Watched) (t after : Circuits) (s : Store) (r : Record) → HasAt s place r → record_named (records_of s) r.state.name ≡ Some r → is_some r.busy ≡ false → AreApart (watching w r.state.name) → length (watching w r.state.name) ≡ 1
-    → At (watching w r.state.name) 0 h → IsSound (records_of s) t → Covers w t → ShowsIn place h t s after → GoesThrough (Wrote place) h w t s after
-goes-shown place h w t after s r at found free apart one last sound covered shows =
+    → At (watching w r.state.name) 0 h → IsSound (records_of s) t → Covers w t → ShowsIn place h t s after → (by : Option ℕ) → GoesThrough (Wrote place by) h w t s after
+goes-shown place h w t after s r at found free apart one last sound covered shows by =
     let k = length (watching w r.state.name) in
     let reaches = reaches-on w t shows.mid h place write_mask 0 s s true refl (r, at, last) shows.watches shows.posts in
     let walk : Walk place write_mask w t s 0 w shows.mid s = walk-next place write_mask w t s k w t s (walk-begins place write_mask k w t s r at apart refl sound covered) 0 (sym one) w shows.mid s reaches in

@@ -17,8 +17,8 @@ use Rattle.ca_model.specs.Ends as why
 use Rattle.ca_model.specs.Server.{Ended, Open, OpenChannel, ServerCircuit, ServerEnd, Subscription, new_end, with_post}
 use Rattle.ca_model.specs.ServerSteps.{reached, write_mask}
 use Rattle.ca_model.specs.Speech.{In, Stored}
-use Rattle.ca_server_circuit.specs.declared.step.Effect.{Effect}
-use Rattle.ca_server_circuit.specs.declared.step.Effect.TheVariants as effect
+use Rattle.ca_server_circuit.specs.declared.step.FollowUp.{FollowUp}
+use Rattle.ca_server_circuit.specs.declared.step.FollowUp.TheVariants as effect
 use Rattle.ca_server_circuit.specs.Handling.{is_wrote}
 use Rattle.ca_server_core.specs.Circuits.{OpensIn}
 use Rattle.ca_server_core.specs.Covering.{AreLed, AreListed, Covers, HasTo, Leads}
@@ -175,15 +175,15 @@ led-reached place mask t s after u l did led =
     (listed-kept (records_of s) (records_of u) l (found-withdrawn _ (records_of s) (records_of u) did.2.1.records) led.listed) led
 
 -- a write leaves the lists complete
-pub led-wrote : (did : Effect) (h : Handle) (s : Store) (l : Watched) (t : Circuits) → is_wrote did ≡ true → LedFor did h s l t → AreLed (records_of s) l t
-led-wrote (effect.Wrote place) h s l t is led = led
+pub led-wrote : (did : FollowUp) (h : Handle) (s : Store) (l : Watched) (t : Circuits) → is_wrote did ≡ true → LedFor did h s l t → AreLed (records_of s) l t
+led-wrote (effect.Wrote place by) h s l t is led = led
 led-wrote effect.Quiet h s l t is led = absurd cc
 led-wrote (effect.Began place) h s l t is led = absurd cc
 led-wrote (effect.Opened place) h s l t is led = absurd cc
 
 -- and so they are once its updates have reached all
-pub led-followed : (did : Effect) (h : Handle) (t : Circuits) (s : Store) (after : Circuits) (u : Store) (l : Watched) → is_wrote did ≡ true → Follows did h t s after u → LedFor did h s l t → AreLed (records_of u) l after
-led-followed (effect.Wrote place) h t s after u l is f led = led-reached place write_mask t s after u l f led
+pub led-followed : (did : FollowUp) (h : Handle) (t : Circuits) (s : Store) (after : Circuits) (u : Store) (l : Watched) → is_wrote did ≡ true → Follows did h t s after u → LedFor did h s l t → AreLed (records_of u) l after
+led-followed (effect.Wrote place by) h t s after u l is f led = led-reached place write_mask t s after u l f led
 led-followed effect.Quiet h t s after u l is f led = absurd cc
 led-followed (effect.Began place) h t s after u l is f led = absurd cc
 led-followed (effect.Opened place) h t s after u l is f led = absurd cc
@@ -192,6 +192,6 @@ led-followed (effect.Opened place) h t s after u l is f led = absurd cc
 pub led-finished : (f : Finished) (s : Store) (l : Watched) (t : Circuits) → AreLed (records_of s) l t → LedFor (effect_after f) f.ended.circuit s l t
 led-finished f s l t led = by (is_some f.applied)
   where
-    by : (b : Bool) → LedFor (cond b (effect.Wrote f.place) effect.Quiet) f.ended.circuit s l t
+    by : (b : Bool) → LedFor (cond b (effect.Wrote f.place None) effect.Quiet) f.ended.circuit s l t
     by true = led
     by false = led

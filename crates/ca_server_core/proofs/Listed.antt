@@ -16,7 +16,7 @@ use Rattle.ca_server_watchers.specs.Watching.{OthersStay, Watched, line_of}
 use Rattle.ca_model.specs.Ends.{Why}
 use Rattle.ca_model.specs.Server.{Ended, Open, ServerCircuit}
 use Rattle.ca_server_circuit.specs.declared.cause.Cause.{Cause}
-use Rattle.ca_server_circuit.specs.declared.step.Effect.{Effect}
+use Rattle.ca_server_circuit.specs.declared.step.FollowUp.{FollowUp}
 use Rattle.ca_server_circuit.specs.declared.step.EndStep.TheVariants as step
 use Rattle.ca_server_circuit.specs.Ending.{EndsAt}
 use Rattle.ca_server_circuit.specs.Finishing.{RepliesAt}
@@ -88,7 +88,7 @@ listed-pumped s u t after h w (inl g) listed = listed-kept (records_of s) (recor
     by (Ended v left) new did = found-stores s u did.1
 
 -- a step
-pub listed-step : (port : ℕ) (s u : Store) (t after : Circuits) (h : Handle) (did : Effect) (w : Watched) → StepsIn port t h s (Some (step.Handled did)) after u → AreListed (records_of s) w → AreListed (records_of u) w
+pub listed-step : (port : ℕ) (s u : Store) (t after : Circuits) (h : Handle) (did : FollowUp) (w : Watched) → StepsIn port t h s (Some (step.Handled did)) after u → AreListed (records_of s) w → AreListed (records_of u) w
 listed-step port s u t after h did w (inr none) listed = not-some (step.Handled did) none.1
 listed-step port s u t after h did w (inl g) listed = listed-kept (records_of s) (records_of u) w (by g.0 g.1 g.3) listed
   where

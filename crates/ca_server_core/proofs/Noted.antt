@@ -24,8 +24,8 @@ use Rattle.ca_model.specs.ServerSteps.{Stepped}
 use Rattle.ca_model.specs.ServerSteps as steps
 use Rattle.ca_model.specs.Speech.{In}
 use Rattle.ca_server_circuit.specs.declared.cause.Cause.{Cause}
-use Rattle.ca_server_circuit.specs.declared.step.Effect.{Effect}
-use Rattle.ca_server_circuit.specs.declared.step.Effect.TheVariants as effect
+use Rattle.ca_server_circuit.specs.declared.step.FollowUp.{FollowUp}
+use Rattle.ca_server_circuit.specs.declared.step.FollowUp.TheVariants as effect
 use Rattle.ca_server_circuit.specs.declared.step.EndStep.TheVariants as step
 use Rattle.ca_server_circuit.specs.Circuits.{is_open}
 use Rattle.ca_server_circuit.specs.Ending.{EndsAt, KeepsPlaces}
@@ -39,6 +39,7 @@ use Rattle.ca_server_core.specs.Noting.{BusyBut, EndsPutAt, IsBusy, LeadsTo, Not
 use Rattle.ca_server_core.specs.Finishing.{RepliesIn, effect_after}
 use Rattle.ca_server_core.specs.Serving.{IsReport, Reports, StepsIn, more_applied, stepped}
 use Rattle.ca_server_core.specs.declared.stepping.Step.{Step}
+use Rattle.ca_server_core.specs.declared.effect.Effect.TheVariants as told
 use Rattle.ca_server_core.specs.declared.stepping.Step.TheVariants as own
 use Rattle.ca_server_core.proofs.Followed.{HandledBy}
 use Rattle.ca_server_core.proofs.Nexts.{viewed-finish}
@@ -141,28 +142,28 @@ begun-busy h t last u x noted f = by f
     by (inr (inl g)) = on g.0 g.1 g.3
     by (inr (inr none)) = same none.2
 
-followed-busy : (did : Effect) (h : Handle) (t last : Circuits) (u x : Store) (noted : Option (List ℕ)) → Follows did h t u last x → BusyBut (records_of u) (records_of x) noted
+followed-busy : (did : FollowUp) (h : Handle) (t last : Circuits) (u x : Store) (noted : Option (List ℕ)) → Follows did h t u last x → BusyBut (records_of u) (records_of x) noted
 followed-busy effect.Quiet h t last u x noted f = subst (λ (z : Store). BusyBut (records_of u) (records_of z) noted) (sym f.1) (busy-same (records_of u) noted)
-followed-busy (effect.Wrote place) h t last u x noted f =
+followed-busy (effect.Wrote place by) h t last u x noted f =
     busy-withdrawn (λ (p : Put). f.2.0 p.circuit) (records_of u) (records_of x) noted f.2.1.records
 followed-busy (effect.Began place) h t last u x noted f = begun-busy h t last u x noted f
 followed-busy (effect.Opened place) h t last u x noted f = begun-busy h t last u x noted f
 
 -- what is noted is busy
-noted-busy : (did : Effect) (x : Store) (noted : Option (List ℕ)) → NotesAt did x noted → IsBusy (records_of x) noted
+noted-busy : (did : FollowUp) (x : Store) (noted : Option (List ℕ)) → NotesAt did x noted → IsBusy (records_of x) noted
 noted-busy effect.Quiet x noted n name is = absurd (none-some name (sym n ∙ is))
 noted-busy (effect.Began place) x noted n name is = absurd (none-some name (sym n ∙ is))
 noted-busy (effect.Opened place) x noted n name is = absurd (none-some name (sym n ∙ is))
-noted-busy (effect.Wrote place) x noted n name is = by (is_some n.0.busy) refl (sym n.3 ∙ is)
+noted-busy (effect.Wrote place who) x noted n name is = by (is_some n.0.busy) refl (sym n.3 ∙ is)
   where
     by : (b : Bool) → is_some n.0.busy ≡ b → cond b (Some n.0.state.name) None ≡ Some name → (r : Record) × (record_named (records_of x) name ≡ Some r) × (is_some r.busy ≡ true)
     by true busy same = (n.0, ap (λ (m : List ℕ). record_named (records_of x) m) (sym (some_is n.0.state.name name same)) ∙ n.2, busy)
     by false free same = absurd (none-some name same)
 
 -- the record that a put made busy is noted
-wrote-noted : (name : List ℕ) (u x : Store) (which : Put → Bool) (place : ℕ) (noted : Option (List ℕ)) → ((r : Record) → In (records_of u) r → r.state.name ≡ name → is_some r.busy ≡ true) → records_of x ≡ withdrawn which (records_of u) → KeepsPlaces u x
-    → (was : Record) → HasAt u place was → was.state.name ≡ name → NotesAt (effect.Wrote place) x noted → noted ≡ Some name
-wrote-noted name u x which place noted busy is places was at named n =
+wrote-noted : (name : List ℕ) (u x : Store) (which : Put → Bool) (place : ℕ) (by : Option ℕ) (noted : Option (List ℕ)) → ((r : Record) → In (records_of u) r → r.state.name ≡ name → is_some r.busy ≡ true) → records_of x ≡ withdrawn which (records_of u) → KeepsPlaces u x
+    → (was : Record) → HasAt u place was → was.state.name ≡ name → NotesAt (effect.Wrote place by) x noted → noted ≡ Some name
+wrote-noted name u x which place by noted busy is places was at named n =
     let kept = places place was at in
     let r : Record = n.0 in
     let same : kept.0 ≡ r = there-is x place kept.0 r kept.1 n.1 in
@@ -176,14 +177,14 @@ wrote-noted name u x which place noted busy is places was at named n =
 -- ---- a step
 
 -- what a message made of the records, and what followed
-recorded-busy : (rs : List Record) (stamp : Stamp) (h : Handle) (e : ServerEnd) (m : Fields) (a : Action) (did : Effect) (u x : Store) (t last : Circuits) (noted : Option (List ℕ)) → Recorded rs stamp h e m a (records_of u) → Tells a did u → Follows did h t u last x → NotesAt did x noted → BusyBut rs (records_of u) noted
+recorded-busy : (rs : List Record) (stamp : Stamp) (h : Handle) (e : ServerEnd) (m : Fields) (a : Action) (did : FollowUp) (u x : Store) (t last : Circuits) (noted : Option (List ℕ)) → Recorded rs stamp h e m a (records_of u) → Tells m a did u → Follows did h t u last x → NotesAt did x noted → BusyBut rs (records_of u) noted
 recorded-busy rs stamp h e m (Applies name value false) did u x t last noted is told f n = busy-with name (with_value value (written_meta stamp)) rs (records_of u) noted (λ q. refl) (λ q. refl) is
 recorded-busy rs stamp h e m (Applies name value true) did u x t last noted (p, put, is) told f n =
     let change : Record → Record = λ (r : Record). record (with_value value (written_meta stamp) r) { busy = Some p } in
-    let from = subst (λ (d : Effect). Follows d h t u last x) told.2 f in
-    let at = subst (λ (d : Effect). NotesAt d x noted) told.2 n in
+    let from = subst (λ (d : FollowUp). Follows d h t u last x) told.2 f in
+    let at = subst (λ (d : FollowUp). NotesAt d x noted) told.2 n in
     let named : noted ≡ Some name =
-    wrote-noted name u x (λ (q : Put). from.2.0 q.circuit) told.0 noted (λ r i own. made-busy name (λ (r : Record). record (with_value value (written_meta stamp) r) { busy = Some p }) rs (λ q. refl) p (λ q. refl) r (subst (λ (z : List Record). In z r) is i) own) from.2.1.records from.2.1.places told.1 told.3 told.4 at in
+    wrote-noted name u x (λ (q : Put). from.2.0 q.circuit) told.0 (Some m.p1) noted (λ r i own. made-busy name (λ (r : Record). record (with_value value (written_meta stamp) r) { busy = Some p }) rs (λ q. refl) p (λ q. refl) r (subst (λ (z : List Record). In z r) is i) own) from.2.1.records from.2.1.places told.1 told.3 told.4 at in
     subst (λ (z : List Record). BusyBut rs z noted) (sym is) (busy-put name (λ (r : Record). record (with_value value (written_meta stamp) r) { busy = Some p }) rs (λ q. refl) p (λ q. refl) noted named)
 recorded-busy rs stamp h e m (Waits name value) did u x t last noted (p, put, is) told f n =
     busy-with name (with_waiting (record { put = p; value = value })) rs (records_of u) noted (λ q. refl) (λ q. refl) is
@@ -196,7 +197,7 @@ recorded-busy rs stamp h e m (Adds s) did u x t last noted is told f n = subst (
 recorded-busy rs stamp h e m (Drops k) did u x t last noted is told f n = subst (λ (z : List Record). BusyBut rs z noted) (sym is) (busy-same rs noted)
 recorded-busy rs stamp h e m (Switches on) did u x t last noted is told f n = subst (λ (z : List Record). BusyBut rs z noted) (sym is) (busy-same rs noted)
 
-notes-after : (port : ℕ) (s u x : Store) (t after last : Circuits) (h : Handle) (did : Effect) (noted : Option (List ℕ)) → StepsIn port t h s (Some (step.Handled did)) after u → Follows did h after u last x → NotesAt did x noted → Notes (records_of s) (records_of x) noted
+notes-after : (port : ℕ) (s u x : Store) (t after last : Circuits) (h : Handle) (did : FollowUp) (noted : Option (List ℕ)) → StepsIn port t h s (Some (step.Handled did)) after u → Follows did h after u last x → NotesAt did x noted → Notes (records_of s) (records_of x) noted
 notes-after port s u x t after last h did noted (inr none) f n = not-some (step.Handled did) none.1
 notes-after port s u x t after last h did noted (inl g) f n = by g.0 g.1 g.3
   where
@@ -208,39 +209,39 @@ notes-after port s u x t after last h did noted (inl g) f n = by g.0 g.1 g.3
     by (Ended w left) new d = not-some (step.Handled did) d.0
 
 -- what is noted is the record to which the message wrote, if that is busy
-own-noted : (did : Effect) (h : Handle) (u x : Store) (t last : Circuits) (noted : Option (List ℕ)) → Follows did h t u last x → NotesAt did x noted → (a : Action) → Tells a did u → noted ≡ wrote_busy a (records_of x)
-own-noted did h u x t last noted f n (Applies name value busies) told =
-    let from = subst (λ (d : Effect). Follows d h t u last x) told.2 f in
-    let at = subst (λ (d : Effect). NotesAt d x noted) told.2 n in
+own-noted : (did : FollowUp) (h : Handle) (u x : Store) (t last : Circuits) (noted : Option (List ℕ)) → Follows did h t u last x → NotesAt did x noted → (m : Fields) (a : Action) → Tells m a did u → noted ≡ wrote_busy a (records_of x)
+own-noted did h u x t last noted f n m (Applies name value busies) told =
+    let from = subst (λ (d : FollowUp). Follows d h t u last x) told.2 f in
+    let at = subst (λ (d : FollowUp). NotesAt d x noted) told.2 n in
     let kept = from.2.1.places told.0 told.1 told.3 in
     let same : kept.0 ≡ at.0 = there-is x told.0 kept.0 at.0 kept.1 at.1 in
     let named : at.0.state.name ≡ name = ap (λ (z : Record). z.state.name) (sym same) ∙ ap (λ (z : RecordState). z.name) kept.2 ∙ told.4 in
     let found : record_named (records_of x) name ≡ Some at.0 = ap (λ (m : List ℕ). record_named (records_of x) m) (sym named) ∙ at.2 in
     at.3 ∙ ap (λ (o : Option Record). busy_name o) (sym found)
-own-noted did h u x t last noted f n (Adds s) told = subst (λ (d : Effect). NotesAt d x noted) told.2 n
-own-noted did h u x t last noted f n (Waits name value) told = subst (λ (d : Effect). NotesAt d x noted) told n
-own-noted did h u x t last noted f n (Clears sid) told = subst (λ (d : Effect). NotesAt d x noted) told n
-own-noted did h u x t last noted f n Nothing told = subst (λ (d : Effect). NotesAt d x noted) told n
-own-noted did h u x t last noted f n Greets told = subst (λ (d : Effect). NotesAt d x noted) told n
-own-noted did h u x t last noted f n (Names p) told = subst (λ (d : Effect). NotesAt d x noted) told n
-own-noted did h u x t last noted f n (Opens c) told = subst (λ (d : Effect). NotesAt d x noted) told.2 n
-own-noted did h u x t last noted f n (Drops k) told = subst (λ (d : Effect). NotesAt d x noted) told n
-own-noted did h u x t last noted f n (Switches on) told = subst (λ (d : Effect). NotesAt d x noted) told n
+own-noted did h u x t last noted f n m (Adds s) told = subst (λ (d : FollowUp). NotesAt d x noted) told.2 n
+own-noted did h u x t last noted f n m (Waits name value) told = subst (λ (d : FollowUp). NotesAt d x noted) told n
+own-noted did h u x t last noted f n m (Clears sid) told = subst (λ (d : FollowUp). NotesAt d x noted) told n
+own-noted did h u x t last noted f n m Nothing told = subst (λ (d : FollowUp). NotesAt d x noted) told n
+own-noted did h u x t last noted f n m Greets told = subst (λ (d : FollowUp). NotesAt d x noted) told n
+own-noted did h u x t last noted f n m (Names p) told = subst (λ (d : FollowUp). NotesAt d x noted) told n
+own-noted did h u x t last noted f n m (Opens c) told = subst (λ (d : FollowUp). NotesAt d x noted) told.2 n
+own-noted did h u x t last noted f n m (Drops k) told = subst (λ (d : FollowUp). NotesAt d x noted) told n
+own-noted did h u x t last noted f n m (Switches on) told = subst (λ (d : FollowUp). NotesAt d x noted) told n
 
 -- a step that handled a message, for whatever holds of its action
-abbrev pub HandlesAny : Server → Handle → Effect → Store → Server → Type 1
-HandlesAny y h did u new = (P : Action → Type 0) → ((a : Action) → Tells a did u → P a) → HandledBy P y h new
+abbrev pub HandlesAny : Server → Handle → FollowUp → Store → Server → Type 1
+HandlesAny y h did u new = (P : Fields → Action → Type 0) → ((m : Fields) (a : Action) → Tells m a did u → P m a) → HandledBy P y h new
 
 -- a step, after which it is noted what its message made busy
 abbrev StepsNoting : Server → Handle → Option (List ℕ) → Server → Type 0
 StepsNoting old h noted new =
-    HandledBy (λ (a : Action). noted ≡ wrote_busy a new.records) old h new × Notes old.records new.records noted
+    HandledBy (λ (m : Fields) (a : Action). noted ≡ wrote_busy a new.records) old h new × Notes old.records new.records noted
 
 -- the same along the view of the fields
-viewed-noting : (y : Server) (port now n k : ℕ) (b : Clock) (s u x : Store) (t after last final : Circuits) (h : Handle) (did : Effect) (noted : Option (List ℕ)) → server_of port s now t b n ≡ y → StepsIn port t h s (Some (step.Handled did)) after u → Follows did h after u last x → NotesAt did x noted
+viewed-noting : (y : Server) (port now n k : ℕ) (b : Clock) (s u x : Store) (t after last final : Circuits) (h : Handle) (did : FollowUp) (noted : Option (List ℕ)) → server_of port s now t b n ≡ y → StepsIn port t h s (Some (step.Handled did)) after u → Follows did h after u last x → NotesAt did x noted
     → HandlesAny y h did u (server_of port x now final b k) → StepsNoting y h noted (server_of port x now final b k)
 viewed-noting y port now n k b s u x t after last final h did noted is g f at made = (
-  made (λ (a : Action). noted ≡ wrote_busy a (records_of x)) (own-noted did h u x after last noted f at),
+  made (λ (m : Fields) (a : Action). noted ≡ wrote_busy a (records_of x)) (own-noted did h u x after last noted f at),
   subst (λ (z : Server). Notes z.records (records_of x) noted) is (notes-after port s u x t after last h did noted g f at),
 )
 
@@ -293,10 +294,10 @@ over-closed (Some (Ended w left)) did shut is = ap (λ (d : Stepped). was_handle
 over-closed (Some (Open e)) did shut is = absurd (both-bools true refl shut)
 
 -- an open one stays as it is
-pub open-settles : (t : Circuits) (h : Handle) (waited : ℕ) → is_open (under t h) ≡ true → Settles t h waited own.Handled t
+pub open-settles : (t : Circuits) (h : Handle) (waited : ℕ) → is_open (under t h) ≡ true → Settles t h waited (own.Handled told.Quiet) t
 open-settles t h waited opened = (by (under t h) opened, sym (ap (λ (b : Bool). cond b t (with_freed h t)) opened))
   where
-    by : (o : Option ServerCircuit) → is_open o ≡ true → IsSettled o waited own.Handled
+    by : (o : Option ServerCircuit) → is_open o ≡ true → IsSettled o waited (own.Handled told.Quiet)
     by (Some (Open e)) is = refl
     by (Some (Ended w left)) is = absurd (both-bools false is refl)
     by None is = absurd (both-bools false is refl)
@@ -307,7 +308,7 @@ finds-named : (s : Store) (name : List ℕ) (place : ℕ) (g : Finds s name plac
 finds-named s name place g = ap (λ (m : List ℕ). record_named (records_of s) m) g.named ∙ g.found
 
 -- the put of the record at a place ended
-pub ended-at : (place n k : ℕ) (t mid last : Circuits) (s left v x : Store) (f : Finished) (did : Effect) (q : Bool) → FinishesAt s place (Some f) left → RepliesIn t f.ended left mid v → did ≡ effect_after f → q ≡ is_wrote did → k ≡ more_applied q n → Follows did f.ended.circuit mid v last x → EndsPutAt place n t s k last x
+pub ended-at : (place n k : ℕ) (t mid last : Circuits) (s left v x : Store) (f : Finished) (did : FollowUp) (q : Bool) → FinishesAt s place (Some f) left → RepliesIn t f.ended left mid v → did ≡ effect_after f → q ≡ is_wrote did → k ≡ more_applied q n → Follows did f.ended.circuit mid v last x → EndsPutAt place n t s k last x
 ended-at place n k t mid last s left v x f did q (name, g, fin) replies is wrote more follows =
     let same : fin.0 ≡ g.r = some_is fin.0 g.r (sym fin.3.found ∙ g.found) in
     let busy : is_some g.r.busy ≡ true = ap (λ (r : Record). is_some r.busy) (sym same) ∙ ap (λ (o : Option Put). is_some o) fin.1 in (
@@ -323,7 +324,7 @@ ended-at place n k t mid last s left v x f did q (name, g, fin) replies is wrote
           mid = mid;
           after = v;
           replies = replies;
-          follows = subst (λ (d : Effect). Follows d f.ended.circuit mid v last x) is follows;
+          follows = subst (λ (d : FollowUp). Follows d f.ended.circuit mid v last x) is follows;
           counts = more ∙ ap (λ (b : Bool). more_applied b n) (wrote ∙ ap is_wrote is);
         },
       ),
@@ -346,14 +347,14 @@ same-server port now n k b s x t last a c e =
     ap (λ (z : Store). server_of port z now last b k) e ∙ ap (λ (z : Circuits). server_of port s now z b k) c ∙ ap (λ (z : ℕ). server_of port s now t b z) a
 
 -- the record that it made busy is noted, and its put ended
-tried-at : (did : Effect) (port now : ℕ) (b : Clock) (n k : ℕ) (t last : Circuits) (s x : Store) → TriesAt did n t s k last x → (noted : Option (List ℕ)) × NotesAt did s noted × Tries (server_of port s now t b n) noted (server_of port x now last b k)
+tried-at : (did : FollowUp) (port now : ℕ) (b : Clock) (n k : ℕ) (t last : Circuits) (s x : Store) → TriesAt did n t s k last x → (noted : Option (List ℕ)) × NotesAt did s noted × Tries (server_of port s now t b n) noted (server_of port x now last b k)
 tried-at effect.Quiet port now b n k t last s x is = (None, refl, same-server port now n k b s x t last is.0 is.1 is.2)
 tried-at (effect.Began place) port now b n k t last s x is = (None, refl, same-server port now n k b s x t last is.0 is.1 is.2)
 tried-at (effect.Opened place) port now b n k t last s x is = (None, refl, same-server port now n k b s x t last is.0 is.1 is.2)
-tried-at (effect.Wrote place) port now b n k t last s x (r, at, found, inl (busy, e)) =
+tried-at (effect.Wrote place by) port now b n k t last s x (r, at, found, inl (busy, e)) =
     let g = viewed-finish (server_of port s now t b n) port now n k b s e.left e.after x t e.mid last r.state.name e.f (effect_after e.f) (is_wrote (effect_after e.f)) refl refl refl e.counts e.finishes e.replies e.follows in
     (Some r.state.name, (r, at, found, ap (λ (c : Bool). cond c (Some r.state.name) None) (sym busy)), (g.0, Ok tt, g.1))
-tried-at (effect.Wrote place) port now b n k t last s x (r, at, found, inr (free, is)) =
+tried-at (effect.Wrote place by) port now b n k t last s x (r, at, found, inr (free, is)) =
     (None, (r, at, found, ap (λ (c : Bool). cond c (Some r.state.name) None) (sym free)), same-server port now n k b s x t last is.0 is.1 is.2)
 
 -- the put of the record to which a message wrote ended
@@ -374,15 +375,15 @@ viewed-quiet y port now n k b s u t after h is g made =
     (viewed-noting y port now n k b s u u t after after after h effect.Quiet None is g (refl, refl) refl made) refl
 
 -- a message was handled, and the put of the record to which it wrote ended
-pub viewed-served : (y : Server) (port now n k j : ℕ) (b : Clock) (s u x z : Store) (t after last mid final : Circuits) (h : Handle) (did : Effect) → server_of port s now t b n ≡ y → StepsIn port t h s (Some (step.Handled did)) after u → Follows did h after u last x
+pub viewed-served : (y : Server) (port now n k j : ℕ) (b : Clock) (s u x z : Store) (t after last mid final : Circuits) (h : Handle) (did : FollowUp) → server_of port s now t b n ≡ y → StepsIn port t h s (Some (step.Handled did)) after u → Follows did h after u last x
     → HandlesAny y h did u (server_of port x now mid b k) → TriesAt did k mid x j final z → HandlesAndFinishes y h (server_of port z now final b j)
 viewed-served y port now n k j b s u x z t after last mid final h did is g f made tries =
     let it = tried-at did port now b k j mid final x z tries in
     served y h it.0 (server_of port x now mid b k) (server_of port z now final b j) (viewed-noting y port now n k b s u x t after last mid h did it.0 is g f it.1 made) it.2
 
 -- the record to which a message wrote is there after what followed
-pub leads-after : (did : Effect) (h : Handle) (t last : Circuits) (u x : Store) → Follows did h t u last x → LeadsTo did x
+pub leads-after : (did : FollowUp) (h : Handle) (t last : Circuits) (u x : Store) → Follows did h t u last x → LeadsTo did x
 leads-after effect.Quiet h t last u x f = tt
-leads-after (effect.Wrote place) h t last u x f = (let kept = f.2.1.places place f.0 f.1 in (kept.0, kept.1))
+leads-after (effect.Wrote place by) h t last u x f = (let kept = f.2.1.places place f.0 f.1 in (kept.0, kept.1))
 leads-after (effect.Began place) h t last u x f = tt
 leads-after (effect.Opened place) h t last u x f = tt

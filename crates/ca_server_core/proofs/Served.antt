@@ -8,8 +8,8 @@ use Rattle.ca_records.specs.Store.{Store, records_of}
 use Rattle.ca_text.proofs.Places.{some_is}
 use Rattle.ca_model.specs.Server.{Ended, Open, ServerCircuit, ServerEnd}
 use Rattle.ca_model.specs.ServerSteps.{Rests, output_of}
-use Rattle.ca_server_circuit.specs.declared.step.Effect.{Effect}
-use Rattle.ca_server_circuit.specs.declared.step.Effect.TheVariants as effect
+use Rattle.ca_server_circuit.specs.declared.step.FollowUp.{FollowUp}
+use Rattle.ca_server_circuit.specs.declared.step.FollowUp.TheVariants as effect
 use Rattle.ca_server_circuit.specs.declared.step.EndStep.{EndStep}
 use Rattle.ca_server_circuit.specs.declared.step.EndStep.TheVariants as step
 use Rattle.ca_server_circuit.specs.Circuits.{CircuitIsSound}
@@ -49,21 +49,21 @@ changed-twice t h c d u is =
 
 -- ---- a step that leaves nothing to do
 
-pub quiet-is : (did : Effect) → is_quiet did ≡ true → did ≡ effect.Quiet
+pub quiet-is : (did : FollowUp) → is_quiet did ≡ true → did ≡ effect.Quiet
 quiet-is effect.Quiet is = refl
-quiet-is (effect.Wrote place) is = absurd cc
+quiet-is (effect.Wrote place by) is = absurd cc
 quiet-is (effect.Began place) is = absurd cc
 quiet-is (effect.Opened place) is = absurd cc
 
 pub still-is : (did : Option EndStep) → is_still did ≡ true → did ≡ Some (step.Handled effect.Quiet)
 still-is None is = absurd cc
-still-is (Some (step.Handled did)) is = ap (λ (x : Effect). Some (step.Handled x)) (quiet-is did is)
+still-is (Some (step.Handled did)) is = ap (λ (x : FollowUp). Some (step.Handled x)) (quiet-is did is)
 still-is (Some step.NeedBytes) is = absurd cc
 still-is (Some step.OutputFull) is = absurd cc
 still-is (Some (step.Breaks cause)) is = absurd cc
 
 -- a circuit that handled a message is sound
-pub stepped-sound : (port : ℕ) (s u : Store) (t : Circuits) (h : Handle) (c new : ServerCircuit) (did : Effect) → under t h ≡ Some c → CircuitSteps port h c s (Some (step.Handled did)) new u → IsSound (records_of s) t
+pub stepped-sound : (port : ℕ) (s u : Store) (t : Circuits) (h : Handle) (c new : ServerCircuit) (did : FollowUp) → under t h ≡ Some c → CircuitSteps port h c s (Some (step.Handled did)) new u → IsSound (records_of s) t
     → CircuitIsSound (records_of u) h new
 stepped-sound port s u t h c new did there steps sound = by new (changed-own (λ (x : ServerCircuit). new) t h c there)
   where

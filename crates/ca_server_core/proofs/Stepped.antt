@@ -23,8 +23,9 @@ use Rattle.ca_server_circuit.specs.declared.cause.Cause.{Cause}
 use Rattle.ca_server_circuit.specs.declared.cause.Cause.TheVariants as cause
 use Rattle.ca_server_circuit.specs.declared.step.EndStep.TheVariants as step
 use Rattle.ca_server_core.specs.declared.stepping.Step.{Step}
+use Rattle.ca_server_core.specs.declared.effect.Effect.TheVariants as told
 use Rattle.ca_server_core.specs.declared.stepping.Step.TheVariants as own
-use Rattle.ca_server_circuit.specs.declared.step.Effect.{Effect}
+use Rattle.ca_server_circuit.specs.declared.step.FollowUp.{FollowUp}
 use Rattle.ca_server_circuit.specs.Circuits.{is_open}
 use Rattle.ca_server_circuit.specs.Ending.{KeepsPlaces, WithdrawsAll}
 use Rattle.ca_server_circuit.specs.Handling.{AsksMemory, Does, Recorded, Tells, is_wrote, known, replied}
@@ -85,17 +86,17 @@ none-wrote gone is = absurd cc
 
 module _ (port now n : ℕ) (b : Clock) where
   -- whether a write was applied
-  wrote-is : (a : Action) (did : Effect) (u : Store) → Tells a did u → is_wrote did ≡ is_write a
-  wrote-is (Applies name value busies) did u is = ap is_wrote is.2
-  wrote-is (Adds x) did u is = ap is_wrote is.2
-  wrote-is Nothing did u is = ap is_wrote is
-  wrote-is Greets did u is = ap is_wrote is
-  wrote-is (Names p) did u is = ap is_wrote is
-  wrote-is (Opens c) did u is = ap is_wrote is.2
-  wrote-is (Clears sid) did u is = ap is_wrote is
-  wrote-is (Waits name value) did u is = ap is_wrote is
-  wrote-is (Drops k) did u is = ap is_wrote is
-  wrote-is (Switches on) did u is = ap is_wrote is
+  wrote-is : (m : Fields) (a : Action) (did : FollowUp) (u : Store) → Tells m a did u → is_wrote did ≡ is_write a
+  wrote-is m (Applies name value busies) did u is = ap is_wrote is.2
+  wrote-is m (Adds x) did u is = ap is_wrote is.2
+  wrote-is m Nothing did u is = ap is_wrote is
+  wrote-is m Greets did u is = ap is_wrote is
+  wrote-is m (Names p) did u is = ap is_wrote is
+  wrote-is m (Opens c) did u is = ap is_wrote is.2
+  wrote-is m (Clears sid) did u is = ap is_wrote is
+  wrote-is m (Waits name value) did u is = ap is_wrote is
+  wrote-is m (Drops k) did u is = ap is_wrote is
+  wrote-is m (Switches on) did u is = ap is_wrote is
 
   -- what a message makes of the records makes it of the server
   records-of : (s : Store) (t : Table ServerCircuit) (h : Handle) (e : ServerEnd) (m : Fields) (a : Action) (rs : List Record) → Recorded (records_of s) s.stamp h e m a rs
@@ -113,7 +114,7 @@ module _ (port now n : ℕ) (b : Clock) where
   records-of s t h e m (Switches on) rs is = ap (λ (x : List Record). made_of port s.rules x s.stamp now t b n) is
 
   -- what an end did is what its server did
-  handles-of : (s u : Store) (t after : Table ServerCircuit) (h : Handle) (e : ServerEnd) (m : Fields) (did : Effect) (new : ServerEnd) (d : Does (Due (known port s e) m) s h e m did u new) → after ≡ with_changed (λ (x : ServerCircuit). Open new) h t
+  handles-of : (s u : Store) (t after : Table ServerCircuit) (h : Handle) (e : ServerEnd) (m : Fields) (did : FollowUp) (new : ServerEnd) (d : Does (Due (known port s e) m) s h e m did u new) → after ≡ with_changed (λ (x : ServerCircuit). Open new) h t
       → Handles (server_of port s now t b n) h e m d.replies d.action (server_of port u now after b (more_applied (is_wrote did) n))
   handles-of s u t after h e m did new d changed = record {
     due = d.due;
@@ -122,7 +123,7 @@ module _ (port now n : ℕ) (b : Clock) where
     recorded = made_of port s.rules (records_of u) s.stamp now t b (more_applied (is_write d.action) n);
     records = records-of s t h e m d.action (records_of u) d.records;
     leaves = same-parts port now b u.rules s.rules (records_of u) (records_of u) u.stamp s.stamp after _ (more_applied (is_wrote did) n) (more_applied (is_write d.action) n) d.rules refl d.stamp
-        (changed ∙ ap (λ (x : ServerEnd). with_changed (λ (z : ServerCircuit). Open x) h t) d.leaves) (ap (λ (w : Bool). more_applied w n) (wrote-is d.action did u d.tells));
+        (changed ∙ ap (λ (x : ServerEnd). with_changed (λ (z : ServerCircuit). Open x) h t) d.leaves) (ap (λ (w : Bool). more_applied w n) (wrote-is m d.action did u d.tells));
   }
 
   -- an end that its first message is taken from
@@ -142,13 +143,13 @@ module _ (port now n : ℕ) (b : Clock) where
   -- ---- a message was handled
 
   -- the circuits after a message was handled are sound
-  handled-sound : (s u : Store) (t after : Table ServerCircuit) (h : Handle) (e new : ServerEnd) (did : Effect) → under t h ≡ Some (Open e) → EndSteps port h e s (step.Handled did) new u → HasRoom (events_of new) → length new.channels ≤ arena_slots → after ≡ with_changed (λ (x : ServerCircuit). Open new) h t → IsSound (records_of s) t → IsSound (records_of u) after
+  handled-sound : (s u : Store) (t after : Table ServerCircuit) (h : Handle) (e new : ServerEnd) (did : FollowUp) → under t h ≡ Some (Open e) → EndSteps port h e s (step.Handled did) new u → HasRoom (events_of new) → length new.channels ≤ arena_slots → after ≡ with_changed (λ (x : ServerCircuit). Open new) h t → IsSound (records_of s) t → IsSound (records_of u) after
   handled-sound s u t after h e new did there x room few changed i =
       subst (λ (z : Table ServerCircuit). IsSound (records_of u) z) (sym changed)
       (sound-handled (server_of port s now t b n) s u h e (after_first x.0) x.0.m did (Due (known port s (after_first x.0)) x.0.m) new t refl i there (first-sound (records_of s) h e x.0 (i.ends h e there)) x.1 room few)
 
   -- the next message, whose write has not reached the subscriptions yet
-  pub handled-next : (s u : Store) (t after : Table ServerCircuit) (h : Handle) (e new : ServerEnd) (did : Effect) (d : EndSteps port h e s (step.Handled did) new u) → after ≡ with_changed (λ (x : ServerCircuit). Open new) h t
+  pub handled-next : (s u : Store) (t after : Table ServerCircuit) (h : Handle) (e new : ServerEnd) (did : FollowUp) (d : EndSteps port h e s (step.Handled did) new u) → after ≡ with_changed (λ (x : ServerCircuit). Open new) h t
       → (next : Next (server_of port s now t b n) h e) × (next.after ≡ server_of port u now after b (more_applied (is_wrote did) n)) × (next.action ≡ d.1.action) × (next.m ≡ d.0.m)
   handled-next s u t after h e new did (x, d) changed = (
     record {
@@ -242,7 +243,7 @@ module _ (port now n : ℕ) (b : Clock) where
 pub not-some : {A B : Type 0} (d : A) → (let none : Option A = None in Some d ≡ none) → B
 not-some d e = absurd cc
 
-pub step-sound : (port : ℕ) (s u : Store) (t after : Table ServerCircuit) (h : Handle) (did : Effect) → StepsIn port t h s (Some (step.Handled did)) after u → IsSound (records_of s) t → IsSound (records_of u) after
+pub step-sound : (port : ℕ) (s u : Store) (t after : Table ServerCircuit) (h : Handle) (did : FollowUp) → StepsIn port t h s (Some (step.Handled did)) after u → IsSound (records_of s) t → IsSound (records_of u) after
 step-sound port s u t after h did (inr none) i = not-some (step.Handled did) none.1
 step-sound port s u t after h did (inl g) i = by g.0 g.1 g.2 g.3 g.4
   where
@@ -252,14 +253,14 @@ step-sound port s u t after h did (inl g) i = by g.0 g.1 g.2 g.3 g.4
     by (Ended w left) new there d changed = not-some (step.Handled did) d.0
 
 -- the end of a circuit that handled a message is open, so that nothing is to be taken out
-pub handled-settles : (port : ℕ) (s u : Store) (t after : Table ServerCircuit) (h : Handle) (did : Effect) (waited : ℕ) → StepsIn port t h s (Some (step.Handled did)) after u → Settles after h waited own.Handled after
+pub handled-settles : (port : ℕ) (s u : Store) (t after : Table ServerCircuit) (h : Handle) (did : FollowUp) (waited : ℕ) → StepsIn port t h s (Some (step.Handled did)) after u → Settles after h waited (own.Handled told.Quiet) after
 handled-settles port s u t after h did waited (inr none) = not-some (step.Handled did) none.1
 handled-settles port s u t after h did waited (inl g) = by g.0 g.1 g.2 g.3 g.4
   where
-    by : (c new : ServerCircuit) → under t h ≡ Some c → CircuitSteps port h c s (Some (step.Handled did)) new u → after ≡ with_changed (λ (x : ServerCircuit). new) h t → Settles after h waited own.Handled after
+    by : (c new : ServerCircuit) → under t h ≡ Some c → CircuitSteps port h c s (Some (step.Handled did)) new u → after ≡ with_changed (λ (x : ServerCircuit). new) h t → Settles after h waited (own.Handled told.Quiet) after
     by (Open e) new there d changed =
         let found : under after h ≡ Some (Open d.0) = ap (λ (z : Table ServerCircuit). under z h) (became t after h new (Open d.0) changed d.4) ∙ changed-own (λ (z : ServerCircuit). Open d.0) t h (Open e) there in
-        subst (λ (o : Option ServerCircuit). IsSettled o waited own.Handled × (after ≡ (if is_open o then after else with_freed h after))) (sym found) (refl, refl)
+        subst (λ (o : Option ServerCircuit). IsSettled o waited (own.Handled told.Quiet) × (after ≡ (if is_open o then after else with_freed h after))) (sym found) (refl, refl)
     by (Ended w left) new there d changed = not-some (step.Handled did) d.0
 
 -- a step that finds nothing to do leaves all as it was

@@ -1,9 +1,11 @@
 -- Vocabulary: what a caller asks of a server between its calls.
-use Rattle.std.specs.Prelude.{ℕ, List, [], ◌∷◌, Option, Some, None, if◌then◌else◌, is_some}
+use Rattle.std.specs.Prelude.{ℕ, ◌≡◌, Bool, true, false, List, [], ◌∷◌, Option, Some, None, if◌then◌else◌, is_some}
 use Rattle.ca_arena.specs.declared.handle.Handle.{Handle}
 use Rattle.ca_dbr.specs.Elements.{Elements}
 use Rattle.ca_records.specs.Puts.{Record, WaitingPut, record_named}
-use Rattle.ca_model.specs.Server.{Server}
+use Rattle.ca_model.specs.Server.{Server, ServerCircuit, ServerEnd}
+use Rattle.ca_model.specs.ServerSteps.{HasEnd}
+use Rattle.ca_server_circuit.specs.Peeking.{FirstWritesNothing, NamesAt, may_write}
 
 -- the circuit of the put that waits longest
 abbrev pub first_circuit : List WaitingPut → Option Handle
@@ -27,3 +29,13 @@ value_busy (Some r) = if is_some r.busy then Some r.state.value else None
 -- `busy_value`: the value of the record of this name, if a put makes it busy
 abbrev pub busy_value : Server → List ℕ → Option Elements
 busy_value y name = value_busy (record_named y.records name)
+
+-- The SID stands for an open channel of this circuit whose record was not removed, which has this name; or for none.
+abbrev pub NamesUnder : Option ServerCircuit → (sid : ℕ) → Option (List ℕ) → Type 0
+NamesUnder (Some c) sid name = NamesAt c sid name
+NamesUnder None sid name = name ≡ None
+
+-- `may_write`: the next message of a circuit may write, by the low byte of its command; or it is no write, or its end is not open.
+abbrev pub MayWrite : Server → Handle → Bool → Type 0
+MayWrite y h true = (e : ServerEnd) × HasEnd y h e × (may_write e.link.input.bytes ≡ true)
+MayWrite y h false = (e : ServerEnd) → HasEnd y h e → FirstWritesNothing e

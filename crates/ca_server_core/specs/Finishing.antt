@@ -5,8 +5,8 @@ use Rattle.ca_records.specs.declared.puts.Finished.{Finished}
 use Rattle.ca_records.specs.declared.puts.Put.{Put}
 use Rattle.ca_records.specs.Store.{Store}
 use Rattle.ca_model.specs.Server.{ServerCircuit}
-use Rattle.ca_server_circuit.specs.declared.step.Effect.{Effect}
-use Rattle.ca_server_circuit.specs.declared.step.Effect.TheVariants as effect
+use Rattle.ca_server_circuit.specs.declared.step.FollowUp.{FollowUp}
+use Rattle.ca_server_circuit.specs.declared.step.FollowUp.TheVariants as effect
 use Rattle.ca_server_circuit.specs.Finishing.{RepliesAt}
 
 -- the reply of a put on its circuit, if that is there
@@ -16,5 +16,5 @@ RepliesIn t p s after u =
     ⊎ ((under t p.circuit ≡ None) × (after ≡ t) × (u ≡ s))
 
 -- what the end of a busy put leaves to do
-abbrev pub effect_after : Finished → Effect
-effect_after f = if is_some f.applied then effect.Wrote f.place else effect.Quiet
+abbrev pub effect_after : Finished → FollowUp
+effect_after f = if is_some f.applied then effect.Wrote f.place None else effect.Quiet

@@ -11,8 +11,8 @@ use Rattle.ca_model.specs.Server as server
 use Rattle.ca_model.specs.ServerSteps.{write_mask}
 use Rattle.ca_model.specs.ServerSteps as steps
 use Rattle.ca_model.specs.Speech.{In}
-use Rattle.ca_server_circuit.specs.declared.step.Effect.{Effect}
-use Rattle.ca_server_circuit.specs.declared.step.Effect.TheVariants as effect
+use Rattle.ca_server_circuit.specs.declared.step.FollowUp.{FollowUp}
+use Rattle.ca_server_circuit.specs.declared.step.FollowUp.TheVariants as effect
 use Rattle.ca_server_core.specs.declared.stepping.Step.{Step}
 use Rattle.ca_server_core.specs.Covering.{AreLed, AreListed, Covers, HasTo}
 use Rattle.ca_server_core.specs.Ending.{EndsIn}
@@ -32,9 +32,9 @@ abbrev pub CoversAt : (place : ℕ) → Handle → Store → Watched → Table S
 CoversAt place h s w t = (r : Record) × HasAt s place r × ((c : ServerCircuit) × (under t h ≡ Some c)) × CoversBut h r.state.name w t
 
 -- who watches, as a message leaves it
-abbrev pub CoversFor : Effect → Handle → Store → Watched → Table ServerCircuit → Type 0
+abbrev pub CoversFor : FollowUp → Handle → Store → Watched → Table ServerCircuit → Type 0
 CoversFor effect.Quiet h s w t = Covers w t
-CoversFor (effect.Wrote place) h s w t = IsThere s place × Covers w t
+CoversFor (effect.Wrote place by) h s w t = IsThere s place × Covers w t
 CoversFor (effect.Began place) h s w t = CoversAt place h s w t
 CoversFor (effect.Opened place) h s w t = Covers w t
 
@@ -49,7 +49,7 @@ LedAt place h s l t =
     (r : Record) × HasAt s place r × ((c : ServerCircuit) × (under t h ≡ Some c)) × LeadsBut h r.state.name l t × AreListed (records_of s) l
 
 -- who leads to records, as a message leaves it
-abbrev pub LedFor : Effect → Handle → Store → Watched → Table ServerCircuit → Type 0
+abbrev pub LedFor : FollowUp → Handle → Store → Watched → Table ServerCircuit → Type 0
 LedFor (effect.Opened place) h s l t = LedAt place h s l t
 LedFor did h s l t = AreLed (records_of s) l t
 
@@ -60,9 +60,9 @@ abbrev pub Begins : Handle → Table ServerCircuit → Store → Table ServerCir
 Begins h t s after u = ((after ≡ t) × (u ≡ s)) ⊎ EndsIn t h s why.OutOfMemory after u
 
 -- what a message leaves to do was done
-abbrev pub Follows : Effect → Handle → Table ServerCircuit → Store → Table ServerCircuit → Store → Type 0
+abbrev pub Follows : FollowUp → Handle → Table ServerCircuit → Store → Table ServerCircuit → Store → Type 0
 Follows effect.Quiet h t s after u = (after ≡ t) × (u ≡ s)
-Follows (effect.Wrote place) h t s after u = ReachesFrom place write_mask t s after u
+Follows (effect.Wrote place by) h t s after u = ReachesFrom place write_mask t s after u
 Follows (effect.Began place) h t s after u = Begins h t s after u
 Follows (effect.Opened place) h t s after u = Begins h t s after u
 

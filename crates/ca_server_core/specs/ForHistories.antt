@@ -6,7 +6,6 @@ use Rattle.ca_ids.specs.Table.{Table, under}
 use Rattle.ca_queue.specs.Circuit.{AreInOne, HasAt}
 use Rattle.ca_records.specs.declared.puts.Put.{Put}
 use Rattle.ca_records.specs.Puts.{Record, WaitingPut}
-use Rattle.ca_server_circuit.specs.NextPut.{NamesAt}
 use Rattle.ca_text.specs.Place.{At}
 use Rattle.ca_model.specs.Server.{Ended, Open, Server, ServerCircuit, Subscription, concerns, key_of}
 use Rattle.ca_model.specs.ServerSteps.{without_puts_of}
@@ -57,11 +56,6 @@ ComesBefore records name other before =
 abbrev pub channels_under : (name : List ℕ) → Option ServerCircuit → List (ℕ × ℕ)
 channels_under name (Some c) = channels_on name c
 channels_under name None = []
-
--- The SID stands for an open channel of this circuit whose record was not removed, which has this name; or for none.
-abbrev pub NamesUnder : Option ServerCircuit → (sid : ℕ) → Option (List ℕ) → Type 0
-NamesUnder (Some c) sid name = NamesAt c sid name
-NamesUnder None sid name = name ≡ None
 
 -- the value of a record, if it is there
 abbrev pub value_in : Option Record → Option Elements

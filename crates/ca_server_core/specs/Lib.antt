@@ -2,6 +2,7 @@ pub mod Asking
 pub mod Circuits
 pub mod Sound
 pub mod Searching
+pub mod Effects
 pub mod Ending
 pub mod Serving
 pub mod Finishing
@@ -11,7 +12,6 @@ pub mod Following
 pub mod Pumping
 pub mod Counting
 pub mod Removing
-pub mod NextPut
 pub mod Noting
 pub mod ForHistories
 pub mod Through

@@ -9,15 +9,16 @@ use Rattle.ca_records.specs.Store.{HasAt, IsThere, Store, records_of}
 use Rattle.ca_records.specs.Writes as writes
 use Rattle.ca_text.specs.declared.refusal.Refusal.{Refusal}
 use Rattle.ca_wire.specs.Fields.{Fields}
-use Rattle.ca_model.specs.Due.{Action, Applies, Nothing}
-use Rattle.ca_model.specs.Server.{Open, Server, ServerCircuit}
+use Rattle.ca_model.specs.Due.{Action, Applies}
+use Rattle.ca_model.specs.Server.{Server, ServerCircuit}
 use Rattle.ca_model.specs.ServerCalls.{Finishes}
-use Rattle.ca_model.specs.ServerSteps.{Handled, Stepped, Steps, StepsAt}
+use Rattle.ca_model.specs.ServerSteps.{Handled, Stepped, Steps}
 use Rattle.ca_model.specs.Speech.{In}
-use Rattle.ca_server_circuit.specs.declared.step.Effect.{Effect}
-use Rattle.ca_server_circuit.specs.declared.step.Effect.TheVariants as effect
+use Rattle.ca_server_circuit.specs.declared.step.FollowUp.{FollowUp}
+use Rattle.ca_server_circuit.specs.declared.step.FollowUp.TheVariants as effect
 use Rattle.ca_server_circuit.specs.Handling.{is_wrote}
 use Rattle.ca_server_core.specs.Counting.{PumpsCounting}
+use Rattle.ca_server_core.specs.Effects.{action_of}
 use Rattle.ca_server_core.specs.Finishing.{RepliesIn, effect_after}
 use Rattle.ca_server_core.specs.Following.{Follows}
 use Rattle.ca_server_core.specs.Serving.{Closes, more_applied}
@@ -40,8 +41,8 @@ pub record Notes (old new : List Record) (noted : Option (List ℕ)) : Type 0 wh
   pub others : BusyBut old new noted
 
 -- the record to which a message wrote is there
-abbrev pub LeadsTo : Effect → Store → Type 0
-LeadsTo (effect.Wrote place) s = IsThere s place
+abbrev pub LeadsTo : FollowUp → Store → Type 0
+LeadsTo (effect.Wrote place by) s = IsThere s place
 LeadsTo did s = Unit {0}
 
 -- the name of a record that is busy
@@ -55,8 +56,8 @@ wrote_busy (Applies name value busies) records = busy_name (record_named records
 wrote_busy action records = None
 
 -- the record to which a message wrote is noted if it is busy
-abbrev pub NotesAt : Effect → Store → Option (List ℕ) → Type 0
-NotesAt (effect.Wrote place) s noted =
+abbrev pub NotesAt : FollowUp → Store → Option (List ℕ) → Type 0
+NotesAt (effect.Wrote place by) s noted =
     (r : Record) × HasAt s place r × (record_named (records_of s) r.state.name ≡ Some r) × (noted ≡ busy_name (Some r))
 NotesAt did s noted = noted ≡ None
 
@@ -85,20 +86,11 @@ EndsPutAt place n t s k last x =
     × (((is_some r.busy ≡ true) × EndsPut r.state.name n t s k last x) ⊎ ((is_some r.busy ≡ false) × StaysAll n t s k last x))
 
 -- the same of the record to which a message wrote
-abbrev pub TriesAt : Effect → (n : ℕ) (t : Table ServerCircuit) (s : Store) (k : ℕ) (last : Table ServerCircuit) (x : Store) → Type 0
-TriesAt (effect.Wrote place) n t s k last x = EndsPutAt place n t s k last x
+abbrev pub TriesAt : FollowUp → (n : ℕ) (t : Table ServerCircuit) (s : Store) (k : ℕ) (last : Table ServerCircuit) (x : Store) → Type 0
+TriesAt (effect.Wrote place by) n t s k last x = EndsPutAt place n t s k last x
 TriesAt did n t s k last x = StaysAll n t s k last x
 
 -- ---- a step
-
--- what the message did that a step handled, by what is under the handle
-abbrev pub action_at : (old : Server) (h : Handle) (new : Server) (c : Option ServerCircuit) → StepsAt old h c Handled new → Action
-action_at old h new (Some (Open e)) d = d.0.action
-action_at old h new c d = Nothing
-
--- the same under its own
-abbrev pub action_of : (old : Server) (h : Handle) (new : Server) → Steps old h Handled new → Action
-action_of old h new d = action_at old h new (under old.circuits h) d
 
 -- it handled a message
 abbrev pub was_handled : Stepped → Bool

@@ -6,7 +6,7 @@ use Rattle.ca_records.specs.Store.{Store}
 use Rattle.ca_model.specs.Server.{ServerCircuit, ServerEnd}
 use Rattle.ca_model.specs.Server as server
 use Rattle.ca_model.specs.ServerSteps.{Rests}
-use Rattle.ca_server_circuit.specs.declared.step.Effect.TheVariants as effect
+use Rattle.ca_server_circuit.specs.declared.step.FollowUp.TheVariants as effect
 use Rattle.ca_server_circuit.specs.declared.step.EndStep.TheVariants as step
 use Rattle.ca_server_circuit.specs.Pumping.{PumpsAt}
 use Rattle.ca_server_core.specs.Serving.{StepsIn}

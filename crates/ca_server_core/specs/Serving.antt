@@ -9,8 +9,8 @@ use Rattle.ca_model.specs.Server.{Server, ServerCircuit, ServerEnd}
 use Rattle.ca_model.specs.Server as server
 use Rattle.ca_model.specs.ServerSteps.{LacksMemory, Stepped}
 use Rattle.ca_model.specs.ServerSteps as steps
-use Rattle.ca_server_circuit.specs.declared.step.Effect.{Effect}
-use Rattle.ca_server_circuit.specs.declared.step.Effect.TheVariants as effect
+use Rattle.ca_server_circuit.specs.declared.step.FollowUp.{FollowUp}
+use Rattle.ca_server_circuit.specs.declared.step.FollowUp.TheVariants as effect
 use Rattle.ca_server_circuit.specs.declared.step.EndStep.{EndStep}
 use Rattle.ca_server_circuit.specs.declared.step.EndStep.TheVariants as step
 use Rattle.ca_server_core.specs.declared.stepping.Step.{Step}
@@ -21,13 +21,13 @@ use Rattle.ca_server_circuit.specs.Stepping.{why_is}
 
 -- what a step did, as the statement names it
 abbrev pub stepped : Step → Stepped
-stepped Handled = steps.Handled
+stepped (Handled did) = steps.Handled
 stepped NeedBytes = steps.NeedBytes
 stepped OutputFull = steps.OutputFull
 stepped (Closed cause left) = steps.Closed (why_is cause) left
 
 -- whether a message leaves nothing to do
-abbrev pub is_quiet : Effect → Bool
+abbrev pub is_quiet : FollowUp → Bool
 is_quiet effect.Quiet = true
 is_quiet did = false
 

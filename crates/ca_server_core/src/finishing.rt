@@ -11,7 +11,7 @@ use crate::server::ServerCore;
 use crate::stepping::more_applied;
 use ca_ids::HeldTable;
 use ca_records::{Finished, Put, ServedRecords};
-use ca_server_circuit::{Circuit, Effect};
+use ca_server_circuit::{Circuit, FollowUp};
 use ca_text::Refusal;
 
 impl ServerCore {
@@ -26,27 +26,27 @@ impl ServerCore {
     {
         let finished = self.records.finish(name)?;
         reply_on(&mut self.circuits, &mut self.records, finished.ended);
-        let effect = effect_of(&finished);
-        self.applied = more_applied(self.applied, effect.is_write());
+        let left = left_by(&finished);
+        self.applied = more_applied(self.applied, left.is_write());
         follow(
             &mut self.circuits,
             &mut self.records,
             &mut self.watchers,
             &mut self.leading,
             finished.ended.circuit,
-            effect,
+            left,
         );
         Ok(())
     }
 }
 
 /// What the end of a busy put leaves to do: the next one, if it was applied, is to reach the subscriptions of its record.
-pub(crate) fn effect_of(finished: &Finished) -> Effect
+pub(crate) fn left_by(finished: &Finished) -> FollowUp
     ensures { result ≡ effect_after finished.now }
 {
     match finished.applied {
-        Some(_) => Effect::Wrote(finished.place),
-        None => Effect::Quiet,
+        Some(_) => FollowUp::Wrote(finished.place, None),
+        None => FollowUp::Quiet,
     }
 }
 

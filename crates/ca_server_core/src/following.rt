@@ -9,7 +9,7 @@ use crate::posting::post_to_all;
 use ca_arena::Handle;
 use ca_ids::HeldTable;
 use ca_records::ServedRecords;
-use ca_server_circuit::{Cause, Circuit, Effect};
+use ca_server_circuit::{Cause, Circuit, FollowUp};
 use ca_server_watchers::Watchers;
 
 /// The mask of a write that was applied: VALUE and LOG.
@@ -25,7 +25,7 @@ pub(crate) fn follow(
     watchers: &mut Watchers,
     leading: &mut Watchers,
     circuit: Handle,
-    effect: Effect,
+    effect: FollowUp,
 ) -> bool
     requires sound { IsSound (records_of records.old) circuits.old }
     requires covered { CoversFor effect circuit records.old watchers.old circuits.old }
@@ -39,13 +39,13 @@ pub(crate) fn follow(
     ensures none { result ≡ false → circuits.new ≡ circuits.old }
 {
     match effect {
-        Effect::Quiet => false,
-        Effect::Wrote(place) => post_to_all(circuits, records, watchers, place, WRITE_MASK),
-        Effect::Began(place) => {
+        FollowUp::Quiet => false,
+        FollowUp::Wrote(place, _) => post_to_all(circuits, records, watchers, place, WRITE_MASK),
+        FollowUp::Began(place) => {
             watch(circuits, records, watchers, circuit, place);
             true
         }
-        Effect::Opened(place) => {
+        FollowUp::Opened(place) => {
             lead(circuits, records, leading, circuit, place);
             true
         }

@@ -5,7 +5,7 @@ ghost use Rattle.ca_ids.specs.Table.{same_handle, under};
 ghost use Rattle.ca_records.specs.Puts.{record_named, withdrawn};
 ghost use Rattle.ca_records.specs.Store.{records_of};
 ghost use Rattle.ca_server_circuit.specs.Circuits.{is_open};
-ghost use Rattle.ca_server_core.specs.ForHistories.{ComesBefore, ConcernsUnder, EndsAt, IsOverAt, NamesUnder, bytes_under, channels_under, is_over, put_in, value_in};
+ghost use Rattle.ca_server_core.specs.ForHistories.{ComesBefore, ConcernsUnder, EndsAt, IsOverAt, bytes_under, channels_under, is_over, put_in, value_in};
 ghost use Rattle.ca_server_core.specs.Sound.{IsSound};
 
 use crate::server::ServerCore;
@@ -15,7 +15,6 @@ use ca_ids::HeldTable;
 use ca_records::for_histories::waiting_put;
 use ca_records::{Put, ServedRecords};
 use ca_server_circuit::Circuit;
-use ca_wire::Sid;
 use std::alloc::AllocError;
 
 /// How many indices the handles of circuits had so far.
@@ -127,16 +126,6 @@ pub fn channels_to(
     match core.circuits.by_handle(circuit) {
         Some(found) => found.channels_to(core.alloc, name),
         None => Ok(Vec::new(core.alloc)),
-    }
-}
-
-/// The name of the record of the open channel of this SID on a circuit, if that record was not removed. None if its end is not open.
-pub fn served_name(core: &ServerCore, circuit: Handle, sid: Sid) -> Option<&[u8]>
-    ensures { NamesUnder (under core.now.circuits circuit) sid (option_map (λ t. t.now) result) }
-{
-    match core.circuits.by_handle(circuit) {
-        Some(found) => found.served_name(sid),
-        None => None,
     }
 }
 

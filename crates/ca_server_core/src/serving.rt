@@ -11,7 +11,8 @@ ghost use Rattle.ca_server_core.specs.Sound.{IsSound};
 ghost use Rattle.ca_server_core.specs.Through.{FollowsAndEnds, FollowsAndPumps};
 
 use crate::counting::{pump_counting_on, step_counting_on};
-use crate::finishing::{effect_of, reply_on};
+use crate::effect::Effect;
+use crate::finishing::{left_by, reply_on};
 use crate::following::follow;
 use crate::server::ServerCore;
 use crate::stepping::{Step, is_open, is_quiet, more_applied, over, report};
@@ -19,7 +20,7 @@ use crate::through::go_through;
 use ca_arena::Handle;
 use ca_ids::HeldTable;
 use ca_records::ServedRecords;
-use ca_server_circuit::{Circuit, Effect, EndStep};
+use ca_server_circuit::{Circuit, EndStep, FollowUp};
 use ca_server_watchers::Watchers;
 
 impl ServerCore {
@@ -65,7 +66,7 @@ impl ServerCore {
             )
         {
             *waiting = left;
-            return Step::Handled;
+            return Step::Handled(Effect::Quiet);
         }
         over(self.alloc, &mut self.circuits, circuit, waited)
     }
@@ -81,7 +82,7 @@ fn follow_and_pump(
     watchers: &mut Watchers,
     leading: &mut Watchers,
     circuit: Handle,
-    effect: Effect,
+    effect: FollowUp,
     idle: bool,
     left: &mut usize,
 ) -> bool
@@ -120,7 +121,7 @@ fn finish_busy(
     records: &mut ServedRecords,
     watchers: &mut Watchers,
     leading: &mut Watchers,
-    effect: Effect,
+    effect: FollowUp,
 )
     requires leads { LeadsTo effect records.old }
     requires sound { IsSound (records_of records.old) circuits.old }
@@ -134,7 +135,7 @@ fn finish_busy(
     ensures listed { AreListed (records_of records.new) watchers.new }
     ensures led { AreLed (records_of records.new) leading.new circuits.new }
 {
-    let Effect::Wrote(place) = effect else {
+    let FollowUp::Wrote(place, _) = effect else {
         return;
     };
     if !records.at(place).is_busy() {
@@ -169,14 +170,14 @@ fn finish_here(
         return;
     };
     reply_on(circuits, records, finished.ended);
-    let effect = effect_of(&finished);
-    *applied = more_applied(*applied, effect.is_write());
+    let left = left_by(&finished);
+    *applied = more_applied(*applied, left.is_write());
     follow(
         circuits,
         records,
         watchers,
         leading,
         finished.ended.circuit,
-        effect,
+        left,
     );
 }

@@ -7,13 +7,17 @@ ghost use Rattle.ca_server_core.specs.Noting.{was_handled};
 ghost use Rattle.ca_server_circuit.specs.Circuits.{is_open};
 ghost use Rattle.ca_server_core.specs.Serving.{Closes, Reports, StepsIn, is_quiet, more_applied, stepped};
 ghost use Rattle.ca_server_core.specs.Sound.{IsSound};
+ghost use Rattle.ca_server_core.specs.Effects.{TellsEffect};
+ghost use Rattle.ca_server_core.specs.declared.effect.Effect as effect;
+ghost use Rattle.ca_server_core.specs.declared.stepping.Step.TheVariants.{Handled};
 
+use crate::effect::{Effect, effect_of};
 use crate::following::follow;
 use crate::server::ServerCore;
 use ca_arena::Handle;
 use ca_ids::HeldTable;
 use ca_records::ServedRecords;
-use ca_server_circuit::{Cause, Circuit, Effect, EndStep};
+use ca_server_circuit::{Cause, Circuit, EndStep, FollowUp};
 use ca_text::APPLIED_LIMIT;
 use ca_wire::Pipe;
 use std::alloc::Global;
@@ -21,8 +25,8 @@ use std::alloc::Global;
 /// What a step of a server's end of a circuit did.
 #[derive(Debug, Drop)]
 pub enum Step {
-    /// It handled a message.
-    Handled,
+    /// It handled a message, which did this.
+    Handled(Effect),
     /// No complete message is there.
     NeedBytes,
     /// So many bytes wait to be sent that no message is handled.
@@ -42,6 +46,7 @@ impl ServerCore {
     pub fn step(&mut self, circuit: Handle) -> Step
         ensures steps { Steps self.old circuit (stepped result) self.new }
         ensures closes { Closes self.old circuit (stepped result) self.new }
+        ensures tells { TellsEffect self.old circuit result self.new }
     {
         let mut waited = 0;
         match step_on(
@@ -51,20 +56,26 @@ impl ServerCore {
             circuit,
             &mut waited,
         ) {
-            Some(EndStep::Handled(effect)) => {
-                if is_quiet(effect) {
-                    return Step::Handled;
+            Some(EndStep::Handled(left)) => {
+                if is_quiet(left) {
+                    return Step::Handled(Effect::Quiet);
                 }
-                self.applied = more_applied(self.applied, effect.is_write());
+                self.applied = more_applied(self.applied, left.is_write());
                 follow(
                     &mut self.circuits,
                     &mut self.records,
                     &mut self.watchers,
                     &mut self.leading,
                     circuit,
-                    effect,
+                    left,
                 );
-                settle(self.alloc, &mut self.circuits, circuit, waited)
+                settle(
+                    self.alloc,
+                    &mut self.circuits,
+                    circuit,
+                    waited,
+                    effect_of(left),
+                )
             }
             Some(EndStep::NeedBytes) => Step::NeedBytes,
             Some(EndStep::OutputFull) => Step::OutputFull,
@@ -97,27 +108,29 @@ pub(crate) fn step_on(
 }
 
 /// Whether nothing is left to do: so it is after most messages.
-pub(crate) fn is_quiet(effect: Effect) -> bool
+pub(crate) fn is_quiet(effect: FollowUp) -> bool
     ensures { result ≡ is_quiet effect }
 {
     match effect {
-        Effect::Quiet => true,
+        FollowUp::Quiet => true,
         _ => false,
     }
 }
 
-/// What a step of a circuit that handled a message answers. If its end has ended since, out of memory, nothing is left of its replies:
+/// What a step of a circuit answers that handled a message with this effect. If its end has ended since, out of memory, nothing is left of its replies:
 /// these come after the first bytes that waited, and these alone are left.
 pub(crate) fn settle(
     alloc: Global,
     circuits: &mut HeldTable<Circuit>,
     circuit: Handle,
     waited: usize,
+    effect: Effect,
 ) -> Step
-    ensures { Settles circuits.old circuit waited result circuits.new }
+    ensures settles { Settles circuits.old circuit waited result circuits.new }
+    ensures tells { (did : effect.Effect) → result ≡ Handled did → did ≡ effect }
 {
     if is_open(circuits, circuit) {
-        return Step::Handled;
+        return Step::Handled(effect);
     }
     over(alloc, circuits, circuit, waited)
 }

@@ -1,8 +1,8 @@
-ghost use Rattle.std.specs.Prelude.{◌≡◌, false, length, true};
+ghost use Rattle.std.specs.Prelude.{ℕ, ◌≡◌, Option, false, length, true};
 ghost use Rattle.ca_ids.specs.Table.{under};
 ghost use Rattle.ca_model.specs.ServerSteps.{output_of};
 ghost use Rattle.ca_records.specs.Store.{IsThere, records_of};
-ghost use Rattle.ca_server_circuit.specs.declared.step.Effect.TheVariants.{Wrote};
+ghost use Rattle.ca_server_circuit.specs.declared.step.FollowUp.TheVariants.{Wrote};
 ghost use Rattle.ca_server_core.specs.Covering.{Covers};
 ghost use Rattle.ca_server_core.specs.Following.{CoversFor};
 ghost use Rattle.ca_server_core.specs.Pumping.{IsIdleIn};
@@ -13,7 +13,7 @@ use crate::following::WRITE_MASK;
 use ca_arena::Handle;
 use ca_ids::HeldTable;
 use ca_records::ServedRecords;
-use ca_server_circuit::{Circuit, Effect};
+use ca_server_circuit::{Circuit, FollowUp};
 use ca_server_watchers::Watchers;
 
 /// Does what a message of this circuit leaves to do, and pumps the circuit, if the message is a write to a record that is not busy, and either
@@ -25,7 +25,7 @@ pub(crate) fn go_through(
     records: &ServedRecords,
     watchers: &mut Watchers,
     circuit: Handle,
-    effect: Effect,
+    effect: FollowUp,
     idle: bool,
     left: &mut usize,
 ) -> bool
@@ -39,7 +39,7 @@ pub(crate) fn go_through(
     ensures stays { result ≡ false → (circuits.new ≡ circuits.old) × (left.new ≡ left.old) }
     ensures watchers { watchers.new ≡ watchers.old }
 {
-    let Effect::Wrote(place) = effect else {
+    let FollowUp::Wrote(place, _) = effect else {
         return false;
     };
     if watchers.is_empty() {
@@ -68,7 +68,8 @@ fn go_to_watching(
     requires rests { idle ≡ true → IsIdleIn circuits.old circuit }
     requires counted { left.old ≡ length (output_of (under circuits.old circuit)) }
     ensures through { result ≡ true
-        → GoesThrough (Wrote place) circuit watchers.old circuits.old records.now circuits.new }
+        → (by : Option ℕ)
+        → GoesThrough (Wrote place by) circuit watchers.old circuits.old records.now circuits.new }
     ensures counts { result ≡ true → left.new ≡ length (output_of (under circuits.new circuit)) }
     ensures stays { result ≡ false → (circuits.new ≡ circuits.old) × (left.new ≡ left.old) }
     ensures watchers { watchers.new ≡ watchers.old }

@@ -93,7 +93,7 @@ pub(crate) fn left_by(alloc: Global, did: Step) -> Pipe
 {
     match did {
         Step::Closed(_, left) => left,
-        Step::Handled => Pipe::new(alloc),
+        Step::Handled(_) => Pipe::new(alloc),
         Step::NeedBytes => Pipe::new(alloc),
         Step::OutputFull => Pipe::new(alloc),
     }

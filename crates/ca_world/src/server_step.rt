@@ -234,7 +234,7 @@ fn step_end(
 {
     let at = circuits[circuit].at_server;
     match side.core.step(at) {
-        Did::Handled => {
+        Did::Handled(_) => {
             tell_step(
                 alloc, circuit, server, side, circuits, logs, ahead, counts, at,
             );

@@ -232,7 +232,7 @@ fn left_of(alloc: Global, core: &mut ServerCore, circuit: Handle) -> Pipe
 {
     match core.step(circuit) {
         Step::Closed(_, left) => left,
-        Step::Handled => Pipe::new(alloc),
+        Step::Handled(_) => Pipe::new(alloc),
         Step::NeedBytes => Pipe::new(alloc),
         Step::OutputFull => Pipe::new(alloc),
     }

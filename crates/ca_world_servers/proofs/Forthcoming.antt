@@ -24,7 +24,8 @@ use Rattle.ca_model.specs.Faults.{base_type_of, base_types}
 use Rattle.ca_model.specs.Server.{Open, OpenChannel, Server, ServerCircuit, ServerEnd}
 use Rattle.ca_model.specs.ServerSteps.{HasEnd, known_channel, known_record, knows}
 use Rattle.ca_model.specs.Speech.{In}
-use Rattle.ca_server_core.specs.ForHistories.{NamesUnder, value_in}
+use Rattle.ca_server_core.specs.Asking.{NamesUnder}
+use Rattle.ca_server_core.specs.ForHistories.{value_in}
 use Rattle.ca_world_servers.specs.declared.coming.Coming.{Coming}
 use Rattle.ca_world_servers.specs.Coming.{Foresees, GivesElements, GivesValue}
 

@@ -7,7 +7,7 @@ ghost use Rattle.ca_world_servers.specs.Coming.{Foresees, GivesElements, GivesVa
 use ca_arena::Handle;
 use ca_dbr::{BaseType, Value, convert_to, read_value};
 use ca_server_core::ServerCore;
-use ca_server_core::for_histories::{served_name, value_of};
+use ca_server_core::for_histories::value_of;
 use ca_text::Refusal;
 use ca_wire::{Message, Sid};
 use std::alloc::{AllocError, Global};
@@ -28,7 +28,7 @@ pub fn coming_write(
 ) -> Result<Option<Coming>, AllocError>
     ensures { IfOk result (λ found. Foresees core.now circuit message.now found) }
 {
-    let Some(name) = served_name(core, circuit, Sid::new(message.p1())) else {
+    let Some(name) = core.served_name(circuit, Sid::new(message.p1())) else {
         return Ok(None);
     };
     let Some(present) = value_of(core, name) else {

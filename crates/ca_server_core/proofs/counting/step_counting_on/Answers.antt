@@ -1,5 +1,5 @@
 use Rattle.std.proofs.Common.{◌∙◌, Option, sym, subst}
-use Rattle.ca_server_circuit.specs.declared.step.Effect.TheVariants.{Quiet}
+use Rattle.ca_server_circuit.specs.declared.step.FollowUp.TheVariants.{Quiet}
 use Rattle.ca_server_circuit.specs.declared.step.EndStep.{EndStep}
 use Rattle.ca_server_circuit.specs.Serving.{CircuitSteps}
 use Rattle.ca_server_core.proofs.Served.{idle-changed, stepped-sound, steps-and-pumps, still-is}

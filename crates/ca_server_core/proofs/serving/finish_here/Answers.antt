@@ -1,6 +1,6 @@
 use Rattle.std.proofs.Common.{sym, subst}
 use Rattle.ca_records.specs.Store.{Store, records_of}
-use Rattle.ca_server_circuit.specs.declared.step.Effect.{Effect}
+use Rattle.ca_server_circuit.specs.declared.step.FollowUp.{FollowUp}
 use Rattle.ca_server_core.specs.Covering.{AreLed, AreListed}
 use Rattle.ca_server_core.specs.Following.{CoversFor, LedFor}
 use Rattle.ca_server_core.proofs.Led.{led-finished, led-thinned}
@@ -27,7 +27,7 @@ follow-requires-clause-covered c =
     let d = c.in-Some.ensures in
     let f = c.in-Some.finished in
     let kept = covers-thinned c.args.watchers.now c.args.circuits.now c.reply_on.new.circuits (thins-replied c.finish_at.new.self c.reply_on.new.records c.args.circuits.now c.reply_on.new.circuits f.ended c.reply_on.ensures) c.requires.covered in
-    subst (λ (e : Effect). CoversFor e f.ended.circuit c.reply_on.new.records c.args.watchers.now c.reply_on.new.circuits) (sym c.effect_of-effect.ensures)
+    subst (λ (e : FollowUp). CoversFor e f.ended.circuit c.reply_on.new.records c.args.watchers.now c.reply_on.new.circuits) (sym c.left_by-left.ensures)
     (finished-covers c.args.watchers.now c.args.records.now c.finish_at.new.self c.reply_on.new.records c.args.circuits.now c.reply_on.new.circuits d.0 f d.2 c.reply_on.ensures kept)
 
 pub follow-requires-clause-listed : goal.follow-requires-clause-listed
@@ -41,7 +41,7 @@ follow-requires-clause-led c =
     let d = c.in-Some.ensures in
     let f = c.in-Some.finished in
     let listed = listed-finished c.args.records.now c.finish_at.new.self c.reply_on.new.records c.args.circuits.now c.reply_on.new.circuits d.0 f c.args.leading.now d.2 c.reply_on.ensures c.requires.led.listed in
-    subst (λ (e : Effect). LedFor e f.ended.circuit c.reply_on.new.records c.args.leading.now c.reply_on.new.circuits) (sym c.effect_of-effect.ensures)
+    subst (λ (e : FollowUp). LedFor e f.ended.circuit c.reply_on.new.records c.args.leading.now c.reply_on.new.circuits) (sym c.left_by-left.ensures)
     (led-finished f c.reply_on.new.records c.args.leading.now c.reply_on.new.circuits
     (led-thinned (records_of c.args.records.now) (records_of c.reply_on.new.records) c.args.leading.now c.args.circuits.now c.reply_on.new.circuits (thins-replied c.finish_at.new.self c.reply_on.new.records c.args.circuits.now c.reply_on.new.circuits f.ended c.reply_on.ensures) listed c.requires.led))
 
@@ -63,4 +63,4 @@ returns-in_default-clause-listed c =
 
 pub returns-clause-finishes : goal.returns-clause-finishes
 returns-clause-finishes c =
-    ended-at c.args.place c.args.applied.now c.more_applied.result c.args.circuits.now c.reply_on.new.circuits c.follow.new.circuits c.args.records.now c.finish_at.new.self c.reply_on.new.records c.follow.new.records c.in-Some.finished c.effect_of-effect.result c.is_write.result c.in-Some.ensures c.reply_on.ensures c.effect_of-effect.ensures c.is_write.ensures c.more_applied.ensures c.follow.ensures.follows
+    ended-at c.args.place c.args.applied.now c.more_applied.result c.args.circuits.now c.reply_on.new.circuits c.follow.new.circuits c.args.records.now c.finish_at.new.self c.reply_on.new.records c.follow.new.records c.in-Some.finished c.left_by-left.result c.is_write.result c.in-Some.ensures c.reply_on.ensures c.left_by-left.ensures c.is_write.ensures c.more_applied.ensures c.follow.ensures.follows

@@ -3,7 +3,7 @@ use Rattle.std.specs.Prelude.{option_map}
 use Rattle.ca_dbr.specs.declared.value.Value.{Value}
 use Rattle.ca_dbr.specs.Elements.{Elements, base_of, elements}
 use Rattle.ca_ids.specs.Table.{under}
-use Rattle.ca_server_core.specs.ForHistories.{NamesUnder}
+use Rattle.ca_server_core.specs.Asking.{NamesUnder}
 use Rattle.ca_world_servers.specs.Coming.{GivesValue}
 use Rattle.ca_world_servers.proofs.Forthcoming.{none-given, none-named, none-valued, write-given}
 use Rattle.ca_world_servers.proofs.coming.coming_write.Goals as goal

@@ -1,13 +1,14 @@
-use Rattle.std.proofs.Common.{◌≡◌, [], ◌∷◌, length, Some, ap, ◌∙◌, subst}
+use Rattle.std.proofs.Common.{◌≡◌, ℕ, [], ◌∷◌, length, Option, Some, ap, ◌∙◌, subst, sym}
 use Rattle.ca_records.specs.declared.puts.Begun.TheVariants as begun
 use Rattle.ca_records.specs.Puts.{Record}
 use Rattle.ca_records.specs.Record.{RecordState}
 use Rattle.ca_records.specs.Store.{Becomes}
 use Rattle.ca_text.specs.declared.command.Command.TheVariants as command
 use Rattle.ca_wire.specs.Messages.{on_channel, status_reply}
+use Rattle.ca_wire.specs.declared.requests.Wanted.{Wanted}
 use Rattle.ca_model.specs.Server.{ServerEnd}
-use Rattle.ca_server_circuit.specs.declared.step.Effect.TheVariants as effect
-use Rattle.ca_server_circuit.specs.Handling.{Puts, known, replied}
+use Rattle.ca_server_circuit.specs.declared.step.FollowUp.TheVariants as effect
+use Rattle.ca_server_circuit.specs.Handling.{Does, Puts, busied, known, replied}
 use Rattle.ca_server_circuit.specs.Putting.{IsRefused, IsTaken}
 use Rattle.ca_server_circuit.proofs.InPlace.{acknowledged, asked-is, put-is, refused-put, taken-back}
 use Rattle.ca_server_circuit.proofs.Replying.{right-is, state-is}
@@ -29,12 +30,14 @@ returns-in-Applied-clause-ok c port =
     let slow = c.is_slow-is_slow.ensures ∙ ap (λ (x : RecordState). x.slow) (state-is s e m.p1 c.args.seat i c.at.result.now c.state-state.result.now c.at.ensures.at c.state-state.ensures) in
     let done = acknowledged e _ m c.named_by-wanted.result c.is_slow-is_slow.result i.r.state.slow c.named_by-wanted.ensures c.requires.command slow c.in_ok-acknowledge.ensures.ok in
     let put = put-is c.args.circuit c.args.seat m c.named_by-wanted.result _ c.named_by-wanted.ensures c.put_from.ensures in
-    let w0 = asked-is s c.begin.new.records c.args.seat.place bits (Some c.put_from.result) (begun.Applied c.in-Applied.field-0) m c.named_by-wanted.result c.payload.result.now c.named_by-wanted.ensures payload (rw c.in-Applied.is at c.in-Ok.ensures.ok) in
+    let w0 = asked-is s c.begin.new.records c.args.seat.place bits (Some c.put_from.result) (begun.Applied c.in-Applied.busies) m c.named_by-wanted.result c.payload.result.now c.named_by-wanted.ensures payload (rw c.in-Applied.is at c.in-Ok.ensures.ok) in
     let w = rw put at w0 in
     let one : w.0 ≡ i.r = one-record s c.args.seat.place w.0 i.r w.3.at i.at in
-    let taken = subst (λ (r : Record). IsTaken s r bits (Some p) m (begun.Applied c.in-Applied.field-0) w.1) one w.2 in
+    let taken = subst (λ (r : Record). IsTaken s r bits (Some p) m (begun.Applied c.in-Applied.busies) w.1) one w.2 in
     let becomes = subst (λ (r : Record). Becomes s c.args.seat.place r w.1 c.begin.new.records) one w.3 in
-    put-applied port s c.begin.new.records c.args.circuit e c.acknowledge.new.self m c.args.seat i bits c.in-Applied.field-0 w.1 right c.requires.command taken becomes done
+    let by = c.busied.ensures ∙ ap (λ (x : Wanted). busied x.sid c.in-Applied.busies) c.named_by-wanted.ensures in
+    subst (λ (o : Option ℕ). Does (Puts (known port s e) m) s c.args.circuit e m (effect.Wrote c.args.seat.place o) c.begin.new.records c.acknowledge.new.self) (sym by)
+    (put-applied port s c.begin.new.records c.args.circuit e c.acknowledge.new.self m c.args.seat i bits c.in-Applied.busies w.1 right c.requires.command taken becomes done)
 
 pub returns-in-Waiting-clause-ok : goal.returns-in-Waiting-clause-ok
 returns-in-Waiting-clause-ok c port =

@@ -9,7 +9,7 @@ use Rattle.ca_text.specs.Limits.{output_limit}
 use Rattle.ca_wire.specs.Messages.{read_request}
 use Rattle.ca_model.specs.Due.{Due}
 use Rattle.ca_model.specs.Server.{OpenChannel, ServerEnd}
-use Rattle.ca_server_circuit.specs.declared.step.Effect.TheVariants as effect
+use Rattle.ca_server_circuit.specs.declared.step.FollowUp.TheVariants as effect
 use Rattle.ca_server_circuit.specs.Clearing.{ArePuts}
 use Rattle.ca_server_circuit.specs.Handling.{AllStay, AreServed, Does, known}
 use Rattle.ca_dbr.specs.Octets.{AreBytes}

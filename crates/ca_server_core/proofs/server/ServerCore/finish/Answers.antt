@@ -1,5 +1,5 @@
 use Rattle.std.proofs.Common.{sym, subst}
-use Rattle.ca_server_circuit.specs.declared.step.Effect.{Effect}
+use Rattle.ca_server_circuit.specs.declared.step.FollowUp.{FollowUp}
 use Rattle.ca_records.specs.Store.{records_of}
 use Rattle.ca_server_core.specs.Following.{CoversFor, LedFor}
 use Rattle.ca_server_core.proofs.Led.{led-finished, led-thinned}
@@ -24,7 +24,7 @@ follow-requires-clause-covered c =
     let i = c.self.inside in
     let f = c.in_ok-finished.finished in
     let kept = covers-thinned i.watchers i.circuits c.reply_on.new.circuits (thins-replied c.finish.new.self c.reply_on.new.records i.circuits c.reply_on.new.circuits f.ended c.reply_on.ensures) c.self.invariant.covered in
-    subst (λ (d : Effect). CoversFor d f.ended.circuit c.reply_on.new.records i.watchers c.reply_on.new.circuits) (sym c.effect_of-effect.ensures)
+    subst (λ (d : FollowUp). CoversFor d f.ended.circuit c.reply_on.new.records i.watchers c.reply_on.new.circuits) (sym c.left_by-left.ensures)
     (finished-covers i.watchers i.records c.finish.new.self c.reply_on.new.records i.circuits c.reply_on.new.circuits c.args.name.now f c.in_ok-finished.ensures c.reply_on.ensures kept)
 
 pub follow-requires-clause-listed : goal.follow-requires-clause-listed
@@ -38,11 +38,11 @@ follow-requires-clause-led c =
     let i = c.self.inside in
     let f = c.in_ok-finished.finished in
     let listed = listed-finished i.records c.finish.new.self c.reply_on.new.records i.circuits c.reply_on.new.circuits c.args.name.now f i.leading c.in_ok-finished.ensures c.reply_on.ensures c.self.invariant.led.listed in
-    subst (λ (d : Effect). LedFor d f.ended.circuit c.reply_on.new.records i.leading c.reply_on.new.circuits) (sym c.effect_of-effect.ensures)
+    subst (λ (d : FollowUp). LedFor d f.ended.circuit c.reply_on.new.records i.leading c.reply_on.new.circuits) (sym c.left_by-left.ensures)
     (led-finished f c.reply_on.new.records i.leading c.reply_on.new.circuits
     (led-thinned (records_of i.records) (records_of c.reply_on.new.records) i.leading i.circuits c.reply_on.new.circuits (thins-replied c.finish.new.self c.reply_on.new.records i.circuits c.reply_on.new.circuits f.ended c.reply_on.ensures) listed c.self.invariant.led))
 
 pub returns : goal.returns
 returns c =
     let i = c.self.inside in
-    viewed-finish c.args.self.now i.port i.moment i.applied c.more_applied-self-inside.result i.beacons i.records c.finish.new.self c.reply_on.new.records c.follow.new.records i.circuits c.reply_on.new.circuits c.follow.new.circuits c.args.name.now c.in_ok-finished.finished c.effect_of-effect.result c.is_write.result c.self.view_is c.effect_of-effect.ensures c.is_write.ensures c.more_applied-self-inside.ensures c.in_ok-finished.ensures c.reply_on.ensures c.follow.ensures.follows
+    viewed-finish c.args.self.now i.port i.moment i.applied c.more_applied-self-inside.result i.beacons i.records c.finish.new.self c.reply_on.new.records c.follow.new.records i.circuits c.reply_on.new.circuits c.follow.new.circuits c.args.name.now c.in_ok-finished.finished c.left_by-left.result c.is_write.result c.self.view_is c.left_by-left.ensures c.is_write.ensures c.more_applied-self-inside.ensures c.in_ok-finished.ensures c.reply_on.ensures c.follow.ensures.follows

@@ -13,11 +13,12 @@ use Rattle.ca_server_core.proofs.Pumped.{pumps-at, sound-pumped}
 use Rattle.ca_server_core.proofs.Servers.{server_of}
 use Rattle.ca_server_core.proofs.Stepped.{broke-sound, full-same, handled-settles, idle-same, made-broke, made-none, none-sound, step-sound, still-sound}
 use Rattle.ca_server_core.proofs.Thinned.{thins-pumped}
-use Rattle.ca_server_circuit.specs.declared.step.Effect.TheVariants.{Quiet}
+use Rattle.ca_server_circuit.specs.declared.step.FollowUp.TheVariants.{Quiet}
 use Rattle.ca_server_core.specs.Covering.{AreLed, AreListed, Covers}
 use Rattle.ca_server_circuit.specs.Handling.{is_wrote}
 use Rattle.ca_server_core.specs.Noting.{ServesAndPumps}
 use Rattle.ca_server_core.specs.Serving.{more_applied, stepped}
+use Rattle.ca_server_core.specs.declared.effect.Effect.TheVariants as told
 use Rattle.ca_server_core.specs.declared.stepping.Step.TheVariants as own
 use Rattle.ca_server_core.proofs.server.ServerCore.serve_and_pump.Goals.{then-is_quiet-via-then-is_quiet, then-is_quiet-via-else-is_quiet+then-follow_and_pump}
 use Rattle.ca_server_core.proofs.server.ServerCore.serve_and_pump.Goals as goal
@@ -77,7 +78,7 @@ returns-then-is_quiet-clause-serves c =
           at u.left (server_of i.port u.records i.moment u.circuits i.beacons i.applied) (
             server_of i.port did.1 i.moment did.0 i.beacons i.applied,
             viewed-quiet c.args.self.now i.port i.moment i.applied i.applied i.beacons i.records did.1 i.circuits did.0 h c.self.view_is did.2
-                (made-followed-by c.args.self.now i.port i.moment i.applied i.applied _ i.beacons i.records did.1 did.1 i.circuits did.0 did.0 did.0 h Quiet false own.Handled c.self.view_is refl refl long did.2 (refl, refl) sound settles),
+                (made-followed-by c.args.self.now i.port i.moment i.applied i.applied _ i.beacons i.records did.1 did.1 i.circuits did.0 did.0 did.0 h Quiet false (own.Handled told.Quiet) c.self.view_is refl refl long did.2 (refl, refl) sound settles),
             (pumps-at (server_of i.port did.1 i.moment did.0 i.beacons i.applied) i.port i.moment i.applied i.beacons did.1 u.records did.0 u.circuits h refl did.3, (rw c.in-Some-Handled.field-0-is at c.in-Some-Handled.ensures.left) refl),
           ) w.left-is w.self-is
       | then-is_quiet-via-else-is_quiet+then-follow_and_pump w ↦
@@ -87,7 +88,7 @@ returns-then-is_quiet-clause-serves c =
           let g = w.follow_and_pump.ensures.pumps w.if-follow_and_pump.true in
           let k = more_applied (is_wrote effect) i.applied in
           let settles = g.settles u.waited (handled-settles i.port i.records u.records i.circuits u.circuits h effect u.waited did) in
-          let made = made-followed-by c.args.self.now i.port i.moment i.applied k _ i.beacons i.records u.records g.left i.circuits u.circuits g.mid g.mid h effect (is_wrote effect) own.Handled c.self.view_is refl refl long did g.follows g.sound settles in
+          let made = made-followed-by c.args.self.now i.port i.moment i.applied k _ i.beacons i.records u.records g.left i.circuits u.circuits g.mid g.mid h effect (is_wrote effect) (own.Handled told.Quiet) c.self.view_is refl refl long did g.follows g.sound settles in
           at f.left (server_of i.port f.records i.moment f.circuits i.beacons f.applied) (
             server_of i.port g.u i.moment g.last i.beacons f.applied,
             viewed-served c.args.self.now i.port i.moment i.applied k f.applied i.beacons i.records u.records g.left g.u i.circuits u.circuits g.mid g.mid g.last h effect c.self.view_is did g.follows made g.tries,
