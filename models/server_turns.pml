@@ -2,7 +2,7 @@
  * Which slow record is processed next: Processor::run, process and Locked::finish of crates/ca_serve/src.
  *
  * Two processing threads, and three slow records. Of the first two another put waits whenever one is finished, for ever; the third is put once. `busy` is the queue
- * of names; the mutex is left out, since each hold of it is one step here. A call of the device may take any time, and ends.
+ * of records; the mutex is left out, since each hold of it is one step here. A call of the device may take any time, and ends.
  *
  * -D switches:
  *   PLANT=1  a thread stays at its record until no put makes it busy
