@@ -5,6 +5,7 @@ use crate::processing::Device;
 use ca_arena::Handle;
 use ca_server::{State, locked_finish, locked_step};
 use ca_server_core::{Effect, Step};
+use ca_wire::Sid;
 use indexmap::{IndexMap, IndexSet};
 use mio::Waker;
 use std::alloc::{AllocError, Global};
@@ -132,7 +133,7 @@ impl<L: Ledger> Locked<L> {
     {
         let step = locked_step(&mut self.state, circuit, share);
         if let Step::Handled(Effect::Busied(sid)) = step {
-            if let Some(name) = self.state.served_name(circuit, sid) {
+            if let Some(name) = self.state.served_name(circuit, Sid::new(sid)) {
                 if let Some(place) = slow.get_index_of(name) {
                     self.hand_on(place);
                 }

@@ -22,7 +22,7 @@ use Rattle.ca_model.specs.Server.{ServerEnd}
 use Rattle.ca_server_circuit.specs.declared.seek.Seat.{Seat}
 use Rattle.ca_server_circuit.specs.declared.step.FollowUp.{FollowUp}
 use Rattle.ca_server_circuit.specs.declared.step.FollowUp.TheVariants as effect
-use Rattle.ca_server_circuit.specs.Handling.{Does, Puts, Writes, busied, known, replied}
+use Rattle.ca_server_circuit.specs.Handling.{Does, Puts, Writes, known, replied}
 use Rattle.ca_server_circuit.specs.Putting.{IsRefused, IsTaken, early}
 use Rattle.ca_server_circuit.specs.Seeking.{IsServed, IsStray}
 use Rattle.ca_server_circuit.proofs.Known.{serves}
@@ -35,6 +35,10 @@ replied-none e = ap (λ (o : List ℕ). let new : ServerEnd = record e { link = 
 -- what was done is done if the records are these
 pub with-store : (D : List Fields → Action → Type 0) (s t : Store) (h : Handle) (e new : ServerEnd) (m : Fields) (w : FollowUp) → t ≡ s → Does D s h e m w s new → Does D s h e m w t new
 with-store D s t h e new m w same d = subst (λ (x : Store). Does D s h e m w x new) (sym same) d
+
+-- what was done is done under the SID that is told
+pub with-sid : (D : List Fields → Action → Type 0) (s t : Store) (h : Handle) (e new : ServerEnd) (m : Fields) (place : ℕ) (busies : Bool) (sid n : ℕ) → n ≡ sid → Does D s h e m (effect.Wrote place busies sid) t new → Does D s h e m (effect.Wrote place busies n) t new
+with-sid D s t h e new m place busies sid n same d = subst (λ (k : ℕ). Does D s h e m (effect.Wrote place busies k) t new) (sym same) d
 
 -- a place has one record
 pub one-record : (s : Store) (place : ℕ) (a b : Record) → HasAt s place a → HasAt s place b → a ≡ b
@@ -72,15 +76,20 @@ module _ (port : ℕ) (s : Store) (e : ServerEnd) (m : Fields) (seat : Seat) (i 
   changed-records next t f b is = b.records f is ∙ ap (λ (name : List ℕ). with_record name f (records_of s)) i.named
 
 -- where a write was applied
-wrote : (s t : Store) (place : ℕ) (by : Option ℕ) (r next : Record) (name : List ℕ) (v : Elements) → Becomes s place r next t → r.state.name ≡ name → next.state.value ≡ v → next.state.meta ≡ written_meta s.stamp
-    → (at : ℕ) × (x : Record) × (effect.Wrote place by ≡ effect.Wrote at by) × HasAt t at x × (x.state.name ≡ name) × (x.state.value ≡ v) × (x.state.meta ≡ written_meta t.stamp)
-wrote s t place by r next name v b named value meta =
+wrote : (s t : Store) (place : ℕ) (busies : Bool) (sid : ℕ) (r next : Record) (name : List ℕ) (v : Elements) → Becomes s place r next t → r.state.name ≡ name → next.state.value ≡ v → next.state.meta ≡ written_meta s.stamp
+    → (at : ℕ) × (x : Record) × (effect.Wrote place busies sid ≡ effect.Wrote at busies sid) × HasAt t at x × (x.state.name ≡ name) × (x.state.value ≡ v) × (x.state.meta ≡ written_meta t.stamp)
+wrote s t place busies sid r next name v b named value meta =
     (place, next, refl, b.there, b.name ∙ named, value, meta ∙ sym (ap (λ (x : Store). written_meta x.stamp) b.leaves))
 
 -- ---- WRITE
 
 no-put : {A : Type 0} (p : Put) → (let none : Option Put = None in none ≡ Some p) → A
 no-put p e = absurd cc
+
+-- a write that is no put makes no record busy
+pub plain-write : (s : Store) (r next : Record) (bits : ℕ) (m : Fields) (b : Bool) → IsTaken s r bits None m (begun.Applied b) next → b ≡ false
+plain-write s r next bits m false taken = refl
+plain-write s r next bits m true taken = (let k = taken.takes in no-put k.0 k.1)
 
 not-notify : (m : Fields) → m.command ≡ command_number command.Write → (m.command == command_number command.WriteNotify) ≡ false
 not-notify m is = ap (λ (n : ℕ). n == command_number command.WriteNotify) is
@@ -118,7 +127,7 @@ write-refused port s h e new m seat i bits status right is refused done = record
   leaves = done ∙ ap (λ (cid : ℕ). replied (error_reply cid status m ∷ []) e) (sym i.cid);
 }
 
-pub write-applied : (port : ℕ) (s t : Store) (h : Handle) (e new : ServerEnd) (m : Fields) (seat : Seat) (i : IsServed s e m.p1 seat) (bits : ℕ) (b : Bool) (next : Record) → bits ≡ rights s.rules e.peer.user e.peer.host i.channel.name → m.command ≡ command_number command.Write → IsTaken s i.r bits None m (begun.Applied b) next → Becomes s seat.place i.r next t → new ≡ e → Does (Writes (known port s e) m) s h e m (effect.Wrote seat.place None) t new
+pub write-applied : (port : ℕ) (s t : Store) (h : Handle) (e new : ServerEnd) (m : Fields) (seat : Seat) (i : IsServed s e m.p1 seat) (bits : ℕ) (b : Bool) (next : Record) → bits ≡ rights s.rules e.peer.user e.peer.host i.channel.name → m.command ≡ command_number command.Write → IsTaken s i.r bits None m (begun.Applied b) next → Becomes s seat.place i.r next t → new ≡ e → Does (Writes (known port s e) m) s h e m (effect.Wrote seat.place b m.p1) t new
 write-applied port s t h e new m seat i bits true next right is taken becomes done = (let k = taken.takes in no-put k.0 k.1)
 write-applied port s t h e new m seat i bits false next right is taken becomes done = record {
   replies = [];
@@ -129,7 +138,7 @@ write-applied port s t h e new m seat i bits false next right is taken becomes d
   records = changed-records port s e m seat i bits None right (not-notify m is) next t (with_value taken.v (written_meta s.stamp)) becomes (sym taken.takes.2);
   rules = ap (λ (x : Store). x.rules) becomes.leaves;
   stamp = ap (λ (x : Store). x.stamp) becomes.leaves;
-  tells = wrote s t seat.place None i.r next i.channel.name taken.v becomes i.named (ap (λ (x : Record). x.state.value) taken.takes.2) (ap (λ (x : Record). x.state.meta) taken.takes.2);
+  tells = wrote s t seat.place false m.p1 i.r next i.channel.name taken.v becomes i.named (ap (λ (x : Record). x.state.value) taken.takes.2) (ap (λ (x : Record). x.state.meta) taken.takes.2);
   fits = tt;
   leaves = done ∙ sym (replied-none e);
 }
@@ -180,7 +189,7 @@ late slow m = if slow then [] else status_reply m normal ∷ []
 none-busy : (r : Record) → r.busy ≡ None → is_some r.busy ≡ false
 none-busy r e = ap (λ (o : Option Put). is_some o) e
 
-pub put-applied : (port : ℕ) (s t : Store) (h : Handle) (e new : ServerEnd) (m : Fields) (seat : Seat) (i : IsServed s e m.p1 seat) (bits : ℕ) (b : Bool) (next : Record) → bits ≡ rights s.rules e.peer.user e.peer.host i.channel.name → m.command ≡ command_number command.WriteNotify → IsTaken s i.r bits (Some (put_in h seat m)) m (begun.Applied b) next → Becomes s seat.place i.r next t → new ≡ replied (late i.r.state.slow m) e → Does (Puts (known port s e) m) s h e m (effect.Wrote seat.place (busied m.p1 b)) t new
+pub put-applied : (port : ℕ) (s t : Store) (h : Handle) (e new : ServerEnd) (m : Fields) (seat : Seat) (i : IsServed s e m.p1 seat) (bits : ℕ) (b : Bool) (next : Record) → bits ≡ rights s.rules e.peer.user e.peer.host i.channel.name → m.command ≡ command_number command.WriteNotify → IsTaken s i.r bits (Some (put_in h seat m)) m (begun.Applied b) next → Becomes s seat.place i.r next t → new ≡ replied (late i.r.state.slow m) e → Does (Puts (known port s e) m) s h e m (effect.Wrote seat.place b m.p1) t new
 put-applied port s t h e new m seat i bits true next right is taken becomes done =
     let k = taken.takes in
     let p : put_in h seat m ≡ k.0 = some_is (put_in h seat m) k.0 k.1 in
@@ -203,7 +212,7 @@ put-applied port s t h e new m seat i bits true next right is taken becomes done
       records = (k.0, ((seat.channel, i.channel), i.held, sym p), changed-records port s e m seat i bits (Some (put_in h seat m)) right (is-notify m is) next t (λ (r : Record). record (with_value taken.v (written_meta s.stamp) r) { busy = Some k.0 }) becomes (sym k.4));
       rules = ap (λ (x : Store). x.rules) becomes.leaves;
       stamp = ap (λ (x : Store). x.stamp) becomes.leaves;
-      tells = wrote s t seat.place (Some m.p1) i.r next i.channel.name taken.v becomes i.named (ap (λ (x : Record). x.state.value) k.4) (ap (λ (x : Record). x.state.meta) k.4);
+      tells = wrote s t seat.place true m.p1 i.r next i.channel.name taken.v becomes i.named (ap (λ (x : Record). x.state.value) k.4) (ap (λ (x : Record). x.state.meta) k.4);
       fits = tt;
       leaves = done;
     }
@@ -227,7 +236,7 @@ put-applied port s t h e new m seat i bits false next right is taken becomes don
       records = changed-records port s e m seat i bits (Some (put_in h seat m)) right (is-notify m is) next t (with_value taken.v (written_meta s.stamp)) becomes (sym k.2);
       rules = ap (λ (x : Store). x.rules) becomes.leaves;
       stamp = ap (λ (x : Store). x.stamp) becomes.leaves;
-      tells = wrote s t seat.place None i.r next i.channel.name taken.v becomes i.named (ap (λ (x : Record). x.state.value) k.2) (ap (λ (x : Record). x.state.meta) k.2);
+      tells = wrote s t seat.place false m.p1 i.r next i.channel.name taken.v becomes i.named (ap (λ (x : Record). x.state.value) k.2) (ap (λ (x : Record). x.state.meta) k.2);
       fits = tt;
       leaves = done;
     }

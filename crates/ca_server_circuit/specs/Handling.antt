@@ -1,5 +1,5 @@
 -- Working: what the end of a circuit makes of one message, with the records of its server.
-use Rattle.std.specs.Prelude.{ℕ, ◌≡◌, ◌≢◌, ◌==◌, ◌&&◌, ◌⊎◌, Bool, true, false, List, [], None, Option, Some, if◌then◌else◌, map, option_map}
+use Rattle.std.specs.Prelude.{ℕ, ◌≡◌, ◌≢◌, ◌==◌, ◌&&◌, ◌⊎◌, Bool, true, false, List, [], Some, map, option_map}
 use Rattle.ca_arena.specs.declared.handle.Handle.{Handle}
 use Rattle.ca_ids.specs.Table.{Table, by_wire, held, is_full, same_handle, under}
 use Rattle.ca_ids.specs.Wire.{wire_of}
@@ -80,18 +80,14 @@ pub record IsQuiet (c : Command) (m : Fields) : Type 0 where
 
 -- whether a write was applied
 abbrev pub is_wrote : FollowUp → Bool
-is_wrote (effect.Wrote place by) = true
+is_wrote (effect.Wrote place busies sid) = true
 is_wrote _ = false
-
--- the SID of the channel of a put, if that made its record busy
-abbrev pub busied : (sid : ℕ) → Bool → Option ℕ
-busied sid busies = if busies then Some sid else None
 
 -- What an action leaves the server to do, by the places of records: a write that was applied is to reach the subscriptions of its record,
 -- which has its value and the stamp now; and a subscription began, or a channel was created.
 abbrev pub Tells : Fields → Action → FollowUp → Store → Type 0
 Tells m (Applies name value busies) did t =
-    (place : ℕ) × (r : Record) × (did ≡ effect.Wrote place (busied m.p1 busies)) × HasAt t place r × (r.state.name ≡ name) × (r.state.value ≡ value)
+    (place : ℕ) × (r : Record) × (did ≡ effect.Wrote place busies m.p1) × HasAt t place r × (r.state.name ≡ name) × (r.state.value ≡ value)
     × (r.state.meta ≡ written_meta t.stamp)
 Tells m (Adds x) did t = (place : ℕ) × (r : Record) × (did ≡ effect.Began place) × HasAt t place r × (r.state.name ≡ x.name)
 Tells m (Opens c) did t = (place : ℕ) × (r : Record) × (did ≡ effect.Opened place) × HasAt t place r × (r.state.name ≡ c.name)

@@ -1,5 +1,5 @@
 ghost use Rattle.std.specs.Prelude.{◌≡◌, option_map};
-ghost use Rattle.ca_server_circuit.specs.Peeking.{NamesBy, may_write};
+ghost use Rattle.ca_server_circuit.specs.Peeking.{NamesBy, is_write, may_write};
 
 use crate::end::End;
 use ca_text::Command;

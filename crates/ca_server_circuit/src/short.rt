@@ -1,5 +1,5 @@
 //! Writes of one element, which are handled where they came: no message is made of them, and they take no memory.
-ghost use Rattle.std.specs.Prelude.{ℕ, ◌≡◌, ◌<◌, [], ◌∷◌, MatchOption, None, false, length, true};
+ghost use Rattle.std.specs.Prelude.{ℕ, ◌≡◌, ◌<◌, [], ◌∷◌, MatchOption, false, length, true};
 ghost use Rattle.ca_text.specs.declared.command.Command.TheVariants as command;
 ghost use Rattle.ca_text.specs.Limits.{output_limit};
 ghost use Rattle.ca_link.specs.Calls.{HasShort, IsOpen};
@@ -7,7 +7,6 @@ ghost use Rattle.ca_link.specs.Link.{with_sent};
 ghost use Rattle.ca_records.specs.Store.{records_of};
 ghost use Rattle.ca_wire.specs.Messages.{done};
 ghost use Rattle.ca_server_circuit.specs.Clearing.{ArePuts};
-ghost use Rattle.ca_server_circuit.specs.declared.step.FollowUp.TheVariants.{Wrote};
 ghost use Rattle.ca_arena.specs.declared.handle.Handle.{Handle};
 ghost use Rattle.ca_server_circuit.specs.Handling.{AreServed, Puts, Writes};
 ghost use Rattle.ca_server_circuit.specs.Stepping.{DoesShort, EndSteps, done_for};
@@ -55,7 +54,7 @@ impl End {
     {
         if let Some(wanted) = self.link.first_short(Command::Write) {
             return match self.write_short(records, &wanted) {
-                Some(place) => Some(EndStep::Handled(FollowUp::Wrote(place, None))),
+                Some(left) => Some(EndStep::Handled(left)),
                 None => None,
             };
         }
@@ -68,15 +67,15 @@ impl End {
         None
     }
 
-    /// WRITE, if it is such a one. Says where it was applied.
+    /// WRITE, if it is such a one.
     #[inline(never)]
-    fn write_short(&mut self, records: &mut ServedRecords, wanted: &Wanted) -> Option<usize>
+    fn write_short(&mut self, records: &mut ServedRecords, wanted: &Wanted) -> Option<FollowUp>
         requires served { AreServed (records_of records.old) self.old.channels }
         requires short { HasShort command.Write self.old.link wanted.now }
         ensures { MatchOption result ((self.new ≡ self.old) × (records.new ≡ records.old))
-            (λ place. (h : Handle)
+            (λ left. (h : Handle)
             → DoesShort Writes command.Write wanted.now h records.old self.old
-            (Wrote place None) records.new self.new) }
+            left records.new self.new) }
     {
         let Sought::Served(seat) = self.seek(records, wanted.sid) else {
             return None;
@@ -88,7 +87,7 @@ impl End {
             return None;
         }
         self.link.drop_front(24);
-        Some(seat.place)
+        Some(FollowUp::Wrote(seat.place, false, wanted.sid.number()))
     }
 
     /// WRITE_NOTIFY, if it is such a one. On a slow record its reply comes as it is finished. On a quick one it goes
@@ -127,7 +126,7 @@ impl End {
             return None;
         }
         self.link.drop_front(24);
-        Some(FollowUp::Wrote(seat.place, None))
+        Some(FollowUp::Wrote(seat.place, false, wanted.sid.number()))
     }
 
     /// The same on a slow record, whose put stays busy: its reply comes as it is finished.
@@ -158,7 +157,7 @@ impl End {
             return None;
         }
         self.link.drop_front(24);
-        Some(FollowUp::Wrote(seat.place, Some(wanted.sid)))
+        Some(FollowUp::Wrote(seat.place, true, wanted.sid.number()))
     }
 }
 

@@ -11,16 +11,14 @@ use crate::end::End;
 use ca_arena::Handle;
 use ca_records::ServedRecords;
 use ca_text::Command;
-use ca_wire::Sid;
 
 /// What a message that was handled leaves its server to do.
 #[derive(Clone, Copy, Debug, PartialEq, Eq)]
 pub enum FollowUp {
     /// Nothing.
     Quiet,
-    /// The write to the record at this place was applied, and is to reach its subscriptions. It was a put on the channel of the SID, if there is one, which made
-    /// the record busy.
-    Wrote(usize, Option<Sid>),
+    /// The write to the record at this place was applied, and is to reach its subscriptions; whether it made the record busy, and the SID of its channel.
+    Wrote(usize, bool, u32),
     /// A subscription to the record at this place began.
     Began(usize),
     /// A channel to the record at this place was created.
@@ -46,7 +44,7 @@ impl FollowUp {
         ensures { result ≡ is_wrote self }
     {
         match self {
-            FollowUp::Wrote(_, _) => true,
+            FollowUp::Wrote(_, _, _) => true,
             _ => false,
         }
     }

@@ -78,7 +78,7 @@ impl End {
             self.alloc, records, seat.place, rights, None, &wanted, payload,
         )?;
         match begun {
-            Begun::Applied(_) => Ok(FollowUp::Wrote(seat.place, None)),
+            Begun::Applied(_) => Ok(FollowUp::Wrote(seat.place, false, wanted.sid.number())),
             Begun::Waiting => unreachable!(),
             Begun::Refused(status) => {
                 self.refuse(seat.cid, status, head)?;

@@ -7,7 +7,7 @@ ghost use Rattle.ca_link.specs.Link.{with_sent};
 ghost use Rattle.ca_records.specs.Store.{records_of};
 ghost use Rattle.ca_wire.specs.Messages.{on_channel, status_reply};
 ghost use Rattle.ca_wire.specs.Reading.{IsWhole};
-ghost use Rattle.ca_server_circuit.specs.Handling.{AreServed, Does, Puts, busied, known, replied};
+ghost use Rattle.ca_server_circuit.specs.Handling.{AreServed, Does, Puts, known, replied};
 ghost use Rattle.ca_server_circuit.specs.Seeking.{IsServed};
 ghost use Rattle.ca_server_circuit.specs.Stepping.{first_at};
 
@@ -19,7 +19,7 @@ use crate::step::FollowUp;
 use ca_arena::Handle;
 use ca_records::{Begun, ServedRecords};
 use ca_text::Status;
-use ca_wire::{Head, Sid, Wanted, put_status};
+use ca_wire::{Head, Wanted, put_status};
 use std::alloc::AllocError;
 
 impl End {
@@ -100,7 +100,9 @@ impl End {
             return Err(AllocError);
         };
         match begun {
-            Begun::Applied(busies) => Ok(FollowUp::Wrote(place, busied(wanted.sid, busies))),
+            Begun::Applied(busies) => {
+                Ok(FollowUp::Wrote(place, busies, wanted.sid.number()))
+            }
             Begun::Waiting => Ok(FollowUp::Quiet),
             Begun::Refused(status) => {
                 self.link.truncate(waited);
@@ -138,11 +140,4 @@ impl End {
         send(&mut self.link, &reply)?;
         Ok(())
     }
-}
-
-/// The SID of the channel of a put, if that made its record busy.
-fn busied(sid: Sid, busies: bool) -> Option<Sid>
-    ensures { result ≡ busied sid busies }
-{
-    if busies { Some(sid) } else { None }
 }

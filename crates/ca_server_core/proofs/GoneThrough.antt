@@ -1,5 +1,5 @@
 -- What a write leaves to do, where nobody watches its record but its own circuit.
-use Rattle.std.proofs.Common.{◌≡◌, ℕ, inl, true, false, length, Option, Some, is_some, refl, sym, ap, ◌∙◌}
+use Rattle.std.proofs.Common.{◌≡◌, ℕ, inl, Bool, true, false, length, Option, Some, is_some, refl, sym, ap, ◌∙◌}
 use Rattle.ca_arena.specs.declared.handle.Handle.{Handle}
 use Rattle.ca_ids.specs.Table.{Table, under, with_changed}
 use Rattle.ca_records.specs.Puts.{Record, record_named}
@@ -45,8 +45,8 @@ shows-in place h t s c new there watches (mid, posts, pumps) opened =
 
 -- nobody watches the record, and the circuit is idle
 pub goes-idle : (place : ℕ) (h : Handle) (w : Watched) (t : Circuits) (s : Store) (r : Record) → HasAt s place r → record_named (records_of s) r.state.name ≡ Some r → is_some r.busy ≡ false → AreApart (watching w r.state.name) → length (watching w r.state.name) ≡ 0
-    → IsSound (records_of s) t → Covers w t → IsIdleIn t h → (by : Option ℕ) → GoesThrough (Wrote place by) h w t s t
-goes-idle place h w t s r at found free apart none sound covered idle by =
+    → IsSound (records_of s) t → Covers w t → IsIdleIn t h → (busies : Bool) (sid : ℕ) → GoesThrough (Wrote place busies sid) h w t s t
+goes-idle place h w t s r at found free apart none sound covered idle busies sid =
     let k = length (watching w r.state.name) in
     record {
       writes = refl;
@@ -61,8 +61,8 @@ goes-idle place h w t s r at found free apart none sound covered idle by =
 
 -- this circuit alone watches it
 pub goes-shown : (place : ℕ) (h : Handle) (w : Watched) (t after : Circuits) (s : Store) (r : Record) → HasAt s place r → record_named (records_of s) r.state.name ≡ Some r → is_some r.busy ≡ false → AreApart (watching w r.state.name) → length (watching w r.state.name) ≡ 1
-    → At (watching w r.state.name) 0 h → IsSound (records_of s) t → Covers w t → ShowsIn place h t s after → (by : Option ℕ) → GoesThrough (Wrote place by) h w t s after
-goes-shown place h w t after s r at found free apart one last sound covered shows by =
+    → At (watching w r.state.name) 0 h → IsSound (records_of s) t → Covers w t → ShowsIn place h t s after → (busies : Bool) (sid : ℕ) → GoesThrough (Wrote place busies sid) h w t s after
+goes-shown place h w t after s r at found free apart one last sound covered shows busies sid =
     let k = length (watching w r.state.name) in
     let reaches = reaches-on w t shows.mid h place write_mask 0 s s true refl (r, at, last) shows.watches shows.posts in
     let walk : Walk place write_mask w t s 0 w shows.mid s = walk-next place write_mask w t s k w t s (walk-begins place write_mask k w t s r at apart refl sound covered) 0 (sym one) w shows.mid s reaches in

@@ -1,11 +1,12 @@
 -- The lists of those that lead to records stay complete, as circuits and lists change.
-use Rattle.std.proofs.Common.{◌≡◌, ℕ, inl, inr, Bool, true, false, cond, nat_eq, List, [], Some, is_some, Result, Ok, Err, refl, sym, ap, ◌∙◌, subst}
+use Rattle.std.proofs.Common.{◌≡◌, ℕ, inl, inr, Bool, true, false, cond, nat_eq, List, [], Option, Some, None, Result, Ok, Err, refl, sym, ap, ◌∙◌, subst}
 use Rattle.std.specs.Str.{bytes_eq}
 use Rattle.std.proofs.lemmas.Bool.{eq-eqb, eqb-true}
 use Rattle.std.proofs.lemmas.Slice.Eq.{bytes_eq-Decides}
 use Rattle.ca_arena.specs.declared.handle.Handle.{Handle}
 use Rattle.ca_ids.specs.Table.{MayGive, Table, under, with_changed, with_held}
 use Rattle.ca_records.specs.declared.puts.Finished.{Finished}
+use Rattle.ca_records.specs.declared.puts.Put.{Put}
 use Rattle.ca_records.specs.Puts.{Record}
 use Rattle.ca_records.specs.Store.{Store, records_of}
 use Rattle.ca_text.specs.declared.refusal.Refusal.{Refusal}
@@ -23,7 +24,7 @@ use Rattle.ca_server_circuit.specs.Handling.{is_wrote}
 use Rattle.ca_server_core.specs.Circuits.{OpensIn}
 use Rattle.ca_server_core.specs.Covering.{AreLed, AreListed, Covers, HasTo, Leads}
 use Rattle.ca_server_core.specs.Ending.{EndsIn}
-use Rattle.ca_server_core.specs.Finishing.{effect_after}
+use Rattle.ca_server_core.specs.Finishing.{after_applied, effect_after}
 use Rattle.ca_server_core.specs.Following.{Begins, Follows, LeadsBut, LedFor}
 use Rattle.ca_server_core.specs.Reaching.{ReachesFrom}
 use Rattle.ca_server_core.proofs.Closing.{not-ended}
@@ -176,22 +177,22 @@ led-reached place mask t s after u l did led =
 
 -- a write leaves the lists complete
 pub led-wrote : (did : FollowUp) (h : Handle) (s : Store) (l : Watched) (t : Circuits) → is_wrote did ≡ true → LedFor did h s l t → AreLed (records_of s) l t
-led-wrote (effect.Wrote place by) h s l t is led = led
+led-wrote (effect.Wrote place busies sid) h s l t is led = led
 led-wrote effect.Quiet h s l t is led = absurd cc
 led-wrote (effect.Began place) h s l t is led = absurd cc
 led-wrote (effect.Opened place) h s l t is led = absurd cc
 
 -- and so they are once its updates have reached all
 pub led-followed : (did : FollowUp) (h : Handle) (t : Circuits) (s : Store) (after : Circuits) (u : Store) (l : Watched) → is_wrote did ≡ true → Follows did h t s after u → LedFor did h s l t → AreLed (records_of u) l after
-led-followed (effect.Wrote place by) h t s after u l is f led = led-reached place write_mask t s after u l f led
+led-followed (effect.Wrote place busies sid) h t s after u l is f led = led-reached place write_mask t s after u l f led
 led-followed effect.Quiet h t s after u l is f led = absurd cc
 led-followed (effect.Began place) h t s after u l is f led = absurd cc
 led-followed (effect.Opened place) h t s after u l is f led = absurd cc
 
 -- the end of a put leaves no channel to be entered
 pub led-finished : (f : Finished) (s : Store) (l : Watched) (t : Circuits) → AreLed (records_of s) l t → LedFor (effect_after f) f.ended.circuit s l t
-led-finished f s l t led = by (is_some f.applied)
+led-finished f s l t led = by f.applied
   where
-    by : (b : Bool) → LedFor (cond b (effect.Wrote f.place None) effect.Quiet) f.ended.circuit s l t
-    by true = led
-    by false = led
+    by : (o : Option Put) → LedFor (after_applied f.place o) f.ended.circuit s l t
+    by None = led
+    by (Some p) = led

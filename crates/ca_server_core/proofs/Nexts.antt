@@ -24,7 +24,7 @@ use Rattle.ca_server_circuit.specs.declared.step.FollowUp.TheVariants as effect
 use Rattle.ca_server_core.specs.Covering.{Covers}
 use Rattle.ca_server_circuit.specs.Ending.{WithdrawsAll}
 use Rattle.ca_server_circuit.specs.Finishing.{RepliesAt, with_reply}
-use Rattle.ca_server_core.specs.Finishing.{RepliesIn, effect_after}
+use Rattle.ca_server_core.specs.Finishing.{RepliesIn, after_applied, effect_after}
 use Rattle.ca_server_core.specs.Following.{CoversFor, Follows}
 use Rattle.ca_server_circuit.specs.Handling.{is_wrote}
 use Rattle.ca_server_core.specs.Reaching.{ReachesAll}
@@ -76,7 +76,7 @@ cons-not w ws e = cc
 
 nexts-of : (name : List ℕ) (ws : List WaitingPut) (p : Stamp) (f : Finished) (r next : Record) (t : Circuits) (s : Store) (after : Circuits) (u : Store) → f.applied ≡ writes.next_put ws → r.state.name ≡ name → HasAt s f.place next → next.state ≡ (finished p r ws).state → Follows (effect_after f) f.ended.circuit t s after u → (gone : Handle → Bool) × Nexts name ws p gone t s after u
 nexts-of name [] p f r next t s after u applied named at is did =
-    let same = subst (λ (q : FollowUp). Follows q f.ended.circuit t s after u) (ap (λ (o : Option Put). cond (is_some o) (effect.Wrote f.place None) effect.Quiet) applied) did in (
+    let same = subst (λ (q : FollowUp). Follows q f.ended.circuit t s after u) (ap (λ (o : Option Put). after_applied f.place o) applied) did in (
       (λ (h : Handle). false),
       record {
         may = λ h e. no-true e;
@@ -91,7 +91,7 @@ nexts-of name [] p f r next t s after u applied named at is did =
     by h (Open e) = refl
     by h (Ended w left) = refl
 nexts-of name (w ∷ ws) p f r next t s after u applied named at is did =
-    let from = subst (λ (q : FollowUp). Follows q f.ended.circuit t s after u) (ap (λ (o : Option Put). cond (is_some o) (effect.Wrote f.place None) effect.Quiet) applied) did in
+    let from = subst (λ (q : FollowUp). Follows q f.ended.circuit t s after u) (ap (λ (o : Option Put). after_applied f.place o) applied) did in
     let state : from.0.state ≡ (finished p r (w ∷ ws)).state = ap (λ (x : Record). x.state) (there-is s f.place from.0 next from.1 at) ∙ is in
     let gone = from.2.0 in
     let all : ReachesAll r.state.name write_mask (record { value = w.value; meta = written_meta p }) gone t s after u =
@@ -293,11 +293,11 @@ replied-at s1 s2 t t2 p place r (inl g) at = by g.0 g.1 g.3
     by (Ended w left) new did = same did.1
 
 pub finished-covers : (w : Watched) (s s1 s2 : Store) (t t2 : Circuits) (name : List ℕ) (f : Finished) → writes.Finishes s name (Ok f) s1 → RepliesIn t f.ended s1 t2 s2 → Covers w t2 → CoversFor (effect_after f) f.ended.circuit s2 w t2
-finished-covers w s s1 s2 t t2 name f did r covers = by (is_some f.applied)
+finished-covers w s s1 s2 t t2 name f did r covers = by f.applied
   where
-    by : (b : Bool) → CoversFor (cond b (effect.Wrote f.place None) effect.Quiet) f.ended.circuit s2 w t2
-    by true = (let q = replied-at s1 s2 t t2 f.ended f.place _ r did.3.becomes.there in ((q.0, q.1), covers))
-    by false = covers
+    by : (o : Option Put) → CoversFor (after_applied f.place o) f.ended.circuit s2 w t2
+    by (Some p) = (let q = replied-at s1 s2 t t2 f.ended f.place _ r did.3.becomes.there in ((q.0, q.1), covers))
+    by None = covers
 
 -- ---- the same along the view of the fields
 
@@ -308,10 +308,10 @@ viewed-finish y port now n k b s s1 s2 s3 t t2 t3 name f did q is after wrote mo
     let next = nexts-of name fin.0.waiting s.stamp f fin.0 at.0 t2 s2 t3 s3 fin.2 fin.3.named at.1 at.2 (subst (λ (x : FollowUp). Follows x f.ended.circuit t2 s2 t3 s3) after follows) in
     let g = finishes-ok port now n b s s1 t name f fin s3 t3 s2 t2 next.0 r next.1 in
     let count : k ≡ more_applied (is_some (writes.next_put fin.0.waiting)) n =
-    more ∙ ap (λ (p : Bool). more_applied p n) (wrote ∙ ap is_wrote after ∙ by (is_some f.applied) ∙ ap (λ (o : Option Put). is_some o) fin.2) in
+    more ∙ ap (λ (p : Bool). more_applied p n) (wrote ∙ ap is_wrote after ∙ by f.applied ∙ ap (λ (o : Option Put). is_some o) fin.2) in
     subst (λ (x : Server). (sent : List (Handle × Fields)) × Finishes x name sent (Ok tt) (server_of port s3 now t3 b k)) is
     (subst (λ (m : ℕ). (sent : List (Handle × Fields)) × Finishes (server_of port s now t b n) name sent (Ok tt) (server_of port s3 now t3 b m)) (sym count) g)
   where
-    by : (x : Bool) → is_wrote (cond x (effect.Wrote f.place None) effect.Quiet) ≡ x
-    by true = refl
-    by false = refl
+    by : (o : Option Put) → is_wrote (after_applied f.place o) ≡ is_some o
+    by (Some p) = refl
+    by None = refl

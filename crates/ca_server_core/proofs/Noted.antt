@@ -144,7 +144,7 @@ begun-busy h t last u x noted f = by f
 
 followed-busy : (did : FollowUp) (h : Handle) (t last : Circuits) (u x : Store) (noted : Option (List ℕ)) → Follows did h t u last x → BusyBut (records_of u) (records_of x) noted
 followed-busy effect.Quiet h t last u x noted f = subst (λ (z : Store). BusyBut (records_of u) (records_of z) noted) (sym f.1) (busy-same (records_of u) noted)
-followed-busy (effect.Wrote place by) h t last u x noted f =
+followed-busy (effect.Wrote place busies sid) h t last u x noted f =
     busy-withdrawn (λ (p : Put). f.2.0 p.circuit) (records_of u) (records_of x) noted f.2.1.records
 followed-busy (effect.Began place) h t last u x noted f = begun-busy h t last u x noted f
 followed-busy (effect.Opened place) h t last u x noted f = begun-busy h t last u x noted f
@@ -154,16 +154,16 @@ noted-busy : (did : FollowUp) (x : Store) (noted : Option (List ℕ)) → NotesA
 noted-busy effect.Quiet x noted n name is = absurd (none-some name (sym n ∙ is))
 noted-busy (effect.Began place) x noted n name is = absurd (none-some name (sym n ∙ is))
 noted-busy (effect.Opened place) x noted n name is = absurd (none-some name (sym n ∙ is))
-noted-busy (effect.Wrote place who) x noted n name is = by (is_some n.0.busy) refl (sym n.3 ∙ is)
+noted-busy (effect.Wrote place busies sid) x noted n name is = by (is_some n.0.busy) refl (sym n.3 ∙ is)
   where
     by : (b : Bool) → is_some n.0.busy ≡ b → cond b (Some n.0.state.name) None ≡ Some name → (r : Record) × (record_named (records_of x) name ≡ Some r) × (is_some r.busy ≡ true)
     by true busy same = (n.0, ap (λ (m : List ℕ). record_named (records_of x) m) (sym (some_is n.0.state.name name same)) ∙ n.2, busy)
     by false free same = absurd (none-some name same)
 
 -- the record that a put made busy is noted
-wrote-noted : (name : List ℕ) (u x : Store) (which : Put → Bool) (place : ℕ) (by : Option ℕ) (noted : Option (List ℕ)) → ((r : Record) → In (records_of u) r → r.state.name ≡ name → is_some r.busy ≡ true) → records_of x ≡ withdrawn which (records_of u) → KeepsPlaces u x
-    → (was : Record) → HasAt u place was → was.state.name ≡ name → NotesAt (effect.Wrote place by) x noted → noted ≡ Some name
-wrote-noted name u x which place by noted busy is places was at named n =
+wrote-noted : (name : List ℕ) (u x : Store) (which : Put → Bool) (place : ℕ) (busies : Bool) (sid : ℕ) (noted : Option (List ℕ)) → ((r : Record) → In (records_of u) r → r.state.name ≡ name → is_some r.busy ≡ true) → records_of x ≡ withdrawn which (records_of u) → KeepsPlaces u x
+    → (was : Record) → HasAt u place was → was.state.name ≡ name → NotesAt (effect.Wrote place busies sid) x noted → noted ≡ Some name
+wrote-noted name u x which place busies sid noted busy is places was at named n =
     let kept = places place was at in
     let r : Record = n.0 in
     let same : kept.0 ≡ r = there-is x place kept.0 r kept.1 n.1 in
@@ -184,7 +184,7 @@ recorded-busy rs stamp h e m (Applies name value true) did u x t last noted (p, 
     let from = subst (λ (d : FollowUp). Follows d h t u last x) told.2 f in
     let at = subst (λ (d : FollowUp). NotesAt d x noted) told.2 n in
     let named : noted ≡ Some name =
-    wrote-noted name u x (λ (q : Put). from.2.0 q.circuit) told.0 (Some m.p1) noted (λ r i own. made-busy name (λ (r : Record). record (with_value value (written_meta stamp) r) { busy = Some p }) rs (λ q. refl) p (λ q. refl) r (subst (λ (z : List Record). In z r) is i) own) from.2.1.records from.2.1.places told.1 told.3 told.4 at in
+    wrote-noted name u x (λ (q : Put). from.2.0 q.circuit) told.0 true m.p1 noted (λ r i own. made-busy name (λ (r : Record). record (with_value value (written_meta stamp) r) { busy = Some p }) rs (λ q. refl) p (λ q. refl) r (subst (λ (z : List Record). In z r) is i) own) from.2.1.records from.2.1.places told.1 told.3 told.4 at in
     subst (λ (z : List Record). BusyBut rs z noted) (sym is) (busy-put name (λ (r : Record). record (with_value value (written_meta stamp) r) { busy = Some p }) rs (λ q. refl) p (λ q. refl) noted named)
 recorded-busy rs stamp h e m (Waits name value) did u x t last noted (p, put, is) told f n =
     busy-with name (with_waiting (record { put = p; value = value })) rs (records_of u) noted (λ q. refl) (λ q. refl) is
@@ -351,10 +351,10 @@ tried-at : (did : FollowUp) (port now : ℕ) (b : Clock) (n k : ℕ) (t last : C
 tried-at effect.Quiet port now b n k t last s x is = (None, refl, same-server port now n k b s x t last is.0 is.1 is.2)
 tried-at (effect.Began place) port now b n k t last s x is = (None, refl, same-server port now n k b s x t last is.0 is.1 is.2)
 tried-at (effect.Opened place) port now b n k t last s x is = (None, refl, same-server port now n k b s x t last is.0 is.1 is.2)
-tried-at (effect.Wrote place by) port now b n k t last s x (r, at, found, inl (busy, e)) =
+tried-at (effect.Wrote place busies sid) port now b n k t last s x (r, at, found, inl (busy, e)) =
     let g = viewed-finish (server_of port s now t b n) port now n k b s e.left e.after x t e.mid last r.state.name e.f (effect_after e.f) (is_wrote (effect_after e.f)) refl refl refl e.counts e.finishes e.replies e.follows in
     (Some r.state.name, (r, at, found, ap (λ (c : Bool). cond c (Some r.state.name) None) (sym busy)), (g.0, Ok tt, g.1))
-tried-at (effect.Wrote place by) port now b n k t last s x (r, at, found, inr (free, is)) =
+tried-at (effect.Wrote place busies sid) port now b n k t last s x (r, at, found, inr (free, is)) =
     (None, (r, at, found, ap (λ (c : Bool). cond c (Some r.state.name) None) (sym free)), same-server port now n k b s x t last is.0 is.1 is.2)
 
 -- the put of the record to which a message wrote ended
@@ -384,6 +384,6 @@ viewed-served y port now n k j b s u x z t after last mid final h did is g f mad
 -- the record to which a message wrote is there after what followed
 pub leads-after : (did : FollowUp) (h : Handle) (t last : Circuits) (u x : Store) → Follows did h t u last x → LeadsTo did x
 leads-after effect.Quiet h t last u x f = tt
-leads-after (effect.Wrote place by) h t last u x f = (let kept = f.2.1.places place f.0 f.1 in (kept.0, kept.1))
+leads-after (effect.Wrote place busies sid) h t last u x f = (let kept = f.2.1.places place f.0 f.1 in (kept.0, kept.1))
 leads-after (effect.Began place) h t last u x f = tt
 leads-after (effect.Opened place) h t last u x f = tt

@@ -51,7 +51,7 @@ changed-twice t h c d u is =
 
 pub quiet-is : (did : FollowUp) → is_quiet did ≡ true → did ≡ effect.Quiet
 quiet-is effect.Quiet is = refl
-quiet-is (effect.Wrote place by) is = absurd cc
+quiet-is (effect.Wrote place busies sid) is = absurd cc
 quiet-is (effect.Began place) is = absurd cc
 quiet-is (effect.Opened place) is = absurd cc
 

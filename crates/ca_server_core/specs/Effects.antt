@@ -18,8 +18,8 @@ use Rattle.ca_server_core.specs.declared.stepping.Step.TheVariants.{Handled}
 
 -- the effect of a message that left this to do
 abbrev pub effect_of : FollowUp → Effect
-effect_of (left.Wrote place (Some sid)) = Busied sid
-effect_of (left.Wrote place None) = Wrote
+effect_of (left.Wrote place true sid) = Busied sid
+effect_of (left.Wrote place false sid) = Wrote
 effect_of did = Quiet
 
 -- ---- the message that a step handled

@@ -1,6 +1,7 @@
 -- Working: the reply of a put that is finished, in the table of circuits, and what the end of a busy put leaves to do.
-use Rattle.std.specs.Prelude.{◌≡◌, ◌⊎◌, Some, None, if◌then◌else◌, is_some}
+use Rattle.std.specs.Prelude.{ℕ, ◌≡◌, ◌⊎◌, true, Option, Some, None}
 use Rattle.ca_ids.specs.Table.{Table, under, with_changed}
+use Rattle.ca_ids.specs.Wire.{wire_of}
 use Rattle.ca_records.specs.declared.puts.Finished.{Finished}
 use Rattle.ca_records.specs.declared.puts.Put.{Put}
 use Rattle.ca_records.specs.Store.{Store}
@@ -15,6 +16,11 @@ RepliesIn t p s after u =
     ((c : ServerCircuit) × (new : ServerCircuit) × (under t p.circuit ≡ Some c) × RepliesAt p c s new u × (after ≡ with_changed (λ (x : ServerCircuit). new) p.circuit t))
     ⊎ ((under t p.circuit ≡ None) × (after ≡ t) × (u ≡ s))
 
+-- what a put that was applied next leaves to do
+abbrev pub after_applied : (place : ℕ) → Option Put → FollowUp
+after_applied place None = effect.Quiet
+after_applied place (Some p) = effect.Wrote place true (wire_of p.channel)
+
 -- what the end of a busy put leaves to do
 abbrev pub effect_after : Finished → FollowUp
-effect_after f = if is_some f.applied then effect.Wrote f.place None else effect.Quiet
+effect_after f = after_applied f.place f.applied

@@ -34,7 +34,7 @@ CoversAt place h s w t = (r : Record) × HasAt s place r × ((c : ServerCircuit)
 -- who watches, as a message leaves it
 abbrev pub CoversFor : FollowUp → Handle → Store → Watched → Table ServerCircuit → Type 0
 CoversFor effect.Quiet h s w t = Covers w t
-CoversFor (effect.Wrote place by) h s w t = IsThere s place × Covers w t
+CoversFor (effect.Wrote place busies sid) h s w t = IsThere s place × Covers w t
 CoversFor (effect.Began place) h s w t = CoversAt place h s w t
 CoversFor (effect.Opened place) h s w t = Covers w t
 
@@ -62,7 +62,7 @@ Begins h t s after u = ((after ≡ t) × (u ≡ s)) ⊎ EndsIn t h s why.OutOfMe
 -- what a message leaves to do was done
 abbrev pub Follows : FollowUp → Handle → Table ServerCircuit → Store → Table ServerCircuit → Store → Type 0
 Follows effect.Quiet h t s after u = (after ≡ t) × (u ≡ s)
-Follows (effect.Wrote place by) h t s after u = ReachesFrom place write_mask t s after u
+Follows (effect.Wrote place busies sid) h t s after u = ReachesFrom place write_mask t s after u
 Follows (effect.Began place) h t s after u = Begins h t s after u
 Follows (effect.Opened place) h t s after u = Begins h t s after u
 

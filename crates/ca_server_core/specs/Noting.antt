@@ -42,7 +42,7 @@ pub record Notes (old new : List Record) (noted : Option (List ℕ)) : Type 0 wh
 
 -- the record to which a message wrote is there
 abbrev pub LeadsTo : FollowUp → Store → Type 0
-LeadsTo (effect.Wrote place by) s = IsThere s place
+LeadsTo (effect.Wrote place busies sid) s = IsThere s place
 LeadsTo did s = Unit {0}
 
 -- the name of a record that is busy
@@ -57,7 +57,7 @@ wrote_busy action records = None
 
 -- the record to which a message wrote is noted if it is busy
 abbrev pub NotesAt : FollowUp → Store → Option (List ℕ) → Type 0
-NotesAt (effect.Wrote place by) s noted =
+NotesAt (effect.Wrote place busies sid) s noted =
     (r : Record) × HasAt s place r × (record_named (records_of s) r.state.name ≡ Some r) × (noted ≡ busy_name (Some r))
 NotesAt did s noted = noted ≡ None
 
@@ -87,7 +87,7 @@ EndsPutAt place n t s k last x =
 
 -- the same of the record to which a message wrote
 abbrev pub TriesAt : FollowUp → (n : ℕ) (t : Table ServerCircuit) (s : Store) (k : ℕ) (last : Table ServerCircuit) (x : Store) → Type 0
-TriesAt (effect.Wrote place by) n t s k last x = EndsPutAt place n t s k last x
+TriesAt (effect.Wrote place busies sid) n t s k last x = EndsPutAt place n t s k last x
 TriesAt did n t s k last x = StaysAll n t s k last x
 
 -- ---- a step

@@ -2,7 +2,6 @@ ghost use Rattle.std.specs.Prelude.{◌≡◌};
 ghost use Rattle.ca_server_core.specs.Effects.{effect_of};
 
 use ca_server_circuit::FollowUp;
-use ca_wire::Sid;
 
 /// What a message that was handled did, beside its replies, of which whoever drives the server has to know.
 #[derive(Clone, Copy, Debug, PartialEq, Eq)]
@@ -12,7 +11,7 @@ pub enum Effect {
     /// A record was written, and is not to be processed for it.
     Wrote,
     /// A record was written by a put with notification on the channel of this SID, which makes it busy: it is to be processed, and finished then.
-    Busied(Sid),
+    Busied(u32),
 }
 
 /// What a message did that left this to do.
@@ -20,8 +19,8 @@ pub(crate) fn effect_of(left: FollowUp) -> Effect
     ensures { result ≡ effect_of left }
 {
     match left {
-        FollowUp::Wrote(_, Some(sid)) => Effect::Busied(sid),
-        FollowUp::Wrote(_, None) => Effect::Wrote,
+        FollowUp::Wrote(_, true, sid) => Effect::Busied(sid),
+        FollowUp::Wrote(_, false, _) => Effect::Wrote,
         _ => Effect::Quiet,
     }
 }

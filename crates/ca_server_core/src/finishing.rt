@@ -9,7 +9,7 @@ ghost use Rattle.ca_wire.specs.Fields.{Fields};
 use crate::following::follow;
 use crate::server::ServerCore;
 use crate::stepping::more_applied;
-use ca_ids::HeldTable;
+use ca_ids::{HeldTable, WireId};
 use ca_records::{Finished, Put, ServedRecords};
 use ca_server_circuit::{Circuit, FollowUp};
 use ca_text::Refusal;
@@ -45,7 +45,9 @@ pub(crate) fn left_by(finished: &Finished) -> FollowUp
     ensures { result ≡ effect_after finished.now }
 {
     match finished.applied {
-        Some(_) => FollowUp::Wrote(finished.place, None),
+        Some(next) => {
+            FollowUp::Wrote(finished.place, true, WireId::of(next.channel).number())
+        }
         None => FollowUp::Quiet,
     }
 }

@@ -40,7 +40,7 @@ pub(crate) fn follow(
 {
     match effect {
         FollowUp::Quiet => false,
-        FollowUp::Wrote(place, _) => post_to_all(circuits, records, watchers, place, WRITE_MASK),
+        FollowUp::Wrote(place, _, _) => post_to_all(circuits, records, watchers, place, WRITE_MASK),
         FollowUp::Began(place) => {
             watch(circuits, records, watchers, circuit, place);
             true

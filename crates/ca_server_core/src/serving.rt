@@ -135,7 +135,7 @@ fn finish_busy(
     ensures listed { AreListed (records_of records.new) watchers.new }
     ensures led { AreLed (records_of records.new) leading.new circuits.new }
 {
-    let FollowUp::Wrote(place, _) = effect else {
+    let FollowUp::Wrote(place, _, _) = effect else {
         return;
     };
     if !records.at(place).is_busy() {

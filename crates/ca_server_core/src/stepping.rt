@@ -8,7 +8,7 @@ ghost use Rattle.ca_server_circuit.specs.Circuits.{is_open};
 ghost use Rattle.ca_server_core.specs.Serving.{Closes, Reports, StepsIn, is_quiet, more_applied, stepped};
 ghost use Rattle.ca_server_core.specs.Sound.{IsSound};
 ghost use Rattle.ca_server_core.specs.Effects.{TellsEffect};
-ghost use Rattle.ca_server_core.specs.declared.effect.Effect as effect;
+ghost use Rattle.ca_server_core.specs.declared.effect.Effect.{Effect};
 ghost use Rattle.ca_server_core.specs.declared.stepping.Step.TheVariants.{Handled};
 
 use crate::effect::{Effect, effect_of};
@@ -127,7 +127,7 @@ pub(crate) fn settle(
     effect: Effect,
 ) -> Step
     ensures settles { Settles circuits.old circuit waited result circuits.new }
-    ensures tells { (did : effect.Effect) → result ≡ Handled did → did ≡ effect }
+    ensures tells { (did : Effect) → result ≡ Handled did → did ≡ effect }
 {
     if is_open(circuits, circuit) {
         return Step::Handled(effect);

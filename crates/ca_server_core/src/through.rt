@@ -1,4 +1,4 @@
-ghost use Rattle.std.specs.Prelude.{ℕ, ◌≡◌, Option, false, length, true};
+ghost use Rattle.std.specs.Prelude.{ℕ, ◌≡◌, Bool, false, length, true};
 ghost use Rattle.ca_ids.specs.Table.{under};
 ghost use Rattle.ca_model.specs.ServerSteps.{output_of};
 ghost use Rattle.ca_records.specs.Store.{IsThere, records_of};
@@ -39,7 +39,7 @@ pub(crate) fn go_through(
     ensures stays { result ≡ false → (circuits.new ≡ circuits.old) × (left.new ≡ left.old) }
     ensures watchers { watchers.new ≡ watchers.old }
 {
-    let FollowUp::Wrote(place, _) = effect else {
+    let FollowUp::Wrote(place, _, _) = effect else {
         return false;
     };
     if watchers.is_empty() {
@@ -68,8 +68,8 @@ fn go_to_watching(
     requires rests { idle ≡ true → IsIdleIn circuits.old circuit }
     requires counted { left.old ≡ length (output_of (under circuits.old circuit)) }
     ensures through { result ≡ true
-        → (by : Option ℕ)
-        → GoesThrough (Wrote place by) circuit watchers.old circuits.old records.now circuits.new }
+        → (busies : Bool) (sid : ℕ)
+        → GoesThrough (Wrote place busies sid) circuit watchers.old circuits.old records.now circuits.new }
     ensures counts { result ≡ true → left.new ≡ length (output_of (under circuits.new circuit)) }
     ensures stays { result ≡ false → (circuits.new ≡ circuits.old) × (left.new ≡ left.old) }
     ensures watchers { watchers.new ≡ watchers.old }

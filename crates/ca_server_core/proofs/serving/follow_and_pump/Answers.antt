@@ -8,6 +8,7 @@ use Rattle.ca_server_core.specs.Following.{CoversFor, Follows, LedFor, Settles}
 use Rattle.ca_server_core.specs.Noting.{TriesAt}
 use Rattle.ca_server_core.specs.Serving.{more_applied}
 use Rattle.ca_server_core.specs.Sound.{IsSound}
+use Rattle.ca_server_core.specs.declared.effect.Effect.TheVariants as told
 use Rattle.ca_server_core.specs.declared.stepping.Step.TheVariants as own
 use Rattle.ca_server_watchers.specs.Watching.{Watched}
 use Rattle.ca_server_core.proofs.Covered.{covers-thinned}
@@ -100,7 +101,7 @@ returns-clause-pumps c = λ yes.
       settles = λ waited is. elim c.else-may_have_ended.branch [
         | else-may_have_ended-via-then-may_have_ended+else-not-is_open w ↦ open-settles f.new.circuits h waited (sym w.is_open.ensures ∙ w.if-not-is_open.false)
         | else-may_have_ended-via-else-may_have_ended w ↦
-            subst (λ (z : Table ServerCircuit). Settles z h waited own.Handled z) (sym (f.ensures.none w.if-may_have_ended.false ∙ same)) is
+            subst (λ (z : Table ServerCircuit). Settles z h waited (own.Handled told.Quiet) z) (sym (f.ensures.none w.if-may_have_ended.false ∙ same)) is
       ];
       last = fin.new.circuits;
       u = fin.new.records;

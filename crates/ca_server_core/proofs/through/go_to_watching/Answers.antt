@@ -9,7 +9,7 @@ use Rattle.ca_server_core.proofs.GoneThrough.{goes-idle, goes-shown}
 use Rattle.ca_server_core.proofs.through.go_to_watching.Goals as goal
 
 pub returns-in_default-clause-through : goal.returns-in_default-clause-through
-returns-in_default-clause-through c = λ idle by.
+returns-in_default-clause-through c = λ idle busies sid.
     let w = c.args.watchers.now in
     let t = c.args.circuits.now in
     let s = c.args.records.now in
@@ -18,10 +18,10 @@ returns-in_default-clause-through c = λ idle by.
     let none =
     none-last (watching w r.state.name) c.last.new.before (c.last.ensures.before ∙ ap (λ (n : List ℕ). length (watching w n) - 1) named)
     (ap (λ (n : List ℕ). slice_get (watching w n) c.last.new.before) (sym named) ∙ sym c.in_default.ensures.last) in
-    (goes-idle c.args.place c.args.circuit w t s r c.at-served.ensures.at c.at-served.ensures.found (sym c.is_busy.ensures ∙ c.if-is_busy.false) (subst (λ (n : List ℕ). AreApart (watching w n)) named c.last.ensures.apart) none c.requires.sound c.requires.covered (c.requires.rests idle) by)
+    (goes-idle c.args.place c.args.circuit w t s r c.at-served.ensures.at c.at-served.ensures.found (sym c.is_busy.ensures ∙ c.if-is_busy.false) (subst (λ (n : List ℕ). AreApart (watching w n)) named c.last.ensures.apart) none c.requires.sound c.requires.covered (c.requires.rests idle) busies sid)
 
 pub returns-clause-through : goal.returns-clause-through
-returns-clause-through c = λ yes by.
+returns-clause-through c = λ yes busies sid.
     let w = c.args.watchers.now in
     let t = c.args.circuits.now in
     let s = c.args.records.now in
@@ -32,4 +32,4 @@ returns-clause-through c = λ yes by.
     let within = At-within (watching w r.state.name) c.last.new.before c.in-Some.last there in
     let one : length (watching w r.state.name) ≡ 1 = omega (arith, c.last.ensures.before ∙ ap (λ (n : List ℕ). length (watching w n) - 1) named, sole.0, within) in
     let last : At (watching w r.state.name) 0 c.args.circuit = subst (λ (h : Handle). At (watching w r.state.name) 0 h) sole.1 (subst (λ (n : ℕ). At (watching w r.state.name) n c.in-Some.last) sole.0 there) in
-    (goes-shown c.args.place c.args.circuit w t c.show_on.new.circuits s r c.at-served.ensures.at c.at-served.ensures.found (sym c.is_busy.ensures ∙ c.if-is_busy.false) (subst (λ (n : List ℕ). AreApart (watching w n)) named c.last.ensures.apart) one last c.requires.sound c.requires.covered (c.show_on.ensures.shown yes) by)
+    (goes-shown c.args.place c.args.circuit w t c.show_on.new.circuits s r c.at-served.ensures.at c.at-served.ensures.found (sym c.is_busy.ensures ∙ c.if-is_busy.false) (subst (λ (n : List ℕ). AreApart (watching w n)) named c.last.ensures.apart) one last c.requires.sound c.requires.covered (c.show_on.ensures.shown yes) busies sid)

@@ -1,4 +1,4 @@
-use Rattle.std.proofs.Common.{◌≡◌, ℕ, [], ◌∷◌, length, Option, Some, ap, ◌∙◌, subst, sym}
+use Rattle.std.proofs.Common.{◌≡◌, ℕ, [], ◌∷◌, length, Some, ap, ◌∙◌, subst, sym}
 use Rattle.ca_records.specs.declared.puts.Begun.TheVariants as begun
 use Rattle.ca_records.specs.Puts.{Record}
 use Rattle.ca_records.specs.Record.{RecordState}
@@ -8,7 +8,7 @@ use Rattle.ca_wire.specs.Messages.{on_channel, status_reply}
 use Rattle.ca_wire.specs.declared.requests.Wanted.{Wanted}
 use Rattle.ca_model.specs.Server.{ServerEnd}
 use Rattle.ca_server_circuit.specs.declared.step.FollowUp.TheVariants as effect
-use Rattle.ca_server_circuit.specs.Handling.{Does, Puts, busied, known, replied}
+use Rattle.ca_server_circuit.specs.Handling.{Does, Puts, known, replied}
 use Rattle.ca_server_circuit.specs.Putting.{IsRefused, IsTaken}
 use Rattle.ca_server_circuit.proofs.InPlace.{acknowledged, asked-is, put-is, refused-put, taken-back}
 use Rattle.ca_server_circuit.proofs.Replying.{right-is, state-is}
@@ -35,8 +35,8 @@ returns-in-Applied-clause-ok c port =
     let one : w.0 ≡ i.r = one-record s c.args.seat.place w.0 i.r w.3.at i.at in
     let taken = subst (λ (r : Record). IsTaken s r bits (Some p) m (begun.Applied c.in-Applied.busies) w.1) one w.2 in
     let becomes = subst (λ (r : Record). Becomes s c.args.seat.place r w.1 c.begin.new.records) one w.3 in
-    let by = c.busied.ensures ∙ ap (λ (x : Wanted). busied x.sid c.in-Applied.busies) c.named_by-wanted.ensures in
-    subst (λ (o : Option ℕ). Does (Puts (known port s e) m) s c.args.circuit e m (effect.Wrote c.args.seat.place o) c.begin.new.records c.acknowledge.new.self) (sym by)
+    let sid = c.number.ensures ∙ ap (λ (x : Wanted). x.sid) c.named_by-wanted.ensures in
+    subst (λ (n : ℕ). Does (Puts (known port s e) m) s c.args.circuit e m (effect.Wrote c.args.seat.place c.in-Applied.busies n) c.begin.new.records c.acknowledge.new.self) (sym sid)
     (put-applied port s c.begin.new.records c.args.circuit e c.acknowledge.new.self m c.args.seat i bits c.in-Applied.busies w.1 right c.requires.command taken becomes done)
 
 pub returns-in-Waiting-clause-ok : goal.returns-in-Waiting-clause-ok

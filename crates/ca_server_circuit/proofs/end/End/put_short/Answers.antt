@@ -9,13 +9,13 @@ use Rattle.ca_wire.specs.Fields.{Fields}
 use Rattle.ca_wire.specs.Messages.{status_reply}
 use Rattle.ca_wire.specs.Reading.{short_in}
 use Rattle.ca_model.specs.Server.{ServerEnd}
-use Rattle.ca_server_circuit.specs.Handling.{replied}
+use Rattle.ca_server_circuit.specs.Handling.{Puts, known, replied}
 use Rattle.ca_server_circuit.specs.Putting.{IsTaken, WritesTo}
 use Rattle.ca_server_circuit.specs.Seeking.{IsServed}
 use Rattle.ca_server_circuit.specs.Stepping.{after_short}
 use Rattle.ca_server_circuit.proofs.Replying.{right-is, state-is}
 use Rattle.ca_server_circuit.proofs.Shorts.{answered, served-after}
-use Rattle.ca_server_circuit.proofs.Taken.{one-record, put-applied, put_in}
+use Rattle.ca_server_circuit.proofs.Taken.{one-record, put-applied, put_in, with-sid}
 use Rattle.ca_server_circuit.proofs.end.End.put_short.Goals as goal
 
 pub returns : goal.returns
@@ -38,4 +38,5 @@ returns c port =
     let one : did.0 ≡ i.r = one-record s seat.place did.0 i.r did.3.at i.at in
     let taken = subst (λ (r : Record). IsTaken s r bits (Some p) m (begun.Applied false) did.1) one did.2 in
     let becomes = subst (λ (r : Record). Becomes s seat.place r did.1 c.write_one.new.records) one did.3 in
-    put-applied port s c.write_one.new.records c.args.circuit (after_short e) _ m seat (served-after s e w.sid seat i) bits false did.1 right refl taken becomes done
+    with-sid (Puts (known port s (after_short e)) m) s c.write_one.new.records c.args.circuit (after_short e) _ m seat.place false w.sid c.number.result c.number.ensures
+    (put-applied port s c.write_one.new.records c.args.circuit (after_short e) _ m seat (served-after s e w.sid seat i) bits false did.1 right refl taken becomes done)

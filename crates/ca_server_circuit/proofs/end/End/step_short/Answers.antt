@@ -1,8 +1,7 @@
-use Rattle.std.proofs.Common.{None, refl, subst}
+use Rattle.std.proofs.Common.{refl, subst}
 use Rattle.ca_link.specs.Calls.{HasShort}
 use Rattle.ca_text.specs.declared.command.Command.TheVariants as command
 use Rattle.ca_model.specs.Server.{ServerEnd}
-use Rattle.ca_server_circuit.specs.declared.step.FollowUp.TheVariants as effect
 use Rattle.ca_server_circuit.proofs.Shorts.{steps-short}
 use Rattle.ca_server_circuit.proofs.end.End.step_short.Goals as goal
 
@@ -10,7 +9,7 @@ pub returns-in-Some-write_short : goal.returns-in-Some-write_short
 returns-in-Some-write_short c port =
     let w = c.in-Some.wanted in
     let short = subst (λ (x : ServerEnd). HasShort command.Write x.link w) c.self.view_is c.in-Some.ensures in
-    steps-short port c.args.circuit c.args.records.now c.args.self.now command.Write w (effect.Wrote c.in-Some-write_short.place None) c.write_short.new.records c.write_short.new.self c.requires.room short refl refl (c.in-Some-write_short.ensures c.args.circuit port)
+    steps-short port c.args.circuit c.args.records.now c.args.self.now command.Write w c.in-Some-write_short.left c.write_short.new.records c.write_short.new.self c.requires.room short refl refl (c.in-Some-write_short.ensures c.args.circuit port)
 
 pub returns-in-Some-put_short : goal.returns-in-Some-put_short
 returns-in-Some-put_short c port =

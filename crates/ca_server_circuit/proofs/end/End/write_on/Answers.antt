@@ -1,13 +1,14 @@
-use Rattle.std.proofs.Common.{◌≡◌, None, refl, sym, subst}
+use Rattle.std.proofs.Common.{◌≡◌, ◌∙◌, ℕ, Bool, None, ap, false, refl, sym, subst}
 use Rattle.ca_records.specs.declared.puts.Begun.TheVariants as begun
 use Rattle.ca_records.specs.Puts.{Record}
 use Rattle.ca_records.specs.Store.{Becomes, Store}
+use Rattle.ca_wire.specs.declared.requests.Wanted.{Wanted}
 use Rattle.ca_server_circuit.specs.declared.step.FollowUp.TheVariants as effect
 use Rattle.ca_server_circuit.specs.Handling.{Does, Writes, known}
 use Rattle.ca_server_circuit.specs.Putting.{IsRefused, IsTaken}
 use Rattle.ca_server_circuit.proofs.InPlace.{asked-is}
 use Rattle.ca_server_circuit.proofs.Replying.{right-is}
-use Rattle.ca_server_circuit.proofs.Taken.{one-record, write-applied, write-refused}
+use Rattle.ca_server_circuit.proofs.Taken.{one-record, plain-write, write-applied, write-refused}
 use Rattle.ca_server_circuit.specs.Stepping.{first_at}
 use Rattle.ca_server_circuit.proofs.end.End.write_on.Goals as goal
 
@@ -24,7 +25,11 @@ returns-in-Applied-clause-ok c port h =
     let one : w.0 ≡ i.r = one-record s c.args.seat.place w.0 i.r w.3.at i.at in
     let taken = subst (λ (r : Record). IsTaken s r bits None m (begun.Applied b) w.1) one w.2 in
     let becomes = subst (λ (r : Record). Becomes s c.args.seat.place r w.1 c.begin.new.records) one w.3 in
-    write-applied port s c.begin.new.records h e e m c.args.seat i bits b w.1 right c.requires.command taken becomes refl
+    let sid = c.number.ensures ∙ ap (λ (x : Wanted). x.sid) c.named_by-wanted.ensures in
+    let plain = plain-write s i.r w.1 bits m b taken in
+    subst (λ (n : ℕ). Does (Writes (known port s e) m) s h e m (effect.Wrote c.args.seat.place false n) c.begin.new.records e) (sym sid)
+    (subst (λ (z : Bool). Does (Writes (known port s e) m) s h e m (effect.Wrote c.args.seat.place z m.p1) c.begin.new.records e) plain
+    (write-applied port s c.begin.new.records h e e m c.args.seat i bits b w.1 right c.requires.command taken becomes refl))
 
 pub returns-in_ok-refuse-in-Refused-clause-ok : goal.returns-in_ok-refuse-in-Refused-clause-ok
 returns-in_ok-refuse-in-Refused-clause-ok c port h =

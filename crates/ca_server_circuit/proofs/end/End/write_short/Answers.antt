@@ -5,12 +5,13 @@ use Rattle.ca_records.specs.Store.{Becomes}
 use Rattle.ca_text.specs.declared.command.Command.TheVariants as command
 use Rattle.ca_wire.specs.Reading.{short_in}
 use Rattle.ca_model.specs.Server.{ServerEnd}
+use Rattle.ca_server_circuit.specs.Handling.{Writes, known}
 use Rattle.ca_server_circuit.specs.Putting.{IsTaken, WritesTo}
 use Rattle.ca_server_circuit.specs.Seeking.{IsServed}
 use Rattle.ca_server_circuit.specs.Stepping.{after_short}
 use Rattle.ca_server_circuit.proofs.Replying.{right-is}
 use Rattle.ca_server_circuit.proofs.Shorts.{dropped, served-after}
-use Rattle.ca_server_circuit.proofs.Taken.{one-record, write-applied}
+use Rattle.ca_server_circuit.proofs.Taken.{one-record, write-applied, with-sid}
 use Rattle.ca_server_circuit.proofs.end.End.write_short.Goals as goal
 
 pub returns : goal.returns
@@ -28,4 +29,5 @@ returns c h port =
     let one : did.0 ≡ i.r = one-record s seat.place did.0 i.r did.3.at i.at in
     let taken = subst (λ (r : Record). IsTaken s r bits None m (begun.Applied false) did.1) one did.2 in
     let becomes = subst (λ (r : Record). Becomes s seat.place r did.1 c.write_one.new.records) one did.3 in
-    write-applied port s c.write_one.new.records h (after_short e) _ m seat (served-after s e w.sid seat i) bits false did.1 right refl taken becomes (dropped _ e _ c.self.view_is c.drop_front.ensures)
+    with-sid (Writes (known port s (after_short e)) m) s c.write_one.new.records h (after_short e) _ m seat.place false w.sid c.number.result c.number.ensures
+    (write-applied port s c.write_one.new.records h (after_short e) _ m seat (served-after s e w.sid seat i) bits false did.1 right refl taken becomes (dropped _ e _ c.self.view_is c.drop_front.ensures))
