@@ -44,3 +44,6 @@ tells-none y h (own.Handled e) new other = absurd (other refl)
 tells-none y h own.NeedBytes new other = tt
 tells-none y h own.OutputFull new other = tt
 tells-none y h (own.Closed c left) new other = tt
+
+pub quiet-none : (result : Step) (e q : Effect) → (stepped result ≡ steps.Handled → ⊥) → result ≡ own.Handled e → e ≡ q
+quiet-none result e q other is = absurd (other (ap stepped is))

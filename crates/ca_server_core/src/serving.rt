@@ -8,6 +8,9 @@ ghost use Rattle.ca_server_core.specs.Noting.{EndsPutAt, LeadsTo, ServesAndPumps
 ghost use Rattle.ca_server_core.specs.Pumping.{IsIdleIn};
 ghost use Rattle.ca_server_core.specs.Serving.{stepped};
 ghost use Rattle.ca_server_core.specs.Sound.{IsSound};
+ghost use Rattle.ca_server_core.specs.declared.effect.Effect.{Effect};
+ghost use Rattle.ca_server_core.specs.declared.effect.Effect.TheVariants.{Quiet};
+ghost use Rattle.ca_server_core.specs.declared.stepping.Step.TheVariants.{Handled};
 ghost use Rattle.ca_server_core.specs.Through.{FollowsAndEnds, FollowsAndPumps};
 
 use crate::counting::{pump_counting_on, step_counting_on};
@@ -29,9 +32,10 @@ impl ServerCore {
     /// open.
     ///
     /// A record that was busy before is finished too if the message wrote to it. The record is found by its place. Where no message was
-    /// handled nothing is pumped, and nothing is said of the bytes.
+    /// handled nothing is pumped, and nothing is said of the bytes. Nothing is left to whoever called, so no effect is told.
     pub fn serve_and_pump(&mut self, circuit: Handle, waiting: &mut usize) -> Step
         ensures serves { ServesAndPumps self.old circuit (stepped result) waiting.new self.new }
+        ensures quiet { (did : Effect) → result ≡ Handled did → did ≡ Quiet }
         ensures stays { was_handled (stepped result) ≡ false → waiting.new ≡ waiting.old }
     {
         let mut waited = 0;

@@ -5,6 +5,7 @@ use Rattle.ca_model.specs.ServerSteps.{output_of}
 use Rattle.ca_model.specs.ServerSteps as steps
 use Rattle.ca_records.specs.Store.{Store, records_of}
 use Rattle.ca_server_core.proofs.Covered.{covers-thinned}
+use Rattle.ca_server_core.proofs.Effects.{quiet-none}
 use Rattle.ca_server_core.proofs.Followed.{broke-thins, made-followed, made-followed-by, none-thins, settled-sound, settled-thins, step-covers, step-led}
 use Rattle.ca_server_core.proofs.Led.{led-thinned}
 use Rattle.ca_server_core.proofs.Listed.{listed-broke, listed-none, listed-pumped, listed-step}
@@ -188,3 +189,20 @@ returns-in-None-clause-serves c =
     noting-none c.args.self.now c.args.circuit (stepped c.report-in-None.result) c.args.waiting.now (server_of i.port c.step_counting_on.new.records i.moment c.report-in-None.new.circuits i.beacons i.applied)
     (none-closes i.port i.records c.step_counting_on.new.records i.circuits c.step_counting_on.new.circuits c.report-in-None.new.circuits c.args.circuit c.report-in-None.result (c.in-None.ensures.steps refl) c.report-in-None.ensures)
     (made-none c.args.self.now i.port i.moment i.applied i.beacons i.records c.step_counting_on.new.records i.circuits c.step_counting_on.new.circuits c.report-in-None.new.circuits c.args.circuit c.report-in-None.result c.self.view_is (c.in-None.ensures.steps refl) c.report-in-None.ensures c.self.invariant.sound)
+
+pub returns-clause-quiet : goal.returns-clause-quiet
+returns-clause-quiet c = λ e is.
+    quiet-none c.over.result e told.Quiet (not-handled (stepped c.over.result) c.over.ensures.closed) is
+
+pub returns-in-Some-Breaks-clause-quiet : goal.returns-in-Some-Breaks-clause-quiet
+returns-in-Some-Breaks-clause-quiet c = λ e is.
+    let i = c.self.inside in
+    let did = (rw c.in-Some-Breaks.field-0-is at c.in-Some-Breaks.ensures.steps) refl in
+    quiet-none c.report.result e told.Quiet
+    (broke-closes i.port i.records c.step_counting_on.new.records i.circuits c.step_counting_on.new.circuits c.report.new.circuits c.args.circuit c.in-Some-Breaks.field-0-0 c.report.result did c.report.ensures) is
+
+pub returns-in-None-clause-quiet : goal.returns-in-None-clause-quiet
+returns-in-None-clause-quiet c = λ e is.
+    let i = c.self.inside in
+    quiet-none c.report-in-None.result e told.Quiet
+    (none-closes i.port i.records c.step_counting_on.new.records i.circuits c.step_counting_on.new.circuits c.report-in-None.new.circuits c.args.circuit c.report-in-None.result (c.in-None.ensures.steps refl) c.report-in-None.ensures) is
