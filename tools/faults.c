@@ -1,6 +1,6 @@
 /* Preloaded, it moves a program's clocks, and has calls of the system fail, as the words of a file say, which is mapped into memory.
  *
- * FAULTS is that file, of 64 bytes: eight numbers, in the order of `enum word`. It needs no header, so that any compiler does.
+ * FAULTS is that file, of 72 bytes: nine numbers, in the order of `enum word`. It needs no header, so that any compiler does.
  */
 typedef __SIZE_TYPE__ size;
 
@@ -21,14 +21,14 @@ enum { READ_AND_WRITE = 2, MAY_BOTH = 3, SHARED = 1 };
 enum { CLOCK = 228, WAIT_FOR_EVENTS = 232, RECEIVE_FROM = 45, ACCEPT = 288, REALTIME = 0, MONOTONIC = 1 };
 
 /* By how many nanoseconds each clock is moved; the fault of each wait for events, and of each read of a datagram, if it is not 0; the fault of so many accepts;
- * how many calls have failed; and the fault of each new thread. */
-enum word { OF_REALTIME, OF_MONOTONIC, OF_EVENTS, OF_DATAGRAMS, OF_ACCEPTS, ACCEPTS, FAILED, OF_THREADS };
+ * how many calls have failed; the fault of each new thread; and how many waits for events have begun. */
+enum word { OF_REALTIME, OF_MONOTONIC, OF_EVENTS, OF_DATAGRAMS, OF_ACCEPTS, ACCEPTS, FAILED, OF_THREADS, WAITS };
 
 static volatile long *words;
 
 __attribute__((constructor)) static void begin(void) {
     int file = open(getenv("FAULTS"), READ_AND_WRITE);
-    words = mmap(0, 64, MAY_BOTH, SHARED, file, 0);
+    words = mmap(0, 72, MAY_BOTH, SHARED, file, 0);
     if (file < 0 || words == (void *)-1)
         abort();
 }
@@ -49,6 +49,7 @@ int clock_gettime(int clock, struct moment *now) {
 }
 
 int epoll_wait(int poll, void *events, int most, int milliseconds) {
+    __sync_fetch_and_add(&words[WAITS], 1);
     return (int)(words[OF_EVENTS] ? failed(words[OF_EVENTS]) : syscall(WAIT_FOR_EVENTS, poll, events, most, milliseconds));
 }
 

