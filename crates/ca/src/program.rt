@@ -1,5 +1,6 @@
 ghost use Rattle.std.specs.Prelude.{◌<◌, ◌^◌, map, string_bytes};
 ghost use Rattle.ca.specs.Programs.{Ends};
+ghost use Rattle.ca.specs.declared.repeater.socket.Socket.{Socket};
 
 use crate::answer::{answer_file, answer_run};
 use crate::line::{Line, read_line};
@@ -27,8 +28,8 @@ pub fn run<R: Net + Files, S: Source, K: Sink, W: Write>(
     requires source_faults { S.fault_count source.old < 2 ^ 63 }
     requires sink_calls { K.call_count sink.old < 2 ^ 63 }
     requires sink_faults { K.fault_count sink.old < 2 ^ 63 }
-    ensures { Ends S.gives K.takes S.call_count K.call_count S.fault_count K.fault_count source.old
-        source.new sink.old sink.new result (map string_bytes words.now) }
+    ensures { Ends (Socket R) S.gives K.takes S.call_count K.call_count S.fault_count K.fault_count
+        source.old source.new sink.old sink.new result (map string_bytes words.now) }
 {
     match read_line(alloc, words) {
         Ok(Some(Line::Answer(line))) => match line.records {

@@ -50,7 +50,12 @@ fn pass_on<R: AllocGlobal + Net + Abort>(
     member.send_to(b"", at)?;
     bound(rt)?.send_to(datagram, at)?;
     let mut told = Vec::new(rt.alloc());
-    let status = repeater_run(rt.alloc(), &mut Socket::new(repeater), Some(2), &mut told);
+    let status = repeater_run(
+        rt.alloc(),
+        &mut Socket::new(rt, repeater),
+        Some(2),
+        &mut told,
+    );
     assert_eq!(rt; status, 0);
     Ok(())
 }
@@ -71,7 +76,7 @@ fn a_failing_receive_is_refused(rt: HostRuntime) -> Result<(), Fail> {
     let repeater = bound(&rt)?;
     repeater.set_nonblocking(true)?;
     let mut told = Vec::new(rt.alloc());
-    let status = repeater_run(rt.alloc(), &mut Socket::new(repeater), None, &mut told);
+    let status = repeater_run(rt.alloc(), &mut Socket::new(&rt, repeater), None, &mut told);
     assert_eq!(rt; status, 1);
     assert!(rt; told.as_slice() == "refused: 23 Device\n".as_bytes());
     Ok(())

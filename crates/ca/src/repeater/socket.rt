@@ -4,27 +4,30 @@ use ca_repeat::Address;
 use std::net::{IpAddr, Ipv4Addr, Net, SocketAddr, UdpSocket};
 
 /// The system's socket, of which nothing is known.
-#[derive(Debug, Drop)]
-pub struct Socket {
+///
+/// It is connected to nobody, so the system tells it nothing of a port that nobody has: it looks whether it could have that port itself.
+#[derive(Drop)]
+pub struct Socket<'a, R> {
+    net: &'a R,
     socket: UdpSocket,
 }
 
-impl Socket {
+impl<'a, R: Net> Socket<'a, R> {
     /// A socket that is bound.
-    pub fn new(socket: UdpSocket) -> Socket {
-        Socket { socket }
+    pub fn new(net: &'a R, socket: UdpSocket) -> Socket<'a, R> {
+        Socket { net, socket }
     }
 
     /// A socket of this port on all addresses of the host: beacons come from other hosts too.
-    pub fn bind<R: Net>(net: &R, port: u16) -> Result<Socket, Fault> {
+    pub fn bind(net: &'a R, port: u16) -> Result<Socket<'a, R>, Fault> {
         match UdpSocket::bind(net, (Ipv4Addr::UNSPECIFIED, port)) {
-            Ok(socket) => Ok(Socket { socket }),
+            Ok(socket) => Ok(Socket { net, socket }),
             Err(_) => Err(Fault),
         }
     }
 }
 
-impl Datagrams for Socket {
+impl<'a, R: Net> Datagrams for Socket<'a, R> {
     ghost use Rattle.std.specs.Prelude.{⊤};
 
     ghost came = { λ _ _ _ _. ⊤ };
@@ -54,6 +57,9 @@ impl Datagrams for Socket {
 
     fn send(&mut self, to: Address, bytes: &[u8]) -> Result<(), Fault> {
         let address = (Ipv4Addr::from_bits(to.ip), to.port);
+        if UdpSocket::bind(self.net, address).is_ok() {
+            return Err(Fault);
+        }
         match self.socket.send_to(bytes, address) {
             Ok(_) => Ok(()),
             Err(_) => Err(Fault),
