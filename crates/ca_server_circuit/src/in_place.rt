@@ -15,7 +15,7 @@ ghost use Rattle.ca_server_circuit.specs.Stepping.{EndSteps, after_head, cause_f
 use crate::bytes::know_bytes;
 use crate::cause::Cause;
 use crate::end::End;
-use crate::step::{FollowUp, EndStep};
+use crate::step::{EndStep, FollowUp};
 use ca_arena::Handle;
 use ca_records::ServedRecords;
 use ca_text::{Command, Refusal};

@@ -14,7 +14,7 @@ ghost use Rattle.ca_server_circuit.specs.Stepping.{DoesShort, EndSteps, done_for
 use crate::end::End;
 use crate::put::{put_from, put_one, write_one};
 use crate::seek::Sought;
-use crate::step::{FollowUp, EndStep};
+use crate::step::{EndStep, FollowUp};
 use ca_arena::Handle;
 use ca_link::Link;
 use ca_records::ServedRecords;

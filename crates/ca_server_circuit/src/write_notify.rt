@@ -100,9 +100,7 @@ impl End {
             return Err(AllocError);
         };
         match begun {
-            Begun::Applied(busies) => {
-                Ok(FollowUp::Wrote(place, busies, wanted.sid.number()))
-            }
+            Begun::Applied(busies) => { Ok(FollowUp::Wrote(place, busies, wanted.sid.number())) }
             Begun::Waiting => Ok(FollowUp::Quiet),
             Begun::Refused(status) => {
                 self.link.truncate(waited);

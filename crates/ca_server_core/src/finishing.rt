@@ -45,9 +45,7 @@ pub(crate) fn left_by(finished: &Finished) -> FollowUp
     ensures { result ≡ effect_after finished.now }
 {
     match finished.applied {
-        Some(next) => {
-            FollowUp::Wrote(finished.place, true, WireId::of(next.channel).number())
-        }
+        Some(next) => { FollowUp::Wrote(finished.place, true, WireId::of(next.channel).number()) }
         None => FollowUp::Quiet,
     }
 }
