@@ -6,16 +6,12 @@ use Rattle.ca_world_script.specs.Drawn.{circuit_drawn, event_drawn, numbers, see
 use Rattle.ca_model.specs.Events.{Event}
 use Rattle.ca_model.specs.Runs.{CanBe, Happens}
 use Rattle.ca_model.specs.World.{Setting, World, opening}
-use Rattle.ca_world.specs.Waiting.{IsNoCircuit, Waits}
+use Rattle.ca_world.specs.Waiting.{AreWaiting}
 use Rattle.ca_world.specs.declared.circuits.Way.TheVariants.{Down, Up}
 
 -- how many numbers are drawn after each event of a script that was done
 abbrev pub draws : ℕ
 draws = 16
-
--- there is no circuit on which this number acts
-abbrev pub ActsNowhere : World → (drawn : ℕ) → Type 0
-ActsNowhere w drawn = (k : ℕ) → circuit_drawn drawn (length w.circuits) ≡ Some k → IsNoCircuit w k
 
 -- the event that this number is in a world: it acts on a circuit, on which so many bytes wait each way
 pub record IsDrawn (w : World) (drawn : ℕ) (e : Event) : Type 0 where
@@ -23,8 +19,8 @@ pub record IsDrawn (w : World) (drawn : ℕ) (e : Event) : Type 0 where
   pub up : ℕ
   pub down : ℕ
   pub acts : circuit_drawn drawn (length w.circuits) ≡ Some circuit
-  pub waits_up : Waits w circuit Up up
-  pub waits_down : Waits w circuit Down down
+  pub waits_up : AreWaiting w circuit Up up
+  pub waits_down : AreWaiting w circuit Down down
   pub is : e ≡ event_drawn drawn circuit up down
 
 -- An event that was drawn happens, and is one of the events from then on; or it cannot be done, and is left out.
@@ -34,7 +30,7 @@ Takes w e es es' new = (Happens w e new × (es' ≡ es ++ e ∷ [])) ⊎ ((CanBe
 -- what a number that was drawn makes of a world and of the events so far: it acts nowhere, or its event is taken
 abbrev pub DrawsAt : World → (drawn : ℕ) → List Event → List Event → World → Type 0
 DrawsAt w drawn es es' new =
-    (ActsNowhere w drawn × (es' ≡ es) × (new ≡ w)) ⊎ ((e : Event) × IsDrawn w drawn e × Takes w e es es' new)
+    ((circuit_drawn drawn (length w.circuits) ≡ None) × (es' ≡ es) × (new ≡ w)) ⊎ ((e : Event) × IsDrawn w drawn e × Takes w e es es' new)
 
 -- how far a drawing is: the world, the numbers that are left, and the events so far
 pub record Drawn : Type 0 where

@@ -11,8 +11,8 @@ use ca_world::{AfterEvent, Config, Way, World};
 use ca_world_script::{DRAWS, Drawing, circuit_drawn, event_drawn};
 use std::alloc::Global;
 
-// The events of a script with those that a seed draws, in a world of this setting. Refused as OutOfMemory.
-pub(crate) fn draw(
+/// The events of a script with those that a seed draws, in a world of this setting. Refused as OutOfMemory.
+pub fn draw(
     alloc: Global,
     config: Config,
     events: Vec<Event>,
@@ -94,13 +94,9 @@ fn draw_one(world: World, drawn: u32, all: &mut Vec<Event>) -> Result<World, Ref
     let Some(circuit) = circuit_drawn(drawn, world.circuits()) else {
         return Ok(world);
     };
-    let Some(up) = world.waiting(circuit, Way::Up) else {
-        return Ok(world);
-    };
-    let Some(down) = world.waiting(circuit, Way::Down) else {
-        return Ok(world);
-    };
-    let event = event_drawn(drawn, circuit as u64, up as u64, down as u64);
+    let up = world.waiting(circuit, Way::Up);
+    let down = world.waiting(circuit, Way::Down);
+    let event = event_drawn(drawn, circuit, up, down);
     take_drawn(world, event, all)
 }
 

@@ -7,4 +7,6 @@ mod draw;
 mod replaying;
 mod telling;
 
+pub use config::config_of;
+pub use draw::draw;
 pub use replaying::replay;

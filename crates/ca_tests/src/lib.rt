@@ -4,6 +4,8 @@
 #![tactic(auto)]
 
 #[cfg(test)]
+mod ample_ends;
+#[cfg(test)]
 mod answer;
 #[cfg(test)]
 mod arena;

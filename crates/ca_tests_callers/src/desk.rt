@@ -4,6 +4,7 @@
 
 mod circuit;
 mod faults;
+pub(crate) mod growths;
 mod requests;
 
 use crate::desk::circuit::{live, memory, turn};

@@ -8,6 +8,8 @@
 //! - what a client does on its circuits, seen by a server by hand (`conduct`, `peer`), and clients of name servers, a repeater and two servers (`settings`);
 //! - a client with 10,000 subscriptions on one server (`spreading`).
 //!
+//! With the word growths it prints instead what came of growths that were refused under a client's lock (`desk::growths`).
+//!
 //! With the words PORT CALLERS READS WINDOW it prints instead the microseconds that so many reads of TEMP by each caller took, with so many outstanding
 //! at each, from when the channel was live (`timing`).
 #![tactic(auto)]
@@ -45,6 +47,7 @@ use std::time::Clock;
 fn main(rt: HostRuntime) -> ExitCode {
     let mut out = rt.stdout();
     let done = match words(&rt) {
+        Ok(words) if words.len() == 1 => desk::growths::show(rt.alloc(), &mut out),
         Ok(words) => match read_words(words.as_slice()) {
             Some(course) => use_client(rt, rt.alloc(), course.port, Task::Read(course), &mut out),
             None => show(rt, rt.alloc(), &mut out, &mut rt.stdout()),

@@ -10,7 +10,7 @@ use Rattle.ca_model.specs.Runs.{HasClientEnd, HasServerEnd, IsServer}
 use Rattle.ca_model.specs.World as model
 use Rattle.ca_world.specs.declared.circuits.Way.{Way}
 use Rattle.ca_world.specs.declared.circuits.Way.TheVariants.{Down, Up}
-use Rattle.ca_world.specs.Waiting.{IsNoCircuit, Receives, Waits}
+use Rattle.ca_world.specs.Waiting.{AreWaiting, IsNoCircuit, Receives, Waits, joined_alone}
 use Rattle.ca_world_data.specs.declared.client.ClientSide.{ClientSide}
 use Rattle.ca_world_data.specs.declared.ends.Ends.{Ends}
 use Rattle.ca_world_data.specs.declared.joined.Joined.{Joined}
@@ -37,6 +37,12 @@ module _ (cs : List ClientSide) (ss : List ServerSide) (ks : List Joined) (cl : 
   pub none-receives : NoEnds (length cs) (length ss) ks k → (way : Way) → Receives w k way → ⊥
   none-receives none Up can = none-joined cs ss ks cl sl m k none can.j can.x can.y can.joins
   none-receives none Down can = none-joined cs ss ks cl sl m k none can.j can.x can.y can.joins
+
+  -- what waits, seen in a world with its logs
+  pub alone-waits : (way : Way) (n : ℕ) → AreWaiting (joined_alone cs ss ks) k way n → AreWaiting w k way n
+  alone-waits way n (inl there) =
+      inl (record { j = there.j; x = there.x; y = there.y; joins = record { at = there.joins.at; client = there.joins.client; server = there.joins.server }; many = there.many })
+  alone-waits way n (inr none) = inr (λ j x y h. none.0 j x y (record { at = h.at; client = h.client; server = h.server }), none.1)
 
   module _ (e : Ends) (a : AreEnds (length cs) (length ss) ks k e) where
     -- the end at the server, if it is open

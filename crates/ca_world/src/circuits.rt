@@ -1,8 +1,9 @@
-ghost use Rattle.std.specs.Prelude.{◌≡◌, ◌↔◌, IsTrue, MatchOption, length};
+ghost use Rattle.std.specs.Prelude.{◌≡◌, ◌↔◌, IsTrue, length};
 ghost use Rattle.ca_model.specs.ClientEvents.{waiting_down, waiting_up};
-ghost use Rattle.ca_world.specs.Waiting.{IsNoCircuit, Receives, Waits};
+ghost use Rattle.ca_world.specs.Waiting.{AreWaiting, Receives, joined_alone};
 ghost use Rattle.ca_world_data.specs.Seen.{client_of, joined_of, server_of};
 
+use crate::stopped::Stopped;
 use crate::world::World;
 use ca_world_data::client::ClientSide;
 use ca_world_data::ends::ends_at;
@@ -20,41 +21,37 @@ pub enum Way {
 
 impl World {
     /// How many circuits there are, with those whose ends have ended.
-    pub fn circuits(&self) -> usize
+    pub fn circuits(&self) -> u64
         ensures { result ≡ length self.now.circuits }
     {
-        self.circuits.len()
+        self.circuits.len() as u64
     }
 
-    /// How many bytes of a circuit wait to go this way, at their end or of what it left. None if there is no such circuit.
-    pub fn waiting(&self, circuit: usize, way: Way) -> Option<usize>
-        ensures { MatchOption result (IsNoCircuit self.now circuit) (Waits self.now circuit way) }
+    /// How many bytes of a circuit wait to go this way, at their end or of what it left: 0 if there is no such circuit.
+    pub fn waiting(&self, circuit: u64, way: Way) -> u64
+        ensures { AreWaiting self.now circuit way result }
     {
-        let found = ends_at(
-            self.clients.len(),
-            self.servers.len(),
-            &self.circuits,
-            circuit,
-        );
-        let Some(ends) = found else {
-            return None;
-        };
-        let joined = &self.circuits[circuit];
-        match way {
-            Way::Up => Some(count_up(&self.clients[ends.client], joined)),
-            Way::Down => Some(count_down(&self.servers[ends.server], joined)),
-        }
+        count(&self.clients, &self.servers, &self.circuits, circuit, way)
+    }
+}
+
+impl Stopped {
+    /// How many bytes of a circuit wait to go this way, at their end or of what it left: 0 if there is no such circuit.
+    pub fn waiting(&self, circuit: u64, way: Way) -> u64
+        ensures { AreWaiting self.now circuit way result }
+    {
+        count(&self.clients, &self.servers, &self.circuits, circuit, way)
     }
 
     /// Whether the end of a circuit that bytes reach this way is there, and open.
-    pub fn receives(&self, circuit: usize, way: Way) -> bool
+    pub fn receives(&self, circuit: u64, way: Way) -> bool
         ensures { IsTrue result ↔ Receives self.now circuit way }
     {
         let found = ends_at(
             self.clients.len(),
             self.servers.len(),
             &self.circuits,
-            circuit,
+            circuit as usize,
         );
         let Some(ends) = found else {
             return false;
@@ -63,6 +60,28 @@ impl World {
             Way::Up => ends.server_open,
             Way::Down => ends.client_open,
         }
+    }
+}
+
+// How many bytes of a circuit of these wait to go this way.
+fn count(
+    clients: &[ClientSide],
+    servers: &[ServerSide],
+    circuits: &[Joined],
+    circuit: u64,
+    way: Way,
+) -> u64
+    ensures { AreWaiting (joined_alone clients.now servers.now circuits.now) circuit way result }
+{
+    let place = circuit as usize;
+    let found = ends_at(clients.len(), servers.len(), circuits, place);
+    let Some(ends) = found else {
+        return 0;
+    };
+    let joined = &circuits[place];
+    match way {
+        Way::Up => count_up(&clients[ends.client], joined) as u64,
+        Way::Down => count_down(&servers[ends.server], joined) as u64,
     }
 }
 

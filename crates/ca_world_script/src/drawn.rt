@@ -5,13 +5,13 @@ ghost use Rattle.ca_world_script.specs.Drawn.{bytes_drawn, circuit_drawn, event_
 use ca_events::Event;
 
 /// The circuit on which a number that was drawn acts, of so many: none if there is none.
-pub fn circuit_drawn(drawn: u32, circuits: usize) -> Option<usize>
+pub fn circuit_drawn(drawn: u32, circuits: u64) -> Option<u64>
     ensures { result ≡ circuit_drawn drawn circuits }
 {
     if circuits == 0 {
         return None;
     }
-    Some((drawn / 8) as usize % circuits)
+    Some(u64::from(drawn / 8) % circuits)
 }
 
 /// The event that a number is on this circuit, where so many bytes wait for the server and for the client.

@@ -6,13 +6,13 @@ use ca_text::Refusal;
 use std::alloc::Global;
 
 /// The server, which is only told of.
-const SERVER: Address = Address {
+pub(crate) const SERVER: Address = Address {
     host: 0x7f00_0001,
     port: 5064,
 };
 
 /// VERSION, and a reply to the search for CID 00010000 by a server at port 5064 of the host that it comes from.
-const FOUND: [u8; 40] = [
+pub(crate) const FOUND: [u8; 40] = [
     0, 0, 0, 0, 0, 0, 0, 13, 0, 0, 0, 0, 0, 0, 0, 0, 0, 6, 0, 8, 0x13, 0xc8, 0, 0, 0xff, 0xff,
     0xff, 0xff, 0, 1, 0, 0, 0, 13, 0, 0, 0, 0, 0, 0,
 ];

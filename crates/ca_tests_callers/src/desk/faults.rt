@@ -64,7 +64,7 @@ pub(crate) fn lost(caller: &mut Caller, tickets: &[Ticket]) -> usize {
     count
 }
 
-fn is_lost(outcome: &Option<Outcome>) -> bool {
+pub(crate) fn is_lost(outcome: &Option<Outcome>) -> bool {
     match outcome {
         Some(Outcome::Disconnected) => true,
         _ => false,

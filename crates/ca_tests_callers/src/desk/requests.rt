@@ -8,7 +8,7 @@ use ca_text::Refusal;
 use std::alloc::Global;
 
 /// More than the board has cells.
-const MANY: usize = 1_100;
+pub(crate) const MANY: usize = 1_100;
 
 /// The requests that are made: one for a channel that there is not, which the core refuses as 10, and two that it accepts.
 #[derive(Drop)]
@@ -64,13 +64,13 @@ fn answered_put(
 }
 
 /// The reply to a put of one LONG: status 1, and the request's id, which is its generation and its index.
-fn done_reply(request: Handle) -> [u8; 16] {
+pub(crate) fn done_reply(request: Handle) -> [u8; 16] {
     let [_, _, g, h] = request.generation.to_be_bytes();
     let [i, j] = request.index.to_be_bytes();
     [0, 19, 0, 0, 0, 5, 0, 1, 0, 0, 0, 1, g, h, i, j]
 }
 
-fn is_done(outcome: &Option<Outcome>) -> bool {
+pub(crate) fn is_done(outcome: &Option<Outcome>) -> bool {
     match outcome {
         Some(Outcome::Done) => true,
         _ => false,

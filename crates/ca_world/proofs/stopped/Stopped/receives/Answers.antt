@@ -5,7 +5,7 @@ use Rattle.ca_world_data.specs.Logs.{lines_in}
 use Rattle.ca_world_data.specs.Opening.{entries_in}
 use Rattle.ca_world_data.proofs.Worlds.{ends-here, no-ends-here}
 use Rattle.ca_world.proofs.Waits.{none-receives, receives-down, receives-up}
-use Rattle.ca_world.proofs.world.World.receives.Goals as goal
+use Rattle.ca_world.proofs.stopped.Stopped.receives.Goals as goal
 
 pub returns-in_default : goal.returns-in_default
 returns-in_default c =
