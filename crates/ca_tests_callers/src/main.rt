@@ -8,10 +8,12 @@
 //! - what a client does on its circuits, seen by a server by hand (`conduct`, `peer`), and clients of name servers, a repeater and two servers (`settings`);
 //! - a client with 10,000 subscriptions on one server (`spreading`).
 //!
-//! With the word growths it prints instead what came of growths that were refused under a client's lock (`desk::growths`).
+//! With words it prints something else instead:
 //!
-//! With the words PORT CALLERS READS WINDOW it prints instead the microseconds that so many reads of TEMP by each caller took, with so many outstanding
-//! at each, from when the channel was live (`timing`).
+//! - growths: what came of growths that were refused under a client's lock (`desk::growths`);
+//! - names PORT: whether a client that searches on a circuit to this port of this host alone reads 21 from TEMP (`settings`);
+//! - PORT CALLERS READS WINDOW: the microseconds that so many reads of TEMP by each caller took, with so many outstanding
+//!   at each, from when the channel was live (`timing`).
 #![tactic(auto)]
 
 mod callers;
@@ -47,16 +49,35 @@ use std::time::Clock;
 fn main(rt: HostRuntime) -> ExitCode {
     let mut out = rt.stdout();
     let done = match words(&rt) {
-        Ok(words) if words.len() == 1 => desk::growths::show(rt.alloc(), &mut out),
-        Ok(words) => match read_words(words.as_slice()) {
-            Some(course) => use_client(rt, rt.alloc(), course.port, Task::Read(course), &mut out),
-            None => show(rt, rt.alloc(), &mut out, &mut rt.stdout()),
+        Ok(words) => match words.as_slice() {
+            [] => show(rt, rt.alloc(), &mut out, &mut rt.stdout()),
+            [_] => desk::growths::show(rt.alloc(), &mut out),
+            [_, port] => settings::show_name_server(rt, rt.alloc(), port.as_str(), &mut out),
+            words => show_course(rt, rt.alloc(), words, &mut out),
         },
         Err(refusal) => Err(refusal),
     };
     match done {
         Ok(()) => ExitCode::SUCCESS,
         Err(_) => ExitCode::FAILURE,
+    }
+}
+
+/// Reads, timed.
+fn show_course<
+    R: Threads
+        + Wait
+        + Clock
+        + Net<Stream = TcpStream, Listener = TcpListener>
+        + Copy
+        + Drop
+        + Send
+        + 'static,
+    W: Write,
+>(rt: R, alloc: Global, words: &[String], out: &mut W) -> Result<(), Refusal> {
+    match read_words(words) {
+        Some(course) => use_client(rt, alloc, course.port, Task::Read(course), out),
+        None => Err(Refusal::BadText),
     }
 }
 

@@ -74,6 +74,25 @@ pub(crate) fn show<
     )
 }
 
+/// Says whether a client reads TEMP that has the server at this port for a name server alone.
+pub(crate) fn show_name_server<
+    R: Threads
+        + Wait
+        + Clock
+        + Net<Stream = TcpStream, Listener = TcpListener>
+        + Copy
+        + Drop
+        + Send
+        + 'static,
+    W: Write,
+>(rt: R, alloc: Global, port: &str, out: &mut W) -> Result<(), Refusal> {
+    let Ok(port) = port.parse::<u16>() else {
+        return Err(Refusal::BadText);
+    };
+    let read = is_read(rt, alloc, named(alloc, port)?)?;
+    say_yes(out, "a name server alone finds the channel:", read)
+}
+
 fn beside<R: Threads + Drop, F: FnOnce() -> Result<bool, Refusal> + Send + Drop + 'static>(
     rt: R,
     work: F,
