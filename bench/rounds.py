@@ -142,7 +142,12 @@ def main(crates, lines):
 
 def loaded(name):
     """A benchmark as a module."""
-    loader = SourceFileLoader(f"bench_{name}", os.path.join(TOP, "bench", name))
+    return module_at(os.path.join(TOP, "bench", name))
+
+
+def module_at(path):
+    """A program in Python as a module."""
+    loader = SourceFileLoader(os.path.basename(path), path)
     module = module_from_spec(spec_from_loader(loader.name, loader))
     loader.exec_module(module)
     return module

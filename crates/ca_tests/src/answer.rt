@@ -12,15 +12,20 @@ const REQUESTS: &[u8] =
 const CREATED: &[u8] =
     b"\0\x16\0\0\0\0\0\0\0\x01\0\0\0\0\0\x03\0\x12\0\0\0\x05\0\x01\0\x01\0\0\0\x01\0\0";
 
-/// Bytes that come in pieces of at most n.
+/// Bytes that come in pieces of at most n, until so many reads were made.
 #[derive(Drop)]
 struct Pieces<'a> {
     bytes: &'a [u8],
     size: usize,
+    reads: u64,
 }
 
 impl<'a> Read for Pieces<'a> {
     fn read(&mut self, buffer: &mut [u8]) -> io::Result<usize> {
+        if self.reads == 0 {
+            return Err(io::Error::from(io::ErrorKind::TimedOut));
+        }
+        self.reads -= 1;
         let most = self.size.min(self.bytes.len());
         let mut front = &self.bytes[..most];
         let n = front.read(buffer)?;
@@ -36,6 +41,7 @@ fn failing_output_is_refused(rt: HostRuntime) -> Result<(), Fail> {
         let mut source = Reader::new(Pieces {
             bytes: REQUESTS,
             size: 24,
+            reads: u64::MAX,
         });
         let mut sink = Fused::new(Writer::new(Vec::new(rt.alloc())), passes);
         let mut told = Vec::new(rt.alloc());
@@ -55,18 +61,19 @@ const STORED: &[u8] =
 const ANSWERS: &[u8] =
     b"\0\0\0\0\0\0\0\x0d\0\0\0\0\0\0\0\0\0\x16\0\0\0\0\0\0\0\x01\0\0\0\0\0\x03\0\x12\0\0\0\x05\0\x01\0\x01\0\0\0\x01\0\0\0\x0f\0\x08\0\x05\0\x01\0\0\0\x01\0\x01\0\0\0\0\0\x15\0\0\0\0\0\x0c\0\0\0\0\0\0\0\x01\0\0\0\x01\0\0";
 
-/// The status and what was written and told, if the reads after so many fail, or the writes after so many.
+/// The status and what was written and told, if the reads after so many fail, those of the reader or of the source over it, or the writes after so many.
 fn fused(
     alloc: Global,
     size: usize,
-    reads: u64,
+    reads: [u64; 2],
     writes: u64,
 ) -> Result<(u8, Vec<u8>, Vec<u8>), Fail> {
     let pieces = Pieces {
         bytes: STORED,
         size,
+        reads: reads[0],
     };
-    let mut source = Fused::new(Reader::new(pieces), reads);
+    let mut source = Fused::new(Reader::new(pieces), reads[1]);
     let mut sink = Fused::new(Writer::new(Vec::new(alloc)), writes);
     let mut told = Vec::new(alloc);
     let status = answer_run(alloc, None, &mut source, &mut sink, &mut told);
@@ -78,12 +85,14 @@ fn each_read_that_fails_ends_the_run(rt: HostRuntime) -> Result<(), Fail> {
     // The size of the pieces, and how many reads there are: the last finds the end.
     for (size, reads) in [(1, 73), (16, 6), (24, 4), (72, 2)] {
         for passes in 0..reads {
-            let (status, written, told) = fused(rt.alloc(), size, passes, u64::MAX)?;
-            assert_eq!(rt; status, 1);
-            assert_eq!(rt; told.as_slice(), b"refused: 23 Device\n".as_slice());
-            assert!(rt; ANSWERS.starts_with(&written));
+            for those in [[passes, u64::MAX], [u64::MAX, passes]] {
+                let (status, written, told) = fused(rt.alloc(), size, those, u64::MAX)?;
+                assert_eq!(rt; status, 1);
+                assert_eq!(rt; told.as_slice(), b"refused: 23 Device\n".as_slice());
+                assert!(rt; ANSWERS.starts_with(&written));
+            }
         }
-        let (status, written, _) = fused(rt.alloc(), size, reads, u64::MAX)?;
+        let (status, written, _) = fused(rt.alloc(), size, [reads, reads], u64::MAX)?;
         assert_eq!(rt; status, 0);
         assert_eq!(rt; written.as_slice(), ANSWERS);
     }
@@ -95,12 +104,12 @@ fn each_write_that_fails_ends_the_run(rt: HostRuntime) -> Result<(), Fail> {
     // One message is answered by each write: the four of them, or all by one.
     for (size, writes) in [(1, 4), (72, 1)] {
         for passes in 0..writes {
-            let (status, written, told) = fused(rt.alloc(), size, u64::MAX, passes)?;
+            let (status, written, told) = fused(rt.alloc(), size, [u64::MAX; 2], passes)?;
             assert_eq!(rt; status, 1);
             assert_eq!(rt; told.as_slice(), b"refused: 23 Device\n".as_slice());
             assert!(rt; ANSWERS.starts_with(&written) && written.len() < ANSWERS.len());
         }
-        let (status, written, _) = fused(rt.alloc(), size, u64::MAX, writes)?;
+        let (status, written, _) = fused(rt.alloc(), size, [u64::MAX; 2], writes)?;
         assert_eq!(rt; status, 0);
         assert_eq!(rt; written.as_slice(), ANSWERS);
     }
