@@ -1,5 +1,5 @@
 -- Bytes that wait on a world's circuits, by the ends that were found.
-use Rattle.std.proofs.Common.{◌≡◌, ℕ, ◌<◌, true, List, length, map, sym, ap, subst, ◌∙◌, arith}
+use Rattle.std.proofs.Common.{◌≡◌, ℕ, ◌<◌, true, List, inl, inr, length, map, sym, ap, subst, ◌∙◌, arith}
 use Rattle.std.specs.Prelude.{◌↔◌, IsTrue}
 use Rattle.std.proofs.lemmas.List.{length-map}
 use Rattle.ca_text.specs.Place.{At}
@@ -43,10 +43,6 @@ module _ (cs : List ClientSide) (ss : List ServerSide) (ks : List Joined) (cl : 
   waits-here way n (inl there) =
       inl (record { j = there.j; x = there.x; y = there.y; joins = record { at = there.joins.at; client = there.joins.client; server = there.joins.server }; many = there.many })
   waits-here way n (inr none) = inr (λ j x y h. none.0 j x y (record { at = h.at; client = h.client; server = h.server }), none.1)
-
-  pub alone-waits : (bs : List ClientSide) (rs : List ServerSide) (ls : List Joined) (way : Way) (n : ℕ) → bs ≡ cs → rs ≡ ss → ls ≡ ks → AreWaiting (joined_alone bs rs ls) k way n → AreWaiting w k way n
-  alone-waits bs rs ls way n is_cs is_ss is_ks a =
-      waits-here way n (subst (λ (z : List ClientSide × (List ServerSide × List Joined)). AreWaiting (joined_alone z.0 z.1.0 z.1.1) k way n) (λ t. (is_cs t, (is_ss t, is_ks t))) a)
 
   module _ (e : Ends) (a : AreEnds (length cs) (length ss) ks k e) where
     -- the end at the server, if it is open

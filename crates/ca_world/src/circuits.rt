@@ -65,13 +65,17 @@ impl Stopped {
 
 // How many bytes of a circuit of these wait to go this way.
 fn count(
-    clients: &[ClientSide],
-    servers: &[ServerSide],
-    circuits: &[Joined],
+    clients: &Vec<ClientSide>,
+    servers: &Vec<ServerSide>,
+    circuits: &Vec<Joined>,
     circuit: u64,
     way: Way,
 ) -> u64
-    ensures { AreWaiting (joined_alone clients.now servers.now circuits.now) circuit way result }
+    ensures { AreWaiting
+        (joined_alone clients.now.items servers.now.items circuits.now.items)
+        circuit
+        way
+        result }
 {
     let place = circuit as usize;
     let found = ends_at(clients.len(), servers.len(), circuits, place);

@@ -1,4 +1,4 @@
-use Rattle.std.proofs.Common.{ℕ, ◌<◌, [], List, length, refl, arith}
+use Rattle.std.proofs.Common.{ℕ, ◌<◌, [], List, inl, inr, length, refl, arith}
 use Rattle.ca_text.specs.Place.{At}
 use Rattle.ca_text.proofs.Places.{At-within}
 use Rattle.ca_world.specs.Waiting.{joined_alone}
@@ -11,30 +11,30 @@ use Rattle.ca_world.proofs.circuits.count.Goals as goal
 
 pub returns-in_default : goal.returns-in_default
 returns-in_default c =
-    let cs : List ClientSide = c.args.clients.now in
-    let ss : List ServerSide = c.args.servers.now in
-    let ks : List Joined = c.args.circuits.now in
+    let cs : List ClientSide = c.args.clients.now.items in
+    let ss : List ServerSide = c.args.servers.now.items in
+    let ks : List Joined = c.args.circuits.now.items in
     let k : ℕ = c.args.circuit in
-    let none = no-ends-here cs ss ks ks c.len.result c.len-2.result k (omega (arith, c.len.ensures)) (omega (arith, c.len-2.ensures)) refl c.in_default.ensures in
+    let none = no-ends-here cs ss ks c.deref.result.now c.len.result c.len-2.result k (omega (arith, c.len.ensures)) (omega (arith, c.len-2.ensures)) c.deref.ensures.value c.in_default.ensures in
     inr (none-waits cs ss ks [] [] 0 k none, refl)
 
 pub index-joined-requires : goal.index-joined-requires
 index-joined-requires c =
-    let cs : List ClientSide = c.args.clients.now in
-    let ss : List ServerSide = c.args.servers.now in
-    let ks : List Joined = c.args.circuits.now in
+    let cs : List ClientSide = c.args.clients.now.items in
+    let ss : List ServerSide = c.args.servers.now.items in
+    let ks : List Joined = c.args.circuits.now.items in
     let k : ℕ = c.args.circuit in
-    let a = ends-here cs ss ks ks c.len.result c.len-2.result k c.in-Some.ends (omega (arith, c.len.ensures)) (omega (arith, c.len-2.ensures)) refl c.in-Some.ensures in
+    let a = ends-here cs ss ks c.deref.result.now c.len.result c.len-2.result k c.in-Some.ends (omega (arith, c.len.ensures)) (omega (arith, c.len-2.ensures)) c.deref.ensures.value c.in-Some.ensures in
     let within : k < length ks = At-within ks k a.j a.at in
     omega (arith, within)
 
 pub returns-in-Up : goal.returns-in-Up
 returns-in-Up c =
-    let cs : List ClientSide = c.args.clients.now in
-    let ss : List ServerSide = c.args.servers.now in
-    let ks : List Joined = c.args.circuits.now in
+    let cs : List ClientSide = c.args.clients.now.items in
+    let ss : List ServerSide = c.args.servers.now.items in
+    let ks : List Joined = c.args.circuits.now.items in
     let k : ℕ = c.args.circuit in
-    let a = ends-here cs ss ks ks c.len.result c.len-2.result k c.in-Some.ends (omega (arith, c.len.ensures)) (omega (arith, c.len-2.ensures)) refl c.in-Some.ensures in
+    let a = ends-here cs ss ks c.deref.result.now c.len.result c.len-2.result k c.in-Some.ends (omega (arith, c.len.ensures)) (omega (arith, c.len-2.ensures)) c.deref.ensures.value c.in-Some.ensures in
     let j : Joined = c.index-joined.result.now in
     let within : k < length ks = At-within ks k a.j a.at in
     let at : At ks k j = found ks k j j within c.index-joined.ensures in
@@ -44,11 +44,11 @@ returns-in-Up c =
 
 pub returns-in-Down : goal.returns-in-Down
 returns-in-Down c =
-    let cs : List ClientSide = c.args.clients.now in
-    let ss : List ServerSide = c.args.servers.now in
-    let ks : List Joined = c.args.circuits.now in
+    let cs : List ClientSide = c.args.clients.now.items in
+    let ss : List ServerSide = c.args.servers.now.items in
+    let ks : List Joined = c.args.circuits.now.items in
     let k : ℕ = c.args.circuit in
-    let a = ends-here cs ss ks ks c.len.result c.len-2.result k c.in-Some.ends (omega (arith, c.len.ensures)) (omega (arith, c.len-2.ensures)) refl c.in-Some.ensures in
+    let a = ends-here cs ss ks c.deref.result.now c.len.result c.len-2.result k c.in-Some.ends (omega (arith, c.len.ensures)) (omega (arith, c.len-2.ensures)) c.deref.ensures.value c.in-Some.ensures in
     let j : Joined = c.index-joined.result.now in
     let within : k < length ks = At-within ks k a.j a.at in
     let at : At ks k j = found ks k j j within c.index-joined.ensures in
