@@ -1,3 +1,5 @@
+ghost use Rattle.std.specs.Prelude.{◌≡◌};
+
 use crate::socket::{Moved, Socket};
 use mio::net::TcpStream;
 use std::io;
@@ -12,7 +14,9 @@ pub struct Wire {
 
 impl Wire {
     /// A socket over this stream, which had no fault yet.
-    pub fn new(stream: TcpStream) -> Wire {
+    pub fn new(stream: TcpStream) -> Wire
+        ensures { ⟦<Wire as Socket>⟧.fault_count result ≡ 0 }
+    {
         Wire { stream, failed: 0 }
     }
 }

@@ -1,3 +1,5 @@
+ghost use Rattle.std.specs.Prelude.{◌≡◌, []};
+
 use std::alloc::Global;
 
 /// Memory for the bytes of one link, which many links have in turn: one without bytes need keep none.
@@ -9,7 +11,10 @@ pub struct Spares {
 
 impl Spares {
     /// No memory yet.
-    pub fn new(alloc: Global) -> Spares {
+    pub fn new(alloc: Global) -> Spares
+        ensures input { result.input.items ≡ [] }
+        ensures output { result.output.items ≡ [] }
+    {
         Spares {
             input: Vec::new(alloc),
             output: Vec::new(alloc),

@@ -1,10 +1,11 @@
-ghost use Rattle.std.specs.Prelude.{◌≡◌, ◌≤◌, Bool, Err, IfErr, IfOk, List, Ok, length, map, option_map, ℕ};
+ghost use Rattle.std.specs.Prelude.{◌≡◌, ◌≤◌, Bool, Err, IfErr, IfOk, List, Ok, false, length, map, option_map, ℕ};
 ghost use Rattle.ca_arena.specs.declared.handle.Handle.{Handle};
 ghost use Rattle.ca_dbr.specs.Elements.{elements};
-ghost use Rattle.ca_ids.specs.Table.{under};
+ghost use Rattle.ca_ids.specs.Table.{has_free, under};
 ghost use Rattle.ca_model.specs.ServerCalls.{AddsRecord, AnswersDatagram, Beacons, Posts, Removes, stamped};
 ghost use Rattle.ca_model.specs.ServerSteps.{Accepts, Cuts, Gives, Pumps, Sends, Update, output_of};
 ghost use Rattle.ca_records.specs.Record.{unset};
+ghost use Rattle.ca_text.specs.declared.refusal.Refusal.TheVariants.{OutOfMemory};
 ghost use Rattle.ca_server_circuit.specs.Circuits.{is_open};
 ghost use Rattle.ca_server_core.specs.Asking.{MayWrite, NamesUnder, busy_value};
 
@@ -20,6 +21,7 @@ impl<L: Ledger> State<L> {
     /// A circuit is accepted, and gets a handle. Refused as ArenaFull if none may be given, then as OutOfMemory. A refusal changes nothing.
     pub fn accept(&mut self) -> Result<Handle, Refusal>
         ensures call { Accepts self.old.core result self.new.core }
+        ensures memory { IfErr result (λ e. e ≡ OutOfMemory → has_free self.old.core.circuits ≡ false) }
         ensures counts { (self.new.count ≡ self.old.count)
             × (self.new.credits.items ≡ self.old.credits.items) }
     {

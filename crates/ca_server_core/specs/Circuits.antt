@@ -1,7 +1,7 @@
 -- Working: what the calls on one circuit make of the table of circuits.
 use Rattle.std.specs.Prelude.{ℕ, ◌≡◌, ◌⊎◌, true, false, List, Some, None, Ok, Err, Result}
 use Rattle.ca_arena.specs.declared.handle.Handle.{Handle}
-use Rattle.ca_ids.specs.Table.{MayGive, Table, is_full, under, with_changed, with_held}
+use Rattle.ca_ids.specs.Table.{MayGive, Table, has_free, is_full, under, with_changed, with_held}
 use Rattle.ca_text.specs.declared.refusal.Refusal.{Refusal}
 use Rattle.ca_text.specs.declared.refusal.Refusal.TheVariants as refusal
 use Rattle.ca_model.specs.Server.{ServerCircuit}
@@ -11,11 +11,11 @@ use Rattle.ca_server_circuit.specs.Circuits.{GivesAt, IsLive, SendsAt}
 abbrev pub AreLive : Table ServerCircuit → Type 0
 AreLive t = (h : Handle) (c : ServerCircuit) → under t h ≡ Some c → IsLive c
 
--- a circuit is held under a handle that may be given
+-- a circuit is held under a handle that may be given; memory is asked for only where no index may have another handle
 abbrev pub OpensIn : Table ServerCircuit → ServerCircuit → Result Handle Refusal → Table ServerCircuit → Type 0
 OpensIn t c (Ok h) after = MayGive t h × (after ≡ with_held h c t)
 OpensIn t c (Err refusal.ArenaFull) after = (is_full t ≡ true) × (after ≡ t)
-OpensIn t c (Err refusal.OutOfMemory) after = (is_full t ≡ false) × (after ≡ t)
+OpensIn t c (Err refusal.OutOfMemory) after = (is_full t ≡ false) × (after ≡ t) × (has_free t ≡ false)
 OpensIn t c (Err _) after = ⊥
 
 -- these bytes came on the circuit of a handle

@@ -1,6 +1,7 @@
-ghost use Rattle.std.specs.Prelude.{◌≡◌, ◌≢◌, ◌≤◌, IfOk, OnErr, length};
+ghost use Rattle.std.specs.Prelude.{◌≡◌, ◌≢◌, ◌≤◌, IfErr, IfOk, OnErr, false, length};
+ghost use Rattle.ca_text.specs.declared.refusal.Refusal.TheVariants.{OutOfMemory};
 ghost use Rattle.ca_model.specs.Server.{new_server};
-ghost use Rattle.ca_ids.specs.Table.{under};
+ghost use Rattle.ca_ids.specs.Table.{has_free, under};
 ghost use Rattle.ca_model.specs.ServerCalls.{stamped, waiting};
 ghost use Rattle.ca_model.specs.ServerSteps.{Accepts, Gives, Sends, output_of};
 ghost use Rattle.ca_server_core.specs.Circuits.{AreLive, GivesIn, OpensIn, SendsIn};
@@ -90,8 +91,11 @@ impl ServerCore {
     }
 
     /// A circuit is accepted, and gets a handle. Refused as ArenaFull if none may be given, then as OutOfMemory. A refusal changes nothing.
+    ///
+    /// Memory is asked for only where no index is free again.
     pub fn accept(&mut self) -> Result<Handle, Refusal>
-        ensures { Accepts self.old result self.new }
+        ensures call { Accepts self.old result self.new }
+        ensures memory { IfErr result (λ e. e ≡ OutOfMemory → has_free self.old.circuits ≡ false) }
     {
         if self.circuits.is_full() {
             return Err(Refusal::ArenaFull);

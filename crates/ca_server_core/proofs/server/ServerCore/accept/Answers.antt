@@ -14,5 +14,5 @@ invariant_of-self c =
       led = led-opened (records_of i.records) i.leading i.circuits c.open_on.new.circuits i.moment c.new-circuit.result c.open_on.result c.self.invariant.led c.new-circuit.ensures c.open_on.ensures;
     }
 
-pub returns : goal.returns
-returns c = accepts _ c.args.self.now c.open_on.new.circuits c.new-circuit.result c.open_on.result c.self.view_is c.new-circuit.ensures c.open_on.ensures
+pub returns-clause-call : goal.returns-clause-call
+returns-clause-call c = accepts _ c.args.self.now c.open_on.new.circuits c.new-circuit.result c.open_on.result c.self.view_is c.new-circuit.ensures c.open_on.ensures
