@@ -69,13 +69,8 @@ impl ServerCore {
                     circuit,
                     left,
                 );
-                settle(
-                    self.alloc,
-                    &mut self.circuits,
-                    circuit,
-                    waited,
-                    effect_of(left),
-                )
+                let effect = effect_of(left);
+                settle(self.alloc, &mut self.circuits, circuit, waited, effect)
             }
             Some(EndStep::NeedBytes) => Step::NeedBytes,
             Some(EndStep::OutputFull) => Step::OutputFull,

@@ -169,7 +169,7 @@ returns-else-is_quiet-clause-tells c =
     let long = c.in-Some-Handled.ensures.waited ∙ ap (λ (z : Server). length (output_of (under z.circuits c.args.circuit))) c.self.view_is in
     let made = made-followed-by c.args.self.now i.port i.moment i.applied c.more_applied-self-inside.result _ i.beacons i.records c.step_on.new.records f.records i.circuits c.step_on.new.circuits f.circuits c.settle.new.circuits c.args.circuit left c.is_write.result c.settle.result c.self.view_is c.is_write.ensures c.more_applied-self-inside.ensures long did c.follow.ensures.follows c.follow.ensures.sound c.settle.ensures.settles
     (λ (m : Fields) (a : Action). IsEffect m a (effect_of left)) (λ m a is. told-as m a left c.step_on.new.records is) in
-    tells-by c.args.self.now c.args.circuit left c.settle.result _ made (λ e is. c.settle.ensures.tells e is ∙ c.effect_of.ensures)
+    tells-by c.args.self.now c.args.circuit left c.settle.result _ made (λ e is. c.settle.ensures.tells e is ∙ c.effect_of-effect.ensures)
 
 pub returns-in-Some-Breaks-clause-tells : goal.returns-in-Some-Breaks-clause-tells
 returns-in-Some-Breaks-clause-tells c =
