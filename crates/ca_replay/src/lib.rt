@@ -8,5 +8,5 @@ mod replaying;
 mod telling;
 
 pub use config::config_of;
-pub use draw::draw;
+pub use draw::draw_events;
 pub use replaying::replay;

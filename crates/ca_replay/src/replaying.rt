@@ -8,7 +8,7 @@ ghost use Rattle.ca_replay.specs.Settings.{AreFresh};
 
 use crate::again::{clients_again, servers_again};
 use crate::config::config_of;
-use crate::draw::draw;
+use crate::draw::draw_events;
 use crate::telling::Telling;
 use ca_events::Event;
 use ca_text::Refusal;
@@ -80,7 +80,7 @@ fn draw_in(
     let clients = clients_again(alloc, clients)?;
     let servers = servers_again(alloc, servers)?;
     let config = config_of(alloc, clients, servers)?;
-    draw(alloc, config, events, seed)
+    draw_events(alloc, config, events, seed)
 }
 
 // Runs events: the report, and why the run stopped, if it did.

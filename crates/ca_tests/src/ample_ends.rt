@@ -1,5 +1,5 @@
 use ca_events::Event;
-use ca_replay::{config_of, draw};
+use ca_replay::{config_of, draw_events};
 use ca_text::Refusal;
 use ca_world::{Config, Stopped, Way, run};
 use ca_world_script::{Script, read_script};
@@ -156,7 +156,7 @@ fn leaves_ends(alloc: Global, rest: &str) -> Result<bool, Refusal> {
 /// The same with the events that a seed draws, as far as they can be done.
 fn leaves_ends_with(alloc: Global, rest: &str, seed: u64) -> Result<bool, Refusal> {
     let (config, events) = world_of(alloc, rest)?;
-    let all = draw(alloc, config, events, seed)?;
+    let all = draw_events(alloc, config, events, seed)?;
     let (world, done) = ended(alloc, rest, &all)?;
     Ok(are_open(&world, &open_after(alloc, &all[..done])?))
 }

@@ -4,7 +4,7 @@ use Rattle.ca_events.specs.Events.{event_of}
 use Rattle.ca_model.specs.Events.{Event}
 use Rattle.ca_replay.specs.Drawing.{GoesAlong, outset}
 use Rattle.ca_replay.specs.Steps.{along}
-use Rattle.ca_replay.proofs.draw.draw.Given as goal
+use Rattle.ca_replay.proofs.draw.draw_events.Given as goal
 
 -- the drawing went along the events before those that are left
 abbrev pub invariant-loop-event : goal.invariant-loop-event

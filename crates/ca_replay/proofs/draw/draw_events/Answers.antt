@@ -8,7 +8,7 @@ use Rattle.ca_replay.specs.Drawing.{GoesAlong, outset}
 use Rattle.ca_replay.specs.Steps.{along}
 use Rattle.ca_replay.proofs.Folding.{folds-more}
 use Rattle.ca_replay.proofs.Goings.{parts-next}
-use Rattle.ca_replay.proofs.draw.draw.Goals as goal
+use Rattle.ca_replay.proofs.draw.draw_events.Goals as goal
 
 pub loop-event-preserved : goal.loop-event-preserved
 loop-event-preserved c =
