@@ -21,7 +21,7 @@ returns-in-Ok c =
     let long = ap (λ (z : List ℕ). length z) kept in
     let room = c.in_ok-make_room.ensures.room in
     let within : c.args.circuit.index < length after.circuits.items = omega (arith, room.client, long) in
-    let slot = c.in-Ok.ensures.0.slot in
+    let slot = c.in-Ok.ensures.call.0.slot in
     let inside : h.index < length there.circuits.items = omega (arith, room.server, slot) in
     let at_client : GainsNumber mid.circuits.items c.args.circuit.index (length c.make_room.new.circuits.items) c.set_number.new.numbers.items =
     record {
@@ -40,7 +40,7 @@ returns-in-Ok c =
     accepted-so c.args.client c.args.server c.args.circuit c.args.side.now mid c.args.there.now there c.args.circuits.now.items c.make_room.new.circuits.items c.args.logs.now.items c.make_room.new.logs.items
     c.in_ok-make_room.ensures.stays
     h c.begin_circuit-joined.result c.connect_side.new.joined after _ _ c.push_reserved.new.self.items c.connect_side.new.logs.items tt
-    c.in-Ok.ensures
+    c.in-Ok.ensures.call
     c.begin_circuit-joined.ensures
     c.connect_side.ensures.connects
     refl
