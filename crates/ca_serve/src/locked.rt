@@ -4,7 +4,7 @@ use crate::clock::{parts_of, stamp_after};
 use crate::processing::Device;
 use ca_arena::Handle;
 use ca_server::{State, locked_finish, locked_step};
-use ca_server_core::{Effect, Step};
+use ca_server_core::{Cause, Effect, Step};
 use ca_wire::Sid;
 use indexmap::{IndexMap, IndexSet};
 use mio::Waker;
@@ -35,6 +35,8 @@ pub(crate) struct Locked<L: Ledger> {
     pub(crate) state: State<L>,
     /// The records that a put made busy, and that no thread has taken up yet, by their places among the slow ones. There is room for all.
     pub(crate) busy: VecDeque<usize>,
+    /// By their places among the slow ones: whether a record waits for that, or is processed.
+    pub(crate) in_hand: Vec<bool>,
     /// The bells of the circuits that have a thread, by the index of their handle.
     pub(crate) bells: IndexMap<u16, Bell>,
     /// How often something was done that may leave bytes to be sent on other circuits.
@@ -78,10 +80,13 @@ impl<L: Ledger, D: Device> Shared<L, D> {
         device: D,
     ) -> Result<Shared<L, D>, AllocError> {
         let busy = VecDeque::with_capacity(alloc, slow.len())?;
+        let mut in_hand = Vec::new(alloc);
+        in_hand.resize(slow.len(), false)?;
         Ok(Shared {
             locked: Mutex::new(Locked {
                 state,
                 busy,
+                in_hand,
                 bells: IndexMap::new(alloc),
                 rounds: 0,
                 stamped: 0,
@@ -132,19 +137,45 @@ impl<L: Ledger> Locked<L> {
         ensures { share.new.parts ≡ share.old.parts }
     {
         let step = locked_step(&mut self.state, circuit, share);
-        if let Step::Handled(Effect::Busied(sid)) = step {
-            if let Some(name) = self.state.served_name(circuit, Sid::new(sid)) {
-                if let Some(place) = slow.get_index_of(name) {
-                    self.hand_on(place);
-                }
-            }
+        match &step {
+            Step::Handled(Effect::Busied(sid)) => self.hand_on_of(slow, circuit, *sid),
+            Step::Closed(Cause::OutOfMemory, _) => self.hand_on_all(slow),
+            _ => {}
         }
         step
     }
 
-    // A record is to be processed. It is not among those that wait for it, so that there is room.
+    // The record of this channel is to be processed.
+    fn hand_on_of(&mut self, slow: &IndexSet<Vec<u8>>, circuit: Handle, sid: u32) {
+        let Some(name) = self.state.served_name(circuit, Sid::new(sid)) else {
+            return;
+        };
+        if let Some(place) = slow.get_index_of(name) {
+            self.hand_on(place);
+        }
+    }
+
+    // All records that are busy are to be processed: a circuit that had no memory for the update of its own put does not tell of the record that this put made busy.
+    fn hand_on_all(&mut self, slow: &IndexSet<Vec<u8>>) {
+        for place in 0..slow.len() {
+            let Some(name) = slow.get_index(place) else {
+                return;
+            };
+            if self.state.busy_value(name).is_some() {
+                self.hand_on(place);
+            }
+        }
+    }
+
+    // A record is to be processed, unless it is in hand: so there is room among those that wait.
     fn hand_on(&mut self, place: usize) {
-        let _full = self.busy.push_back(place);
+        let Some(is_in_hand) = self.in_hand.get_mut(place) else {
+            return;
+        };
+        if !*is_in_hand {
+            *is_in_hand = true;
+            let _full = self.busy.push_back(place);
+        }
     }
 
     /// Hands the machine's time in: the next write that is applied has this time stamp, and no write had it before.
@@ -158,9 +189,12 @@ impl<L: Ledger> Locked<L> {
     /// processed, so that no record keeps others waiting.
     pub(crate) fn finish<R: Clock>(&mut self, rt: &R, place: usize, name: &[u8]) {
         self.stamp(rt);
-        // It is busy.
+        // Nobody else finishes it, so that this is not refused.
         let _refused = locked_finish(&mut self.state, name);
         self.stir();
+        if let Some(is_in_hand) = self.in_hand.get_mut(place) {
+            *is_in_hand = false;
+        }
         if self.state.busy_value(name).is_some() {
             self.hand_on(place);
         }

@@ -21,8 +21,8 @@ impl<L: Ledger> State<L> {
     /// A circuit is accepted, and gets a handle. Refused as ArenaFull if none may be given, then as OutOfMemory. A refusal changes nothing.
     pub fn accept(&mut self) -> Result<Handle, Refusal>
         ensures call { Accepts self.old.core result self.new.core }
-        ensures memory
-            { IfErr result (λ e. e ≡ OutOfMemory → has_free self.old.core.circuits ≡ false) }
+        ensures memory { IfErr result
+            (λ e. e ≡ OutOfMemory → has_free self.old.core.circuits ≡ false) }
         ensures counts { (self.new.count ≡ self.old.count)
             × (self.new.credits.items ≡ self.old.credits.items) }
     {
