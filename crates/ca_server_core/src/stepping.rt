@@ -40,7 +40,8 @@ impl ServerCore {
     /// its record, on all circuits. An end without memory for an update has ended.
     ///
     /// The end closes at a header that is refused, and out of memory if there is none for the message, which changes nothing then, or
-    /// for its own update of its write, which is applied then; its replies are not sent. The puts of the circuit that wait are never applied.
+    /// for its own update of its write, which is applied then, though no effect tells it; its replies are not sent. The puts of the circuit
+    /// that wait are never applied.
     /// The end of a circuit is reported once, whichever call ended it. From then on, and under a handle without a circuit, a step reports a
     /// cut.
     pub fn step(&mut self, circuit: Handle) -> Step
