@@ -147,12 +147,12 @@ impl Both {
         let began = moments::began(rt)?;
         let most = Duration::from_millis(200);
         let first = self.context.wait_for(rt, &mut self.caller, ticket, most);
-        let is_late = !is_within(rt, &began, 200) && is_within(rt, &began, 5_000);
+        let is_late = !is_within(rt, &began, 200) && is_within(rt, &began, 1_500);
         let is_timed = matches!(first, Waited::TimedOut) && is_late;
         say_yes(out, "a wait ends in its time:", is_timed)?;
         let began = moments::began(rt)?;
         let turns = self.context.wait(rt, &mut self.caller, ticket, 20);
-        let is_late = !is_within(rt, &began, 200) && is_within(rt, &began, 5_000);
+        let is_late = !is_within(rt, &began, 200) && is_within(rt, &began, 1_500);
         say_yes(out, "and one of twenty turns:", turns.is_none() && is_late)?;
         let request = heard(stream)?;
         tell_value(stream, request, 21)?;
