@@ -11,7 +11,7 @@ ghost use Rattle.ca_monitor.specs.Subscriptions.{channel_drained, channel_gone, 
 ghost use Rattle.ca_monitor.specs.Subscriptions as monitor;
 
 use crate::drops::{Which, at, end_all, free_all};
-use crate::stage::Stage;
+use crate::stage::{Stage, is_same};
 use crate::subscription::Subscription;
 use ca_arena::Handle;
 use ca_ids::{HeldTable, WireId};
@@ -63,7 +63,7 @@ impl Monitors {
 
     /// Adds a subscription to this channel under the handle that `vacant` tells. It stands from now on.
     ///
-    /// Refused if there is no memory, or if another handle is the next.
+    /// Refused as StaleHandle if `vacant` tells another handle or none, then as OutOfMemory.
     pub fn add(
         &mut self,
         vacant: Handle,
@@ -71,7 +71,7 @@ impl Monitors {
         data_type: u16,
         count: u32,
         mask: Mask,
-    ) -> Result<(), AllocError>
+    ) -> Result<(), Refusal>
         ensures { Adds
             self.old
             vacant
@@ -79,6 +79,12 @@ impl Monitors {
             result
             self.new }
     {
+        let Some(next) = self.vacant() else {
+            return Err(Refusal::StaleHandle);
+        };
+        if !is_same(next, vacant) {
+            return Err(Refusal::StaleHandle);
+        }
         let added = Subscription {
             channel,
             data_type,
@@ -89,7 +95,7 @@ impl Monitors {
         self.channels.add(channel.index, vacant.index)?;
         match self.table.open_at(vacant, added) {
             Ok(()) => Ok(()),
-            Err(_) => Err(AllocError),
+            Err(_) => Err(Refusal::OutOfMemory),
         }
     }
 

@@ -1,11 +1,13 @@
 -- Vocabulary: what the calls on a client's requests answer and leave.
-use Rattle.std.specs.Prelude.{◌≡◌, ◌++◌, Bool, true, List, [], ◌∷◌, Option, Some, None, Result, Ok, Err}
+use Rattle.std.specs.Prelude.{◌≡◌, ◌≢◌, ◌++◌, ◌⊎◌, Bool, true, List, [], ◌∷◌, Option, Some, None, Result, Ok, Err}
 use Rattle.std.specs.declared.alloc.AllocError.{AllocError}
+use Rattle.ca_text.specs.declared.refusal.Refusal.{Refusal}
 use Rattle.ca_text.specs.declared.refusal.Refusal.TheVariants as refusal
 use Rattle.ca_text.specs.Status.{normal}
 use Rattle.ca_dbr.specs.declared.value.Outcome.{Outcome}
 use Rattle.ca_dbr.specs.Reading.{ReadRefused}
 use Rattle.ca_arena.specs.declared.handle.Handle.{Handle}
+use Rattle.ca_ids.specs.Holding.{IsVacant}
 use Rattle.ca_ids.specs.Table.{MayGive, Table, under, with_freed, with_held}
 use Rattle.ca_wire.specs.Fields.{Fields}
 use Rattle.ca_requests.specs.Meaning.{Means}
@@ -37,10 +39,14 @@ pub record MayIssue (channel circuit : Handle) (x : Issued) : Type 0 where
 abbrev pub issued_last : Handle → Request → Issued → Issued
 issued_last q r x = record { table = with_held q r x.table; order = x.order ++ q ∷ [] }
 
--- From old, this request was issued under the handle that was told, with this answer, and left new.
-abbrev pub Issues : Issued → Handle → Request → Result (Unit {0}) AllocError → Issued → Type 0
+-- From old, this request was issued under the handle that was told, with this answer, and left new. Refused, all is as before: another
+-- handle may be told, or none, and this one is stale; or this one may be given, and there is no memory.
+abbrev pub Issues : Issued → Handle → Request → Result (Unit {0}) Refusal → Issued → Type 0
 Issues old q r (Ok _) new = MayGive old.table q × (new ≡ issued_last q r old)
-Issues old q r (Err _) new = new ≡ old
+Issues old q r (Err e) new =
+    (new ≡ old)
+    × (((e ≡ refusal.StaleHandle) × (told : Option Handle) × IsVacant old.table told × (told ≢ Some q))
+    ⊎ ((e ≡ refusal.OutOfMemory) × MayGive old.table q))
 
 -- nothing has the IOID of this request
 abbrev pub without : Handle → Issued → Issued

@@ -10,10 +10,11 @@ use crate::drops::{Which, end_each, free_all};
 use crate::line::{GROWTH, Line};
 use crate::lines::{hand_out, note, prepare};
 use crate::outcome::{image_outcome_into, status_outcome};
-use crate::request::Request;
+use crate::request::{Request, is_same};
 use ca_arena::Handle;
 use ca_dbr::{Outcome, Value};
 use ca_ids::{HeldTable, WireId};
+use ca_text::Refusal;
 use ca_wire::Message;
 use std::alloc::{AllocError, Global};
 use std::marker::Model;
@@ -83,14 +84,14 @@ impl Requests {
     /// Issues a request on this channel, which is sent on this circuit, under the handle that `vacant` tells. It is open from
     /// now on. No other channel and no other circuit of these indices has an open request.
     ///
-    /// Refused if there is no memory, or if another handle is the next.
+    /// Refused as StaleHandle if `vacant` tells another handle or none, then as OutOfMemory.
     pub fn issue(
         &mut self,
         vacant: Handle,
         channel: Handle,
         circuit: Handle,
         asked: Asked,
-    ) -> Result<(), AllocError>
+    ) -> Result<(), Refusal>
         requires { MayIssue channel circuit self.old }
         ensures { Issues
             self.old
@@ -99,6 +100,12 @@ impl Requests {
             result
             self.new }
     {
+        let Some(next) = self.vacant() else {
+            return Err(Refusal::StaleHandle);
+        };
+        if !is_same(next, vacant) {
+            return Err(Refusal::StaleHandle);
+        }
         self.tidy();
         let alloc = *self.listed.allocator();
         prepare(alloc, &mut self.circuits, &self.table, circuit)?;
@@ -117,7 +124,7 @@ impl Requests {
                 note(&mut self.channels, channel, vacant);
                 Ok(())
             }
-            Err(_) => Err(AllocError),
+            Err(_) => Err(Refusal::OutOfMemory),
         }
     }
 

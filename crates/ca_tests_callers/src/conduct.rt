@@ -6,7 +6,7 @@ use crate::moments::is_within;
 use crate::peer::{Message, Peer, header_of, heard, tell_message, tell_value};
 use crate::{moments, say_yes};
 use ca_arena::Handle;
-use ca_client::Caller;
+use ca_client::{Caller, Request};
 use ca_client_context::{Context, Listener, Waited, start};
 use ca_client_core::ChannelState;
 use ca_dbr::{Outcome, Value};
@@ -34,15 +34,46 @@ const CLEAR: u16 = 12;
 
 const READ_NOTIFY: u16 = 15;
 
+/// An ECHO, to which a client does nothing.
+const NOTHING: Message = Message {
+    command: 23,
+    data_type: 0,
+    count: 0,
+    p1: 0,
+    p2: 0,
+};
+
 /// A status that a server refuses a subscription with.
 const NO_READ_ACCESS: u32 = 376;
 
-/// Writes one after another: they take some milliseconds, and 1,000 if each is left to a turn. On a busy machine one of some rows of them shows that.
-const WRITES: u64 = 100;
+/// What is done in a row, each once the one before has come at the server.
+#[derive(Clone, Copy)]
+enum Row {
+    Writes,
+    // Subscriptions that are made, and cancelled.
+    Subscriptions,
+    // Two writes, once the server has spoken: so its system says later that the first of them came.
+    Pairs,
+}
 
+impl Row {
+    /// How often: that takes some milliseconds, and 1,000 if each is left to a turn, or 1,200 if each pair waits for what the system says 40 ms later.
+    fn times(self) -> u64 {
+        match self {
+            Row::Writes => 100,
+            Row::Subscriptions => 100,
+            Row::Pairs => 30,
+        }
+    }
+}
+
+/// A row is soon over within so many milliseconds. On a busy machine one of some rows shows that.
 const LEFT: u64 = 600;
 
 const ROWS: u64 = 20;
+
+/// Subscriptions that are cancelled as soon as they were made: of many some are so before the thread of input and output has seen them.
+const AT_ONCE: u64 = 100;
 
 /// Updates that come after a subscription was cancelled.
 const LATE: u8 = 25;
@@ -51,12 +82,20 @@ fn long() -> Duration {
     Duration::from_secs(10)
 }
 
-/// What listeners heard: how many values, and with which status a subscription ended.
+/// What listeners heard: how many values, and with which status a subscription ended. While the gate is closed a listener waits in it.
 #[derive(Drop)]
 struct Log {
     values: AtomicU64,
     status: AtomicU64,
+    gate: AtomicU64,
 }
+
+/// The gate: open, closed, and closed with a listener in it.
+const OPEN: u64 = 0;
+
+const CLOSED: u64 = 1;
+
+const WAITED_IN: u64 = 2;
 
 #[derive(Drop)]
 struct Keeping {
@@ -68,6 +107,7 @@ impl Listener for Keeping {
         match outcome {
             Outcome::Value(_, _) => {
                 self.log.values.fetch_add(1, Ordering::SeqCst);
+                self.log.pass();
             }
             Outcome::Failed(status) => {
                 let number = u64::from(status.number);
@@ -75,6 +115,25 @@ impl Listener for Keeping {
             }
             _ => {}
         }
+    }
+}
+
+impl Log {
+    fn pass(&self) {
+        let closed = self.gate.load(Ordering::SeqCst) == CLOSED;
+        if closed {
+            self.gate.store(WAITED_IN, Ordering::SeqCst);
+        }
+        for _ in 0..u64::MAX {
+            if self.gate.load(Ordering::SeqCst) != WAITED_IN {
+                break;
+            }
+            thread::yield_now();
+        }
+    }
+
+    fn is_waited_in(&self) -> bool {
+        self.gate.load(Ordering::SeqCst) == WAITED_IN
     }
 }
 
@@ -104,6 +163,7 @@ pub(crate) fn show<
     let log = Log {
         values: AtomicU64::new(0),
         status: AtomicU64::new(0),
+        gate: AtomicU64::new(OPEN),
     };
     let thread = start(rt, engine)?;
     let mut both = Both {
@@ -130,6 +190,7 @@ impl Both {
         say_yes(out, "the channel is as it was created:", is_live)?;
         self.show_requests(rt, channel, &stream, out)?;
         self.show_refused(rt, channel, &stream, out)?;
+        self.show_sent(rt, channel, &stream, out)?;
         self.show_cancelled(rt, channel, &stream, out)?;
         self.show_cleared(rt, channel, &stream, out)?;
         self.show_lost(rt, out)
@@ -167,42 +228,79 @@ impl Both {
         let over = self.context.wait_for(rt, &mut self.caller, given, long());
         let is_over = none.is_none() && next && matches!(over, Waited::Over);
         say_yes(out, "a request that was given up has no outcome:", is_over)?;
-        self.show_writes(rt, channel, stream, out)
+        let what = "writes without an outcome go out at once:";
+        self.show_row(rt, channel, stream, Row::Writes, what, out)?;
+        let what = "and wait for no acknowledgement of others:";
+        self.show_row(rt, channel, stream, Row::Pairs, what, out)
     }
 
-    /// Writes, in rows until one is soon over.
-    fn show_writes<R: Wait + Clock, W: Write>(
+    /// Rows, until one is soon over.
+    fn show_row<R: Wait + Clock, W: Write>(
         &mut self,
         rt: &R,
         channel: Handle,
         stream: &TcpStream,
+        row: Row,
+        what: &str,
         out: &mut W,
     ) -> Result<(), Refusal> {
         let mut is_soon = false;
         for _ in 0..ROWS {
-            is_soon = self.is_written_soon(rt, channel, stream)?;
+            let began = moments::began(rt)?;
+            let right = self.rights(rt, channel, stream, row)?;
+            is_soon = right == row.times() && is_within(rt, &began, LEFT);
             if is_soon {
                 break;
             }
         }
-        say_yes(out, "writes without an outcome go out at once:", is_soon)
+        say_yes(out, what, is_soon)
     }
 
-    /// Writes one after another, each once the one before has come.
-    fn is_written_soon<R: Wait + Clock>(
+    /// How many of a row came as they should.
+    fn rights<R: Wait + Clock>(
+        &mut self,
+        rt: &R,
+        channel: Handle,
+        stream: &TcpStream,
+        row: Row,
+    ) -> Result<u64, Refusal> {
+        let mut right = 0u64;
+        for _ in 0..row.times() {
+            let is_right = match row {
+                Row::Writes => self.is_written(rt, channel, stream)?,
+                Row::Subscriptions => self.is_cancelled(rt, channel, stream)?,
+                Row::Pairs => {
+                    tell_message(stream, NOTHING, &[])?;
+                    self.is_written(rt, channel, stream)? && self.is_written(rt, channel, stream)?
+                }
+            };
+            right = right.wrapping_add(u64::from(is_right));
+        }
+        Ok(right)
+    }
+
+    /// A write that has no outcome, and comes.
+    fn is_written<R: Wait + Clock>(
         &mut self,
         rt: &R,
         channel: Handle,
         stream: &TcpStream,
     ) -> Result<bool, Refusal> {
         let value = Value::Longs(vec![in self.alloc; 24]?);
-        let began = moments::began(rt)?;
-        let mut written = 0u64;
-        for _ in 0..WRITES {
-            self.context.put(rt, channel, &value)?;
-            written = written.wrapping_add(u64::from(heard(stream)?.command == WRITE));
-        }
-        Ok(written == WRITES && is_within(rt, &began, LEFT))
+        self.context.put(rt, channel, &value)?;
+        Ok(heard(stream)?.command == WRITE)
+    }
+
+    /// A subscription that comes, and is cancelled.
+    fn is_cancelled<R: Wait + Clock>(
+        &mut self,
+        rt: &R,
+        channel: Handle,
+        stream: &TcpStream,
+    ) -> Result<bool, Refusal> {
+        let (added, subscription) = self.subscribe(rt, channel, stream)?;
+        self.context.unsubscribe(rt, subscription)?;
+        Ok(added.command == EVENT_ADD && heard(stream)?.command == EVENT_CANCEL)
     }
 
     /// Reads, and answers with this value.
@@ -220,13 +318,8 @@ impl Both {
         Ok(request.command == READ_NOTIFY && has(&outcome, value))
     }
 
-    /// Subscribes, and tells what came at the server, and the subscription.
-    fn subscribe<R: Wait + Clock>(
-        &mut self,
-        rt: &R,
-        channel: Handle,
-        stream: &TcpStream,
-    ) -> Result<(Message, Handle), Refusal> {
+    /// Subscribes.
+    fn added<R: Wait + Clock>(&mut self, rt: &R, channel: Handle) -> Result<Handle, Refusal> {
         let Some(mask) = Mask::new(1) else {
             return Err(Refusal::BadEvent);
         };
@@ -234,9 +327,51 @@ impl Both {
             log: Arc::try_clone(&self.log)?,
         };
         match self.context.monitor(rt, channel, 5, 1, mask, listener) {
-            Ok(subscription) => Ok((heard(stream)?, subscription)),
+            Ok(subscription) => Ok(subscription),
             Err((_, refusal)) => Err(refusal),
         }
+    }
+
+    /// Subscribes, and tells what came at the server, and the subscription.
+    fn subscribe<R: Wait + Clock>(
+        &mut self,
+        rt: &R,
+        channel: Handle,
+        stream: &TcpStream,
+    ) -> Result<(Message, Handle), Refusal> {
+        let subscription = self.added(rt, channel)?;
+        Ok((heard(stream)?, subscription))
+    }
+
+    /// Subscriptions that are cancelled at once, and whether their listeners are dropped.
+    fn are_dropped<R: Wait + Clock>(
+        &mut self,
+        rt: &R,
+        channel: Handle,
+        stream: &TcpStream,
+    ) -> Result<bool, Refusal> {
+        let mut cancelled = 0u64;
+        for _ in 0..AT_ONCE {
+            let subscription = self.added(rt, channel)?;
+            self.context.unsubscribe(rt, subscription)?;
+        }
+        for _ in 0..AT_ONCE {
+            let is_added = heard(stream)?.command == EVENT_ADD;
+            let is_cancelled = heard(stream)?.command == EVENT_CANCEL;
+            cancelled = cancelled.wrapping_add(u64::from(is_added && is_cancelled));
+        }
+        Ok(cancelled == AT_ONCE && self.is_alone(rt))
+    }
+
+    /// Whether all listeners that there were are dropped, within some seconds: none but this has their log.
+    fn is_alone<R: Wait + Clock>(&self, rt: &R) -> bool {
+        for _ in 0..1_000 {
+            if Arc::strong_count(&self.log) == 1 {
+                return true;
+            }
+            thread::sleep(rt, Duration::from_millis(10));
+        }
+        false
     }
 
     /// A subscription that the server refuses.
@@ -262,8 +397,60 @@ impl Both {
         say_yes(
             out,
             "a subscription that is refused ends with its status:",
-            is_ended,
+            is_ended && self.is_alone(rt),
         )
+    }
+
+    /// Requests while a listener waits, and the thread of input and output with it.
+    fn show_sent<R: Wait + Clock, W: Write>(
+        &mut self,
+        rt: &R,
+        channel: Handle,
+        stream: &TcpStream,
+        out: &mut W,
+    ) -> Result<(), Refusal> {
+        let (added, subscription) = self.subscribe(rt, channel, stream)?;
+        self.log.gate.store(CLOSED, Ordering::SeqCst);
+        tell_value(stream, added, 1)?;
+        let is_kept = reaches(rt, &self.log.gate, WAITED_IN);
+        let sent = self.sent(rt, channel, stream);
+        self.log.gate.store(OPEN, Ordering::SeqCst);
+        let is_sent = is_kept && matches!(sent, Ok(3));
+        say_yes(out, "requests go out while a listener waits:", is_sent)?;
+        self.context.unsubscribe(rt, subscription)?;
+        self.log.values.store(0, Ordering::SeqCst);
+        heard(stream)?;
+        Ok(())
+    }
+
+    /// How many of three requests come while a listener waits: one that is looked for, one that is waited for, and one by the call that makes several.
+    fn sent<R: Wait + Clock>(
+        &mut self,
+        rt: &R,
+        channel: Handle,
+        stream: &TcpStream,
+    ) -> Result<u64, Refusal> {
+        let looked = self.context.get(rt, channel, 5, 1)?;
+        self.context.collect(&mut self.caller, looked);
+        let mut sent = u64::from(self.is_sent(stream)?);
+        let waited = self.context.get(rt, channel, 5, 1)?;
+        self.context.wait(rt, &mut self.caller, waited, 1);
+        sent = sent.wrapping_add(u64::from(self.is_sent(stream)?));
+        let mut rooms = Vec::new(self.alloc);
+        let mut tickets = Vec::new(self.alloc);
+        let requests = [Request::Read(channel, 5, 1)];
+        self.context
+            .request_all(rt, &requests, &mut rooms, &mut tickets)?;
+        if let Some(joint) = tickets.pop() {
+            self.context.wait(rt, &mut self.caller, joint, 1);
+        }
+        Ok(sent.wrapping_add(u64::from(self.is_sent(stream)?)))
+    }
+
+    /// Whether a read comes while a listener waits.
+    fn is_sent(&self, stream: &TcpStream) -> Result<bool, Refusal> {
+        let request = heard(stream)?;
+        Ok(request.command == READ_NOTIFY && self.log.is_waited_in())
     }
 
     /// A subscription that is cancelled: one message goes out, and what comes after it is heard by nobody.
@@ -291,7 +478,11 @@ impl Both {
             is_heard && is_one,
         )?;
         let is_quiet = self.log.values.load(Ordering::SeqCst) == 1;
-        say_yes(out, "and hears nothing more:", is_quiet)
+        say_yes(out, "and hears nothing more:", is_quiet)?;
+        let what = "subscriptions begin and end at once:";
+        self.show_row(rt, channel, stream, Row::Subscriptions, what, out)?;
+        let are_dropped = self.are_dropped(rt, channel, stream)?;
+        say_yes(out, "listeners go with their subscriptions:", are_dropped)
     }
 
     /// A channel that is cleared while a request is open.

@@ -70,7 +70,8 @@ fn all_cells<W: Write>(
     Ok(tickets)
 }
 
-/// The socket fails at its first call, then on another circuit at its second, and so on.
+/// The socket fails at its first call, then on another circuit at its second, and so on: where a turn writes and finds nothing to read, and where it makes as many
+/// calls as a turn can, which are one write and eight reads.
 fn show_faults<W: Write>(
     alloc: Global,
     desk: &mut Desk,
@@ -78,9 +79,11 @@ fn show_faults<W: Write>(
     requests: &Requests,
     out: &mut W,
 ) -> Result<(), Refusal> {
-    for calls in 0..8u64 {
-        let lost = lost_at(alloc, desk, caller, requests, calls)?;
-        say(out, "lost", lost)?;
+    for (versions, most) in [(0, 8u64), (8 * 256, 10)] {
+        for calls in 0..most {
+            let lost = lost_at(alloc, desk, caller, requests, versions, calls)?;
+            say(out, "lost", lost)?;
+        }
     }
     Ok(())
 }

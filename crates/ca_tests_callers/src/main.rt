@@ -4,6 +4,7 @@
 //! - the lines `get`, `put` and `monitor`, what each says, and its status (`lines`);
 //! - servers whose device takes its time (`fairness`);
 //! - a client whose callers are four threads (`callers`), and the calls that these do not make (`calls`);
+//! - reads one after another, whose outcomes are told at once (`prompt`);
 //! - listeners that take their time (`listening`);
 //! - what a client does on its circuits, seen by a server by hand (`conduct`, `peer`), and clients of name servers, a repeater and two servers (`settings`);
 //! - a client with 10,000 subscriptions on one server (`spreading`).
@@ -27,6 +28,7 @@ mod lines;
 mod listening;
 mod moments;
 mod peer;
+mod prompt;
 mod server;
 mod settings;
 mod spreading;
@@ -107,6 +109,7 @@ fn show<
     fairness::show(rt, alloc, out)?;
     lines::show(rt, alloc, out, err)?;
     callers::show(rt, alloc, out)?;
+    prompt::show(rt, alloc, out)?;
     listening::show(rt, alloc, out)?;
     calls::show(rt, alloc, out)?;
     let conduct = conduct::show(rt, alloc, out);

@@ -19,9 +19,9 @@ const TURNS: u64 = 1_000_000;
 #[derive(Clone, Copy)]
 pub(crate) struct Course {
     pub(crate) port: u16,
-    callers: u64,
-    reads: u64,
-    window: usize,
+    pub(crate) callers: u64,
+    pub(crate) reads: u64,
+    pub(crate) window: usize,
 }
 
 /// What the words ask for, if they ask for it.
@@ -52,7 +52,8 @@ pub(crate) fn timed<R: Threads + Wait + Clock + Copy + Send + 'static, W: Write>
     }
 }
 
-fn took<R: Threads + Wait + Clock + Copy + Send + 'static>(
+/// The microseconds from when the channel is live until all callers have read.
+pub(crate) fn took<R: Threads + Wait + Clock + Copy + Send + 'static>(
     rt: R,
     alloc: Global,
     context: &Arc<Context<Nobody>>,

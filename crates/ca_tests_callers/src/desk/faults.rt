@@ -1,5 +1,5 @@
 //! A socket that fails.
-use crate::desk::circuit::{live, memory, turn};
+use crate::desk::circuit::{VERSION, live, memory, turn};
 use crate::desk::requests::Requests;
 use ca_arena::Handle;
 use ca_board::Ticket;
@@ -8,16 +8,21 @@ use ca_dbr::Outcome;
 use ca_text::Refusal;
 use std::alloc::Global;
 
-/// The channel is live on a circuit whose socket fails after so many calls. How many requests complete with Disconnected then.
+/// The channel is live on a circuit whose socket has so many VERSIONs to give, and fails after so many calls. How many requests complete with Disconnected
+/// then.
 pub(crate) fn lost_at(
     alloc: Global,
     desk: &mut Desk,
     caller: &mut Caller,
     requests: &Requests,
+    versions: usize,
     calls: u64,
 ) -> Result<usize, Refusal> {
     let mut tape = memory(alloc)?;
     let circuit = live(desk, &mut tape)?;
+    for _ in 0..versions {
+        tape.incoming.extend_from_slice(&VERSION[..])?;
+    }
     tape.calls_left = calls;
     let tickets = made_until_cut(alloc, desk, requests, circuit, &mut tape)?;
     Ok(lost(caller, &tickets))
