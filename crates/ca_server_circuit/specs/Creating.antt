@@ -50,4 +50,5 @@ pub record Creation (port : ℕ) (s : Store) (e : ServerEnd) (m : Fields) (new :
 
 -- the same, with what it leaves the server to do
 abbrev pub CreatesBy : (port : ℕ) → Store → ServerEnd → Fields → FollowUp → ServerEnd → Type 0
-CreatesBy port s e m did new = (c : Creation port s e m new) × Tells m c.action did s
+CreatesBy port s e m did new =
+    (c : Creation port s e m new) × (m.command ≡ command_number command.CreateChannel → Tells m c.action did s)
