@@ -1,6 +1,5 @@
 ghost use Rattle.std.specs.Prelude.{ℕ, ◌≡◌, IfOk, OnErr, [], ◌∷◌, false};
 ghost use Rattle.ca_ids.specs.Table.{is_full};
-ghost use Rattle.ca_ids.specs.Wire.{wire_of};
 ghost use Rattle.ca_link.specs.Calls.{IsOpen};
 ghost use Rattle.ca_records.specs.Store.{Finds};
 ghost use Rattle.ca_wire.specs.Messages.{failed_reply, text_in};
@@ -8,7 +7,7 @@ ghost use Rattle.ca_wire.specs.Reading.{IsWhole};
 ghost use Rattle.ca_server_circuit.specs.Cids.{UsesCid};
 ghost use Rattle.ca_server_circuit.specs.Creating.{CreatesBy, IsCreation};
 ghost use Rattle.ca_server_circuit.specs.declared.effect.Effect.TheVariants.{Refused};
-ghost use Rattle.ca_server_circuit.specs.declared.step.FollowUp.TheVariants.{Opened, Quiet};
+ghost use Rattle.ca_server_circuit.specs.declared.step.FollowUp.TheVariants.{Quiet};
 ghost use Rattle.ca_server_circuit.specs.Handling.{AllStay, replied};
 ghost use Rattle.ca_server_circuit.specs.Stepping.{first_at, message_of};
 
@@ -77,9 +76,8 @@ impl End {
         requires room { is_full self.old.channels ≡ false }
         requires new { UsesCid self.old.channels head.now.header.p1 → ⊥ }
         ensures ok { IfOk result (λ effect.
-            (made : IsCreation records.now self.old (first_at self.old.link.input.bytes head.now)
-            self.new)
-            × (effect ≡ Opened place (wire_of made.h))) }
+            IsCreation records.now self.old (first_at self.old.link.input.bytes head.now) place
+            effect self.new) }
         ensures output { OnErr result (self.new.link.output ≡ self.old.link.output) }
         ensures channels { OnErr result (AllStay self.old.channels self.new.channels) }
     {
