@@ -1,6 +1,6 @@
 """`ca answer` by the protocol's rules, over the server beside it: one circuit's bytes, with the records of a file."""
 from protocol import *
-from server import Record, Server
+from server import Record, Server, is_handled
 from world import NotUnderstood, Script
 
 # The records that it has without a file.
@@ -31,7 +31,7 @@ def answered(file, given):
         did = server.step(circuit)
         if did == "needs bytes":
             return written, "", 0
-        if did != "ok":
+        if not is_handled(did):
             return written, REFUSED[did.partition(" left ")[0]], 1
         for name, record in server.records.items():
             while record.busy:

@@ -4,6 +4,11 @@ import struct
 from protocol import *
 
 
+def is_handled(did):
+    """Whether a step that is answered so handled a message: then it is its effect, or `ok`."""
+    return did not in ("needs bytes", "output full") and not did.startswith("closed ")
+
+
 def whole_in(base, element):
     """The whole number that an element is: 8 if a text is none."""
     if base != STRING:
@@ -85,8 +90,7 @@ class Server:
             self.circuits.free(h)
             return f"closed {found} left {bytes_text(e.out)}"
         m, e.input = found
-        self.handled(h, e, m)
-        return "ok"
+        return self.handled(h, e, m) or "ok"
 
     def handle(self, h, b):
         self.give(h, b)
@@ -95,7 +99,7 @@ class Server:
             if did == "needs bytes":
                 self.pump(h)
                 return self.take(h)
-            if did != "ok":
+            if not is_handled(did):
                 return did
 
     def pump(self, h):
@@ -240,6 +244,7 @@ class Server:
     # messages
 
     def handled(self, h, e, m):
+        """Handles a message, and says its effect: None where nobody has to know."""
         if m.command == VERSION:
             e.out += b"" if e.greeted else spelled(VERSION, 0, 13)
             e.greeted = True
@@ -254,16 +259,20 @@ class Server:
             elif m.data_type == 10:
                 e.out += spelled(NOT_FOUND, 10, 13, m.p2, m.p2)
         elif m.command == CREATE:
-            self.create(e, m)
+            return self.create(e, m)
         elif m.command == CLEAR:
             self.clear(h, e, m)
+            return f"cleared {m.p1}"
         elif m.command in (READ_NOTIFY, WRITE, WRITE_NOTIFY, EVENT_ADD):
-            self.used(h, e, m)
+            return self.used(h, e, m)
         elif m.command == EVENT_CANCEL:
             self.drop(e, lambda key: key == (m.p1, m.p2))
             e.out += spelled(EVENT_ADD, m.data_type, m.count, m.p1, m.p2)
+            return f"cancelled {m.p1} {m.p2}"
         elif m.command in (EVENTS_OFF, EVENTS_ON):
             e.on = m.command == EVENTS_ON
+            return "events on" if e.on else "events off"
+        return None
 
     def drop(self, e, test):
         gone = [s for s in e.subscriptions if test(s.key)]
@@ -276,10 +285,11 @@ class Server:
         r = self.records.get(text_in(m.payload))
         if r is None or e.channels.is_full() or any(c.cid == m.p1 for _, c in e.channels.held()):
             e.out += spelled(CREATE_FAIL, p1=m.p1)
-            return
+            return "no channel"
         e.settled = True
         c = e.channels.give(Thing(cid=m.p1, name=r.name, retired=False))
         e.out += spelled(RIGHTS, p1=m.p1, p2=self.rights(e, r.name)) + spelled(CREATE, r.base, r.most, m.p1, wire_of(c))
+        return f"created {wire_of(c)}"
 
     def rights(self, e, name):
         for user, host, record, rights in self.rules:
@@ -303,7 +313,7 @@ class Server:
             if channel is None or channel.retired:
                 raise Refused(BADCHID)
             r = self.records[channel.name]
-            {READ_NOTIFY: self.read, EVENT_ADD: self.subscribe}.get(m.command, self.put)(h, e, c, r, m)
+            return {READ_NOTIFY: self.read, EVENT_ADD: self.subscribe}.get(m.command, self.put)(h, e, c, r, m)
         except Refused as why:
             status = why.args[0]
             if m.command in (READ_NOTIFY, WRITE_NOTIFY):
@@ -311,6 +321,7 @@ class Server:
             else:
                 quoted = header(m.command, m.size, m.data_type, m.count, m.p1, m.p2)
                 e.out += spelled(ERROR, 0, 0, channel.cid if channel else 0xFFFFFFFF, status, quoted + bytes(8))
+            return None
 
     def check_read(self, e, r, m):
         if m.data_type > 20:
@@ -348,17 +359,19 @@ class Server:
         except Refused as why:
             raise Refused(NOCONVERT if why.args[0] == 6 else PUTFAIL)
         if m.command == WRITE:
-            return self.written(r, elements)
+            self.written(r, elements)
+            return "wrote"
         p = Thing(circuit=h, channel=c, data_type=m.data_type, count=m.count, ioid=m.p2, elements=elements)
         if r.busy:
             if len(r.waiting) == 16:
                 raise Refused(PUTFAIL)
             r.waiting.append(p)
-            return
+            return "queued"
         r.busy = p if r.slow else None
         if not r.slow:
             e.out += spelled(WRITE_NOTIFY, m.data_type, m.count, NORMAL, m.p2)
         self.written(r, elements)
+        return f"busied {m.p1}" if r.slow else "wrote"
 
     def subscribe(self, h, e, c, r, m):
         self.check_read(e, r, m)
@@ -379,6 +392,7 @@ class Server:
         e.queues[place].keys.append(key)
         e.subscriptions.append(s)
         self.queue(e, s, (r.base, r.elements, r.meta))
+        return f"subscribed {m.p1} {m.p2}"
 
 
 class Record(Thing):

@@ -4,7 +4,7 @@ use crate::answer::Answer;
 use crate::rounds;
 use crate::words::Words;
 use ca_script::{RecordFile, read_records};
-use ca_server_core::{Cause, ServerCore, Step};
+use ca_server_core::{Cause, Effect, ServerCore, Step};
 use ca_text::Refusal;
 use ca_wire::Pipe;
 use std::alloc::Global;
@@ -70,14 +70,40 @@ fn give(alloc: Global, core: &mut ServerCore, mut words: Words<'_>) -> Result<()
     core.give(circuit, &words.bytes(alloc)?)
 }
 
-/// `step CIRCUIT`.
+/// `step CIRCUIT`: the effect of the message that it handled, with its ids in decimal.
 fn step(core: &mut ServerCore, mut words: Words<'_>, answer: &mut Answer) -> Result<(), Refusal> {
     match core.step(words.handle()?) {
-        Step::Handled(_) => Ok(()),
+        Step::Handled(effect) => did(effect, answer),
         Step::NeedBytes => answer.word("needs bytes"),
         Step::OutputFull => answer.word("output full"),
         Step::Closed(cause, left) => closed(cause, &left, answer),
     }
+}
+
+/// An effect: nothing where it is quiet.
+fn did(effect: Effect, answer: &mut Answer) -> Result<(), Refusal> {
+    match effect {
+        Effect::Quiet => Ok(()),
+        Effect::Queued => answer.word("queued"),
+        Effect::Refused => answer.word("no channel"),
+        Effect::Cleared(sid) => on("cleared", &[sid], answer),
+        Effect::Cancelled(sid, sub) => on("cancelled", &[sid, sub], answer),
+        Effect::Switched(true) => answer.word("events on"),
+        Effect::Switched(false) => answer.word("events off"),
+        Effect::Wrote => answer.word("wrote"),
+        Effect::Busied(sid) => on("busied", &[sid], answer),
+        Effect::Subscribed(sid, sub) => on("subscribed", &[sid, sub], answer),
+        Effect::Created(sid) => on("created", &[sid], answer),
+    }
+}
+
+/// A word, and ids.
+fn on(word: &str, ids: &[u32], answer: &mut Answer) -> Result<(), Refusal> {
+    answer.word(word)?;
+    for id in ids {
+        answer.number(u64::from(*id))?;
+    }
+    Ok(())
 }
 
 /// `handle CIRCUIT BYTES`: gives the bytes, steps until no message is handled, pumps, and takes what is to be sent.
