@@ -12,9 +12,7 @@
 //! With words it prints something else instead:
 //!
 //! - growths: what came of growths that were refused under a client's lock (`desk::growths`);
-//! - names PORT: whether a client that searches on a circuit to this port of this host alone reads 21 from TEMP (`settings`);
-//! - PORT CALLERS READS WINDOW: the microseconds that so many reads of TEMP by each caller took, with so many outstanding
-//!   at each, from when the channel was live (`timing`).
+//! - names PORT: whether a client that searches on a circuit to this port of this host alone reads 21 from TEMP (`settings`).
 #![tactic(auto)]
 
 mod callers;
@@ -32,11 +30,8 @@ mod prompt;
 mod server;
 mod settings;
 mod spreading;
-mod timing;
 mod wire;
 
-use crate::client::{Task, use_client};
-use crate::timing::read_words;
 use ca_text::Refusal;
 use std::alloc::Global;
 use std::env;
@@ -55,31 +50,13 @@ fn main(rt: HostRuntime) -> ExitCode {
             [] => show(rt, rt.alloc(), &mut out, &mut rt.stdout()),
             [_] => desk::growths::show(rt.alloc(), &mut out),
             [_, port] => settings::show_name_server(rt, rt.alloc(), port.as_str(), &mut out),
-            words => show_course(rt, rt.alloc(), words, &mut out),
+            _ => Err(Refusal::BadText),
         },
         Err(refusal) => Err(refusal),
     };
     match done {
         Ok(()) => ExitCode::SUCCESS,
         Err(_) => ExitCode::FAILURE,
-    }
-}
-
-/// Reads, timed.
-fn show_course<
-    R: Threads
-        + Wait
-        + Clock
-        + Net<Stream = TcpStream, Listener = TcpListener>
-        + Copy
-        + Drop
-        + Send
-        + 'static,
-    W: Write,
->(rt: R, alloc: Global, words: &[String], out: &mut W) -> Result<(), Refusal> {
-    match read_words(words) {
-        Some(course) => use_client(rt, alloc, course.port, Task::Read(course), out),
-        None => Err(Refusal::BadText),
     }
 }
 
