@@ -1,12 +1,13 @@
 //! What lies under a client's lock (`desk`), and servers and clients in one process, each with a thread of its own. What came of it is `stdout`:
 //!
-//! - a server whose device holds a put until a read on another circuit was answered (`holding`);
+//! - servers whose device holds puts, until a read on another circuit was answered, and at their end (`holding`);
 //! - the lines `get`, `put` and `monitor`, what each says, and its status (`lines`);
 //! - servers whose device takes its time (`fairness`);
 //! - a client whose callers are four threads (`callers`), and the calls that these do not make (`calls`);
 //! - reads one after another, whose outcomes are told at once (`prompt`);
 //! - listeners that take their time (`listening`);
-//! - what a client does on its circuits, seen by a server by hand (`conduct`, `peer`), and clients of name servers, a repeater and two servers (`settings`);
+//! - what a client does on its circuits, seen by a server by hand (`conduct`, `peer`), and what it does at once (`at_once`);
+//! - clients of name servers, a repeater and two servers (`settings`);
 //! - a client with 10,000 subscriptions on one server (`spreading`).
 //!
 //! With words it prints something else instead:
@@ -15,6 +16,7 @@
 //! - names PORT: whether a client that searches on a circuit to this port of this host alone reads 21 from TEMP (`settings`).
 #![tactic(auto)]
 
+mod at_once;
 mod callers;
 mod calls;
 mod client;
@@ -89,6 +91,7 @@ fn show<
     prompt::show(rt, alloc, out)?;
     listening::show(rt, alloc, out)?;
     calls::show(rt, alloc, out)?;
+    at_once::show(rt, alloc, out)?;
     let conduct = conduct::show(rt, alloc, out);
     settings::show(rt, alloc, out)?;
     spreading::show(rt, alloc, out)?;
