@@ -1,0 +1,137 @@
+-- Vocabulary: what each call of C does to a server: the contract of the call of `ServerCore` that it makes, with the number that it answers.
+use Rattle.std.specs.Prelude.{ℕ, ℤ, pos, ◌≡◌, ◌<◌, ◌⊎◌, ◌++◌, ◌+◌, Bool, List, [], Option, Some, None, Result, Ok, Err, drop, if◌then◌else◌, is_some, length, map, min, option_map, slice_get, take}
+use Rattle.ca_arena.specs.declared.handle.Handle.{Handle}
+use Rattle.ca_dbr.specs.declared.value.Meta.{Meta}
+use Rattle.ca_dbr.specs.Elements.{Elements}
+use Rattle.ca_dbr.specs.Reading.{ReadRefused, Reads}
+use Rattle.ca_dbr.specs.Types.{type_number}
+use Rattle.ca_dbr.specs.declared.data_type.DataType.{DataType}
+use Rattle.ca_ids.specs.Table.{under}
+use Rattle.ca_model.specs.Server.{new_server}
+use Rattle.ca_model.specs.ServerCalls.{AddsRecord, AnswersDatagram, Beacons, Finishes, Posts, Removes, stamped, waiting}
+use Rattle.ca_model.specs.ServerSteps.{Accepts, Cuts, Gives, Pumps, Sends, Steps, Update, output_of}
+use Rattle.ca_records.specs.Record.{unset}
+use Rattle.ca_server_core.specs.Asking.{NamesUnder}
+use Rattle.ca_server_core.specs.Effects.{TellsEffect}
+use Rattle.ca_server_core.specs.Serving.{Closes, stepped}
+use Rattle.ca_server_core.specs.declared.stepping.Step.{Step}
+use Rattle.ca_server_core.specs.declared.stepping.Step.TheVariants.{Closed}
+use Rattle.ca_text.specs.declared.refusal.Refusal.{Refusal}
+use Rattle.ca_text.specs.declared.refusal.Refusal.TheVariants as refusal
+use Rattle.ca_wire.specs.Fields.{Fields}
+use Rattle.ca_c.specs.Answers.{code_of, handle_of, number_of, refusal_code}
+use Rattle.ca_c.specs.Steps.{step_number, told_of}
+use Rattle.ca_c.specs.declared.server_object.ServerObject.{ServerObject}
+use Rattle.ca_c.specs.declared.step.CvzStep.{CvzStep}
+
+-- a call changes the core, and nothing that waits for C beside it
+abbrev pub KeepsRest : ServerObject → ServerObject → Type 0
+KeepsRest s t = (t.left ≡ s.left) × (t.answers ≡ s.answers) × (t.taken ≡ s.taken)
+
+-- a server with no record begins; or there is no memory, and C's struct has what it had
+abbrev pub Begins : (port now : ℕ) → ℤ → Option ServerObject → Option ServerObject → Type 0
+Begins port now n before after =
+    ((n ≡ pos 0) × ((s : ServerObject) × (after ≡ Some s) × (s.core ≡ new_server port now [] []) × (s.left ≡ []) × (s.answers.items ≡ []) × (s.taken ≡ 0)))
+    ⊎ ((n ≡ refusal_code refusal.OutOfMemory) × (after ≡ before))
+
+-- a number that is written where a call succeeds
+abbrev pub Writes : {X : Type 0} → (X → ℕ) → Result X Refusal → (before after : ℕ) → Type 0
+Writes f (Ok x) before after = after ≡ f x
+Writes f (Err r) before after = after ≡ before
+
+abbrev pub DoesAccept : ServerObject → ℤ → ServerObject → (before after : ℕ) → Type 0
+DoesAccept s n t before after = (r : Result Handle Refusal) × ((n ≡ code_of r) × Accepts s.core r t.core × Writes number_of r before after × KeepsRest s t)
+
+abbrev pub DoesGive : ServerObject → ℤ → ServerObject → (circuit : ℕ) → (bytes : List ℕ) → Type 0
+DoesGive s n t circuit bytes = (r : Result (Unit {0}) Refusal) × ((n ≡ code_of r) × Gives s.core (handle_of circuit) bytes r t.core × KeepsRest s t)
+
+-- what is left to be sent on the circuit that closed last
+abbrev pub left_after : Step → List ℕ → List ℕ
+left_after (Closed why left) before = left
+left_after did before = before
+
+unfoldable pub DoesStep : ServerObject → ℤ → ServerObject → (circuit : ℕ) → CvzStep → Type 0
+DoesStep s n t circuit told = (did : Step) × ((n ≡ step_number did) × (told ≡ told_of did)
+    × Steps s.core (handle_of circuit) (stepped did) t.core × Closes s.core (handle_of circuit) (stepped did) t.core × TellsEffect s.core (handle_of circuit) did t.core
+    × (t.left ≡ left_after did s.left) × (t.answers ≡ s.answers) × (t.taken ≡ s.taken))
+
+unfoldable pub DoesPump : ServerObject → ℤ → ServerObject → (circuit : ℕ) → Type 0
+DoesPump s n t circuit = (n ≡ pos 0) × ((updates : List Update) × Pumps s.core (handle_of circuit) updates t.core) × KeepsRest s t
+
+abbrev pub DoesCut : ServerObject → ℤ → ServerObject → (circuit : ℕ) → Type 0
+DoesCut s n t circuit = (n ≡ pos 0) × Cuts s.core (handle_of circuit) t.core × KeepsRest s t
+
+abbrev pub DoesStamp : ServerObject → ℤ → ServerObject → (seconds nanos : ℕ) → Type 0
+DoesStamp s n t seconds nanos = (n ≡ pos 0) × (t.core ≡ stamped (record { seconds = seconds; nanos = nanos }) s.core) × KeepsRest s t
+
+-- the bytes are copied to the room, as many as it has room for, and they wait still
+abbrev pub Shows : (bytes : List ℕ) → ℕ → (before after : List ℕ) → Type 0
+Shows bytes n before after = (n ≡ min (length bytes) (length before)) × (after ≡ take n bytes ++ drop n before)
+
+abbrev pub DoesOutput : ServerObject → ℕ → ServerObject → (circuit : ℕ) → (before after : List ℕ) → Type 0
+DoesOutput s n t circuit before after = Shows (output_of (under s.core.circuits (handle_of circuit))) n before after × (t ≡ s)
+
+-- the first bytes that wait were sent; refused by OutOfRange if no so many wait
+abbrev pub DoesSent : ServerObject → ℤ → ServerObject → (circuit count : ℕ) → Type 0
+DoesSent s n t circuit count =
+    ((n ≡ pos 0) × Sends s.core (handle_of circuit) count t.core × KeepsRest s t)
+    ⊎ ((n ≡ refusal_code refusal.OutOfRange) × (length (output_of (under s.core.circuits (handle_of circuit))) < count) × (t ≡ s))
+
+-- the first bytes that are left of the circuit that closed last are handed over
+abbrev pub DoesLeft : ServerObject → ℕ → ServerObject → (before after : List ℕ) → Type 0
+DoesLeft s n t before after = Shows s.left n before after × (t.left ≡ drop n s.left) × (t.core ≡ s.core) × (t.answers ≡ s.answers) × (t.taken ≡ s.taken)
+
+-- the image is that of this value with this metadata
+abbrev pub IsImage : (number count : ℕ) → (image : List ℕ) → Elements → Meta → Type 0
+IsImage number count image value meta = (form : DataType) × (type_number form ≡ number) × Reads form count image value meta
+
+unfoldable pub DoesAdd : ServerObject → ℤ → ServerObject → (name : List ℕ) → (greatest : ℕ) → (slow : Bool) → (number count : ℕ) → (image : List ℕ) → Type 0
+DoesAdd s n t name greatest slow number count image =
+    ((r : Result (Unit {0}) Refusal) × ((value : Elements) × ((meta : Meta) × ((behind : ℕ) × ((n ≡ code_of r) × IsImage number count image value meta
+    × AddsRecord s.core (record { name = name; count = greatest; slow = slow; value = value; meta = unset }) behind r t.core × KeepsRest s t)))))
+    ⊎ ((e : Refusal) × ((n ≡ refusal_code e) × ReadRefused number count image e × (t ≡ s)))
+
+unfoldable pub DoesRemove : ServerObject → ℤ → ServerObject → (name : List ℕ) → Type 0
+DoesRemove s n t name =
+    (r : Result (Unit {0}) Refusal) × ((gone : Handle → Bool) × ((left : Handle → ℕ) × ((n ≡ code_of r) × Removes s.core name gone left r t.core × KeepsRest s t)))
+
+unfoldable pub DoesPost : ServerObject → ℤ → ServerObject → (name : List ℕ) → (mask number count : ℕ) → (image : List ℕ) → Type 0
+DoesPost s n t name mask number count image =
+    ((r : Result (Unit {0}) Refusal) × ((value : Elements) × ((meta : Meta) × ((gone : Handle → Bool) × ((n ≡ code_of r) × IsImage number count image value meta
+    × Posts s.core name (record { value = value; meta = meta }) mask gone r t.core × KeepsRest s t)))))
+    ⊎ ((e : Refusal) × ((n ≡ refusal_code e) × ReadRefused number count image e × (t ≡ s)))
+
+unfoldable pub DoesFinish : ServerObject → ℤ → ServerObject → (name : List ℕ) → Type 0
+DoesFinish s n t name = (r : Result (Unit {0}) Refusal) × ((sent : List (Handle × Fields)) × ((n ≡ code_of r) × Finishes s.core name sent r t.core × KeepsRest s t))
+
+-- the answers to a datagram wait for C, and none of them was taken
+abbrev pub Answered : Result (List (List ℕ)) Refusal → ServerObject → ServerObject → Type 0
+Answered (Ok datagrams) s t = (map (λ d. d.items) t.answers.items ≡ datagrams) × (t.taken ≡ 0) × (t.core ≡ s.core) × (t.left ≡ s.left)
+Answered (Err e) s t = t ≡ s
+
+unfoldable pub DoesDatagram : ServerObject → ℤ → ServerObject → (bytes : List ℕ) → Type 0
+DoesDatagram s n t bytes = (r : Result (List (List ℕ)) Refusal) × ((n ≡ code_of r) × AnswersDatagram s.core bytes r × Answered r s t)
+
+-- bytes that there may be are shown
+abbrev pub ShowsAny : Option (List ℕ) → ℕ → (before after : List ℕ) → Type 0
+ShowsAny (Some bytes) n before after = Shows bytes n before after
+ShowsAny None n before after = (n ≡ 0) × (after ≡ before)
+
+-- the next of the datagrams that answer is handed over, if there is one
+abbrev pub DoesAnswer : ServerObject → ℕ → ServerObject → (before after : List ℕ) → Type 0
+DoesAnswer s n t before after =
+    let next : Option (List ℕ) = option_map (λ d. d.items) (slice_get s.answers.items s.taken) in
+    ShowsAny next n before after × (t ≡ record s { taken = if is_some next then s.taken + 1 else s.taken })
+
+unfoldable pub DoesBeacon : ServerObject → ℕ → ServerObject → (now : ℕ) → (before after : List ℕ) → Type 0
+DoesBeacon s n t now before after = (due : Option (List ℕ)) × (Beacons s.core now due t.core × ShowsAny due n before after × KeepsRest s t)
+
+abbrev pub DoesApplied : ServerObject → ℕ → ServerObject → Type 0
+DoesApplied s n t = (n ≡ s.core.applied) × (t ≡ s)
+
+abbrev pub DoesWaiting : ServerObject → ℕ → ServerObject → Type 0
+DoesWaiting s n t = (n ≡ waiting s.core) × (t ≡ s)
+
+unfoldable pub DoesName : ServerObject → ℕ → ServerObject → (circuit sid : ℕ) → (before after : List ℕ) → Type 0
+DoesName s n t circuit sid before after =
+    (name : Option (List ℕ)) × (NamesUnder (under s.core.circuits (handle_of circuit)) sid name × ShowsAny name n before after × (t ≡ s))

@@ -1,0 +1,40 @@
+-- Vocabulary: what a step tells C, as numbers.
+use Rattle.std.specs.Prelude.{ℕ, ℤ, false, pos, true}
+use Rattle.ca_server_circuit.specs.declared.cause.Cause.{Cause}
+use Rattle.ca_server_circuit.specs.declared.cause.Cause.TheVariants as cause
+use Rattle.ca_server_circuit.specs.declared.effect.Effect.TheVariants.{Busied, Cancelled, Cleared, Created, Queued, Quiet, Refused, Subscribed, Switched, Wrote}
+use Rattle.ca_server_core.specs.declared.stepping.Step.{Step}
+use Rattle.ca_server_core.specs.declared.stepping.Step.TheVariants.{Closed, Handled, NeedBytes, OutputFull}
+use Rattle.ca_c.specs.declared.step.CvzStep.{CvzStep}
+
+abbrev pub step_number : Step → ℤ
+step_number NeedBytes = pos 0
+step_number (Handled did) = pos 1
+step_number OutputFull = pos 2
+step_number (Closed why left) = pos 3
+
+abbrev pub cause_number : Cause → ℕ
+cause_number cause.OutOfMemory = 1
+cause_number cause.Misaligned = 2
+cause_number cause.TooLarge = 3
+cause_number cause.Cut = 4
+
+-- a message that was handled: its effect, and the ids that it has
+abbrev pub handled : (effect sid subscription : ℕ) → CvzStep
+handled effect sid subscription = record { effect = effect; sid = sid; subscription = subscription; cause = 0 }
+
+-- what a step tells beside its number
+abbrev pub told_of : Step → CvzStep
+told_of (Handled Quiet) = handled 0 0 0
+told_of (Handled Wrote) = handled 1 0 0
+told_of (Handled (Busied sid)) = handled 2 sid 0
+told_of (Handled Queued) = handled 3 0 0
+told_of (Handled Refused) = handled 4 0 0
+told_of (Handled (Created sid)) = handled 5 sid 0
+told_of (Handled (Cleared sid)) = handled 6 sid 0
+told_of (Handled (Subscribed sid subscription)) = handled 7 sid subscription
+told_of (Handled (Cancelled sid subscription)) = handled 8 sid subscription
+told_of (Handled (Switched false)) = handled 9 0 0
+told_of (Handled (Switched true)) = handled 10 0 0
+told_of (Closed why left) = record { effect = 0; sid = 0; subscription = 0; cause = cause_number why }
+told_of did = handled 0 0 0

@@ -1,0 +1,55 @@
+//! What a call answers, as numbers: 0 or a refusal, and a handle.
+
+ghost use Rattle.std.specs.Prelude.{◌≡◌, ◌≤◌, ◌++◌, drop, length, min, take};
+ghost use Rattle.ca_c.specs.Answers.{code_of, handle_of, number_of, refusal_code};
+
+use ca_arena::Handle;
+use ca_text::Refusal;
+
+/// The struct has no object.
+pub(crate) const NO_OBJECT: i32 = -100;
+
+/// The number of a refusal, below zero.
+pub(crate) fn refused(refusal: Refusal) -> i32
+    ensures { result ≡ refusal_code refusal }
+{
+    -(refusal.number() as i32)
+}
+
+/// 0, or the number of a refusal.
+pub(crate) fn code(answer: Result<(), Refusal>) -> i32
+    ensures { result ≡ code_of answer }
+{
+    match answer {
+        Ok(()) => 0,
+        Err(refusal) => refused(refusal),
+    }
+}
+
+/// A handle as one number: its generation, and then its index.
+pub(crate) fn number(handle: Handle) -> u64
+    ensures { result ≡ number_of handle }
+{
+    handle.generation as u64 * 65536 + handle.index as u64
+}
+
+/// The handle of a number.
+pub(crate) fn handle(number: u64) -> Handle
+    ensures { result ≡ handle_of number }
+{
+    Handle {
+        index: (number % 65536) as u16,
+        generation: (number / 65536 % 4294967296) as u32,
+    }
+}
+
+/// Copies as many bytes as there is room for, and says how many.
+pub(crate) fn filled(bytes: &[u8], room: &mut [u8]) -> usize
+    ensures there { result ≤ length bytes.now }
+    ensures filled { room.new ≡ take result bytes.now ++ drop result room.old }
+    ensures most { result ≡ min (length bytes.now) (length room.old) }
+{
+    let n = bytes.len().min(room.len());
+    room[..n].copy_from_slice(&bytes[..n]);
+    n
+}

@@ -1,0 +1,373 @@
+//! The server's exports.
+
+ghost use Rattle.std.specs.Prelude.{◌≡◌, None};
+ghost use Rattle.ca_object.specs.Calling.{Calls};
+ghost use Rattle.ca_c.specs.Answers.{no_object};
+ghost use Rattle.ca_c.specs.Servers.{Begins, DoesAccept, DoesAdd, DoesAnswer, DoesApplied, DoesBeacon, DoesCut, DoesDatagram, DoesFinish, DoesGive, DoesLeft, DoesName, DoesOutput, DoesPost, DoesPump, DoesRemove, DoesSent, DoesStamp, DoesStep, DoesWaiting};
+
+use crate::answers::{NO_OBJECT, refused};
+use crate::cvz_server::CvzServer;
+use crate::server_object::ServerObject;
+use crate::step::CvzStep;
+use ca_records::Records;
+use ca_server_core::ServerCore;
+use ca_text::Refusal;
+use ca_wire::Pipe;
+use std::alloc::Global;
+
+/// Makes a server of this TCP port that begins at this moment, with no record. One that the struct had is freed. Refused as OutOfMemory:
+/// then the struct has what it had.
+#[unsafe(no_mangle)]
+pub extern "C" fn cvz_server_new(alloc: Global, server: &mut CvzServer, port: u16, now: u64) -> i32
+    ensures { Begins port now result server.old.value server.new.value }
+{
+    let records = Records::new(alloc);
+    let Ok(core) = ServerCore::new(port, now, &records, Vec::new(alloc)) else {
+        return refused(Refusal::OutOfMemory);
+    };
+    let begun = ServerObject {
+        core,
+        left: Pipe::new(alloc),
+        answers: Vec::new(alloc),
+        taken: 0,
+    };
+    let Ok(object) = Box::new(alloc, begun) else {
+        return refused(Refusal::OutOfMemory);
+    };
+    server.put(alloc, object);
+    0
+}
+
+/// Frees the server, if there is one.
+#[unsafe(no_mangle)]
+pub extern "C" fn cvz_server_free(alloc: Global, server: &mut CvzServer)
+    ensures { server.new.value ≡ None }
+{
+    let _ = server.take(alloc);
+}
+
+/// Opens the end of a circuit that was accepted, and writes its handle. Refused as ArenaFull, then as OutOfMemory.
+#[unsafe(no_mangle)]
+pub extern "C" fn cvz_server_accept(alloc: Global, server: &mut CvzServer, circuit: &mut u64) -> i32
+    ensures call { Calls no_object server.old.value result server.new.value
+        (λ s n t. DoesAccept s n t circuit.old circuit.new) }
+    ensures kept { server.old.value ≡ None → circuit.new ≡ circuit.old }
+{
+    let Some(mut object) = server.take(alloc) else {
+        return NO_OBJECT;
+    };
+    let answer = object.accept(circuit);
+    server.put(alloc, object);
+    answer
+}
+
+/// Takes bytes that came on a circuit. Refused as CircuitClosed if its end is not open, then as OutOfMemory.
+#[unsafe(no_mangle)]
+pub extern "C" fn cvz_server_give(
+    alloc: Global,
+    server: &mut CvzServer,
+    circuit: u64,
+    bytes: &[u8],
+) -> i32
+    ensures { Calls no_object server.old.value result server.new.value
+        (λ s n t. DoesGive s n t circuit bytes.now) }
+{
+    let Some(mut object) = server.take(alloc) else {
+        return NO_OBJECT;
+    };
+    let answer = object.give(circuit, bytes);
+    server.put(alloc, object);
+    answer
+}
+
+/// Handles the next message of a circuit, and tells what it did.
+#[unsafe(no_mangle)]
+pub extern "C" fn cvz_server_step(
+    alloc: Global,
+    server: &mut CvzServer,
+    circuit: u64,
+    told: &mut CvzStep,
+) -> i32
+    ensures call { Calls no_object server.old.value result server.new.value
+        (λ s n t. DoesStep s n t circuit told.new) }
+    ensures kept { server.old.value ≡ None → told.new ≡ told.old }
+{
+    let Some(mut object) = server.take(alloc) else {
+        return NO_OBJECT;
+    };
+    let answer = object.step(circuit, told);
+    server.put(alloc, object);
+    answer
+}
+
+/// Puts updates that wait on a circuit after what waits to be sent.
+#[unsafe(no_mangle)]
+pub extern "C" fn cvz_server_pump(alloc: Global, server: &mut CvzServer, circuit: u64) -> i32
+    ensures { Calls no_object server.old.value result server.new.value
+        (λ s n t. DoesPump s n t circuit) }
+{
+    let Some(mut object) = server.take(alloc) else {
+        return NO_OBJECT;
+    };
+    let answer = object.pump(circuit);
+    server.put(alloc, object);
+    answer
+}
+
+/// Copies bytes that wait to be sent on a circuit, as many as there is room for, and says how many. They wait until `cvz_server_sent`.
+#[unsafe(no_mangle)]
+pub extern "C" fn cvz_server_output(
+    alloc: Global,
+    server: &mut CvzServer,
+    circuit: u64,
+    room: &mut [u8],
+) -> usize
+    ensures call { Calls 0 server.old.value result server.new.value
+        (λ s n t. DoesOutput s n t circuit room.old room.new) }
+    ensures kept { server.old.value ≡ None → room.new ≡ room.old }
+{
+    let Some(object) = server.take(alloc) else {
+        return 0;
+    };
+    let answer = object.output(circuit, room);
+    server.put(alloc, object);
+    answer
+}
+
+/// The first bytes that wait on a circuit were sent. Refused as OutOfRange if fewer wait.
+#[unsafe(no_mangle)]
+pub extern "C" fn cvz_server_sent(
+    alloc: Global,
+    server: &mut CvzServer,
+    circuit: u64,
+    count: usize,
+) -> i32
+    ensures { Calls no_object server.old.value result server.new.value
+        (λ s n t. DoesSent s n t circuit count) }
+{
+    let Some(mut object) = server.take(alloc) else {
+        return NO_OBJECT;
+    };
+    let answer = object.sent(circuit, count);
+    server.put(alloc, object);
+    answer
+}
+
+/// Hands over bytes that are left to be sent on the circuit that a step told closed last.
+#[unsafe(no_mangle)]
+pub extern "C" fn cvz_server_left(alloc: Global, server: &mut CvzServer, room: &mut [u8]) -> usize
+    ensures call { Calls 0 server.old.value result server.new.value
+        (λ s n t. DoesLeft s n t room.old room.new) }
+    ensures kept { server.old.value ≡ None → room.new ≡ room.old }
+{
+    let Some(mut object) = server.take(alloc) else {
+        return 0;
+    };
+    let answer = object.left(room);
+    server.put(alloc, object);
+    answer
+}
+
+/// The caller cuts a circuit. A step tells that it has closed.
+#[unsafe(no_mangle)]
+pub extern "C" fn cvz_server_cut(alloc: Global, server: &mut CvzServer, circuit: u64) -> i32
+    ensures { Calls no_object server.old.value result server.new.value
+        (λ s n t. DoesCut s n t circuit) }
+{
+    let Some(mut object) = server.take(alloc) else {
+        return NO_OBJECT;
+    };
+    let answer = object.cut(circuit);
+    server.put(alloc, object);
+    answer
+}
+
+/// Writes that are applied from now on have this time stamp.
+#[unsafe(no_mangle)]
+pub extern "C" fn cvz_server_stamp(
+    alloc: Global,
+    server: &mut CvzServer,
+    seconds: u32,
+    nanos: u32,
+) -> i32
+    ensures { Calls no_object server.old.value result server.new.value
+        (λ s n t. DoesStamp s n t seconds nanos) }
+{
+    let Some(mut object) = server.take(alloc) else {
+        return NO_OBJECT;
+    };
+    let answer = object.stamp(seconds, nanos);
+    server.put(alloc, object);
+    answer
+}
+
+/// Serves one more record. Its value is an image of this type and count.
+#[unsafe(no_mangle)]
+pub extern "C" fn cvz_server_add(
+    alloc: Global,
+    server: &mut CvzServer,
+    name: &[u8],
+    greatest: u32,
+    slow: bool,
+    number: u16,
+    count: u32,
+    image: &[u8],
+) -> i32
+    ensures { Calls no_object server.old.value result server.new.value
+        (λ s n t. DoesAdd s n t name.now greatest slow number count image.now) }
+{
+    let Some(mut object) = server.take(alloc) else {
+        return NO_OBJECT;
+    };
+    let answer = object.add(alloc, name, greatest, slow, number, count, image);
+    server.put(alloc, object);
+    answer
+}
+
+/// Serves a record no more.
+#[unsafe(no_mangle)]
+pub extern "C" fn cvz_server_remove(alloc: Global, server: &mut CvzServer, name: &[u8]) -> i32
+    ensures { Calls no_object server.old.value result server.new.value
+        (λ s n t. DoesRemove s n t name.now) }
+{
+    let Some(mut object) = server.take(alloc) else {
+        return NO_OBJECT;
+    };
+    let answer = object.remove(name);
+    server.put(alloc, object);
+    answer
+}
+
+/// A record has this value from now on, and it reaches all subscriptions whose mask shares a bit with this one.
+#[unsafe(no_mangle)]
+pub extern "C" fn cvz_server_post(
+    alloc: Global,
+    server: &mut CvzServer,
+    name: &[u8],
+    mask: u16,
+    number: u16,
+    count: u32,
+    image: &[u8],
+) -> i32
+    ensures { Calls no_object server.old.value result server.new.value
+        (λ s n t. DoesPost s n t name.now mask number count image.now) }
+{
+    let Some(mut object) = server.take(alloc) else {
+        return NO_OBJECT;
+    };
+    let answer = object.post(alloc, name, mask, number, count, image);
+    server.put(alloc, object);
+    answer
+}
+
+/// Finishes the busy put of a record.
+#[unsafe(no_mangle)]
+pub extern "C" fn cvz_server_finish(alloc: Global, server: &mut CvzServer, name: &[u8]) -> i32
+    ensures { Calls no_object server.old.value result server.new.value
+        (λ s n t. DoesFinish s n t name.now) }
+{
+    let Some(mut object) = server.take(alloc) else {
+        return NO_OBJECT;
+    };
+    let answer = object.finish(name);
+    server.put(alloc, object);
+    answer
+}
+
+/// Takes a datagram. `cvz_server_answer` has the datagrams that answer it. Refused as OutOfMemory.
+#[unsafe(no_mangle)]
+pub extern "C" fn cvz_server_datagram(alloc: Global, server: &mut CvzServer, bytes: &[u8]) -> i32
+    ensures { Calls no_object server.old.value result server.new.value
+        (λ s n t. DoesDatagram s n t bytes.now) }
+{
+    let Some(mut object) = server.take(alloc) else {
+        return NO_OBJECT;
+    };
+    let answer = object.datagram(bytes);
+    server.put(alloc, object);
+    answer
+}
+
+/// Hands over the next of the datagrams that answer, and says how long it is: 0 once there is none.
+#[unsafe(no_mangle)]
+pub extern "C" fn cvz_server_answer(alloc: Global, server: &mut CvzServer, room: &mut [u8]) -> usize
+    ensures call { Calls 0 server.old.value result server.new.value
+        (λ s n t. DoesAnswer s n t room.old room.new) }
+    ensures kept { server.old.value ≡ None → room.new ≡ room.old }
+{
+    let Some(mut object) = server.take(alloc) else {
+        return 0;
+    };
+    let answer = object.answer(room);
+    server.put(alloc, object);
+    answer
+}
+
+/// The beacon that is due at this moment, once: 16 bytes, or 0 if none is due.
+#[unsafe(no_mangle)]
+pub extern "C" fn cvz_server_beacon(
+    alloc: Global,
+    server: &mut CvzServer,
+    now: u64,
+    room: &mut [u8],
+) -> usize
+    ensures call { Calls 0 server.old.value result server.new.value
+        (λ s n t. DoesBeacon s n t now room.old room.new) }
+    ensures kept { server.old.value ≡ None → room.new ≡ room.old }
+{
+    let Some(mut object) = server.take(alloc) else {
+        return 0;
+    };
+    let answer = object.beacon(now, room);
+    server.put(alloc, object);
+    answer
+}
+
+/// How many writes were applied.
+#[unsafe(no_mangle)]
+pub extern "C" fn cvz_server_applied(alloc: Global, server: &mut CvzServer) -> u64
+    ensures { Calls 0 server.old.value result server.new.value
+        (λ s n t. DoesApplied s n t) }
+{
+    let Some(object) = server.take(alloc) else {
+        return 0;
+    };
+    let answer = object.applied();
+    server.put(alloc, object);
+    answer
+}
+
+/// How many puts wait.
+#[unsafe(no_mangle)]
+pub extern "C" fn cvz_server_waiting(alloc: Global, server: &mut CvzServer) -> u64
+    ensures { Calls 0 server.old.value result server.new.value
+        (λ s n t. DoesWaiting s n t) }
+{
+    let Some(object) = server.take(alloc) else {
+        return 0;
+    };
+    let answer = object.waiting();
+    server.put(alloc, object);
+    answer
+}
+
+/// The name of the record of the open channel of this SID on a circuit, and how long it is: 0 if there is none.
+#[unsafe(no_mangle)]
+pub extern "C" fn cvz_server_name(
+    alloc: Global,
+    server: &mut CvzServer,
+    circuit: u64,
+    sid: u32,
+    room: &mut [u8],
+) -> usize
+    ensures call { Calls 0 server.old.value result server.new.value
+        (λ s n t. DoesName s n t circuit sid room.old room.new) }
+    ensures kept { server.old.value ≡ None → room.new ≡ room.old }
+{
+    let Some(object) = server.take(alloc) else {
+        return 0;
+    };
+    let answer = object.name(circuit, sid, room);
+    server.put(alloc, object);
+    answer
+}

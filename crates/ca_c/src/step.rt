@@ -1,0 +1,89 @@
+//! What a step did, as numbers.
+
+ghost use Rattle.std.specs.Prelude.{◌≡◌};
+ghost use Rattle.ca_c.specs.Steps.{cause_number, handled, step_number, told_of};
+ghost use Rattle.ca_server_core.specs.declared.stepping.Step.TheVariants.{Handled};
+
+use ca_server_core::{Cause, Effect, Step};
+
+/// What a step told beside what it answered.
+#[repr(C)]
+#[derive(Clone, Copy)]
+pub struct CvzStep {
+    /// Of a message that was handled, what it did, as `handled_effect` numbers it; else 0.
+    pub effect: u32,
+    /// The SID of the channel that it did this to, for the effects that have one; else 0.
+    pub sid: u32,
+    /// The client's id of the subscription that began or ended; else 0.
+    pub subscription: u32,
+    /// Why the end has closed: 1 out of memory, 2 misaligned, 3 too large, 4 cut; else 0.
+    pub cause: u32,
+}
+
+/// What a step answers: 0 needs bytes, 1 handled, 2 output full, 3 closed.
+pub(crate) fn step_number(did: &Step) -> i32
+    ensures { result ≡ step_number did.now }
+{
+    match did {
+        Step::NeedBytes => 0,
+        Step::Handled(_) => 1,
+        Step::OutputFull => 2,
+        Step::Closed(_, _) => 3,
+    }
+}
+
+/// What it tells beside that.
+pub(crate) fn told_of(did: &Step) -> CvzStep
+    ensures { result ≡ told_of did.now }
+{
+    match did {
+        Step::Handled(effect) => handled_effect(*effect),
+        Step::Closed(cause, _) => CvzStep {
+            effect: 0,
+            sid: 0,
+            subscription: 0,
+            cause: cause_number(*cause),
+        },
+        _ => handled(0, 0, 0),
+    }
+}
+
+fn handled_effect(effect: Effect) -> CvzStep
+    ensures { result ≡ told_of (Handled effect) }
+{
+    match effect {
+        Effect::Quiet => handled(0, 0, 0),
+        Effect::Wrote => handled(1, 0, 0),
+        Effect::Busied(sid) => handled(2, sid, 0),
+        Effect::Queued => handled(3, 0, 0),
+        Effect::Refused => handled(4, 0, 0),
+        Effect::Created(sid) => handled(5, sid, 0),
+        Effect::Cleared(sid) => handled(6, sid, 0),
+        Effect::Subscribed(sid, subscription) => handled(7, sid, subscription),
+        Effect::Cancelled(sid, subscription) => handled(8, sid, subscription),
+        Effect::Switched(false) => handled(9, 0, 0),
+        Effect::Switched(true) => handled(10, 0, 0),
+    }
+}
+
+fn handled(effect: u32, sid: u32, subscription: u32) -> CvzStep
+    ensures { result ≡ handled effect sid subscription }
+{
+    CvzStep {
+        effect,
+        sid,
+        subscription,
+        cause: 0,
+    }
+}
+
+fn cause_number(cause: Cause) -> u32
+    ensures { result ≡ cause_number cause }
+{
+    match cause {
+        Cause::OutOfMemory => 1,
+        Cause::Misaligned => 2,
+        Cause::TooLarge => 3,
+        Cause::Cut => 4,
+    }
+}

@@ -1,0 +1,204 @@
+/* A server of Channel Access on poll. Clients may read, write and monitor its records: TEMP, and COUNT, which goes up by one each second.
+ *
+ *     cc server.c $(pkg-config --cflags --libs cuvezhin) -o server && ./server 5064
+ *
+ * With port 0 the system chooses one, which is printed. It ends at the end of its standard input. */
+#define _POSIX_C_SOURCE 200809L
+#include <cuvezhin.h>
+
+#include <arpa/inet.h>
+#include <errno.h>
+#include <fcntl.h>
+#include <netinet/in.h>
+#include <poll.h>
+#include <stdio.h>
+#include <stdlib.h>
+#include <string.h>
+#include <sys/socket.h>
+#include <time.h>
+#include <unistd.h>
+
+enum { INPUT, LISTENER, SEARCHES, CIRCUITS, PLACES = 64 };
+
+static struct pollfd polled[PLACES];   /* standard input, the listener, the socket of searches, and circuits */
+static uint64_t circuits[PLACES];      /* the handle of each circuit */
+static nfds_t used = CIRCUITS;
+
+static uint64_t milliseconds(void)
+{
+    struct timespec now;
+    clock_gettime(CLOCK_MONOTONIC, &now);
+    return (uint64_t)now.tv_sec * 1000 + (uint64_t)now.tv_nsec / 1000000;
+}
+
+/* Writes of clients get the time that they came, in seconds since 1990. */
+static void stamp(cvz_server *server)
+{
+    struct timespec now;
+    clock_gettime(CLOCK_REALTIME, &now);
+    cvz_server_stamp(server, (uint32_t)(now.tv_sec - 631152000), (uint32_t)now.tv_nsec);
+}
+
+static int socket_on(int kind, struct sockaddr_in *address)
+{
+    int made = socket(AF_INET, kind, 0), yes = 1;
+    socklen_t size = sizeof *address;
+    setsockopt(made, SOL_SOCKET, SO_REUSEADDR, &yes, sizeof yes);
+    if (made < 0 || bind(made, (struct sockaddr *)address, size) < 0 || getsockname(made, (struct sockaddr *)address, &size) < 0) {
+        perror("server");
+        exit(1);
+    }
+    fcntl(made, F_SETFL, O_NONBLOCK);
+    return made;
+}
+
+/* Posts a LONG with its time. */
+static void post_long(cvz_server *server, const char *name, int32_t value)
+{
+    struct timespec now;
+    uint32_t words[4] = {0};           /* status and severity, seconds, nanoseconds, the value: big-endian */
+    clock_gettime(CLOCK_REALTIME, &now);
+    words[1] = htonl((uint32_t)(now.tv_sec - 631152000));
+    words[2] = htonl((uint32_t)now.tv_nsec);
+    words[3] = htonl((uint32_t)value);
+    cvz_server_post(server, (const uint8_t *)name, strlen(name), CVZ_MASK_VALUE | CVZ_MASK_LOG, CVZ_TIME + CVZ_LONG, 1, (const uint8_t *)words, sizeof words);
+}
+
+/* Sends what waits on a circuit, as far as its socket takes it. False if the circuit was lost. */
+static bool send_all(cvz_server *server, nfds_t at)
+{
+    uint8_t room[65536];
+    size_t size;
+    cvz_server_pump(server, circuits[at]);
+    polled[at].events = POLLIN;
+    while ((size = cvz_server_output(server, circuits[at], room, sizeof room)) > 0) {
+        ssize_t sent = send(polled[at].fd, room, size, MSG_NOSIGNAL);
+        if (sent < 0 && (errno == EAGAIN || errno == EWOULDBLOCK)) {
+            polled[at].events = POLLOUT;
+            return true;
+        }
+        if (sent < 0)
+            return false;
+        cvz_server_sent(server, circuits[at], (size_t)sent);
+        cvz_server_pump(server, circuits[at]);
+    }
+    return true;
+}
+
+/* Reads what came on a circuit, and handles it message by message. False if the circuit has ended. */
+static bool serve(cvz_server *server, nfds_t at)
+{
+    uint8_t bytes[65536];
+    cvz_step did;
+    if (polled[at].revents & (POLLIN | POLLHUP | POLLERR)) {
+        ssize_t size = recv(polled[at].fd, bytes, sizeof bytes, 0);
+        if (size == 0 || (size < 0 && errno != EAGAIN && errno != EWOULDBLOCK))
+            cvz_server_cut(server, circuits[at]);
+        else if (size > 0 && cvz_server_give(server, circuits[at], bytes, (size_t)size) < 0)
+            cvz_server_cut(server, circuits[at]);
+    }
+    stamp(server);
+    for (;;) {
+        switch (cvz_server_step(server, circuits[at], &did)) {
+        case CVZ_HANDLED:
+            break;
+        case CVZ_NEEDS_BYTES:
+            if (!send_all(server, at))
+                cvz_server_cut(server, circuits[at]);
+            else
+                return true;
+            break;
+        case CVZ_STEP_OUTPUT_FULL:
+            if (!send_all(server, at))
+                cvz_server_cut(server, circuits[at]);
+            else if (polled[at].events == POLLOUT)
+                return true;
+            break;
+        default:                       /* CVZ_CLOSED: what is left goes out as far as it does */
+            while (cvz_server_left(server, bytes, sizeof bytes) > 0)
+                continue;
+            return false;
+        }
+    }
+}
+
+/* Answers a search. */
+static void answer(cvz_server *server)
+{
+    uint8_t bytes[65536];
+    struct sockaddr_in from;
+    socklen_t from_size = sizeof from;
+    ssize_t size = recvfrom(polled[SEARCHES].fd, bytes, sizeof bytes, 0, (struct sockaddr *)&from, &from_size);
+    if (size < 0 || cvz_server_datagram(server, bytes, (size_t)size) < 0)
+        return;
+    while ((size = (ssize_t)cvz_server_answer(server, bytes, sizeof bytes)) > 0)
+        sendto(polled[SEARCHES].fd, bytes, (size_t)size, 0, (struct sockaddr *)&from, from_size);
+}
+
+static void accept_one(cvz_server *server)
+{
+    int made = accept(polled[LISTENER].fd, NULL, NULL);
+    if (made < 0)
+        return;
+    fcntl(made, F_SETFL, O_NONBLOCK);
+    if (used == PLACES || cvz_server_accept(server, &circuits[used]) < 0) {
+        close(made);
+        return;
+    }
+    polled[used] = (struct pollfd){.fd = made, .events = POLLIN};
+    used++;
+}
+
+int main(int argc, char **argv)
+{
+    cvz_server server = {0};
+    struct sockaddr_in address = {.sin_family = AF_INET, .sin_port = htons((uint16_t)(argc > 1 ? atoi(argv[1]) : 5064))};
+    const uint8_t temperature[4] = {0, 0, 0, 21}, none[4] = {0};
+    int32_t count = 0;
+    uint64_t next;
+
+    polled[LISTENER] = (struct pollfd){.fd = socket_on(SOCK_STREAM, &address), .events = POLLIN};
+    polled[SEARCHES] = (struct pollfd){.fd = socket_on(SOCK_DGRAM, &address), .events = POLLIN};
+    polled[INPUT] = (struct pollfd){.fd = 0, .events = POLLIN};
+    listen(polled[LISTENER].fd, 16);
+    if (cvz_server_new(&server, ntohs(address.sin_port), milliseconds()) < 0
+        || cvz_server_add(&server, (const uint8_t *)"TEMP", 4, 1, false, CVZ_LONG, 1, temperature, sizeof temperature) < 0
+        || cvz_server_add(&server, (const uint8_t *)"COUNT", 5, 1, false, CVZ_LONG, 1, none, sizeof none) < 0) {
+        fprintf(stderr, "server: out of memory\n");
+        return 1;
+    }
+    printf("serving %d\n", ntohs(address.sin_port));
+    fflush(stdout);
+    next = milliseconds() + 1000;
+    for (;;) {
+        uint64_t now = milliseconds();
+        if (now >= next) {
+            post_long(&server, "COUNT", ++count);
+            next += 1000;
+        }
+        for (nfds_t at = CIRCUITS; at < used; at++)
+            if (polled[at].events == POLLIN && !send_all(&server, at))
+                cvz_server_cut(&server, circuits[at]);
+        poll(polled, used, next > now ? (int)(next - now) : 0);
+        if (polled[INPUT].revents && getchar() == EOF)
+            break;
+        if (polled[LISTENER].revents)
+            accept_one(&server);
+        if (polled[SEARCHES].revents)
+            answer(&server);
+        for (nfds_t at = CIRCUITS; at < used;) {
+            if (polled[at].revents && !serve(&server, at)) {
+                close(polled[at].fd);
+                used--;
+                polled[at] = polled[used];
+                circuits[at] = circuits[used];
+                continue;
+            }
+            at++;
+        }
+    }
+    for (nfds_t at = LISTENER; at < used; at++)
+        close(polled[at].fd);
+    cvz_server_free(&server);
+    return 0;
+}

@@ -1,0 +1,259 @@
+/* Calls of the library, each with the answer that it has to give, worked by hand from the protocol: see tools/library. */
+#include <cuvezhin.h>
+
+#include <stdio.h>
+#include <string.h>
+
+static int passed, failed;
+
+#define IS(what, wanted) is(__LINE__, #what, (int64_t)(what), (int64_t)(wanted))
+#define T(text) (const uint8_t *)(text), sizeof(text) - 1
+
+static void is(int line, const char *what, int64_t was, int64_t wanted)
+{
+    passed += was == wanted;
+    if (was != wanted) {
+        failed++;
+        printf("line %d: %s is %lld, not %lld\n", line, what, (long long)was, (long long)wanted);
+    }
+}
+
+static size_t unhex(const char *text, uint8_t *to)
+{
+    size_t n = 0;
+    unsigned byte;
+    for (; *text; text += *text == ' ')
+        for (; *text && *text != ' ' && sscanf(text, "%2x", &byte) == 1; text += 2)
+            to[n++] = (uint8_t)byte;
+    return n;
+}
+
+static void bytes_are(int line, const uint8_t *was, size_t size, const char *wanted)
+{
+    uint8_t those[4096];
+    size_t n = unhex(wanted, those);
+    if (n == size && memcmp(was, those, n) == 0) {
+        passed++;
+        return;
+    }
+    failed++;
+    printf("line %d: the bytes are", line);
+    for (size_t i = 0; i < size; i++)
+        printf("%s%02x", i % 4 ? "" : " ", was[i]);
+    printf("\nand not %s\n", wanted);
+}
+
+/* What waits on the circuit is this, and is sent. */
+#define OUTPUT(circuit, wanted) do { \
+    size_t size = cvz_server_output(&server, circuit, room, sizeof room); \
+    bytes_are(__LINE__, room, size, wanted); \
+    IS(cvz_server_sent(&server, circuit, size), 0); \
+} while (0)
+
+/* The next message is handled, and does this. */
+#define STEP(circuit, wanted, channel, of_client) do { \
+    cvz_step handled; \
+    IS(cvz_server_step(&server, circuit, &handled), CVZ_HANDLED); \
+    IS(handled.effect, wanted); \
+    IS(handled.sid, channel); \
+    IS(handled.subscription, of_client); \
+    IS(handled.cause, 0); \
+} while (0)
+
+static cvz_server server;
+static uint8_t room[4096];
+
+static void give(uint64_t circuit, const char *text)
+{
+    uint8_t bytes[4096];
+    IS(cvz_server_give(&server, circuit, bytes, unhex(text, bytes)), 0);
+}
+
+/* Each call on a struct that has no object. */
+static void nothing_is_there(void)
+{
+    cvz_step did = {7, 7, 7, 7};
+    uint64_t circuit = 7;
+    uint8_t image[4] = {0};
+    IS(cvz_server_accept(&server, &circuit), CVZ_NO_OBJECT);
+    IS(circuit, 7);
+    IS(cvz_server_give(&server, 65536, image, 4), CVZ_NO_OBJECT);
+    IS(cvz_server_step(&server, 65536, &did), CVZ_NO_OBJECT);
+    IS(did.effect == 7 && did.sid == 7 && did.subscription == 7 && did.cause == 7, 1);
+    IS(cvz_server_pump(&server, 65536), CVZ_NO_OBJECT);
+    IS(cvz_server_output(&server, 65536, room, sizeof room), 0);
+    IS(cvz_server_sent(&server, 65536, 0), CVZ_NO_OBJECT);
+    IS(cvz_server_left(&server, room, sizeof room), 0);
+    IS(cvz_server_cut(&server, 65536), CVZ_NO_OBJECT);
+    IS(cvz_server_stamp(&server, 1, 2), CVZ_NO_OBJECT);
+    IS(cvz_server_add(&server, T("TEMP"), 1, false, CVZ_LONG, 1, image, 4), CVZ_NO_OBJECT);
+    IS(cvz_server_remove(&server, T("TEMP")), CVZ_NO_OBJECT);
+    IS(cvz_server_post(&server, T("TEMP"), 1, CVZ_LONG, 1, image, 4), CVZ_NO_OBJECT);
+    IS(cvz_server_finish(&server, T("TEMP")), CVZ_NO_OBJECT);
+    IS(cvz_server_datagram(&server, image, 4), CVZ_NO_OBJECT);
+    IS(cvz_server_answer(&server, room, sizeof room), 0);
+    IS(cvz_server_beacon(&server, 1, room, sizeof room), 0);
+    IS(cvz_server_applied(&server), 0);
+    IS(cvz_server_waiting(&server), 0);
+    IS(cvz_server_name(&server, 65536, 65536, room, sizeof room), 0);
+}
+
+static void records(void)
+{
+    uint8_t image[16] = {0, 0, 0, 21};
+    IS(cvz_server_add(&server, T("TEMP"), 1, false, CVZ_LONG, 1, image, 4), 0);
+    IS(cvz_server_add(&server, T("TEMP"), 1, false, CVZ_LONG, 1, image, 4), CVZ_RECORD_EXISTS);
+    IS(cvz_server_add(&server, T("SLOW"), 1, true, CVZ_LONG, 1, image, 4), 0);
+    IS(cvz_server_add(&server, T(""), 1, false, CVZ_LONG, 1, image, 4), CVZ_NAME_LENGTH);
+    IS(cvz_server_add(&server, T("NONE"), 1, false, 99, 1, image, 4), CVZ_BAD_TYPE);
+    IS(cvz_server_add(&server, T("NONE"), 1, false, CVZ_DOUBLE, 1, image, 7), CVZ_SHORT);
+    IS(cvz_server_add(&server, T("NONE"), 1, false, CVZ_LONG, 2, image, 8), CVZ_BAD_COUNT);
+    IS(cvz_server_post(&server, T("NONE"), 1, CVZ_LONG, 1, image, 4), CVZ_UNKNOWN_RECORD);
+    IS(cvz_server_post(&server, T("TEMP"), 1, CVZ_DOUBLE, 1, image, 8), CVZ_BAD_TYPE);
+    IS(cvz_server_finish(&server, T("NONE")), CVZ_UNKNOWN_RECORD);
+    IS(cvz_server_finish(&server, T("SLOW")), CVZ_NOT_BUSY);
+    IS(cvz_server_remove(&server, T("NONE")), CVZ_UNKNOWN_RECORD);
+}
+
+/* VERSION, CREATE_CHAN of TEMP under CID 65536, and READ_NOTIFY: its rights are 3, and its value is 21. */
+static void reads(uint64_t circuit)
+{
+    cvz_step did;
+    give(circuit, "00000000 0000000d 00000000 00000000  00120008 00000000 00010000 0000000d 54454d50 00000000");
+    give(circuit, "000f0000 00050001 00010000 00000001");
+    STEP(circuit, CVZ_QUIET, 0, 0);
+    STEP(circuit, CVZ_CREATED, 65536, 0);
+    STEP(circuit, CVZ_QUIET, 0, 0);
+    IS(cvz_server_step(&server, circuit, &did), CVZ_NEEDS_BYTES);
+    IS(cvz_server_sent(&server, circuit, 4096), CVZ_OUT_OF_RANGE);
+    OUTPUT(circuit, "00000000 0000000d 00000000 00000000  00160000 00000000 00010000 00000003  00120000 00050001 00010000 00010000"
+                    "  000f0008 00050001 00000001 00000001 00000015 00000000");
+    IS(cvz_server_output(&server, circuit, room, sizeof room), 0);
+    IS(cvz_server_name(&server, circuit, 65536, room, sizeof room), 4);
+    IS(memcmp(room, "TEMP", 4), 0);
+    IS(cvz_server_name(&server, circuit, 65537, room, sizeof room), 0);
+}
+
+/* EVENT_ADD, a post, WRITE_NOTIFY of 22 to TEMP, which is quick, and of 23 to SLOW. */
+static void writes(uint64_t circuit)
+{
+    const uint8_t image[16] = {0, 0, 0, 0, 0, 0, 0, 5, 0, 0, 0, 6, 0, 0, 0, 30};
+    give(circuit, "00010010 00050001 00010000 00000009 00000000 00000000 00000000 00010000");
+    STEP(circuit, CVZ_SUBSCRIBED, 65536, 9);
+    IS(cvz_server_pump(&server, circuit), 0);
+    OUTPUT(circuit, "00010008 00050001 00000001 00000009 00000015 00000000");
+    IS(cvz_server_post(&server, T("TEMP"), CVZ_MASK_LOG, CVZ_TIME + CVZ_LONG, 1, image, 16), 0);
+    IS(cvz_server_pump(&server, circuit), 0);
+    OUTPUT(circuit, "");
+    IS(cvz_server_post(&server, T("TEMP"), CVZ_MASK_VALUE, CVZ_TIME + CVZ_LONG, 1, image, 16), 0);
+    OUTPUT(circuit, "");
+    IS(cvz_server_pump(&server, circuit), 0);
+    OUTPUT(circuit, "00010008 00050001 00000001 00000009 0000001e 00000000");
+    IS(cvz_server_stamp(&server, 5, 6), 0);
+    give(circuit, "00130008 00050001 00010000 00000007 00000016 00000000");
+    STEP(circuit, CVZ_WROTE, 0, 0);
+    IS(cvz_server_pump(&server, circuit), 0);
+    OUTPUT(circuit, "00130000 00050001 00000001 00000007  00010008 00050001 00000001 00000009 00000016 00000000");
+    IS(cvz_server_applied(&server), 1);
+    give(circuit, "00120008 00000000 00010001 0000000d 534c4f57 00000000  00130008 00050001 00010001 00000008 00000017 00000000");
+    STEP(circuit, CVZ_CREATED, 65537, 0);
+    STEP(circuit, CVZ_BUSIED, 65537, 0);
+    OUTPUT(circuit, "00160000 00000000 00010001 00000003  00120000 00050001 00010001 00010001");
+    give(circuit, "00130008 00050001 00010001 0000000a 00000018 00000000");
+    STEP(circuit, CVZ_QUEUED, 0, 0);
+    IS(cvz_server_waiting(&server), 1);
+    IS(cvz_server_applied(&server), 2);
+    IS(cvz_server_finish(&server, T("SLOW")), 0);
+    OUTPUT(circuit, "00130000 00050001 00000001 00000008");
+    IS(cvz_server_applied(&server), 3);
+    IS(cvz_server_finish(&server, T("SLOW")), 0);
+    IS(cvz_server_finish(&server, T("SLOW")), CVZ_NOT_BUSY);
+    OUTPUT(circuit, "00130000 00050001 00000001 0000000a");
+}
+
+/* On a circuit of its own: CREATE_CHAN of TEMP, and of a record that is not served, EVENT_ADD, EVENTS_OFF, EVENTS_ON, EVENT_CANCEL and CLEAR_CHANNEL. */
+static void effects(void)
+{
+    uint64_t circuit;
+    IS(cvz_server_accept(&server, &circuit), 0);
+    give(circuit, "00120008 00000000 00000001 0000000d 54454d50 00000000  00120008 00000000 00000002 0000000d 4e4f4e45 00000000");
+    give(circuit, "00010010 00050001 00010000 0000000b 00000000 00000000 00000000 00010000  00080000 00000000 00000000 00000000");
+    give(circuit, "00090000 00000000 00000000 00000000  00020000 00050001 00010000 0000000b  000c0000 00000000 00010000 00000001");
+    STEP(circuit, CVZ_CREATED, 65536, 0);
+    STEP(circuit, CVZ_REFUSED, 0, 0);
+    STEP(circuit, CVZ_SUBSCRIBED, 65536, 11);
+    STEP(circuit, CVZ_EVENTS_OFF, 0, 0);
+    STEP(circuit, CVZ_EVENTS_ON, 0, 0);
+    STEP(circuit, CVZ_CANCELLED, 65536, 11);
+    STEP(circuit, CVZ_CLEARED, 65536, 0);
+}
+
+/* A search for TEMP, and one for a record that is not served; and beacons. */
+static void datagrams(void)
+{
+    uint8_t bytes[64];
+    IS(cvz_server_datagram(&server, bytes, unhex("00060008 0005000d 00000003 00000003 54454d50 00000000", bytes)), 0);
+    bytes_are(__LINE__, room, cvz_server_answer(&server, room, sizeof room),
+              "00000000 0000000d 00000000 00000000  00060008 13c80000 ffffffff 00000003 000d0000 00000000");
+    IS(cvz_server_answer(&server, room, sizeof room), 0);
+    IS(cvz_server_datagram(&server, bytes, unhex("00060008 0005000d 00000003 00000003 4e4f4e45 00000000", bytes)), 0);
+    IS(cvz_server_answer(&server, room, sizeof room), 0);
+    bytes_are(__LINE__, room, cvz_server_beacon(&server, 1000, room, sizeof room), "000d0000 000d13c8 00000000 00000000");
+    IS(cvz_server_beacon(&server, 1000, room, sizeof room), 0);
+}
+
+/* A record goes, a message breaks a circuit, a circuit is cut; and the handles that are old then. */
+static void ends(uint64_t circuit)
+{
+    cvz_step did;
+    uint64_t other, next;
+    uint8_t byte = 0;
+    IS(cvz_server_remove(&server, T("TEMP")), 0);
+    OUTPUT(circuit, "001b0000 00000000 00010000 00000000");
+    IS(cvz_server_accept(&server, &other), 0);
+    IS(cvz_server_cut(&server, other), 0);
+    IS(cvz_server_give(&server, other, &byte, 1), CVZ_CIRCUIT_CLOSED);
+    IS(cvz_server_step(&server, other, &did), CVZ_CLOSED);
+    IS(did.cause, CVZ_CAUSE_CUT);
+    give(circuit, "00170000 00000000 00000000 00000000  00170001 00000000 00000000 00000000");
+    IS(cvz_server_step(&server, circuit, &did), CVZ_HANDLED);
+    IS(cvz_server_step(&server, circuit, &did), CVZ_CLOSED);
+    IS(did.cause, CVZ_CAUSE_MISALIGNED);
+    IS(cvz_server_left(&server, room, 6), 6);
+    bytes_are(__LINE__, room, 6, "00170000 0000");
+    IS(cvz_server_left(&server, room, sizeof room), 10);
+    IS(cvz_server_left(&server, room, sizeof room), 0);
+    IS(cvz_server_step(&server, circuit, &did), CVZ_CLOSED);
+    IS(did.cause, CVZ_CAUSE_CUT);
+    IS(cvz_server_give(&server, circuit, &byte, 1), CVZ_CIRCUIT_CLOSED);
+    IS(cvz_server_output(&server, circuit, room, sizeof room), 0);
+    IS(cvz_server_sent(&server, circuit, 1), CVZ_OUT_OF_RANGE);
+    IS(cvz_server_accept(&server, &next), 0);
+    IS(next != circuit && next != other, 1);
+    IS(cvz_server_step(&server, UINT64_MAX, &did), CVZ_CLOSED);
+    IS(cvz_server_pump(&server, UINT64_MAX), 0);
+    IS(cvz_server_cut(&server, 0), 0);
+}
+
+int main(void)
+{
+    uint64_t circuit = 0;
+    IS(cvz_version(), CVZ_VERSION_MAJOR * 65536 + CVZ_VERSION_MINOR);
+    nothing_is_there();
+    cvz_server_free(&server);
+    IS(cvz_server_new(&server, 5064, 1000), 0);
+    records();
+    IS(cvz_server_accept(&server, &circuit), 0);
+    reads(circuit);
+    writes(circuit);
+    effects();
+    datagrams();
+    ends(circuit);
+    IS(cvz_server_new(&server, 5065, 0), 0);
+    IS(cvz_server_applied(&server), 0);
+    cvz_server_free(&server);
+    cvz_server_free(&server);
+    nothing_is_there();
+    printf("%d passed, %d failed\n", passed, failed);
+    return failed != 0;
+}
