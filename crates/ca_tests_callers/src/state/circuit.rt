@@ -1,6 +1,6 @@
 //! A circuit whose socket is in memory.
 use ca_arena::Handle;
-use ca_client::{Ask, Desk, Tape};
+use ca_client::{Ask, ClientState, Tape, step_under_lock, turn_over};
 use ca_client_core::Address;
 use ca_text::Refusal;
 use std::alloc::Global;
@@ -38,34 +38,30 @@ pub(crate) fn memory(alloc: Global) -> Result<Tape, Refusal> {
 }
 
 /// The channel is found, and its circuit connected over this socket.
-pub(crate) fn live(desk: &mut Desk, tape: &mut Tape) -> Result<Handle, Refusal> {
-    desk.datagram(0, SERVER, &FOUND[..])?;
-    let circuit = wanted(desk)?;
-    step(desk, Ask::Connect(circuit));
-    turn(desk, circuit, tape);
+pub(crate) fn live(state: &mut ClientState, tape: &mut Tape) -> Result<Handle, Refusal> {
+    state.datagram(0, SERVER, &FOUND[..])?;
+    let circuit = wanted(state)?;
+    step_under_lock(state, Ask::Connect(circuit));
+    turn(state, circuit, tape);
     for _ in 0..3 {
-        step(desk, Ask::Step(circuit));
+        step_under_lock(state, Ask::Step(circuit));
     }
     Ok(circuit)
 }
 
 /// The first circuit that is wanted.
-fn wanted(desk: &Desk) -> Result<Handle, Refusal> {
-    let wanted = desk.wanted()?;
+fn wanted(state: &ClientState) -> Result<Handle, Refusal> {
+    let wanted = state.core().wanted()?;
     match wanted.first() {
         Some(first) => Ok(first.circuit),
         None => Err(Refusal::NotLive),
     }
 }
 
-pub(crate) fn step(desk: &mut Desk, ask: Ask) {
-    desk.step(ask);
-}
-
 /// Moves bytes between a circuit and its socket. Whether the circuit goes on.
-pub(crate) fn turn(desk: &mut Desk, circuit: Handle, tape: &mut Tape) -> bool {
+pub(crate) fn turn(state: &mut ClientState, circuit: Handle, tape: &mut Tape) -> bool {
     if tape.failed > 0 {
         return false;
     }
-    desk.turn(circuit, tape).is_none()
+    turn_over(state, circuit, tape).is_none()
 }

@@ -7,66 +7,66 @@ mod faults;
 pub(crate) mod growths;
 mod requests;
 
-use crate::desk::circuit::{live, memory, turn};
-use crate::desk::faults::{lost, lost_at};
-use crate::desk::requests::{Requests, accepted, answered, make_requests, refused_as};
+use crate::state::circuit::{live, memory, turn};
+use crate::state::faults::{lost, lost_at};
+use crate::state::requests::{Requests, accepted, answered, make_requests, refused_as};
 use crate::tell;
 use ca_board::Ticket;
-use ca_client::{Caller, Desk};
+use ca_client::{Caller, ClientState};
 use ca_client_core::Address;
 use ca_text::Refusal;
 use std::alloc::Global;
 use std::io::Write;
 
 pub(crate) fn show<W: Write>(alloc: Global, out: &mut W) -> Result<(), Refusal> {
-    let mut desk = new_desk(alloc)?;
-    show_all(alloc, &mut desk, out)
+    let mut state = new_state(alloc)?;
+    show_all(alloc, &mut state, out)
 }
 
-fn new_desk(alloc: Global) -> Result<Desk, Refusal> {
+fn new_state(alloc: Global) -> Result<ClientState, Refusal> {
     let user = Vec::from_slice(alloc, b"ca")?;
     let host = Vec::from_slice(alloc, b"localhost")?;
     let servers: Vec<Address> = Vec::new(alloc);
-    Desk::new(alloc, user, host, servers, &[], 0)
+    ClientState::new(alloc, user, host, servers, &[], 0)
 }
 
-fn show_all<W: Write>(alloc: Global, desk: &mut Desk, out: &mut W) -> Result<(), Refusal> {
-    let channel = desk.open(b"TEMP", 0, 0)?;
+fn show_all<W: Write>(alloc: Global, state: &mut ClientState, out: &mut W) -> Result<(), Refusal> {
+    let channel = state.open(b"TEMP", 0, 0)?;
     let requests = make_requests(alloc, channel)?;
-    let mut caller = desk.caller()?;
-    show_cells(alloc, desk, &mut caller, &requests, out)?;
-    show_faults(alloc, desk, &mut caller, &requests, out)
+    let mut caller = state.caller()?;
+    show_cells(alloc, state, &mut caller, &requests, out)?;
+    show_faults(alloc, state, &mut caller, &requests, out)
 }
 
 /// More requests than the board has cells complete, and more are refused by the core; then all cells can be in use, and the board refuses.
 fn show_cells<W: Write>(
     alloc: Global,
-    desk: &mut Desk,
+    state: &mut ClientState,
     caller: &mut Caller,
     requests: &Requests,
     out: &mut W,
 ) -> Result<(), Refusal> {
     let mut tape = memory(alloc)?;
-    let circuit = live(desk, &mut tape)?;
-    let done = answered(desk, caller, &requests.put, circuit, &mut tape)?;
+    let circuit = live(state, &mut tape)?;
+    let done = answered(state, caller, &requests.put, circuit, &mut tape)?;
     say(out, "answered", done)?;
-    say(out, "refused as 10", refused_as(desk, &requests.stale, 10))?;
-    let tickets = all_cells(alloc, desk, requests, out)?;
+    say(out, "refused as 10", refused_as(state, &requests.stale, 10))?;
+    let tickets = all_cells(alloc, state, requests, out)?;
     tape.calls_left = 0;
-    turn(desk, circuit, &mut tape);
+    turn(state, circuit, &mut tape);
     say(out, "lost", lost(caller, &tickets))
 }
 
 /// As many requests as there are cells.
 fn all_cells<W: Write>(
     alloc: Global,
-    desk: &mut Desk,
+    state: &mut ClientState,
     requests: &Requests,
     out: &mut W,
 ) -> Result<Vec<Ticket>, Refusal> {
-    let tickets = accepted(alloc, desk, &requests.read)?;
+    let tickets = accepted(alloc, state, &requests.read)?;
     say(out, "outstanding", tickets.len())?;
-    say(out, "refused as 24", refused_as(desk, &requests.stale, 24))?;
+    say(out, "refused as 24", refused_as(state, &requests.stale, 24))?;
     Ok(tickets)
 }
 
@@ -74,14 +74,14 @@ fn all_cells<W: Write>(
 /// calls as a turn can, which are one write and eight reads.
 fn show_faults<W: Write>(
     alloc: Global,
-    desk: &mut Desk,
+    state: &mut ClientState,
     caller: &mut Caller,
     requests: &Requests,
     out: &mut W,
 ) -> Result<(), Refusal> {
     for (versions, most) in [(0, 8u64), (8 * 256, 10)] {
         for calls in 0..most {
-            let lost = lost_at(alloc, desk, caller, requests, versions, calls)?;
+            let lost = lost_at(alloc, state, caller, requests, versions, calls)?;
             say(out, "lost", lost)?;
         }
     }

@@ -1,9 +1,9 @@
 //! A socket that fails.
-use crate::desk::circuit::{VERSION, live, memory, turn};
-use crate::desk::requests::Requests;
+use crate::state::circuit::{VERSION, live, memory, turn};
+use crate::state::requests::Requests;
 use ca_arena::Handle;
 use ca_board::Ticket;
-use ca_client::{Caller, Desk, Tape};
+use ca_client::{Caller, ClientState, Tape, issue_under_lock};
 use ca_dbr::Outcome;
 use ca_text::Refusal;
 use std::alloc::Global;
@@ -12,34 +12,34 @@ use std::alloc::Global;
 /// then.
 pub(crate) fn lost_at(
     alloc: Global,
-    desk: &mut Desk,
+    state: &mut ClientState,
     caller: &mut Caller,
     requests: &Requests,
     versions: usize,
     calls: u64,
 ) -> Result<usize, Refusal> {
     let mut tape = memory(alloc)?;
-    let circuit = live(desk, &mut tape)?;
+    let circuit = live(state, &mut tape)?;
     for _ in 0..versions {
         tape.incoming.extend_from_slice(&VERSION[..])?;
     }
     tape.calls_left = calls;
-    let tickets = made_until_cut(alloc, desk, requests, circuit, &mut tape)?;
+    let tickets = made_until_cut(alloc, state, requests, circuit, &mut tape)?;
     Ok(lost(caller, &tickets))
 }
 
 /// A read and a put before each turn, until the circuit is cut, for so many turns at most.
 fn made_until_cut(
     alloc: Global,
-    desk: &mut Desk,
+    state: &mut ClientState,
     requests: &Requests,
     circuit: Handle,
     tape: &mut Tape,
 ) -> Result<Vec<Ticket>, Refusal> {
     let mut tickets = Vec::new(alloc);
     for _ in 0..20 {
-        make_both(desk, requests, &mut tickets)?;
-        if !turn(desk, circuit, tape) {
+        make_both(state, requests, &mut tickets)?;
+        if !turn(state, circuit, tape) {
             return Ok(tickets);
         }
     }
@@ -47,13 +47,13 @@ fn made_until_cut(
 }
 
 fn make_both(
-    desk: &mut Desk,
+    state: &mut ClientState,
     requests: &Requests,
     tickets: &mut Vec<Ticket>,
 ) -> Result<(), Refusal> {
-    let (_, first) = desk.issue(&requests.read)?;
+    let (_, first) = issue_under_lock(state, &requests.read)?;
     tickets.push(first)?;
-    let (_, second) = desk.issue(&requests.put)?;
+    let (_, second) = issue_under_lock(state, &requests.put)?;
     tickets.push(second)?;
     Ok(())
 }

@@ -1,21 +1,24 @@
-//! A desk's calls where a growth is refused: one that is refused changes nothing, and is made again; or a circuit ends, which takes its requests with it, and is
+//! A state's calls where a growth is refused: one that is refused changes nothing, and is made again; or a circuit ends, which takes its requests with it, and is
 //! made again. `tools/hostile` refuses each growth in turn.
-use crate::desk::circuit::{FOUND, SERVER, memory};
-use crate::desk::faults::is_lost;
-use crate::desk::new_desk;
-use crate::desk::requests::{MANY, Requests, done_reply, is_done, make_requests};
+use crate::state::circuit::{FOUND, SERVER, memory};
+use crate::state::faults::is_lost;
+use crate::state::new_state;
+use crate::state::requests::{MANY, Requests, done_reply, is_done, make_requests};
 use ca_arena::Handle;
-use ca_client::{Answer, Ask, Caller, Desk, Request, Tape, Told};
+use ca_client::{
+    Answer, Ask, Caller, ClientState, Request, Tape, Told, issue_under_lock, step_under_lock,
+    turn_over,
+};
 use ca_client_core::Notice;
 use ca_dbr::{Outcome, Value};
 use ca_text::{BOARD_CELLS, Mask, Refusal};
 use std::alloc::Global;
 use std::io::Write;
 
-/// A desk with a channel, and what came of growths that were refused.
+/// A state with a channel, and what came of growths that were refused.
 #[derive(Drop)]
 struct Course {
-    desk: Desk,
+    state: ClientState,
     caller: Caller,
     channel: Handle,
     requests: Requests,
@@ -53,12 +56,12 @@ fn say<W: Write>(out: &mut W, what: &str, count: u64) -> Result<(), Refusal> {
 }
 
 fn begun(alloc: Global) -> Result<Course, Refusal> {
-    let mut desk = new_desk(alloc)?;
-    let caller = desk.caller()?;
-    let channel = desk.open(b"TEMP", 0, 0)?;
+    let mut state = new_state(alloc)?;
+    let caller = state.caller()?;
+    let channel = state.open(b"TEMP", 0, 0)?;
     let requests = make_requests(alloc, channel)?;
     Ok(Course {
-        desk,
+        state,
         caller,
         channel,
         requests,
@@ -70,15 +73,15 @@ fn begun(alloc: Global) -> Result<Course, Refusal> {
 }
 
 /// A call, which is made again if there was no memory for it.
-fn twice<T: Drop, F: Fn(&mut Desk) -> Result<T, Refusal>>(
-    desk: &mut Desk,
+fn twice<T: Drop, F: Fn(&mut ClientState) -> Result<T, Refusal>>(
+    state: &mut ClientState,
     refused: &mut u64,
     call: F,
 ) -> Result<T, Refusal> {
-    match call(desk) {
+    match call(state) {
         Err(Refusal::OutOfMemory) => {
             *refused += 1;
-            call(desk)
+            call(state)
         }
         done => done,
     }
@@ -98,9 +101,9 @@ impl Course {
     /// it went on until then.
     fn round(&mut self, tape: &mut Tape) -> Result<bool, Refusal> {
         twice(
-            &mut self.desk,
+            &mut self.state,
             &mut self.refused,
-            |desk| desk.datagram(0, SERVER, &FOUND[..]),
+            |state| state.datagram(0, SERVER, &FOUND[..]),
         )?;
         let Some(circuit) = self.connected()? else {
             return Ok(false);
@@ -112,18 +115,22 @@ impl Course {
             && self.watches(circuit, tape)?;
         if goes_on {
             self.fill_cells()?;
-            self.desk.step(Ask::Cut(circuit));
+            step_under_lock(&mut self.state, Ask::Cut(circuit));
         }
         Ok(goes_on)
     }
 
     fn connected(&mut self) -> Result<Option<Handle>, Refusal> {
-        let wanted = twice(&mut self.desk, &mut self.refused, |desk| Ok(desk.wanted()?))?;
+        let wanted = twice(
+            &mut self.state,
+            &mut self.refused,
+            |state| Ok(state.core().wanted()?),
+        )?;
         let Some(first) = wanted.first() else {
             return Err(Refusal::BadEvent);
         };
         let circuit = first.circuit;
-        match self.desk.step(Ask::Connect(circuit)) {
+        match step_under_lock(&mut self.state, Ask::Connect(circuit)) {
             Answer::Connected => Ok(Some(circuit)),
             _ => {
                 self.ended += 1;
@@ -141,10 +148,10 @@ impl Course {
 
     /// Moves all bytes, and steps until no message is there. Whether the circuit goes on.
     fn moves(&mut self, circuit: Handle, tape: &mut Tape) -> bool {
-        let mut goes_on = self.desk.turn(circuit, tape).is_none();
+        let mut goes_on = turn_over(&mut self.state, circuit, tape).is_none();
         let mut is_over = !goes_on;
         while !is_over {
-            match self.desk.step(Ask::Step(circuit)) {
+            match step_under_lock(&mut self.state, Ask::Step(circuit)) {
                 Answer::Notices(told) => self.hear(told),
                 Answer::Filled => {}
                 Answer::NeedBytes => is_over = true,
@@ -177,7 +184,11 @@ impl Course {
 
     fn reads(&mut self, circuit: Handle, tape: &mut Tape) -> Result<bool, Refusal> {
         let read = &self.requests.read;
-        let (request, ticket) = twice(&mut self.desk, &mut self.refused, |desk| desk.issue(read))?;
+        let (request, ticket) = twice(
+            &mut self.state,
+            &mut self.refused,
+            |state| issue_under_lock(state, read),
+        )?;
         tape.incoming.extend_from_slice(&read_reply(request))?;
         let goes_on = self.moves(circuit, tape);
         let outcome = self.caller.collect(ticket);
@@ -192,7 +203,11 @@ impl Course {
 
     fn puts(&mut self, circuit: Handle, tape: &mut Tape) -> Result<bool, Refusal> {
         let put = &self.requests.put;
-        let (request, ticket) = twice(&mut self.desk, &mut self.refused, |desk| desk.issue(put))?;
+        let (request, ticket) = twice(
+            &mut self.state,
+            &mut self.refused,
+            |state| issue_under_lock(state, put),
+        )?;
         tape.incoming.extend_from_slice(&done_reply(request))?;
         let goes_on = self.moves(circuit, tape);
         let outcome = self.caller.collect(ticket);
@@ -211,9 +226,9 @@ impl Course {
             return Err(Refusal::BadEvent);
         };
         twice(
-            &mut self.desk,
+            &mut self.state,
             &mut self.refused,
-            |desk| desk.write(channel, value),
+            |state| state.write(channel, value),
         )?;
         Ok(self.moves(circuit, tape))
     }
@@ -224,18 +239,18 @@ impl Course {
             return Err(Refusal::BadEvent);
         };
         let subscription = twice(
-            &mut self.desk,
+            &mut self.state,
             &mut self.refused,
-            |desk| desk.subscribe(channel, 5, 1, mask),
+            |state| state.subscribe(channel, 5, 1, mask),
         )?;
         tape.incoming.extend_from_slice(&update(subscription))?;
         let before = self.updates;
         let goes_on = self.moves(circuit, tape);
         is_due(!goes_on || self.updates == before + 1)?;
         twice(
-            &mut self.desk,
+            &mut self.state,
             &mut self.refused,
-            |desk| desk.unsubscribe(subscription),
+            |state| state.unsubscribe(subscription),
         )?;
         Ok(goes_on)
     }
@@ -245,7 +260,11 @@ impl Course {
         let read = &self.requests.read;
         let mut accepted = 0usize;
         for _ in 0..MANY {
-            match twice(&mut self.desk, &mut self.refused, |desk| desk.issue(read)) {
+            match twice(
+                &mut self.state,
+                &mut self.refused,
+                |state| issue_under_lock(state, read),
+            ) {
                 Ok(_) => accepted += 1,
                 Err(refusal) => is_due(refusal == Refusal::NoCell)?,
             }
@@ -257,14 +276,14 @@ impl Course {
     fn finish(&mut self) -> Result<(), Refusal> {
         let channel = self.channel;
         twice(
-            &mut self.desk,
+            &mut self.state,
             &mut self.refused,
-            |desk| accepted(desk.step(Ask::Tick(1_000))),
+            |state| accepted(step_under_lock(state, Ask::Tick(1_000))),
         )?;
         twice(
-            &mut self.desk,
+            &mut self.state,
             &mut self.refused,
-            |desk| accepted(desk.step(Ask::Clear(channel))),
+            |state| accepted(step_under_lock(state, Ask::Clear(channel))),
         )?;
         is_due(self.refused + self.ended <= 1)
     }

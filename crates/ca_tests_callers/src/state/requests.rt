@@ -1,8 +1,8 @@
 //! Requests, by the cells that they use.
-use crate::desk::circuit::{step, turn};
+use crate::state::circuit::turn;
 use ca_arena::Handle;
 use ca_board::Ticket;
-use ca_client::{Ask, Caller, Desk, Request, Tape};
+use ca_client::{Ask, Caller, ClientState, Request, Tape, issue_under_lock, step_under_lock};
 use ca_dbr::{Outcome, Value};
 use ca_text::Refusal;
 use std::alloc::Global;
@@ -33,7 +33,7 @@ pub(crate) fn make_requests(alloc: Global, channel: Handle) -> Result<Requests, 
 
 /// How many of so many puts, one after the other, are done, once.
 pub(crate) fn answered(
-    desk: &mut Desk,
+    state: &mut ClientState,
     caller: &mut Caller,
     put: &Request,
     circuit: Handle,
@@ -41,7 +41,7 @@ pub(crate) fn answered(
 ) -> Result<usize, Refusal> {
     let mut count = 0usize;
     for _ in 0..MANY {
-        let ticket = answered_put(desk, put, circuit, tape)?;
+        let ticket = answered_put(state, put, circuit, tape)?;
         if is_done(&caller.collect(ticket)) && caller.collect(ticket).is_none() {
             count = count.saturating_add(1);
         }
@@ -51,15 +51,15 @@ pub(crate) fn answered(
 
 /// A put, which the server answers.
 fn answered_put(
-    desk: &mut Desk,
+    state: &mut ClientState,
     put: &Request,
     circuit: Handle,
     tape: &mut Tape,
 ) -> Result<Ticket, Refusal> {
-    let (request, ticket) = desk.issue(put)?;
+    let (request, ticket) = issue_under_lock(state, put)?;
     tape.incoming.extend_from_slice(&done_reply(request))?;
-    turn(desk, circuit, tape);
-    step(desk, Ask::Step(circuit));
+    turn(state, circuit, tape);
+    step_under_lock(state, Ask::Step(circuit));
     Ok(ticket)
 }
 
@@ -78,18 +78,18 @@ pub(crate) fn is_done(outcome: &Option<Outcome>) -> bool {
 }
 
 /// How many of so many requests are refused with this number.
-pub(crate) fn refused_as(desk: &mut Desk, request: &Request, number: u8) -> usize {
+pub(crate) fn refused_as(state: &mut ClientState, request: &Request, number: u8) -> usize {
     let mut count = 0usize;
     for _ in 0..MANY {
-        if is_refused_as(desk, request, number) {
+        if is_refused_as(state, request, number) {
             count = count.saturating_add(1);
         }
     }
     count
 }
 
-fn is_refused_as(desk: &mut Desk, request: &Request, number: u8) -> bool {
-    match desk.issue(request) {
+fn is_refused_as(state: &mut ClientState, request: &Request, number: u8) -> bool {
+    match issue_under_lock(state, request) {
         Ok(_) => false,
         Err(refusal) => refusal.number() == number,
     }
@@ -98,12 +98,12 @@ fn is_refused_as(desk: &mut Desk, request: &Request, number: u8) -> bool {
 /// The tickets of those of so many requests that are accepted.
 pub(crate) fn accepted(
     alloc: Global,
-    desk: &mut Desk,
+    state: &mut ClientState,
     request: &Request,
 ) -> Result<Vec<Ticket>, Refusal> {
     let mut tickets = Vec::new(alloc);
     for _ in 0..MANY {
-        if let Ok((_, ticket)) = desk.issue(request) {
+        if let Ok((_, ticket)) = issue_under_lock(state, request) {
             tickets.push(ticket)?;
         }
     }
