@@ -23,8 +23,8 @@ use Rattle.ca_model.proofs.Placed.{keeps-sending}
 use Rattle.ca_client.specs.declared.ask.Request.{Request}
 use Rattle.ca_client.specs.declared.ask.Request.TheVariants as request
 use Rattle.ca_client.specs.Awaited.{IsState, Waits}
-use Rattle.ca_client.specs.Calls.{HasIssued, OnlyRecycled}
-use Rattle.ca_client.proofs.Tickets.{awaited_issue, awaited_recycled, awaited_refused}
+use Rattle.ca_client.specs.Calls.{HasIssued}
+use Rattle.ca_client.proofs.Tickets.{OnlyRecycled, awaited_issue, awaited_recycled, awaited_refused}
 use Rattle.ca_client.proofs.Waiting.{Same, issued-apart, issued-back, issued-listed, same-sending}
 
 pub state-recycled : (x : Client) (v w : CoreView) (board : TableId) (ts : List Ticket) → IsState x v board ts → OnlyRecycled v w → IsState x w board ts

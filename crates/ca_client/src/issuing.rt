@@ -1,6 +1,5 @@
 ghost use Rattle.std.specs.Prelude.{◌≡◌};
-ghost use Rattle.ca_text.specs.Limits.{board_cells};
-ghost use Rattle.ca_client.specs.Calls.{HasArmedOne, HasIssued, HasIssuedUnderLock, RecyclesBelow};
+ghost use Rattle.ca_client.specs.Calls.{HasArmedOne, HasIssued, HasIssuedUnderLock, RecyclesEach};
 
 use crate::ask::Request;
 use crate::state::ClientState;
@@ -64,7 +63,7 @@ fn issue(core: &mut ClientCore, request: &Request) -> Result<Handle, Refusal>
 // Recycles every cell that it can.
 fn recycle_all(board: &Board, seat: &mut CoreSeat)
     requires { seat.old.board ≡ board.now }
-    ensures { RecyclesBelow board_cells seat.old seat.new }
+    ensures { RecyclesEach seat.old seat.new }
 {
     for cell in 0..BOARD_CELLS {
         board.recycle(seat, cell);

@@ -6,7 +6,6 @@ mod ask;
 mod caller;
 mod filling;
 mod issuing;
-mod moving;
 mod replying;
 mod socket;
 mod state;

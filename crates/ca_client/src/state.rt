@@ -1,9 +1,10 @@
-ghost use Rattle.std.specs.Prelude.{◌≡◌, [], IfErr, IfOk, List};
+ghost use Rattle.std.specs.Prelude.{◌≡◌, ◌≤◌, [], IfErr, IfOk, List, length};
 ghost use Rattle.ca_board.specs.Views.{caller_start};
 ghost use Rattle.ca_dbr.specs.Elements.{elements};
 ghost use Rattle.ca_model.specs.Answers.{Sending};
+ghost use Rattle.ca_model.specs.Client.{out_bytes};
 ghost use Rattle.ca_model.specs.ClientCalls.{ClientOpens, ClientSubscribes, ClientUnsubscribes, ClientWrites};
-ghost use Rattle.ca_model.specs.ClientEnds.{ClientReceives};
+ghost use Rattle.ca_model.specs.ClientEnds.{ClientGives, ClientReceives, handed_over};
 ghost use Rattle.ca_client.specs.Calls.{HasNotBegun, IsFresh};
 ghost use Rattle.ca_client.specs.Turns.{with_core};
 
@@ -75,15 +76,15 @@ impl ClientState {
             generation: 0,
         };
         let tickets = vec![in alloc; none; ARENA_SLOTS]?;
-        let board = Arc::new(alloc, board)?;
+        let own = Caller {
+            board: Arc::new(alloc, board)?,
+            seat: caller,
+        };
         Ok(ClientState {
             core,
             seat,
             tickets,
-            own: Caller {
-                board,
-                seat: caller,
-            },
+            own,
         })
     }
 
@@ -174,5 +175,22 @@ impl ClientState {
         ensures { self.new ≡ self.old }
     {
         self.core.recycle_value(value);
+    }
+
+    // Takes bytes that were read on a circuit, and whether the read left more waiting, as `ClientCore::give`.
+    pub(crate) fn give(&mut self, circuit: Handle, bytes: &[u8], more: bool) -> Result<(), Refusal>
+        ensures gives { (sent : List Sending)
+            × ClientGives self.old.core circuit bytes.now more result sent self.new.core }
+        ensures rest { self.new ≡ with_core self.new.core self.old }
+    {
+        self.core.give(circuit, bytes, more)
+    }
+
+    // The first n of the bytes that waited on a circuit were handed over, as `ClientCore::sent`.
+    pub(crate) fn sent(&mut self, circuit: Handle, n: usize)
+        requires { n ≤ length (out_bytes self.old.core circuit) }
+        ensures { self.new ≡ with_core (handed_over circuit n self.old.core) self.old }
+    {
+        self.core.sent(circuit, n)
     }
 }

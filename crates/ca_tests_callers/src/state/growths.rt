@@ -1,5 +1,5 @@
-//! A state's calls where a growth is refused: one that is refused changes nothing, and is made again; or a circuit ends, which takes its requests with it, and is
-//! made again. `tools/hostile` refuses each growth in turn.
+//! The calls under a client's lock where a growth is refused: one that is refused changes nothing, and is made again; or a circuit ends, which takes its requests
+//! with it, and is made again. `tools/hostile` refuses each growth in turn.
 use crate::state::circuit::{FOUND, SERVER, memory};
 use crate::state::faults::is_lost;
 use crate::state::new_state;
@@ -15,7 +15,7 @@ use ca_text::{BOARD_CELLS, Mask, Refusal};
 use std::alloc::Global;
 use std::io::Write;
 
-/// A state with a channel, and what came of growths that were refused.
+/// A client's state with a channel, and what came of growths that were refused.
 #[derive(Drop)]
 struct Course {
     state: ClientState,

@@ -5,7 +5,7 @@ use Rattle.ca_text.specs.Limits.{arena_slots}
 use Rattle.ca_model.specs.Placed.{IsPlaced}
 use Rattle.ca_text.specs.declared.refusal.Refusal.TheVariants.{OutOfMemory}
 use Rattle.ca_client.proofs.Fresh.{lacks, state-new}
-use Rattle.ca_client.proofs.state.State.new.Goals as goal
+use Rattle.ca_client.proofs.state.ClientState.new.Goals as goal
 
 pub invariant_of-state : goal.invariant_of-state
 invariant_of-state c =
