@@ -76,16 +76,18 @@ impl ClientState {
             generation: 0,
         };
         let tickets = vec![in alloc; none; ARENA_SLOTS]?;
+        let board = Arc::new(alloc, board)?;
         let own = Caller {
-            board: Arc::new(alloc, board)?,
+            board,
             seat: caller,
         };
-        Ok(ClientState {
+        let state = ClientState {
             core,
             seat,
             tickets,
             own,
-        })
+        };
+        Ok(state)
     }
 
     /// A new caller, for any thread.
