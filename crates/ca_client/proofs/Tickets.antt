@@ -11,6 +11,7 @@ use Rattle.ca_board.specs.Views.{CoreView, IsDue, HasArmed, HasFilled, HasRecycl
 use Rattle.ca_board.proofs.Outstanding.{due_filled}
 use Rattle.ca_board.proofs.Stock.{has_snoc}
 use Rattle.ca_dbr.specs.declared.value.Outcome.{Outcome}
+use Rattle.std.specs.Prelude.{Result}
 use Rattle.ca_client.specs.Awaited.{AreAwaited, Completion, Fillable, Fills, FillsAll, ticket_of}
 use Rattle.ca_client.specs.Calls.{AreInUse, HasArmedAfter, HasArmedOne, Recycles, RecyclesBelow, RecyclesEach}
 
@@ -96,6 +97,10 @@ armed_after v w t a = ⊎_elim
     (λ (f : HasArmed v (Ok t) w). (v, (refl, refl, refl, refl), f))
     (λ (f : AreInUse v × HasArmedAfter v (Ok t) w). (f.1.0, only_each v f.1.0 f.1.1, f.1.2))
     a
+
+pub armed_on : (v mid w : CoreView) (r : Result Ticket Refusal) → AreInUse v → RecyclesEach v mid → HasArmed mid r w → HasArmedOne v r w
+armed_on v mid w (Ok t) used each a = inr (used, (mid, each, a))
+armed_on v mid w (Err e) used each a = (used, (mid, each, a))
 
 -- or none
 pub unarmed : (v w : CoreView) (e : Refusal) → HasArmedOne v (Err e) w → OnlyRecycled v w
