@@ -1,5 +1,5 @@
 -- A step of the core that began, and is not over.
-use Rattle.std.proofs.Common.{◌≡◌, ◌∙◌, List, Option, Some, ap, inl, inr, refl, subst, sym}
+use Rattle.std.proofs.Common.{◌≡◌, ◌∙◌, List, Option, Some, ap, inl, inr, subst, sym}
 use Rattle.std.specs.Prelude.{option_map}
 use Rattle.atomic_table.specs.Seated.{TableId}
 use Rattle.ca_arena.specs.declared.handle.Handle.{Handle}

@@ -1,5 +1,4 @@
 use Rattle.std.proofs.Common.{◌∙◌, subst, sym}
-use Rattle.ca_client.specs.declared.answer.Answer.{Answer}
 use Rattle.ca_client.specs.declared.stepping.Begun.TheVariants as begun
 use Rattle.ca_client.specs.Awaited.{StateView}
 use Rattle.ca_client.specs.Beginning.{Begins}
