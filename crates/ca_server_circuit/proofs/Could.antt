@@ -40,6 +40,8 @@ use Rattle.ca_model.specs.Server.{OpenChannel, Server, ServerEnd, Subscription, 
 use Rattle.ca_model.specs.ServerSteps.{Acts, TakesIn, known_channel, known_record, without_channel}
 use Rattle.ca_model.specs.Speech.{In, Stored}
 use Rattle.ca_server_circuit.specs.declared.seek.Seat.{Seat}
+use Rattle.ca_server_circuit.specs.declared.step.FollowUp.{FollowUp}
+use Rattle.ca_server_circuit.specs.declared.step.FollowUp.TheVariants as effect
 use Rattle.ca_server_circuit.specs.Creating.{Creation, IsCreation, creation_replies, with_channel}
 use Rattle.ca_server_circuit.specs.Handling.{Recorded, known, replied}
 use Rattle.ca_server_circuit.specs.Seeking.{IsServed, IsStray}
@@ -306,8 +308,9 @@ module _ (port : ℕ) (s : Store) (h : Handle) (e : ServerEnd) (m : Fields) (sou
   create-with r named (inr new) true full = creation (replied (failed_reply m ∷ []) e) (not-created port s e (replied (failed_reply m ∷ []) e) m (inr (inr full)) refl)
   create-with r named (inr new) false room =
       let g = may-give e.channels sound.few room in
-      let is : IsCreation s e m (replied (creation_replies s e m r.state (wire_of g.0)) (with_channel g.0 m e)) = record { r = r; named = named; h = g.0; may = g.1; leaves = refl } in
-      creation _ (is-created port s e (replied (creation_replies s e m r.state (wire_of g.0)) (with_channel g.0 m e)) m sound.few (λ used. new (taken-known port s e m.p1 used)) is)
+      let did : FollowUp = effect.Opened 0 (wire_of g.0) in
+      let is : IsCreation s e m 0 did (replied (creation_replies s e m r.state (wire_of g.0)) (with_channel g.0 m e)) = record { r = r; named = named; h = g.0; may = g.1; tells = refl; leaves = refl } in
+      creation _ (is-created port s e (replied (creation_replies s e m r.state (wire_of g.0)) (with_channel g.0 m e)) m 0 did sound.few (λ used. new (taken-known port s e m.p1 used)) is)
 
   create : (o : Option Record) → record_named (records_of s) (text_in m.payload) ≡ o → Part port s h e m command.CreateChannel
   create None none = creation (replied (failed_reply m ∷ []) e) (not-created port s e (replied (failed_reply m ∷ []) e) m (inl (ap (λ (o : Option Record). option_map known_record o) none)) refl)

@@ -17,9 +17,11 @@ use Rattle.ca_model.specs.ServerSteps.{known_channel, known_record}
 use Rattle.ca_model.specs.Speech.{In}
 use Rattle.ca_server_circuit.specs.Cids.{UsesCid}
 use Rattle.ca_server_circuit.specs.Creating.{CreatesBy, Creation, IsCreation, creation_replies, with_channel}
+use Rattle.ca_server_circuit.specs.declared.effect.Effect.TheVariants as told
 use Rattle.ca_server_circuit.specs.declared.step.FollowUp.{FollowUp}
 use Rattle.ca_server_circuit.specs.declared.step.FollowUp.TheVariants as effect
 use Rattle.ca_server_circuit.specs.Handling.{AllStay, known, replied}
+use Rattle.ca_server_circuit.proofs.Telling.{refused-told}
 use Rattle.ca_server_circuit.proofs.Tables.{given-none, held-other, listed-under, place, under-at, under-listed}
 
 -- ---- CIDs
@@ -63,8 +65,8 @@ not-created port s e new m why is = record {
   leaves = is;
 }
 
-pub is-created : (port : ℕ) (s : Store) (e new : ServerEnd) (m : Fields) → length e.channels ≤ arena_slots → (UsesCid e.channels m.p1 → ⊥) → IsCreation s e m new → Creation port s e m new
-is-created port s e new m few unused did = record {
+pub is-created : (port : ℕ) (s : Store) (e new : ServerEnd) (m : Fields) (spot : ℕ) (did : FollowUp) → length e.channels ≤ arena_slots → (UsesCid e.channels m.p1 → ⊥) → IsCreation s e m spot did new → Creation port s e m new
+is-created port s e new m spot tells few unused did = record {
   replies = creation_replies s e m did.r.state (wire_of did.h);
   action = Opens (record { sid = wire_of did.h; cid = m.p1; name = text_in m.payload; retired = false });
   due = inl (record {
@@ -85,14 +87,14 @@ is-created port s e new m few unused did = record {
 }
 
 -- the same, and nothing is left to do
-pub none-created : (port : ℕ) (s : Store) (e new : ServerEnd) (m : Fields) (did : FollowUp) → ((known port s e).record_of (text_in m.payload) ≡ None) ⊎ (CidTaken (known port s e) m.p1 ⊎ ((known port s e).full ≡ true)) → (did ≡ effect.Quiet) × (new ≡ replied (failed_reply m ∷ []) e) → CreatesBy port s e m did new
+pub none-created : (port : ℕ) (s : Store) (e new : ServerEnd) (m : Fields) (did : FollowUp) → ((known port s e).record_of (text_in m.payload) ≡ None) ⊎ (CidTaken (known port s e) m.p1 ⊎ ((known port s e).full ≡ true)) → (did ≡ effect.Quiet told.Refused) × (new ≡ replied (failed_reply m ∷ []) e) → CreatesBy port s e m did new
 unfolding not-created
-none-created port s e new m did why is = (not-created port s e new m why is.1, is.0)
+none-created port s e new m did why is = (not-created port s e new m why is.1, λ creates. is.0 ∙ refused-told m creates)
 
 -- the same, and the circuit has a channel to the record of the name
-pub one-created : (port spot : ℕ) (s : Store) (e new : ServerEnd) (m : Fields) (did : FollowUp) → Finds s (text_in m.payload) spot → length e.channels ≤ arena_slots → (UsesCid e.channels m.p1 → ⊥) → (did ≡ effect.Opened spot) × IsCreation s e m new → CreatesBy port s e m did new
+pub one-created : (port spot : ℕ) (s : Store) (e new : ServerEnd) (m : Fields) (did : FollowUp) → Finds s (text_in m.payload) spot → length e.channels ≤ arena_slots → (UsesCid e.channels m.p1 → ⊥) → IsCreation s e m spot did new → CreatesBy port s e m did new
 unfolding is-created
-one-created port spot s e new m did found few unused made = (is-created port s e new m few unused made.1, (spot, found.r, made.0, found.at, found.named))
+one-created port spot s e new m did found few unused made = (is-created port s e new m spot did few unused made, λ creates. (spot, found.r, made.tells, found.at, found.named))
 
 -- the other channels stay open as one is opened
 pub opened-stay : (t u v : Table OpenChannel) (h : Handle) (c : OpenChannel) → t ≡ v → MayGive t h × (u ≡ with_held h c t) → AllStay v u

@@ -16,6 +16,7 @@ use Rattle.ca_model.specs.Due.{Action, Clears, Drops, Due, Greets, Names, Nothin
 use Rattle.ca_model.specs.Ends.{Peer}
 use Rattle.ca_model.specs.Server.{ServerEnd, with_events, without_subscriptions}
 use Rattle.ca_model.specs.ServerSteps.{without_channel}
+use Rattle.ca_server_circuit.specs.declared.effect.Effect.TheVariants as told
 use Rattle.ca_server_circuit.specs.declared.step.FollowUp.{FollowUp}
 use Rattle.ca_server_circuit.specs.declared.step.FollowUp.TheVariants as effect
 use Rattle.ca_server_circuit.specs.Clearing.{Withdraws}
@@ -23,6 +24,7 @@ use Rattle.ca_server_circuit.specs.Creating.{CreatesBy}
 use Rattle.ca_server_circuit.specs.Handling.{Does, Replies, known, replied}
 use Rattle.ca_server_circuit.proofs.Dues.{IsDueFor, command_at, due-for, due-other}
 use Rattle.ca_server_circuit.proofs.Taken.{replied-none}
+use Rattle.ca_server_circuit.proofs.Telling.{no-creation, quiet-told}
 
 module _ (port : ℕ) (s : Store) (h : Handle) (e : ServerEnd) (m : Fields) where
   -- what is due for the message of this command
@@ -49,8 +51,8 @@ module _ (port : ℕ) (s : Store) (h : Handle) (e : ServerEnd) (m : Fields) wher
   }
 
   -- only replies go out
-  pub does-reply : (new : ServerEnd) (c : Command) → m.command ≡ command_number c → is_known (command_number c) ≡ true → command_at (command_number c) ≡ c → Replies (DueFor c) e new → Does DueHere s h e m effect.Quiet s new
-  does-reply new c is yes_it one r = record {
+  pub does-reply : (new : ServerEnd) (c : Command) → m.command ≡ command_number c → is_known (command_number c) ≡ true → command_at (command_number c) ≡ c → (command_number c == command_number command.CreateChannel) ≡ false → Replies (DueFor c) e new → Does DueHere s h e m (effect.Quiet told.Quiet) s new
+  does-reply new c is yes_it one other r = record {
     replies = r.replies;
     action = Nothing;
     due = due-for (known port s e) m r.replies Nothing c is yes_it one r.due;
@@ -59,12 +61,12 @@ module _ (port : ℕ) (s : Store) (h : Handle) (e : ServerEnd) (m : Fields) wher
     records = refl;
     rules = refl;
     stamp = refl;
-    tells = refl;
+    tells = quiet-told m (command_number c) is other;
     fits = tt;
     leaves = r.leaves;
   }
 
-  pub does-version : (new : ServerEnd) → m.command ≡ command_number command.Version → new ≡ replied (if e.greeted then [] else version_reply ∷ []) (record e { greeted = true }) → Does DueHere s h e m effect.Quiet s new
+  pub does-version : (new : ServerEnd) → m.command ≡ command_number command.Version → new ≡ replied (if e.greeted then [] else version_reply ∷ []) (record e { greeted = true }) → Does DueHere s h e m (effect.Quiet told.Quiet) s new
   does-version new is done = record {
     replies = (if e.greeted then [] else version_reply ∷ []);
     action = Greets;
@@ -80,10 +82,10 @@ module _ (port : ℕ) (s : Store) (h : Handle) (e : ServerEnd) (m : Fields) wher
   }
 
   -- a name of the peer, which counts unless it is settled
-  pub does-name : (new : ServerEnd) (p : Peer) → ((a : Action) → a ≡ named (known port s e) p → DueHere [] a) → new ≡ (if e.settled then e else record e { peer = p }) → Does DueHere s h e m effect.Quiet s new
-  does-name new p due done = by e.settled refl
+  pub does-name : (new : ServerEnd) (p : Peer) → (m.command == command_number command.CreateChannel) ≡ false → ((a : Action) → a ≡ named (known port s e) p → DueHere [] a) → new ≡ (if e.settled then e else record e { peer = p }) → Does DueHere s h e m (effect.Quiet told.Quiet) s new
+  does-name new p other due done = by e.settled refl
     where
-      by : (b : Bool) → e.settled ≡ b → Does DueHere s h e m effect.Quiet s new
+      by : (b : Bool) → e.settled ≡ b → Does DueHere s h e m (effect.Quiet told.Quiet) s new
       by true is = record {
         replies = [];
         action = Nothing;
@@ -93,7 +95,7 @@ module _ (port : ℕ) (s : Store) (h : Handle) (e : ServerEnd) (m : Fields) wher
         records = refl;
         rules = refl;
         stamp = refl;
-        tells = refl;
+        tells = quiet-told m m.command refl other;
         fits = tt;
         leaves = done ∙ ap (λ (x : Bool). if x then e else record e { peer = p }) is ∙ sym (replied-none e);
       }
@@ -111,24 +113,24 @@ module _ (port : ℕ) (s : Store) (h : Handle) (e : ServerEnd) (m : Fields) wher
         leaves = done ∙ ap (λ (x : Bool). if x then e else record e { peer = p }) is ∙ sym (replied-none (record e { peer = p }));
       }
 
-  pub does-user : (new : ServerEnd) → m.command ≡ command_number command.ClientName → new ≡ (if e.settled then e else record e { peer = record e.peer { user = text_in m.payload } }) → Does DueHere s h e m effect.Quiet s new
+  pub does-user : (new : ServerEnd) → m.command ≡ command_number command.ClientName → new ≡ (if e.settled then e else record e { peer = record e.peer { user = text_in m.payload } }) → Does DueHere s h e m (effect.Quiet told.Quiet) s new
   does-user new is done =
-      does-name new (record e.peer { user = text_in m.payload }) (λ a same. due-for (known port s e) m [] a command.ClientName is refl refl (refl, same)) done
+      does-name new (record e.peer { user = text_in m.payload }) (ap (λ (n : ℕ). n == command_number command.CreateChannel) is) (λ a same. due-for (known port s e) m [] a command.ClientName is refl refl (refl, same)) done
 
-  pub does-host : (new : ServerEnd) → m.command ≡ command_number command.HostName → new ≡ (if e.settled then e else record e { peer = record e.peer { host = text_in m.payload } }) → Does DueHere s h e m effect.Quiet s new
+  pub does-host : (new : ServerEnd) → m.command ≡ command_number command.HostName → new ≡ (if e.settled then e else record e { peer = record e.peer { host = text_in m.payload } }) → Does DueHere s h e m (effect.Quiet told.Quiet) s new
   does-host new is done =
-      does-name new (record e.peer { host = text_in m.payload }) (λ a same. due-for (known port s e) m [] a command.HostName is refl refl (refl, same)) done
+      does-name new (record e.peer { host = text_in m.payload }) (ap (λ (n : ℕ). n == command_number command.CreateChannel) is) (λ a same. due-for (known port s e) m [] a command.HostName is refl refl (refl, same)) done
 
-  pub does-echo : (new : ServerEnd) → m.command ≡ command_number command.Echo → new ≡ replied (bare command.Echo ∷ []) e → Does DueHere s h e m effect.Quiet s new
+  pub does-echo : (new : ServerEnd) → m.command ≡ command_number command.Echo → new ≡ replied (bare command.Echo ∷ []) e → Does DueHere s h e m (effect.Quiet told.Quiet) s new
   does-echo new is done =
-      does-reply new command.Echo is refl refl (record { replies = bare command.Echo ∷ []; due = (refl, refl); leaves = done })
+      does-reply new command.Echo is refl refl refl (record { replies = bare command.Echo ∷ []; due = (refl, refl); leaves = done })
 
-  pub does-search : (new : ServerEnd) → m.command ≡ command_number command.Search → new ≡ replied (search_due (known port s e) m) e → Does DueHere s h e m effect.Quiet s new
+  pub does-search : (new : ServerEnd) → m.command ≡ command_number command.Search → new ≡ replied (search_due (known port s e) m) e → Does DueHere s h e m (effect.Quiet told.Quiet) s new
   does-search new is done =
-      does-reply new command.Search is refl refl (record { replies = search_due (known port s e) m; due = (refl, refl); leaves = done })
+      does-reply new command.Search is refl refl refl (record { replies = search_due (known port s e) m; due = (refl, refl); leaves = done })
 
   pub does-create : (new : ServerEnd) (did : FollowUp) → m.command ≡ command_number command.CreateChannel → CreatesBy port s e m did new → Does DueHere s h e m did s new
-  does-create new did is (c, told) = record {
+  does-create new did is (c, tells) = record {
     replies = c.replies;
     action = c.action;
     due = due-for (known port s e) m c.replies c.action command.CreateChannel is refl refl c.due;
@@ -137,12 +139,12 @@ module _ (port : ℕ) (s : Store) (h : Handle) (e : ServerEnd) (m : Fields) wher
     records = c.quiet h;
     rules = refl;
     stamp = refl;
-    tells = told;
+    tells = tells is;
     fits = c.fits is;
     leaves = c.leaves;
   }
 
-  pub does-cancel : (new : ServerEnd) → m.command ≡ command_number command.EventCancel → new ≡ replied (cancel_reply m ∷ []) (without_subscriptions (same (key_in m)) e) → Does DueHere s h e m effect.Quiet s new
+  pub does-cancel : (new : ServerEnd) → m.command ≡ command_number command.EventCancel → new ≡ replied (cancel_reply m ∷ []) (without_subscriptions (same (key_in m)) e) → Does DueHere s h e m (effect.Quiet (told.Cancelled m.p1 m.p2)) s new
   does-cancel new is done = record {
     replies = cancel_reply m ∷ [];
     action = Drops (key_in m);
@@ -157,7 +159,7 @@ module _ (port : ℕ) (s : Store) (h : Handle) (e : ServerEnd) (m : Fields) wher
     leaves = done;
   }
 
-  pub does-switch : (new : ServerEnd) (on : Bool) → DueHere [] (Switches on) → new ≡ with_events on e → Does DueHere s h e m effect.Quiet s new
+  pub does-switch : (new : ServerEnd) (on : Bool) → DueHere [] (Switches on) → new ≡ with_events on e → Does DueHere s h e m (effect.Quiet (told.Switched on)) s new
   does-switch new on due done = record {
     replies = [];
     action = Switches on;
@@ -172,13 +174,13 @@ module _ (port : ℕ) (s : Store) (h : Handle) (e : ServerEnd) (m : Fields) wher
     leaves = done ∙ sym (replied-none (with_events on e));
   }
 
-  pub does-off : (new : ServerEnd) → m.command ≡ command_number command.EventsOff → new ≡ with_events false e → Does DueHere s h e m effect.Quiet s new
+  pub does-off : (new : ServerEnd) → m.command ≡ command_number command.EventsOff → new ≡ with_events false e → Does DueHere s h e m (effect.Quiet (told.Switched false)) s new
   does-off new is done = does-switch new false (due-for (known port s e) m [] (Switches false) command.EventsOff is refl refl (refl, refl)) done
 
-  pub does-on : (new : ServerEnd) → m.command ≡ command_number command.EventsOn → new ≡ with_events true e → Does DueHere s h e m effect.Quiet s new
+  pub does-on : (new : ServerEnd) → m.command ≡ command_number command.EventsOn → new ≡ with_events true e → Does DueHere s h e m (effect.Quiet (told.Switched true)) s new
   does-on new is done = does-switch new true (due-for (known port s e) m [] (Switches true) command.EventsOn is refl refl (refl, refl)) done
 
-  pub does-clear : (t : Store) (new : ServerEnd) → m.command ≡ command_number command.ClearChannel → Withdraws h m.p1 s t → new ≡ replied (cleared_reply m ∷ []) (without_channel m.p1 e) → Does DueHere s h e m effect.Quiet t new
+  pub does-clear : (t : Store) (new : ServerEnd) → m.command ≡ command_number command.ClearChannel → Withdraws h m.p1 s t → new ≡ replied (cleared_reply m ∷ []) (without_channel m.p1 e) → Does DueHere s h e m (effect.Quiet (told.Cleared m.p1)) t new
   does-clear t new is w done = record {
     replies = cleared_reply m ∷ [];
     action = Clears m.p1;
@@ -193,7 +195,7 @@ module _ (port : ℕ) (s : Store) (h : Handle) (e : ServerEnd) (m : Fields) wher
     leaves = done;
   }
 
-  pub does-nothing : is_known m.command ≡ false → Does DueHere s h e m effect.Quiet s e
+  pub does-nothing : is_known m.command ≡ false → Does DueHere s h e m (effect.Quiet told.Quiet) s e
   does-nothing other = record {
     replies = [];
     action = Nothing;
@@ -203,7 +205,7 @@ module _ (port : ℕ) (s : Store) (h : Handle) (e : ServerEnd) (m : Fields) wher
     records = refl;
     rules = refl;
     stamp = refl;
-    tells = refl;
+    tells = quiet-told m m.command refl (no-creation m.command other);
     fits = tt;
     leaves = sym (replied-none e);
   }

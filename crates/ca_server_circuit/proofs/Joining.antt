@@ -7,6 +7,8 @@ use Rattle.ca_link.specs.Link.{LinkState, with_sent}
 use Rattle.ca_queue.specs.declared.entry.SubKey.{SubKey}
 use Rattle.ca_queue.specs.Keys.{is_among}
 use Rattle.ca_records.specs.Puts.{Record, record_named}
+use Rattle.ca_text.specs.Command.{command_number}
+use Rattle.ca_text.specs.declared.command.Command.TheVariants as command
 use Rattle.ca_records.specs.Rules.{rights}
 use Rattle.ca_records.specs.Store.{Store}
 use Rattle.ca_wire.specs.Fields.{Fields}
@@ -19,15 +21,17 @@ use Rattle.ca_server_circuit.specs.declared.seek.Seat.{Seat}
 use Rattle.ca_server_circuit.specs.Clearing.{without_sid}
 use Rattle.ca_server_circuit.specs.Handling.{Does, Replies, Subscribes, known, replied}
 use Rattle.ca_server_circuit.specs.Seeking.{IsServed}
+use Rattle.ca_server_circuit.specs.declared.effect.Effect.TheVariants as told
 use Rattle.ca_server_circuit.specs.declared.step.FollowUp.TheVariants as effect
 use Rattle.ca_server_circuit.specs.Subscribing.{CanJoin, HasJoined, MayBegin, events_of}
 use Rattle.ca_server_subscriptions.specs.Subscribed.{Joins, Subscribed, has_key, is_of_sid, without_those}
 use Rattle.ca_server_circuit.proofs.Known.{serves}
 use Rattle.ca_server_circuit.proofs.Taken.{replied-none}
+use Rattle.ca_server_circuit.proofs.Telling.{quiet-told}
 
 -- what only replies is done
-pub replies-does : (D : List Fields → Action → Type 0) (s : Store) (h : Handle) (e new : ServerEnd) (m : Fields) → Replies D e new → Does D s h e m effect.Quiet s new
-replies-does D s h e new m r = record {
+pub replies-does : (D : List Fields → Action → Type 0) (s : Store) (h : Handle) (e new : ServerEnd) (m : Fields) → m.command ≡ command_number command.EventAdd → Replies D e new → Does D s h e m (effect.Quiet told.Quiet) s new
+replies-does D s h e new m is r = record {
   replies = r.replies;
   action = Nothing;
   due = r.due;
@@ -36,7 +40,7 @@ replies-does D s h e new m r = record {
   records = refl;
   rules = refl;
   stamp = refl;
-  tells = refl;
+  tells = quiet-told m (command_number command.EventAdd) is refl;
   fits = tt;
   leaves = r.leaves;
 }
@@ -48,7 +52,7 @@ with_subscribed x e = record e { subscriptions = x.subscriptions; queues = x.que
 -- a subscription began
 pub joined-event : (port : ℕ) (s : Store) (h : Handle) (e new : ServerEnd) (m : Fields) (seat : Seat) (i : IsServed s e m.p1 seat) (bits : ℕ) → bits ≡ rights s.rules e.peer.user e.peer.host i.channel.name
     → subscription_fault i.r.state bits (is_among (key_in m) (map key_of e.subscriptions)) (length (map key_of e.subscriptions)) m (type_of m.data_type) ≡ None
-    → HasJoined i.r.state m e new → Does (Subscribes (known port s e) m) s h e m (effect.Began seat.place) s new
+    → HasJoined i.r.state m e new → Does (Subscribes (known port s e) m) s h e m (effect.Began seat.place m.p1 m.p2) s new
 joined-event port s h e new m seat i bits right fault joined =
     let none : fault_of_event (known port s e) m (serves port s e m.p1 seat i) ≡ None =
     ap (λ (n : ℕ). subscription_fault i.r.state n (is_among (key_in m) (map key_of e.subscriptions)) (length (map key_of e.subscriptions)) m (type_of m.data_type)) (sym right) ∙ fault in

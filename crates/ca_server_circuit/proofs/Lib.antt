@@ -6,6 +6,7 @@ pub mod Known
 pub mod Replying
 pub mod Types
 pub mod Shows
+pub mod Telling
 pub mod Created
 pub mod Dues
 pub mod Taken

@@ -20,6 +20,7 @@ use Rattle.ca_wire.specs.Messages.{error_reply, status_reply}
 use Rattle.ca_model.specs.Due.{Action, Applies, Nothing, PutRefused, PutTaken, Serves, Waits, early_fault, late_fault}
 use Rattle.ca_model.specs.Server.{ServerEnd}
 use Rattle.ca_server_circuit.specs.declared.seek.Seat.{Seat}
+use Rattle.ca_server_circuit.specs.declared.effect.Effect.TheVariants as told
 use Rattle.ca_server_circuit.specs.declared.step.FollowUp.{FollowUp}
 use Rattle.ca_server_circuit.specs.declared.step.FollowUp.TheVariants as effect
 use Rattle.ca_server_circuit.specs.Handling.{Does, Puts, Writes, known, replied}
@@ -27,6 +28,7 @@ use Rattle.ca_server_circuit.specs.Putting.{IsRefused, IsTaken, early}
 use Rattle.ca_server_circuit.specs.Seeking.{IsServed, IsStray}
 use Rattle.ca_server_circuit.proofs.Known.{serves}
 use Rattle.ca_server_circuit.proofs.Replying.{stray-due}
+use Rattle.ca_server_circuit.proofs.Telling.{quiet-told}
 
 -- no replies leave the end as it is
 pub replied-none : (e : ServerEnd) → replied [] e ≡ e
@@ -97,22 +99,22 @@ not-notify m is = ap (λ (n : ℕ). n == command_number command.WriteNotify) is
 is-notify : (m : Fields) → m.command ≡ command_number command.WriteNotify → (m.command == command_number command.WriteNotify) ≡ true
 is-notify m is = ap (λ (n : ℕ). n == command_number command.WriteNotify) is
 
-pub write-stray : (port : ℕ) (s : Store) (h : Handle) (e new : ServerEnd) (m : Fields) (cid : ℕ) → IsStray e m.p1 cid → new ≡ replied (error_reply cid 410 m ∷ []) e → Does (Writes (known port s e) m) s h e m effect.Quiet s new
-write-stray port s h e new m cid is done = record {
+pub write-stray : (port : ℕ) (s : Store) (h : Handle) (e new : ServerEnd) (m : Fields) (cid : ℕ) → IsStray e m.p1 cid → m.command ≡ command_number command.Write → new ≡ replied (error_reply cid 410 m ∷ []) e → Does (Writes (known port s e) m) s h e m (effect.Quiet told.Quiet) s new
+write-stray port s h e new m cid stray is done = record {
   replies = error_reply cid 410 m ∷ [];
   action = Nothing;
-  due = inr (stray-due port s e m cid (λ c. error_reply c 410 m) is);
+  due = inr (stray-due port s e m cid (λ c. error_reply c 410 m) stray);
   acted = e;
   acts = λ y same. refl;
   records = refl;
   rules = refl;
   stamp = refl;
-  tells = refl;
+  tells = quiet-told m (command_number command.Write) is refl;
   fits = tt;
   leaves = done;
 }
 
-pub write-refused : (port : ℕ) (s : Store) (h : Handle) (e new : ServerEnd) (m : Fields) (seat : Seat) (i : IsServed s e m.p1 seat) (bits status : ℕ) → bits ≡ rights s.rules e.peer.user e.peer.host i.channel.name → m.command ≡ command_number command.Write → IsRefused i.r bits None m status → new ≡ replied (error_reply seat.cid status m ∷ []) e → Does (Writes (known port s e) m) s h e m effect.Quiet s new
+pub write-refused : (port : ℕ) (s : Store) (h : Handle) (e new : ServerEnd) (m : Fields) (seat : Seat) (i : IsServed s e m.p1 seat) (bits status : ℕ) → bits ≡ rights s.rules e.peer.user e.peer.host i.channel.name → m.command ≡ command_number command.Write → IsRefused i.r bits None m status → new ≡ replied (error_reply seat.cid status m ∷ []) e → Does (Writes (known port s e) m) s h e m (effect.Quiet told.Quiet) s new
 write-refused port s h e new m seat i bits status right is refused done = record {
   replies = error_reply i.channel.cid status m ∷ [];
   action = Nothing;
@@ -122,7 +124,7 @@ write-refused port s h e new m seat i bits status right is refused done = record
   records = refl;
   rules = refl;
   stamp = refl;
-  tells = refl;
+  tells = quiet-told m (command_number command.Write) is refl;
   fits = tt;
   leaves = done ∙ ap (λ (cid : ℕ). replied (error_reply cid status m ∷ []) e) (sym i.cid);
 }
@@ -145,22 +147,22 @@ write-applied port s t h e new m seat i bits false next right is taken becomes d
 
 -- ---- WRITE_NOTIFY
 
-pub put-stray : (port : ℕ) (s : Store) (h : Handle) (e new : ServerEnd) (m : Fields) (cid : ℕ) → IsStray e m.p1 cid → new ≡ replied (status_reply m 410 ∷ []) e → Does (Puts (known port s e) m) s h e m effect.Quiet s new
-put-stray port s h e new m cid is done = record {
+pub put-stray : (port : ℕ) (s : Store) (h : Handle) (e new : ServerEnd) (m : Fields) (cid : ℕ) → IsStray e m.p1 cid → m.command ≡ command_number command.WriteNotify → new ≡ replied (status_reply m 410 ∷ []) e → Does (Puts (known port s e) m) s h e m (effect.Quiet told.Quiet) s new
+put-stray port s h e new m cid stray is done = record {
   replies = status_reply m 410 ∷ [];
   action = Nothing;
-  due = inr (stray-due port s e m cid (λ c. status_reply m 410) is);
+  due = inr (stray-due port s e m cid (λ c. status_reply m 410) stray);
   acted = e;
   acts = λ y same. refl;
   records = refl;
   rules = refl;
   stamp = refl;
-  tells = refl;
+  tells = quiet-told m (command_number command.WriteNotify) is refl;
   fits = tt;
   leaves = done;
 }
 
-pub put-refused : (port : ℕ) (s : Store) (h : Handle) (e new : ServerEnd) (m : Fields) (seat : Seat) (i : IsServed s e m.p1 seat) (bits status : ℕ) (p : Put) → bits ≡ rights s.rules e.peer.user e.peer.host i.channel.name → m.command ≡ command_number command.WriteNotify → IsRefused i.r bits (Some p) m status → new ≡ replied (status_reply m status ∷ []) e → Does (Puts (known port s e) m) s h e m effect.Quiet s new
+pub put-refused : (port : ℕ) (s : Store) (h : Handle) (e new : ServerEnd) (m : Fields) (seat : Seat) (i : IsServed s e m.p1 seat) (bits status : ℕ) (p : Put) → bits ≡ rights s.rules e.peer.user e.peer.host i.channel.name → m.command ≡ command_number command.WriteNotify → IsRefused i.r bits (Some p) m status → new ≡ replied (status_reply m status ∷ []) e → Does (Puts (known port s e) m) s h e m (effect.Quiet told.Quiet) s new
 put-refused port s h e new m seat i bits status p right is refused done = record {
   replies = status_reply m status ∷ [];
   action = Nothing;
@@ -170,7 +172,7 @@ put-refused port s h e new m seat i bits status p right is refused done = record
   records = refl;
   rules = refl;
   stamp = refl;
-  tells = refl;
+  tells = quiet-told m (command_number command.WriteNotify) is refl;
   fits = tt;
   leaves = done;
 }
@@ -241,7 +243,7 @@ put-applied port s t h e new m seat i bits false next right is taken becomes don
       leaves = done;
     }
 
-pub put-waits : (port : ℕ) (s t : Store) (h : Handle) (e new : ServerEnd) (m : Fields) (seat : Seat) (i : IsServed s e m.p1 seat) (bits : ℕ) (next : Record) → bits ≡ rights s.rules e.peer.user e.peer.host i.channel.name → m.command ≡ command_number command.WriteNotify → IsTaken s i.r bits (Some (put_in h seat m)) m begun.Waiting next → Becomes s seat.place i.r next t → new ≡ replied (late i.r.state.slow m) e → Does (Puts (known port s e) m) s h e m effect.Quiet t new
+pub put-waits : (port : ℕ) (s t : Store) (h : Handle) (e new : ServerEnd) (m : Fields) (seat : Seat) (i : IsServed s e m.p1 seat) (bits : ℕ) (next : Record) → bits ≡ rights s.rules e.peer.user e.peer.host i.channel.name → m.command ≡ command_number command.WriteNotify → IsTaken s i.r bits (Some (put_in h seat m)) m begun.Waiting next → Becomes s seat.place i.r next t → new ≡ replied (late i.r.state.slow m) e → Does (Puts (known port s e) m) s h e m (effect.Quiet told.Queued) t new
 put-waits port s t h e new m seat i bits next right is taken becomes done =
     let k = taken.takes in
     let p : put_in h seat m ≡ k.0 = some_is (put_in h seat m) k.0 k.1 in

@@ -17,6 +17,7 @@ use Rattle.ca_model.specs.Due.{Action}
 use Rattle.ca_model.specs.Server.{Server, ServerEnd}
 use Rattle.ca_model.specs.ServerSteps.{Acts}
 use Rattle.ca_server_circuit.specs.declared.step.FollowUp.{FollowUp}
+use Rattle.ca_server_circuit.specs.declared.step.FollowUp.TheVariants as effect
 use Rattle.ca_server_circuit.specs.Handling.{Creates, Fits, Recorded, Tells, known, replied}
 
 -- the replies by which a channel to a record is created, under this SID
@@ -29,12 +30,13 @@ creation_replies s e m state sid =
 abbrev pub with_channel : Handle → Fields → ServerEnd → ServerEnd
 with_channel h m e = record e { settled = true; channels = with_held h (record { cid = m.p1; name = text_in m.payload; retired = false }) e.channels }
 
--- A channel was created for the message to the record of its name.
-pub record IsCreation (s : Store) (e : ServerEnd) (m : Fields) (new : ServerEnd) : Type 0 where
+-- A channel was created for the message to the record of its name, which is at this place; and what is left to do is that.
+pub record IsCreation (s : Store) (e : ServerEnd) (m : Fields) (place : ℕ) (did : FollowUp) (new : ServerEnd) : Type 0 where
   pub r : Record
   pub named : record_named (records_of s) (text_in m.payload) ≡ Some r
   pub h : Handle
   pub may : MayGive e.channels h
+  pub tells : did ≡ effect.Opened place (wire_of h)
   pub leaves : new ≡ replied (creation_replies s e m r.state (wire_of h)) (with_channel h m e)
 
 -- what is due for a CREATE_CHAN was done
@@ -50,4 +52,5 @@ pub record Creation (port : ℕ) (s : Store) (e : ServerEnd) (m : Fields) (new :
 
 -- the same, with what it leaves the server to do
 abbrev pub CreatesBy : (port : ℕ) → Store → ServerEnd → Fields → FollowUp → ServerEnd → Type 0
-CreatesBy port s e m did new = (c : Creation port s e m new) × Tells m c.action did s
+CreatesBy port s e m did new =
+    (c : Creation port s e m new) × (m.command ≡ command_number command.CreateChannel → Tells m c.action did s)

@@ -17,6 +17,9 @@ use Rattle.ca_wire.specs.Messages.{error_reply, status_reply, text_in}
 use Rattle.ca_model.specs.Due.{Action, Adds, Applies, Clears, Due, EventDue, IsCreated, IsNotCreated, Knows, Names, Nothing, Opens, PutDue, ReadDue, StrayDue, Waits, WriteDue}
 use Rattle.ca_model.specs.Server.{OpenChannel, Server, ServerEnd, key_of}
 use Rattle.ca_model.specs.ServerSteps.{Acts, IsPut, known_channel, known_record}
+use Rattle.ca_server_circuit.specs.Effects.{effect_due}
+use Rattle.ca_server_circuit.specs.declared.effect.Effect.{Effect}
+use Rattle.ca_server_circuit.specs.declared.effect.Effect.TheVariants as told
 use Rattle.ca_server_circuit.specs.declared.step.FollowUp.{FollowUp}
 use Rattle.ca_server_circuit.specs.declared.step.FollowUp.TheVariants as effect
 
@@ -70,28 +73,40 @@ Fits rs e m (Adds x) =
     (c : Handle × OpenChannel) × (by_wire e.channels m.p1 ≡ Some c) × (c.1.name ≡ x.name) × (c.1.retired ≡ false) × (x.wanted.sid ≡ m.p1)
 Fits rs e m action = Unit {0}
 
--- the message is of this command, which leaves its server nothing to do
+-- the message is of this command, of which a server has to know nothing
 pub record IsQuiet (c : Command) (m : Fields) : Type 0 where
   pub is : m.command ≡ command_number c
   pub no_write : c ≡ command.Write → ⊥
   pub no_put : c ≡ command.WriteNotify → ⊥
   pub no_event : c ≡ command.EventAdd → ⊥
   pub no_creation : c ≡ command.CreateChannel → ⊥
+  pub no_clear : c ≡ command.ClearChannel → ⊥
+  pub no_cancel : c ≡ command.EventCancel → ⊥
+  pub no_off : c ≡ command.EventsOff → ⊥
+  pub no_on : c ≡ command.EventsOn → ⊥
 
 -- whether a write was applied
 abbrev pub is_wrote : FollowUp → Bool
 is_wrote (effect.Wrote place busies sid) = true
 is_wrote _ = false
 
+-- what a message did that left this to do
+abbrev pub effect_of : FollowUp → Effect
+effect_of (effect.Quiet did) = did
+effect_of (effect.Wrote place true sid) = told.Busied sid
+effect_of (effect.Wrote place false sid) = told.Wrote
+effect_of (effect.Began place sid sub) = told.Subscribed sid sub
+effect_of (effect.Opened place sid) = told.Created sid
+
 -- What an action leaves the server to do, by the places of records: a write that was applied is to reach the subscriptions of its record,
--- which has its value and the stamp now; and a subscription began, or a channel was created.
+-- which has its value and the stamp now; and a subscription began, or a channel was created. Any other leaves nothing, and is told.
 abbrev pub Tells : Fields → Action → FollowUp → Store → Type 0
 Tells m (Applies name value busies) did t =
     (place : ℕ) × (r : Record) × (did ≡ effect.Wrote place busies m.p1) × HasAt t place r × (r.state.name ≡ name) × (r.state.value ≡ value)
     × (r.state.meta ≡ written_meta t.stamp)
-Tells m (Adds x) did t = (place : ℕ) × (r : Record) × (did ≡ effect.Began place) × HasAt t place r × (r.state.name ≡ x.name)
-Tells m (Opens c) did t = (place : ℕ) × (r : Record) × (did ≡ effect.Opened place) × HasAt t place r × (r.state.name ≡ c.name)
-Tells m action did t = did ≡ effect.Quiet
+Tells m (Adds x) did t = (place : ℕ) × (r : Record) × (did ≡ effect.Began place x.wanted.sid x.wanted.id) × HasAt t place r × (r.state.name ≡ x.name)
+Tells m (Opens c) did t = (place : ℕ) × (r : Record) × (did ≡ effect.Opened place c.sid) × HasAt t place r × (r.state.name ≡ c.name)
+Tells m action did t = did ≡ effect.Quiet (effect_due m action)
 
 -- What is due by this relation was done: the replies wait, and so the records and the end are after it.
 pub record Does (D : List Fields → Action → Type 0) (s : Store) (h : Handle) (e : ServerEnd) (m : Fields) (did : FollowUp) (t : Store) (new : ServerEnd) : Type 0 where

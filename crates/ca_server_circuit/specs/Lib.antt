@@ -1,6 +1,7 @@
 pub mod Cids
 pub mod Clearing
 pub mod Creating
+pub mod Effects
 pub mod Handling
 pub mod Putting
 pub mod Seeking

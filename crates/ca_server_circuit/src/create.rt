@@ -6,11 +6,13 @@ ghost use Rattle.ca_wire.specs.Messages.{failed_reply, text_in};
 ghost use Rattle.ca_wire.specs.Reading.{IsWhole};
 ghost use Rattle.ca_server_circuit.specs.Cids.{UsesCid};
 ghost use Rattle.ca_server_circuit.specs.Creating.{CreatesBy, IsCreation};
-ghost use Rattle.ca_server_circuit.specs.declared.step.FollowUp.TheVariants.{Opened, Quiet};
+ghost use Rattle.ca_server_circuit.specs.declared.effect.Effect.TheVariants.{Refused};
+ghost use Rattle.ca_server_circuit.specs.declared.step.FollowUp.TheVariants.{Quiet};
 ghost use Rattle.ca_server_circuit.specs.Handling.{AllStay, replied};
 ghost use Rattle.ca_server_circuit.specs.Stepping.{first_at, message_of};
 
 use crate::channel::Channel;
+use crate::effect::Effect;
 use crate::end::{End, send};
 use crate::in_place::bare_of;
 use crate::step::FollowUp;
@@ -51,14 +53,14 @@ impl End {
     fn refuse_channel(&mut self, header: &Header) -> Result<FollowUp, AllocError>
         requires { IsOpen self.old.link }
         ensures ok { IfOk result (λ effect.
-            (effect ≡ Quiet)
+            (effect ≡ Quiet Refused)
             × (self.new ≡ replied (failed_reply (message_of header.now []) ∷ []) self.old)) }
         ensures output { OnErr result (self.new.link.output ≡ self.old.link.output) }
         ensures channels { OnErr result (self.new.channels ≡ self.old.channels) }
     {
         let reply = failed_reply(self.alloc, &bare_of(self.alloc, header));
         send(&mut self.link, &reply)?;
-        Ok(FollowUp::Quiet)
+        Ok(FollowUp::Quiet(Effect::Refused))
     }
 
     /// Opens a channel to the record at this place: ACCESS_RIGHTS goes before the reply, and is taken back if there is no memory for that.
@@ -74,9 +76,8 @@ impl End {
         requires room { is_full self.old.channels ≡ false }
         requires new { UsesCid self.old.channels head.now.header.p1 → ⊥ }
         ensures ok { IfOk result (λ effect.
-            (effect ≡ Opened place)
-            × IsCreation records.now self.old (first_at self.old.link.input.bytes head.now)
-            self.new) }
+            IsCreation records.now self.old (first_at self.old.link.input.bytes head.now) place
+            effect self.new) }
         ensures output { OnErr result (self.new.link.output ≡ self.old.link.output) }
         ensures channels { OnErr result (AllStay self.old.channels self.new.channels) }
     {
@@ -95,7 +96,7 @@ impl End {
         match send(&mut self.link, &reply) {
             Ok(()) => {
                 self.settled = true;
-                Ok(FollowUp::Opened(place))
+                Ok(FollowUp::Opened(place, sid.number()))
             }
             Err(error) => {
                 self.link.truncate(waited);

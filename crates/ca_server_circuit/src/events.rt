@@ -1,5 +1,7 @@
 ghost use Rattle.std.specs.Prelude.{ℕ, ◌≡◌, IfOk, OnErr, OnOk, MatchOption, [], ◌∷◌, None, Some, slice_index_or};
 ghost use Rattle.ca_arena.specs.declared.handle.Handle.{Handle};
+ghost use Rattle.ca_text.specs.Command.{command_number};
+ghost use Rattle.ca_text.specs.declared.command.Command.TheVariants as command;
 ghost use Rattle.ca_link.specs.Calls.{IsOpen};
 ghost use Rattle.ca_records.specs.Store.{records_of};
 ghost use Rattle.ca_wire.specs.Messages.{cancel_reply, mask_in};
@@ -13,6 +15,7 @@ ghost use Rattle.ca_server_circuit.specs.Seeking.{IsServed};
 ghost use Rattle.ca_server_circuit.specs.Stepping.{first_at, message_of};
 ghost use Rattle.ca_server_circuit.specs.Subscribing.{CanJoin, HasJoined, MayBegin};
 
+use crate::effect::Effect;
 use crate::end::{End, send};
 use crate::in_place::{bare_of, named_by};
 use crate::seek::{Seat, Sought};
@@ -39,6 +42,7 @@ impl End {
         requires open { IsOpen self.old.link }
         requires served { AreServed (records_of records.now) self.old.channels }
         requires whole { IsWhole self.old.link.input.bytes head.now }
+        requires command { head.now.header.command ≡ command_number command.EventAdd }
         ensures ok { IfOk result (λ effect. (port : ℕ) (h : Handle)
             → Does (Subscribes (known port records.now self.old)
             (first_at self.old.link.input.bytes head.now)) records.now h self.old
@@ -50,7 +54,7 @@ impl End {
         match self.seek(records, wanted.sid) {
             Sought::Stray(cid) => {
                 self.refuse(cid, Status::BADCHID, head)?;
-                Ok(FollowUp::Quiet)
+                Ok(FollowUp::Quiet(Effect::Quiet))
             }
             Sought::Served(seat) => self.subscribe_on(seat, records, head),
         }
@@ -66,6 +70,7 @@ impl End {
         requires open { IsOpen self.old.link }
         requires served { IsServed records.now self.old head.now.header.p1 seat }
         requires whole { IsWhole self.old.link.input.bytes head.now }
+        requires command { head.now.header.command ≡ command_number command.EventAdd }
         ensures ok { IfOk result (λ effect. (port : ℕ) (h : Handle)
             → Does (Subscribes (known port records.now self.old)
             (first_at self.old.link.input.bytes head.now)) records.now h self.old
@@ -81,11 +86,11 @@ impl End {
         match event_fault(state, rights, in_use, others, &head.header, payload) {
             None => {
                 self.join(state, head)?;
-                Ok(FollowUp::Began(seat.place))
+                Ok(FollowUp::Began(seat.place, head.header.p1, head.header.p2))
             }
             Some(status) => {
                 self.refuse(seat.cid, status, head)?;
-                Ok(FollowUp::Quiet)
+                Ok(FollowUp::Quiet(Effect::Quiet))
             }
         }
     }

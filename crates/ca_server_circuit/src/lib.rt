@@ -15,6 +15,7 @@ mod circuit;
 mod clear;
 mod create;
 mod echo;
+mod effect;
 mod end;
 mod ending;
 mod events;
@@ -40,4 +41,5 @@ mod write_notify;
 
 pub use cause::Cause;
 pub use circuit::Circuit;
+pub use effect::Effect;
 pub use step::{EndStep, FollowUp};

@@ -2,11 +2,12 @@ ghost use Rattle.std.specs.Prelude.{◌≡◌};
 ghost use Rattle.ca_link.specs.Calls.{IsOpen};
 ghost use Rattle.ca_records.specs.Store.{records_of};
 ghost use Rattle.ca_server_circuit.specs.Clearing.{ArePuts};
-ghost use Rattle.ca_server_circuit.specs.Handling.{AreServed, is_wrote};
+ghost use Rattle.ca_server_circuit.specs.Handling.{AreServed, effect_of, is_wrote};
 ghost use Rattle.ca_server_circuit.specs.Stepping.{EndSteps};
 
 use crate::bytes::know_bytes;
 use crate::cause::Cause;
+use crate::effect::Effect;
 use crate::end::End;
 use ca_arena::Handle;
 use ca_records::ServedRecords;
@@ -15,14 +16,14 @@ use ca_text::Command;
 /// What a message that was handled leaves its server to do.
 #[derive(Clone, Copy, Debug, PartialEq, Eq)]
 pub enum FollowUp {
-    /// Nothing.
-    Quiet,
+    /// Nothing: the message did this.
+    Quiet(Effect),
     /// The write to the record at this place was applied, and is to reach its subscriptions; whether it made the record busy, and the SID of its channel.
     Wrote(usize, bool, u32),
-    /// A subscription to the record at this place began.
-    Began(usize),
-    /// A channel to the record at this place was created.
-    Opened(usize),
+    /// A subscription to the record at this place began; its SID, and its subscription id.
+    Began(usize, u32, u32),
+    /// A channel to the record at this place was created, which has this SID.
+    Opened(usize, u32),
 }
 
 /// What one step of an open end did.
@@ -48,6 +49,20 @@ impl FollowUp {
             _ => false,
         }
     }
+
+    /// What the message did.
+    #[inline(always)]
+    pub fn effect(self) -> Effect
+        ensures { result ≡ effect_of self }
+    {
+        match self {
+            FollowUp::Quiet(effect) => effect,
+            FollowUp::Wrote(_, true, sid) => Effect::Busied(sid),
+            FollowUp::Wrote(_, false, _) => Effect::Wrote,
+            FollowUp::Began(_, sid, sub) => Effect::Subscribed(sid, sub),
+            FollowUp::Opened(_, sid) => Effect::Created(sid),
+        }
+    }
 }
 
 impl End {
@@ -71,7 +86,7 @@ impl End {
         // A read is what comes most often, and has no payload that takes memory.
         match self.link.next_bare(Command::ReadNotify) {
             Some(wanted) => match self.read(records, &wanted) {
-                Ok(()) => EndStep::Handled(FollowUp::Quiet),
+                Ok(()) => EndStep::Handled(FollowUp::Quiet(Effect::Quiet)),
                 Err(_) => EndStep::Breaks(Cause::OutOfMemory),
             },
             None => self.step_by_write(port, circuit, records),

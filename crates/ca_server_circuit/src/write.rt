@@ -10,6 +10,7 @@ ghost use Rattle.ca_server_circuit.specs.Handling.{AreServed, Does, Writes, know
 ghost use Rattle.ca_server_circuit.specs.Seeking.{IsServed};
 ghost use Rattle.ca_server_circuit.specs.Stepping.{error_on, first_at};
 
+use crate::effect::Effect;
 use crate::end::{End, send};
 use crate::in_place::named_by;
 use crate::put::begin;
@@ -44,7 +45,7 @@ impl End {
         match self.seek(records, wanted.sid) {
             Sought::Stray(cid) => {
                 self.refuse(cid, Status::BADCHID, head)?;
-                Ok(FollowUp::Quiet)
+                Ok(FollowUp::Quiet(Effect::Quiet))
             }
             Sought::Served(seat) => self.write_on(seat, records, head),
         }
@@ -82,7 +83,7 @@ impl End {
             Begun::Waiting => unreachable!(),
             Begun::Refused(status) => {
                 self.refuse(seat.cid, status, head)?;
-                Ok(FollowUp::Quiet)
+                Ok(FollowUp::Quiet(Effect::Quiet))
             }
         }
     }

@@ -11,6 +11,7 @@ ghost use Rattle.ca_server_circuit.specs.Handling.{AreServed, Does, Puts, known,
 ghost use Rattle.ca_server_circuit.specs.Seeking.{IsServed};
 ghost use Rattle.ca_server_circuit.specs.Stepping.{first_at};
 
+use crate::effect::Effect;
 use crate::end::{End, send};
 use crate::in_place::named_by;
 use crate::put::{begin, put_from};
@@ -51,7 +52,7 @@ impl End {
         match self.seek(records, wanted.sid) {
             Sought::Stray(_) => {
                 self.refuse_put(&wanted, Status::BADCHID)?;
-                Ok(FollowUp::Quiet)
+                Ok(FollowUp::Quiet(Effect::Quiet))
             }
             Sought::Served(seat) => self.put_on(seat, circuit, records, head),
         }
@@ -101,11 +102,11 @@ impl End {
         };
         match begun {
             Begun::Applied(busies) => { Ok(FollowUp::Wrote(place, busies, wanted.sid.number())) }
-            Begun::Waiting => Ok(FollowUp::Quiet),
+            Begun::Waiting => Ok(FollowUp::Quiet(Effect::Queued)),
             Begun::Refused(status) => {
                 self.link.truncate(waited);
                 self.refuse_put(&wanted, status)?;
-                Ok(FollowUp::Quiet)
+                Ok(FollowUp::Quiet(Effect::Quiet))
             }
         }
     }

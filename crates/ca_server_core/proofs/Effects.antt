@@ -1,5 +1,5 @@
 -- What a step tells of the message that it handled.
-use Rattle.std.proofs.Common.{◌≡◌, Bool, true, false, refl, sym, ap, subst}
+use Rattle.std.proofs.Common.{◌≡◌, true, false, refl, ap, ◌∙◌}
 use Rattle.ca_arena.specs.declared.handle.Handle.{Handle}
 use Rattle.ca_records.specs.Store.{Store}
 use Rattle.ca_wire.specs.Fields.{Fields}
@@ -7,16 +7,17 @@ use Rattle.ca_model.specs.Due.{Action, Adds, Applies, Clears, Drops, Greets, Nam
 use Rattle.ca_model.specs.Server.{Server}
 use Rattle.ca_model.specs.ServerSteps as steps
 use Rattle.ca_server_circuit.specs.declared.step.FollowUp.{FollowUp}
-use Rattle.ca_server_circuit.specs.Handling.{Tells}
-use Rattle.ca_server_core.specs.declared.effect.Effect.{Effect}
+use Rattle.ca_server_circuit.specs.Effects.{effect_due}
+use Rattle.ca_server_circuit.specs.Handling.{Tells, effect_of}
+use Rattle.ca_server_circuit.specs.declared.effect.Effect.{Effect}
 use Rattle.ca_server_core.specs.declared.stepping.Step.{Step}
 use Rattle.ca_server_core.specs.declared.stepping.Step.TheVariants as own
-use Rattle.ca_server_core.specs.Effects.{IsEffect, TellsEffect, action_of, effect_of, message_of}
+use Rattle.ca_server_core.specs.Effects.{TellsEffect}
 use Rattle.ca_server_core.specs.Serving.{stepped}
 use Rattle.ca_server_core.proofs.Followed.{MakesBy}
 
 -- what a message left to do tells what it did
-pub told-as : (m : Fields) (a : Action) (did : FollowUp) (u : Store) → Tells m a did u → IsEffect m a (effect_of did)
+pub told-as : (m : Fields) (a : Action) (did : FollowUp) (u : Store) → Tells m a did u → effect_of did ≡ effect_due m a
 told-as m (Applies name value true) did u is = ap effect_of is.2
 told-as m (Applies name value false) did u is = ap effect_of is.2
 told-as m (Adds x) did u is = ap effect_of is.2
@@ -30,10 +31,9 @@ told-as m (Drops k) did u is = ap effect_of is
 told-as m (Switches on) did u is = ap effect_of is
 
 -- a step that tells that, if it handled the message
-pub tells-by : (y : Server) (h : Handle) (did : FollowUp) (result : Step) (new : Server) → MakesBy (λ (m : Fields) (a : Action). IsEffect m a (effect_of did)) y h (stepped result) new → ((e : Effect) → result ≡ own.Handled e → e ≡ effect_of did)
+pub tells-by : (y : Server) (h : Handle) (did : FollowUp) (result : Step) (new : Server) → MakesBy (λ (m : Fields) (a : Action). effect_of did ≡ effect_due m a) y h (stepped result) new → ((e : Effect) → result ≡ own.Handled e → e ≡ effect_of did)
     → TellsEffect y h result new
-tells-by y h did (own.Handled e) new made is =
-    (made.0, subst (λ (x : Effect). IsEffect (message_of y h new made.0) (action_of y h new made.0) x) (sym (is e refl)) made.1)
+tells-by y h did (own.Handled e) new made is = (made.0, is e refl ∙ made.1)
 tells-by y h did own.NeedBytes new made is = tt
 tells-by y h did own.OutputFull new made is = tt
 tells-by y h did (own.Closed c left) new made is = tt

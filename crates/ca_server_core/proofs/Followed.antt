@@ -22,6 +22,7 @@ use Rattle.ca_model.specs.ServerSteps.{Acts, MayEnd, Next, Reaches, Stepped, Ste
 use Rattle.ca_model.specs.ServerSteps as steps
 use Rattle.ca_model.specs.Speech.{In, Stored}
 use Rattle.ca_server_circuit.specs.declared.cause.Cause.{Cause}
+use Rattle.ca_server_circuit.specs.declared.effect.Effect.{Effect}
 use Rattle.ca_server_circuit.specs.declared.step.FollowUp.{FollowUp}
 use Rattle.ca_server_circuit.specs.declared.step.FollowUp.TheVariants as effect
 use Rattle.ca_server_circuit.specs.declared.step.EndStep.TheVariants as step
@@ -129,19 +130,19 @@ pub data Kind (m : Fields) (a : Action) (did : FollowUp) (u : Store) : Type 0 wh
   Writes : (name : List ℕ) → (value : Elements) → (busies : Bool) → a ≡ Applies name value busies → Tells m (Applies name value busies) did u → Kind m a did u
   Begins : (x : Subscription) → a ≡ Adds x → Tells m (Adds x) did u → Kind m a did u
   Creates : (c : KnownChannel) → a ≡ Opens c → Tells m (Opens c) did u → Kind m a did u
-  Rests : did ≡ effect.Quiet → ((y : Server) → Reaches a (λ (h : Handle). false) y y) → ((e : ServerEnd) (s : Subscription) → Joined a e s → In e.subscriptions s) → ((e : ServerEnd) (n : List ℕ) → Led a e n → HasTo e n) → Kind m a did u
+  Rests : (said : Effect) → did ≡ effect.Quiet said → ((y : Server) → Reaches a (λ (h : Handle). false) y y) → ((e : ServerEnd) (s : Subscription) → Joined a e s → In e.subscriptions s) → ((e : ServerEnd) (n : List ℕ) → Led a e n → HasTo e n) → Kind m a did u
 
 kind-of : (m : Fields) (a : Action) (did : FollowUp) (u : Store) → Tells m a did u → Kind m a did u
 kind-of m (Applies name value busies) did u is = Writes name value busies refl is
 kind-of m (Adds x) did u is = Begins x refl is
-kind-of m Nothing did u is = Rests is (λ y. ((λ h. refl), refl)) (λ e s i. i) (λ e n i. i)
-kind-of m Greets did u is = Rests is (λ y. ((λ h. refl), refl)) (λ e s i. i) (λ e n i. i)
-kind-of m (Names p) did u is = Rests is (λ y. ((λ h. refl), refl)) (λ e s i. i) (λ e n i. i)
+kind-of m Nothing did u is = Rests _ is (λ y. ((λ h. refl), refl)) (λ e s i. i) (λ e n i. i)
+kind-of m Greets did u is = Rests _ is (λ y. ((λ h. refl), refl)) (λ e s i. i) (λ e n i. i)
+kind-of m (Names p) did u is = Rests _ is (λ y. ((λ h. refl), refl)) (λ e s i. i) (λ e n i. i)
 kind-of m (Opens c) did u is = Creates c refl is
-kind-of m (Clears sid) did u is = Rests is (λ y. ((λ h. refl), refl)) (λ e s i. i) (λ e n i. i)
-kind-of m (Waits name value) did u is = Rests is (λ y. ((λ h. refl), refl)) (λ e s i. i) (λ e n i. i)
-kind-of m (Drops k) did u is = Rests is (λ y. ((λ h. refl), refl)) (λ e s i. i) (λ e n i. i)
-kind-of m (Switches on) did u is = Rests is (λ y. ((λ h. refl), refl)) (λ e s i. i) (λ e n i. i)
+kind-of m (Clears sid) did u is = Rests _ is (λ y. ((λ h. refl), refl)) (λ e s i. i) (λ e n i. i)
+kind-of m (Waits name value) did u is = Rests _ is (λ y. ((λ h. refl), refl)) (λ e s i. i) (λ e n i. i)
+kind-of m (Drops k) did u is = Rests _ is (λ y. ((λ h. refl), refl)) (λ e s i. i) (λ e n i. i)
+kind-of m (Switches on) did u is = Rests _ is (λ y. ((λ h. refl), refl)) (λ e s i. i) (λ e n i. i)
 
 -- ---- who watches then
 
@@ -161,7 +162,7 @@ covers-handled w y s u t h was e new m did D same subs there d covers = by (kind
     thinner none = covers-changed w t h was new there (λ x i. old-in x (none x (joined x i))) covers
 
     by : Kind m d.action did u → CoversFor did h u w after
-    by (Rests quiet reach none less) = subst (λ (k : FollowUp). CoversFor k h u w after) (sym quiet) (thinner (λ x j. none e x j))
+    by (Rests said quiet reach none less) = subst (λ (k : FollowUp). CoversFor k h u w after) (sym quiet) (thinner (λ x j. none e x j))
     by (Creates c is told) =
         subst (λ (k : FollowUp). CoversFor k h u w after) (sym told.2)
         (thinner (λ x j. subst (λ (a : Action). Joined a e x → In e.subscriptions x) (sym is) (λ i. i) j))
@@ -215,7 +216,7 @@ led-handled l y s u t h was e new m did D same chans there d leads listed = by (
     fewer none = record { leads = leads-changed l t h was new there (λ n to. old-to n (none n (led n to))) leads; listed = listed }
 
     by : Kind m d.action did u → LedFor did h u l after
-    by (Rests quiet reach none less) = subst (λ (k : FollowUp). LedFor k h u l after) (sym quiet) (fewer (λ n to. less e n to))
+    by (Rests said quiet reach none less) = subst (λ (k : FollowUp). LedFor k h u l after) (sym quiet) (fewer (λ n to. less e n to))
     by (Writes name value busies is told) =
         subst (λ (k : FollowUp). LedFor k h u l after) (sym told.2)
         (fewer (λ n to. subst (λ (a : Action). Led a e n → HasTo e n) (sym is) (λ i. i) to))
@@ -336,9 +337,9 @@ module _ (port now n : ℕ) (b : Clock) (s u : Store) (t : Circuits) (h : Handle
   left-is = handled-output y s u h e (after_first d.0) new d.0.m did _ refl refl d.1
 
   -- a message with nothing to follow
-  rests : (x : Store) (last : Circuits) (result : Step) (final : Circuits) → did ≡ effect.Quiet → ((z : Server) → Reaches the-next.0.action (λ (g : Handle). false) z z) → Follows did h mid_table u last x → Settles last h (length e.link.output) result final
+  rests : (x : Store) (last : Circuits) (result : Step) (final : Circuits) (said : Effect) → did ≡ effect.Quiet said → ((z : Server) → Reaches the-next.0.action (λ (g : Handle). false) z z) → Follows did h mid_table u last x → Settles last h (length e.link.output) result final
       → MakesBy P y h (stepped result) (server_of port x now final b k)
-  rests x last result final quiet reach f settled =
+  rests x last result final said quiet reach f settled =
       let same = subst (λ (q : FollowUp). Follows q h mid_table u last x) quiet f in
       let whole : server_of port x now last b k ≡ the-next.0.after = ap (λ (z : Store). server_of port z now last b k) same.1 ∙ ap (λ (z : Circuits). server_of port u now z b k) same.0 ∙ sym the-next.1 in
       stays-open x last result final new (λ (g : Handle). false) refl (ap (λ (z : Circuits). under z h) same.0 ∙ here) settled
@@ -435,8 +436,8 @@ module _ (port now n : ℕ) (b : Clock) (s u : Store) (t : Circuits) (h : Handle
   handled-all x last result final f sound settled = by (kind-of d.0.m d.1.action did u d.1.tells)
     where
       by : Kind d.0.m d.1.action did u → MakesBy P y h (stepped result) (server_of port x now final b k)
-      by (Rests quiet reach none less) =
-          rests x last result final quiet (λ z. subst (λ (a : Action). Reaches a (λ (g : Handle). false) z z) (sym the-next.2) (reach z)) f settled
+      by (Rests said quiet reach none less) =
+          rests x last result final said quiet (λ z. subst (λ (a : Action). Reaches a (λ (g : Handle). false) z z) (sym the-next.2) (reach z)) f settled
       by (Writes name value busies is told) = writes x last result final name value busies (the-next.2 ∙ is) told f sound settled
       by (Begins q is told) =
           let action = the-next.2 ∙ is in

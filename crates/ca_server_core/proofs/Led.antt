@@ -178,16 +178,16 @@ led-reached place mask t s after u l did led =
 -- a write leaves the lists complete
 pub led-wrote : (did : FollowUp) (h : Handle) (s : Store) (l : Watched) (t : Circuits) → is_wrote did ≡ true → LedFor did h s l t → AreLed (records_of s) l t
 led-wrote (effect.Wrote place busies sid) h s l t is led = led
-led-wrote effect.Quiet h s l t is led = absurd cc
-led-wrote (effect.Began place) h s l t is led = absurd cc
-led-wrote (effect.Opened place) h s l t is led = absurd cc
+led-wrote (effect.Quiet said) h s l t is led = absurd cc
+led-wrote (effect.Began place sid sub) h s l t is led = absurd cc
+led-wrote (effect.Opened place sid) h s l t is led = absurd cc
 
 -- and so they are once its updates have reached all
 pub led-followed : (did : FollowUp) (h : Handle) (t : Circuits) (s : Store) (after : Circuits) (u : Store) (l : Watched) → is_wrote did ≡ true → Follows did h t s after u → LedFor did h s l t → AreLed (records_of u) l after
 led-followed (effect.Wrote place busies sid) h t s after u l is f led = led-reached place write_mask t s after u l f led
-led-followed effect.Quiet h t s after u l is f led = absurd cc
-led-followed (effect.Began place) h t s after u l is f led = absurd cc
-led-followed (effect.Opened place) h t s after u l is f led = absurd cc
+led-followed (effect.Quiet said) h t s after u l is f led = absurd cc
+led-followed (effect.Began place sid sub) h t s after u l is f led = absurd cc
+led-followed (effect.Opened place sid) h t s after u l is f led = absurd cc
 
 -- the end of a put leaves no channel to be entered
 pub led-finished : (f : Finished) (s : Store) (l : Watched) (t : Circuits) → AreLed (records_of s) l t → LedFor (effect_after f) f.ended.circuit s l t

@@ -39,7 +39,8 @@ use Rattle.ca_server_core.specs.Noting.{BusyBut, EndsPutAt, IsBusy, LeadsTo, Not
 use Rattle.ca_server_core.specs.Finishing.{RepliesIn, effect_after}
 use Rattle.ca_server_core.specs.Serving.{IsReport, Reports, StepsIn, more_applied, stepped}
 use Rattle.ca_server_core.specs.declared.stepping.Step.{Step}
-use Rattle.ca_server_core.specs.declared.effect.Effect.TheVariants as told
+use Rattle.ca_server_circuit.specs.declared.effect.Effect.{Effect}
+use Rattle.ca_server_circuit.specs.declared.effect.Effect.TheVariants as told
 use Rattle.ca_server_core.specs.declared.stepping.Step.TheVariants as own
 use Rattle.ca_server_core.proofs.Followed.{HandledBy}
 use Rattle.ca_server_core.proofs.Nexts.{viewed-finish}
@@ -143,17 +144,17 @@ begun-busy h t last u x noted f = by f
     by (inr (inr none)) = same none.2
 
 followed-busy : (did : FollowUp) (h : Handle) (t last : Circuits) (u x : Store) (noted : Option (List ℕ)) → Follows did h t u last x → BusyBut (records_of u) (records_of x) noted
-followed-busy effect.Quiet h t last u x noted f = subst (λ (z : Store). BusyBut (records_of u) (records_of z) noted) (sym f.1) (busy-same (records_of u) noted)
+followed-busy (effect.Quiet said) h t last u x noted f = subst (λ (z : Store). BusyBut (records_of u) (records_of z) noted) (sym f.1) (busy-same (records_of u) noted)
 followed-busy (effect.Wrote place busies sid) h t last u x noted f =
     busy-withdrawn (λ (p : Put). f.2.0 p.circuit) (records_of u) (records_of x) noted f.2.1.records
-followed-busy (effect.Began place) h t last u x noted f = begun-busy h t last u x noted f
-followed-busy (effect.Opened place) h t last u x noted f = begun-busy h t last u x noted f
+followed-busy (effect.Began place sid sub) h t last u x noted f = begun-busy h t last u x noted f
+followed-busy (effect.Opened place sid) h t last u x noted f = begun-busy h t last u x noted f
 
 -- what is noted is busy
 noted-busy : (did : FollowUp) (x : Store) (noted : Option (List ℕ)) → NotesAt did x noted → IsBusy (records_of x) noted
-noted-busy effect.Quiet x noted n name is = absurd (none-some name (sym n ∙ is))
-noted-busy (effect.Began place) x noted n name is = absurd (none-some name (sym n ∙ is))
-noted-busy (effect.Opened place) x noted n name is = absurd (none-some name (sym n ∙ is))
+noted-busy (effect.Quiet said) x noted n name is = absurd (none-some name (sym n ∙ is))
+noted-busy (effect.Began place sid sub) x noted n name is = absurd (none-some name (sym n ∙ is))
+noted-busy (effect.Opened place sid) x noted n name is = absurd (none-some name (sym n ∙ is))
 noted-busy (effect.Wrote place busies sid) x noted n name is = by (is_some n.0.busy) refl (sym n.3 ∙ is)
   where
     by : (b : Bool) → is_some n.0.busy ≡ b → cond b (Some n.0.state.name) None ≡ Some name → (r : Record) × (record_named (records_of x) name ≡ Some r) × (is_some r.busy ≡ true)
@@ -348,9 +349,9 @@ same-server port now n k b s x t last a c e =
 
 -- the record that it made busy is noted, and its put ended
 tried-at : (did : FollowUp) (port now : ℕ) (b : Clock) (n k : ℕ) (t last : Circuits) (s x : Store) → TriesAt did n t s k last x → (noted : Option (List ℕ)) × NotesAt did s noted × Tries (server_of port s now t b n) noted (server_of port x now last b k)
-tried-at effect.Quiet port now b n k t last s x is = (None, refl, same-server port now n k b s x t last is.0 is.1 is.2)
-tried-at (effect.Began place) port now b n k t last s x is = (None, refl, same-server port now n k b s x t last is.0 is.1 is.2)
-tried-at (effect.Opened place) port now b n k t last s x is = (None, refl, same-server port now n k b s x t last is.0 is.1 is.2)
+tried-at (effect.Quiet said) port now b n k t last s x is = (None, refl, same-server port now n k b s x t last is.0 is.1 is.2)
+tried-at (effect.Began place sid sub) port now b n k t last s x is = (None, refl, same-server port now n k b s x t last is.0 is.1 is.2)
+tried-at (effect.Opened place sid) port now b n k t last s x is = (None, refl, same-server port now n k b s x t last is.0 is.1 is.2)
 tried-at (effect.Wrote place busies sid) port now b n k t last s x (r, at, found, inl (busy, e)) =
     let g = viewed-finish (server_of port s now t b n) port now n k b s e.left e.after x t e.mid last r.state.name e.f (effect_after e.f) (is_wrote (effect_after e.f)) refl refl refl e.counts e.finishes e.replies e.follows in
     (Some r.state.name, (r, at, found, ap (λ (c : Bool). cond c (Some r.state.name) None) (sym busy)), (g.0, Ok tt, g.1))
@@ -369,10 +370,10 @@ served y h noted mid new did tries = record {
 }
 
 -- a message was handled that leaves nothing to do
-pub viewed-quiet : (y : Server) (port now n k : ℕ) (b : Clock) (s u : Store) (t after : Circuits) (h : Handle) → server_of port s now t b n ≡ y → StepsIn port t h s (Some (step.Handled effect.Quiet)) after u → HandlesAny y h effect.Quiet u (server_of port u now after b k) → HandlesAndFinishes y h (server_of port u now after b k)
-viewed-quiet y port now n k b s u t after h is g made =
+pub viewed-quiet : (y : Server) (port now n k : ℕ) (b : Clock) (s u : Store) (t after : Circuits) (h : Handle) (said : Effect) → server_of port s now t b n ≡ y → StepsIn port t h s (Some (step.Handled (effect.Quiet said))) after u → HandlesAny y h (effect.Quiet said) u (server_of port u now after b k) → HandlesAndFinishes y h (server_of port u now after b k)
+viewed-quiet y port now n k b s u t after h said is g made =
     served y h None (server_of port u now after b k) (server_of port u now after b k)
-    (viewed-noting y port now n k b s u u t after after after h effect.Quiet None is g (refl, refl) refl made) refl
+    (viewed-noting y port now n k b s u u t after after after h (effect.Quiet said) None is g (refl, refl) refl made) refl
 
 -- a message was handled, and the put of the record to which it wrote ended
 pub viewed-served : (y : Server) (port now n k j : ℕ) (b : Clock) (s u x z : Store) (t after last mid final : Circuits) (h : Handle) (did : FollowUp) → server_of port s now t b n ≡ y → StepsIn port t h s (Some (step.Handled did)) after u → Follows did h after u last x
@@ -383,7 +384,7 @@ viewed-served y port now n k j b s u x z t after last mid final h did is g f mad
 
 -- the record to which a message wrote is there after what followed
 pub leads-after : (did : FollowUp) (h : Handle) (t last : Circuits) (u x : Store) → Follows did h t u last x → LeadsTo did x
-leads-after effect.Quiet h t last u x f = tt
+leads-after (effect.Quiet said) h t last u x f = tt
 leads-after (effect.Wrote place busies sid) h t last u x f = (let kept = f.2.1.places place f.0 f.1 in (kept.0, kept.1))
-leads-after (effect.Began place) h t last u x f = tt
-leads-after (effect.Opened place) h t last u x f = tt
+leads-after (effect.Began place sid sub) h t last u x f = tt
+leads-after (effect.Opened place sid) h t last u x f = tt

@@ -8,6 +8,7 @@ use Rattle.ca_records.specs.Store.{Store, records_of}
 use Rattle.ca_text.proofs.Places.{some_is}
 use Rattle.ca_model.specs.Server.{Ended, Open, ServerCircuit, ServerEnd}
 use Rattle.ca_model.specs.ServerSteps.{Rests, output_of}
+use Rattle.ca_server_circuit.specs.declared.effect.Effect.{Effect}
 use Rattle.ca_server_circuit.specs.declared.step.FollowUp.{FollowUp}
 use Rattle.ca_server_circuit.specs.declared.step.FollowUp.TheVariants as effect
 use Rattle.ca_server_circuit.specs.declared.step.EndStep.{EndStep}
@@ -49,15 +50,15 @@ changed-twice t h c d u is =
 
 -- ---- a step that leaves nothing to do
 
-pub quiet-is : (did : FollowUp) → is_quiet did ≡ true → did ≡ effect.Quiet
-quiet-is effect.Quiet is = refl
+pub quiet-is : (did : FollowUp) → is_quiet did ≡ true → (said : Effect) × (did ≡ effect.Quiet said)
+quiet-is (effect.Quiet said) is = (said, refl)
 quiet-is (effect.Wrote place busies sid) is = absurd cc
-quiet-is (effect.Began place) is = absurd cc
-quiet-is (effect.Opened place) is = absurd cc
+quiet-is (effect.Began place sid sub) is = absurd cc
+quiet-is (effect.Opened place sid) is = absurd cc
 
-pub still-is : (did : Option EndStep) → is_still did ≡ true → did ≡ Some (step.Handled effect.Quiet)
+pub still-is : (did : Option EndStep) → is_still did ≡ true → (said : Effect) × (did ≡ Some (step.Handled (effect.Quiet said)))
 still-is None is = absurd cc
-still-is (Some (step.Handled did)) is = ap (λ (x : FollowUp). Some (step.Handled x)) (quiet-is did is)
+still-is (Some (step.Handled did)) is = (let q = quiet-is did is in (q.0, ap (λ (x : FollowUp). Some (step.Handled x)) q.1))
 still-is (Some step.NeedBytes) is = absurd cc
 still-is (Some step.OutputFull) is = absurd cc
 still-is (Some (step.Breaks cause)) is = absurd cc
@@ -75,11 +76,12 @@ stepped-sound port s u t h c new did there steps sound = by new (changed-own (λ
     by (Ended w left) at = tt
 
 -- it was changed twice
-pub steps-and-pumps : (port : ℕ) (s v u : Store) (t : Circuits) (h : Handle) (c mid new : ServerCircuit) → under t h ≡ Some c → CircuitSteps port h c s (Some (step.Handled effect.Quiet)) mid v → PumpsAt h mid v new u
+pub steps-and-pumps : (port : ℕ) (s v u : Store) (t : Circuits) (h : Handle) (c mid new : ServerCircuit) (said : Effect) → under t h ≡ Some c → CircuitSteps port h c s (Some (step.Handled (effect.Quiet said))) mid v → PumpsAt h mid v new u
     → StepsAndPumps port t h s (with_changed (λ (x : ServerCircuit). new) h t) u
-steps-and-pumps port s v u t h c mid new there steps pumps = (
+steps-and-pumps port s v u t h c mid new said there steps pumps = (
   with_changed (λ (x : ServerCircuit). mid) h t,
   v,
+  said,
   inl (c, mid, there, steps, refl),
   inl (mid, new, changed-own (λ (x : ServerCircuit). mid) t h c there, pumps, sym (changed-twice t h c mid new there)),
 )

@@ -23,7 +23,7 @@ use Rattle.ca_server_circuit.specs.declared.cause.Cause.{Cause}
 use Rattle.ca_server_circuit.specs.declared.cause.Cause.TheVariants as cause
 use Rattle.ca_server_circuit.specs.declared.step.EndStep.TheVariants as step
 use Rattle.ca_server_core.specs.declared.stepping.Step.{Step}
-use Rattle.ca_server_core.specs.declared.effect.Effect.TheVariants as told
+use Rattle.ca_server_circuit.specs.declared.effect.Effect.TheVariants as told
 use Rattle.ca_server_core.specs.declared.stepping.Step.TheVariants as own
 use Rattle.ca_server_circuit.specs.declared.step.FollowUp.{FollowUp}
 use Rattle.ca_server_circuit.specs.Circuits.{is_open}

@@ -1,26 +1,17 @@
 -- Vocabulary: what a step tells of the message that it handled (section "CA Protocol Messages").
-use Rattle.std.specs.Prelude.{◌≡◌, true, false, Option, Some, None}
+use Rattle.std.specs.Prelude.{◌≡◌, Option, Some}
 use Rattle.ca_arena.specs.declared.handle.Handle.{Handle}
 use Rattle.ca_ids.specs.Table.{under}
 use Rattle.ca_text.specs.declared.command.Command.TheVariants as command
 use Rattle.ca_wire.specs.Fields.{Fields}
 use Rattle.ca_wire.specs.Messages.{bare}
-use Rattle.ca_model.specs.Due.{Action, Applies, Nothing}
+use Rattle.ca_model.specs.Due.{Action, Nothing}
 use Rattle.ca_model.specs.Server.{Open, Server, ServerCircuit}
 use Rattle.ca_model.specs.ServerSteps.{Steps, StepsAt}
 use Rattle.ca_model.specs.ServerSteps as steps
-use Rattle.ca_server_circuit.specs.declared.step.FollowUp.{FollowUp}
-use Rattle.ca_server_circuit.specs.declared.step.FollowUp.TheVariants as left
-use Rattle.ca_server_core.specs.declared.effect.Effect.{Effect}
-use Rattle.ca_server_core.specs.declared.effect.Effect.TheVariants.{Busied, Quiet, Wrote}
+use Rattle.ca_server_circuit.specs.Effects.{effect_due}
 use Rattle.ca_server_core.specs.declared.stepping.Step.{Step}
 use Rattle.ca_server_core.specs.declared.stepping.Step.TheVariants.{Handled}
-
--- the effect of a message that left this to do
-abbrev pub effect_of : FollowUp → Effect
-effect_of (left.Wrote place true sid) = Busied sid
-effect_of (left.Wrote place false sid) = Wrote
-effect_of did = Quiet
 
 -- ---- the message that a step handled
 
@@ -44,13 +35,8 @@ message_of old h new d = message_at old h new (under old.circuits h) d
 
 -- ---- what is told
 
--- A write is told, with the SID in its message if it made the record busy; of anything else, that no record was written.
-abbrev pub IsEffect : Fields → Action → Effect → Type 0
-IsEffect m (Applies name value true) did = did ≡ Busied m.p1
-IsEffect m (Applies name value false) did = did ≡ Wrote
-IsEffect m action did = did ≡ Quiet
-
--- `step`: what it tells of the message that it handled
+-- `step`: the effect of the message that it handled
 abbrev pub TellsEffect : Server → Handle → Step → Server → Type 0
-TellsEffect old h (Handled did) new = (d : Steps old h steps.Handled new) × IsEffect (message_of old h new d) (action_of old h new d) did
+TellsEffect old h (Handled did) new =
+    (d : Steps old h steps.Handled new) × (did ≡ effect_due (message_of old h new d) (action_of old h new d))
 TellsEffect old h did new = Unit {0}

@@ -6,6 +6,7 @@ use Rattle.ca_records.specs.declared.puts.Finished.{Finished}
 use Rattle.ca_records.specs.declared.puts.Put.{Put}
 use Rattle.ca_records.specs.Store.{Store}
 use Rattle.ca_model.specs.Server.{ServerCircuit}
+use Rattle.ca_server_circuit.specs.declared.effect.Effect.TheVariants as told
 use Rattle.ca_server_circuit.specs.declared.step.FollowUp.{FollowUp}
 use Rattle.ca_server_circuit.specs.declared.step.FollowUp.TheVariants as effect
 use Rattle.ca_server_circuit.specs.Finishing.{RepliesAt}
@@ -18,7 +19,7 @@ RepliesIn t p s after u =
 
 -- what a put that was applied next leaves to do
 abbrev pub after_applied : (place : ℕ) → Option Put → FollowUp
-after_applied place None = effect.Quiet
+after_applied place None = effect.Quiet told.Quiet
 after_applied place (Some p) = effect.Wrote place true (wire_of p.channel)
 
 -- what the end of a busy put leaves to do

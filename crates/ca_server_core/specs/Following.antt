@@ -33,10 +33,10 @@ CoversAt place h s w t = (r : Record) × HasAt s place r × ((c : ServerCircuit)
 
 -- who watches, as a message leaves it
 abbrev pub CoversFor : FollowUp → Handle → Store → Watched → Table ServerCircuit → Type 0
-CoversFor effect.Quiet h s w t = Covers w t
+CoversFor (effect.Quiet did) h s w t = Covers w t
 CoversFor (effect.Wrote place busies sid) h s w t = IsThere s place × Covers w t
-CoversFor (effect.Began place) h s w t = CoversAt place h s w t
-CoversFor (effect.Opened place) h s w t = Covers w t
+CoversFor (effect.Began place sid sub) h s w t = CoversAt place h s w t
+CoversFor (effect.Opened place sid) h s w t = Covers w t
 
 -- each open end but this one, for its channels to the record of this name, is among those that lead there
 abbrev pub LeadsBut : Handle → List ℕ → Watched → Table ServerCircuit → Type 0
@@ -50,7 +50,7 @@ LedAt place h s l t =
 
 -- who leads to records, as a message leaves it
 abbrev pub LedFor : FollowUp → Handle → Store → Watched → Table ServerCircuit → Type 0
-LedFor (effect.Opened place) h s l t = LedAt place h s l t
+LedFor (effect.Opened place sid) h s l t = LedAt place h s l t
 LedFor did h s l t = AreLed (records_of s) l t
 
 -- ---- after
@@ -61,10 +61,10 @@ Begins h t s after u = ((after ≡ t) × (u ≡ s)) ⊎ EndsIn t h s why.OutOfMe
 
 -- what a message leaves to do was done
 abbrev pub Follows : FollowUp → Handle → Table ServerCircuit → Store → Table ServerCircuit → Store → Type 0
-Follows effect.Quiet h t s after u = (after ≡ t) × (u ≡ s)
+Follows (effect.Quiet did) h t s after u = (after ≡ t) × (u ≡ s)
 Follows (effect.Wrote place busies sid) h t s after u = ReachesFrom place write_mask t s after u
-Follows (effect.Began place) h t s after u = Begins h t s after u
-Follows (effect.Opened place) h t s after u = Begins h t s after u
+Follows (effect.Began place sid sub) h t s after u = Begins h t s after u
+Follows (effect.Opened place sid) h t s after u = Begins h t s after u
 
 -- ---- the answer of the step
 

@@ -6,6 +6,7 @@ use Rattle.ca_records.specs.Store.{Store}
 use Rattle.ca_model.specs.Server.{ServerCircuit, ServerEnd}
 use Rattle.ca_model.specs.Server as server
 use Rattle.ca_model.specs.ServerSteps.{Rests}
+use Rattle.ca_server_circuit.specs.declared.effect.Effect.{Effect}
 use Rattle.ca_server_circuit.specs.declared.step.FollowUp.TheVariants as effect
 use Rattle.ca_server_circuit.specs.declared.step.EndStep.TheVariants as step
 use Rattle.ca_server_circuit.specs.Pumping.{PumpsAt}
@@ -20,7 +21,7 @@ PumpsIn t h s after u =
 -- the same after a step that leaves nothing to do
 abbrev pub StepsAndPumps : (port : ℕ) → Table ServerCircuit → Handle → Store → Table ServerCircuit → Store → Type 0
 StepsAndPumps port t h s after u =
-    (mid : Table ServerCircuit) × (v : Store) × StepsIn port t h s (Some (step.Handled effect.Quiet)) mid v × PumpsIn mid h v after u
+    (mid : Table ServerCircuit) × (v : Store) × (did : Effect) × StepsIn port t h s (Some (step.Handled (effect.Quiet did))) mid v × PumpsIn mid h v after u
 
 -- a pump of the circuit of a handle does nothing
 abbrev pub IsIdleIn : Table ServerCircuit → Handle → Type 0

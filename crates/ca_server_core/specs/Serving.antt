@@ -28,7 +28,7 @@ stepped (Closed cause left) = steps.Closed (why_is cause) left
 
 -- whether a message leaves nothing to do
 abbrev pub is_quiet : FollowUp → Bool
-is_quiet effect.Quiet = true
+is_quiet (effect.Quiet told) = true
 is_quiet did = false
 
 -- whether a step handled a message

@@ -9,7 +9,7 @@ use Rattle.ca_model.specs.ServerSteps.{write_mask}
 use Rattle.ca_server_circuit.specs.declared.step.FollowUp.{FollowUp}
 use Rattle.ca_server_circuit.specs.Circuits.{is_open}
 use Rattle.ca_server_circuit.specs.Handling.{is_wrote}
-use Rattle.ca_server_core.specs.declared.effect.Effect.TheVariants.{Quiet}
+use Rattle.ca_server_circuit.specs.declared.effect.Effect.TheVariants.{Quiet}
 use Rattle.ca_server_core.specs.declared.stepping.Step.TheVariants.{Handled}
 use Rattle.ca_server_core.specs.Covering.{Covers}
 use Rattle.ca_server_core.specs.Following.{Follows, Settles}

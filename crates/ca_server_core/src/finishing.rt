@@ -11,7 +11,7 @@ use crate::server::ServerCore;
 use crate::stepping::more_applied;
 use ca_ids::{HeldTable, WireId};
 use ca_records::{Finished, Put, ServedRecords};
-use ca_server_circuit::{Circuit, FollowUp};
+use ca_server_circuit::{Circuit, Effect, FollowUp};
 use ca_text::Refusal;
 
 impl ServerCore {
@@ -46,7 +46,7 @@ pub(crate) fn left_by(finished: &Finished) -> FollowUp
 {
     match finished.applied {
         Some(next) => { FollowUp::Wrote(finished.place, true, WireId::of(next.channel).number()) }
-        None => FollowUp::Quiet,
+        None => FollowUp::Quiet(Effect::Quiet),
     }
 }
 

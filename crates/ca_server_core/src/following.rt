@@ -39,13 +39,13 @@ pub(crate) fn follow(
     ensures none { result ≡ false → circuits.new ≡ circuits.old }
 {
     match effect {
-        FollowUp::Quiet => false,
+        FollowUp::Quiet(_) => false,
         FollowUp::Wrote(place, _, _) => post_to_all(circuits, records, watchers, place, WRITE_MASK),
-        FollowUp::Began(place) => {
+        FollowUp::Began(place, _, _) => {
             watch(circuits, records, watchers, circuit, place);
             true
         }
-        FollowUp::Opened(place) => {
+        FollowUp::Opened(place, _) => {
             lead(circuits, records, leading, circuit, place);
             true
         }

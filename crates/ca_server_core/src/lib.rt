@@ -10,7 +10,6 @@ mod beacons;
 mod counting;
 mod cutting;
 mod datagrams;
-mod effect;
 mod finishing;
 mod first_waiting;
 mod following;
@@ -25,7 +24,6 @@ mod serving;
 mod stepping;
 mod through;
 
-pub use ca_server_circuit::Cause;
-pub use effect::Effect;
+pub use ca_server_circuit::{Cause, Effect};
 pub use server::ServerCore;
 pub use stepping::Step;

@@ -8,13 +8,12 @@ ghost use Rattle.ca_server_core.specs.Noting.{EndsPutAt, LeadsTo, ServesAndPumps
 ghost use Rattle.ca_server_core.specs.Pumping.{IsIdleIn};
 ghost use Rattle.ca_server_core.specs.Serving.{stepped};
 ghost use Rattle.ca_server_core.specs.Sound.{IsSound};
-ghost use Rattle.ca_server_core.specs.declared.effect.Effect.{Effect};
-ghost use Rattle.ca_server_core.specs.declared.effect.Effect.TheVariants.{Quiet};
+ghost use Rattle.ca_server_circuit.specs.declared.effect.Effect.{Effect};
+ghost use Rattle.ca_server_circuit.specs.declared.effect.Effect.TheVariants.{Quiet};
 ghost use Rattle.ca_server_core.specs.declared.stepping.Step.TheVariants.{Handled};
 ghost use Rattle.ca_server_core.specs.Through.{FollowsAndEnds, FollowsAndPumps};
 
 use crate::counting::{pump_counting_on, step_counting_on};
-use crate::effect::Effect;
 use crate::finishing::{left_by, reply_on};
 use crate::following::follow;
 use crate::server::ServerCore;
@@ -23,7 +22,7 @@ use crate::through::go_through;
 use ca_arena::Handle;
 use ca_ids::HeldTable;
 use ca_records::ServedRecords;
-use ca_server_circuit::{Circuit, EndStep, FollowUp};
+use ca_server_circuit::{Circuit, Effect, EndStep, FollowUp};
 use ca_server_watchers::Watchers;
 
 impl ServerCore {

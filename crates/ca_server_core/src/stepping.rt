@@ -8,16 +8,15 @@ ghost use Rattle.ca_server_circuit.specs.Circuits.{is_open};
 ghost use Rattle.ca_server_core.specs.Serving.{Closes, Reports, StepsIn, is_quiet, more_applied, stepped};
 ghost use Rattle.ca_server_core.specs.Sound.{IsSound};
 ghost use Rattle.ca_server_core.specs.Effects.{TellsEffect};
-ghost use Rattle.ca_server_core.specs.declared.effect.Effect.{Effect};
+ghost use Rattle.ca_server_circuit.specs.declared.effect.Effect.{Effect};
 ghost use Rattle.ca_server_core.specs.declared.stepping.Step.TheVariants.{Handled};
 
-use crate::effect::{Effect, effect_of};
 use crate::following::follow;
 use crate::server::ServerCore;
 use ca_arena::Handle;
 use ca_ids::HeldTable;
 use ca_records::ServedRecords;
-use ca_server_circuit::{Cause, Circuit, EndStep, FollowUp};
+use ca_server_circuit::{Cause, Circuit, Effect, EndStep, FollowUp};
 use ca_text::APPLIED_LIMIT;
 use ca_wire::Pipe;
 use std::alloc::Global;
@@ -59,7 +58,7 @@ impl ServerCore {
         ) {
             Some(EndStep::Handled(left)) => {
                 if is_quiet(left) {
-                    return Step::Handled(Effect::Quiet);
+                    return Step::Handled(left.effect());
                 }
                 self.applied = more_applied(self.applied, left.is_write());
                 follow(
@@ -70,7 +69,7 @@ impl ServerCore {
                     circuit,
                     left,
                 );
-                let effect = effect_of(left);
+                let effect = left.effect();
                 settle(self.alloc, &mut self.circuits, circuit, waited, effect)
             }
             Some(EndStep::NeedBytes) => Step::NeedBytes,
@@ -108,7 +107,7 @@ pub(crate) fn is_quiet(effect: FollowUp) -> bool
     ensures { result ≡ is_quiet effect }
 {
     match effect {
-        FollowUp::Quiet => true,
+        FollowUp::Quiet(_) => true,
         _ => false,
     }
 }

@@ -1,7 +1,7 @@
 //! A client whose callers are four threads. All 1,024 tickets are outstanding at once, 256 for each caller: one request more is refused, and each
 //! caller collects the outcomes of its own tickets, once.
 
-use crate::client::{Task, use_client};
+use crate::client::setting;
 use crate::server::{bound, start_server};
 use crate::tell;
 use ca_arena::Handle;
@@ -41,11 +41,31 @@ pub(crate) fn show<
     let file = records(alloc)?;
     let (places, address) = bound(&rt)?;
     let server = start_server(rt, alloc, places, file, 1)?;
-    let talked = use_client(rt, alloc, address.port(), Task::UseUp, out);
+    let talked = use_client(rt, alloc, address.port(), out);
     let served = server.join(&rt);
     talked?;
     served?;
     Ok(())
+}
+
+fn use_client<
+    R: Threads
+        + Wait
+        + Clock
+        + Net<Stream = TcpStream, Listener = TcpListener>
+        + Copy
+        + Drop
+        + Send
+        + 'static,
+    W: Write,
+>(rt: R, alloc: Global, port: u16, out: &mut W) -> Result<(), Refusal> {
+    let (context, engine) = Context::new(rt, alloc, setting(alloc, port)?)?;
+    let context = Arc::new(alloc, context)?;
+    let thread = start(rt, engine)?;
+    let talked = talk(rt, alloc, &context, out);
+    context.end(&rt);
+    thread.join(&rt);
+    talked
 }
 
 /// The record WAVE, of as many LONGs as there are tickets.
@@ -62,7 +82,7 @@ fn records(alloc: Global) -> Result<RecordFile, Refusal> {
 }
 
 /// Uses up the tickets, has four callers collect them, and asks once more.
-pub(crate) fn talk<R: Threads + Wait + Clock + Copy + Send + 'static, W: Write>(
+fn talk<R: Threads + Wait + Clock + Copy + Send + 'static, W: Write>(
     rt: R,
     alloc: Global,
     context: &Arc<Context<Nobody>>,

@@ -3,11 +3,12 @@
 
 use crate::client::setting;
 use crate::moments::is_within;
-use crate::peer::{Message, Peer, header_of, heard, tell_message, tell_value};
+use crate::peer::{Message, Peer, header_of, heard, tell_message, tell_updates, tell_value};
 use crate::{moments, say_yes};
 use ca_arena::Handle;
+use ca_board::Ticket;
 use ca_client::{Caller, Request};
-use ca_client_context::{Context, Listener, Waited, start};
+use ca_client_context::{Context, Listener, Waited, Work, start};
 use ca_client_core::ChannelState;
 use ca_dbr::{Outcome, Value};
 use ca_text::{Mask, Refusal};
@@ -17,7 +18,7 @@ use std::net::{Net, TcpListener, TcpStream};
 use std::sync::atomic::{AtomicU64, Ordering};
 use std::sync::{Arc, Wait};
 use std::thread;
-use std::thread::Threads;
+use std::thread::{JoinHandle, Threads};
 use std::time::{Clock, Duration};
 
 const VERSION: u16 = 0;
@@ -26,51 +27,14 @@ const EVENT_ADD: u16 = 1;
 
 const EVENT_CANCEL: u16 = 2;
 
-const WRITE: u16 = 4;
-
 const ERROR: u16 = 11;
 
 const CLEAR: u16 = 12;
 
 const READ_NOTIFY: u16 = 15;
 
-/// An ECHO, to which a client does nothing.
-const NOTHING: Message = Message {
-    command: 23,
-    data_type: 0,
-    count: 0,
-    p1: 0,
-    p2: 0,
-};
-
 /// A status that a server refuses a subscription with.
 const NO_READ_ACCESS: u32 = 376;
-
-/// What is done in a row, each once the one before has come at the server.
-#[derive(Clone, Copy)]
-enum Row {
-    Writes,
-    // Subscriptions that are made, and cancelled.
-    Subscriptions,
-    // Two writes, once the server has spoken: so its system says later that the first of them came.
-    Pairs,
-}
-
-impl Row {
-    /// How often: that takes some milliseconds, and 1,000 if each is left to a turn, or 1,200 if each pair waits for what the system says 40 ms later.
-    fn times(self) -> u64 {
-        match self {
-            Row::Writes => 100,
-            Row::Subscriptions => 100,
-            Row::Pairs => 30,
-        }
-    }
-}
-
-/// A row is soon over within so many milliseconds. On a busy machine one of some rows shows that.
-const LEFT: u64 = 600;
-
-const ROWS: u64 = 20;
 
 /// Subscriptions that are cancelled as soon as they were made: of many some are so before the thread of input and output has seen them.
 const AT_ONCE: u64 = 100;
@@ -137,11 +101,32 @@ impl Log {
     }
 }
 
+/// A caller that waits for a read, for longer than a server by hand waits for it to come.
+#[derive(Drop)]
+struct Waiter {
+    context: Arc<Context<Keeping>>,
+    caller: Caller,
+    channel: Handle,
+}
+
+impl Work for Waiter {
+    fn run<R: Wait + Clock>(self, rt: &R) {
+        let Waiter {
+            context,
+            mut caller,
+            channel,
+        } = self;
+        if let Ok(ticket) = context.get(rt, channel, 5, 1) {
+            let _ = context.wait_for(rt, &mut caller, ticket, Duration::from_secs(60));
+        }
+    }
+}
+
 /// A client, a server by hand, and what both use.
 #[derive(Drop)]
 struct Both {
     alloc: Global,
-    context: Context<Keeping>,
+    context: Arc<Context<Keeping>>,
     caller: Caller,
     peer: Peer,
     log: Arc<Log>,
@@ -169,18 +154,24 @@ pub(crate) fn show<
     let mut both = Both {
         alloc,
         caller: context.caller(&rt)?,
-        context,
+        context: Arc::new(alloc, context)?,
         peer,
         log: Arc::new(alloc, log)?,
     };
     let shown = both.show_all(&rt, out);
     both.context.end(&rt);
     thread.join(&rt);
-    shown
+    // The server keeps the circuit until then.
+    let (ticket, _stream) = shown?;
+    both.show_ended(&rt, ticket, out)
 }
 
 impl Both {
-    fn show_all<R: Wait + Clock, W: Write>(&mut self, rt: &R, out: &mut W) -> Result<(), Refusal> {
+    fn show_all<R: Threads + Wait + Clock + Copy + Send + 'static, W: Write>(
+        &mut self,
+        rt: &R,
+        out: &mut W,
+    ) -> Result<(Ticket, TcpStream), Refusal> {
         let channel = self.context.open(rt, b"TEMP", 7)?;
         let (stream, greeting) = self.peer.live(rt)?;
         let is_first = greeting.command == VERSION && greeting.data_type == 7;
@@ -196,7 +187,22 @@ impl Both {
         self.show_lost(rt, out)
     }
 
-    /// A request that is not answered for a while, one that is given up, and a write.
+    /// The request that was open when the client ended.
+    fn show_ended<R: Wait + Clock, W: Write>(
+        &mut self,
+        rt: &R,
+        ticket: Ticket,
+        out: &mut W,
+    ) -> Result<(), Refusal> {
+        let outcome = self.context.wait_for(rt, &mut self.caller, ticket, long());
+        say_yes(
+            out,
+            "the end ends requests that are open:",
+            is_disconnected(&outcome),
+        )
+    }
+
+    /// A request that is not answered for a while, and one that is given up.
     fn show_requests<R: Wait + Clock, W: Write>(
         &mut self,
         rt: &R,
@@ -227,80 +233,7 @@ impl Both {
         let next = self.read(rt, channel, stream, 23)?;
         let over = self.context.wait_for(rt, &mut self.caller, given, long());
         let is_over = none.is_none() && next && matches!(over, Waited::Over);
-        say_yes(out, "a request that was given up has no outcome:", is_over)?;
-        let what = "writes without an outcome go out at once:";
-        self.show_row(rt, channel, stream, Row::Writes, what, out)?;
-        let what = "and wait for no acknowledgement of others:";
-        self.show_row(rt, channel, stream, Row::Pairs, what, out)
-    }
-
-    /// Rows, until one is soon over.
-    fn show_row<R: Wait + Clock, W: Write>(
-        &mut self,
-        rt: &R,
-        channel: Handle,
-        stream: &TcpStream,
-        row: Row,
-        what: &str,
-        out: &mut W,
-    ) -> Result<(), Refusal> {
-        let mut is_soon = false;
-        for _ in 0..ROWS {
-            let began = moments::began(rt)?;
-            let right = self.rights(rt, channel, stream, row)?;
-            is_soon = right == row.times() && is_within(rt, &began, LEFT);
-            if is_soon {
-                break;
-            }
-        }
-        say_yes(out, what, is_soon)
-    }
-
-    /// How many of a row came as they should.
-    fn rights<R: Wait + Clock>(
-        &mut self,
-        rt: &R,
-        channel: Handle,
-        stream: &TcpStream,
-        row: Row,
-    ) -> Result<u64, Refusal> {
-        let mut right = 0u64;
-        for _ in 0..row.times() {
-            let is_right = match row {
-                Row::Writes => self.is_written(rt, channel, stream)?,
-                Row::Subscriptions => self.is_cancelled(rt, channel, stream)?,
-                Row::Pairs => {
-                    tell_message(stream, NOTHING, &[])?;
-                    self.is_written(rt, channel, stream)? && self.is_written(rt, channel, stream)?
-                }
-            };
-            right = right.wrapping_add(u64::from(is_right));
-        }
-        Ok(right)
-    }
-
-    /// A write that has no outcome, and comes.
-    fn is_written<R: Wait + Clock>(
-        &mut self,
-        rt: &R,
-        channel: Handle,
-        stream: &TcpStream,
-    ) -> Result<bool, Refusal> {
-        let value = Value::Longs(vec![in self.alloc; 24]?);
-        self.context.put(rt, channel, &value)?;
-        Ok(heard(stream)?.command == WRITE)
-    }
-
-    /// A subscription that comes, and is cancelled.
-    fn is_cancelled<R: Wait + Clock>(
-        &mut self,
-        rt: &R,
-        channel: Handle,
-        stream: &TcpStream,
-    ) -> Result<bool, Refusal> {
-        let (added, subscription) = self.subscribe(rt, channel, stream)?;
-        self.context.unsubscribe(rt, subscription)?;
-        Ok(added.command == EVENT_ADD && heard(stream)?.command == EVENT_CANCEL)
+        say_yes(out, "a request that was given up has no outcome:", is_over)
     }
 
     /// Reads, and answers with this value.
@@ -401,8 +334,8 @@ impl Both {
         )
     }
 
-    /// Requests while a listener waits, and the thread of input and output with it.
-    fn show_sent<R: Wait + Clock, W: Write>(
+    /// Requests while a listener waits, and the thread of input and output with it. Its subscription is cancelled meanwhile: it was told the first of three updates.
+    fn show_sent<R: Threads + Wait + Clock + Copy + Send + 'static, W: Write>(
         &mut self,
         rt: &R,
         channel: Handle,
@@ -411,19 +344,25 @@ impl Both {
     ) -> Result<(), Refusal> {
         let (added, subscription) = self.subscribe(rt, channel, stream)?;
         self.log.gate.store(CLOSED, Ordering::SeqCst);
-        tell_value(stream, added, 1)?;
+        tell_updates(stream, added, [1, 2, 3])?;
         let is_kept = reaches(rt, &self.log.gate, WAITED_IN);
         let sent = self.sent(rt, channel, stream);
-        self.log.gate.store(OPEN, Ordering::SeqCst);
-        let is_sent = is_kept && matches!(sent, Ok(3));
-        say_yes(out, "requests go out while a listener waits:", is_sent)?;
+        let waiter = self.sent_for_waiter(*rt, channel, stream);
         self.context.unsubscribe(rt, subscription)?;
-        self.log.values.store(0, Ordering::SeqCst);
-        heard(stream)?;
-        Ok(())
+        self.log.gate.store(OPEN, Ordering::SeqCst);
+        let is_sent = is_kept && matches!(sent, Ok(2));
+        say_yes(out, "requests go out while a listener waits:", is_sent)?;
+        let (thread, is_sent) = waiter?;
+        thread.join(rt);
+        say_yes(out, "and while their callers do:", is_kept && is_sent)?;
+        // It goes out once what was read before it was told.
+        let is_cancelled = heard(stream)?.command == EVENT_CANCEL;
+        let is_quiet = self.log.values.swap(0, Ordering::SeqCst) == 1;
+        let what = "what was read before a cancel is not heard after it:";
+        say_yes(out, what, is_cancelled && is_quiet)
     }
 
-    /// How many of three requests come while a listener waits: one that is looked for, one that is waited for, and one by the call that makes several.
+    /// How many of two requests come while a listener waits: one that is looked for, and one by the call that makes several.
     fn sent<R: Wait + Clock>(
         &mut self,
         rt: &R,
@@ -432,10 +371,7 @@ impl Both {
     ) -> Result<u64, Refusal> {
         let looked = self.context.get(rt, channel, 5, 1)?;
         self.context.collect(&mut self.caller, looked);
-        let mut sent = u64::from(self.is_sent(stream)?);
-        let waited = self.context.get(rt, channel, 5, 1)?;
-        self.context.wait(rt, &mut self.caller, waited, 1);
-        sent = sent.wrapping_add(u64::from(self.is_sent(stream)?));
+        let sent = u64::from(self.is_sent(stream)?);
         let mut rooms = Vec::new(self.alloc);
         let mut tickets = Vec::new(self.alloc);
         let requests = [Request::Read(channel, 5, 1)];
@@ -445,6 +381,27 @@ impl Both {
             self.context.wait(rt, &mut self.caller, joint, 1);
         }
         Ok(sent.wrapping_add(u64::from(self.is_sent(stream)?)))
+    }
+
+    /// A caller in a thread of its own that waits for a read, and whether that comes before its wait is over. It is answered.
+    fn sent_for_waiter<R: Threads + Wait + Clock + Copy + Send + 'static>(
+        &self,
+        rt: R,
+        channel: Handle,
+        stream: &TcpStream,
+    ) -> Result<(JoinHandle<()>, bool), Refusal> {
+        let waiter = Waiter {
+            context: Arc::try_clone(&self.context)?,
+            caller: self.context.caller(&rt)?,
+            channel,
+        };
+        let thread = start(rt, waiter)?;
+        let request = heard(stream)?;
+        tell_value(stream, request, 24)?;
+        Ok((
+            thread,
+            request.command == READ_NOTIFY && self.log.is_waited_in(),
+        ))
     }
 
     /// Whether a read comes while a listener waits.
@@ -479,8 +436,6 @@ impl Both {
         )?;
         let is_quiet = self.log.values.load(Ordering::SeqCst) == 1;
         say_yes(out, "and hears nothing more:", is_quiet)?;
-        let what = "subscriptions begin and end at once:";
-        self.show_row(rt, channel, stream, Row::Subscriptions, what, out)?;
         let are_dropped = self.are_dropped(rt, channel, stream)?;
         say_yes(out, "listeners go with their subscriptions:", are_dropped)
     }
@@ -509,8 +464,12 @@ impl Both {
         )
     }
 
-    /// A circuit that ends while a request is open: its channel is searched again, and live on another.
-    fn show_lost<R: Wait + Clock, W: Write>(&mut self, rt: &R, out: &mut W) -> Result<(), Refusal> {
+    /// A circuit that ends while a request is open: its channel is searched again, and live on another. There a request is open at the end.
+    fn show_lost<R: Wait + Clock, W: Write>(
+        &mut self,
+        rt: &R,
+        out: &mut W,
+    ) -> Result<(Ticket, TcpStream), Refusal> {
         let channel = self.context.open(rt, b"TEMP", 0)?;
         let (stream, _) = self.peer.live(rt)?;
         let _ = self.context.wait_live_for(rt, channel, long())?;
@@ -531,7 +490,8 @@ impl Both {
             out,
             "and its channel is live on another:",
             is_back && is_read,
-        )
+        )?;
+        Ok((self.context.get(rt, channel, 5, 1)?, again))
     }
 }
 

@@ -1,5 +1,5 @@
-//! A server whose device holds a put until a read on another circuit was answered, and two clients of it, which speak the protocol by hand. More puts come
-//! meanwhile than may wait.
+//! Servers whose device holds puts, and clients of them, which speak the protocol by hand. The device of one holds a put until a read on another circuit was answered,
+//! and more puts come meanwhile than may wait. Another ends while its device holds puts: what the device has not begun by then is not processed.
 
 use crate::server::bound;
 use crate::wire::{connected, greet, is_done, is_refused, opened, put, read};
@@ -39,15 +39,16 @@ const WAITING: u8 = 16;
 impl Device for Gate {
     fn process(&self, _record: &[u8], _value: &Value) {
         self.signs.entered.fetch_add(1, Ordering::SeqCst);
-        if is_set(&self.signs.opened) {
+        if is_at(&self.signs.opened, 1) {
             self.signs.passed.fetch_add(1, Ordering::SeqCst);
         }
     }
 }
 
-fn is_set(sign: &AtomicU64) -> bool {
+/// Whether a sign comes to be this number.
+fn is_at(sign: &AtomicU64, number: u64) -> bool {
     for _ in 0..TURNS {
-        if sign.load(Ordering::SeqCst) != 0 {
+        if sign.load(Ordering::SeqCst) == number {
             return true;
         }
         thread::yield_now();
@@ -66,8 +67,23 @@ fn new_signs(alloc: Global) -> Result<Arc<Signs>, Refusal> {
     )?)
 }
 
-/// The server ends once both circuits are closed.
 pub(crate) fn show<
+    R: Threads
+        + Wait
+        + Clock
+        + Net<Stream = TcpStream, Listener = TcpListener>
+        + Copy
+        + Drop
+        + Send
+        + 'static,
+    W: Write,
+>(rt: R, alloc: Global, out: &mut W) -> Result<(), Refusal> {
+    show_held(rt, alloc, out)?;
+    show_ended(rt, alloc, out)
+}
+
+/// The server ends once both circuits are closed.
+fn show_held<
     R: Threads
         + Wait
         + Clock
@@ -80,7 +96,7 @@ pub(crate) fn show<
 >(rt: R, alloc: Global, out: &mut W) -> Result<(), Refusal> {
     let signs = new_signs(alloc)?;
     let (places, address) = bound(&rt)?;
-    let server = start_server(rt, alloc, places, &signs)?;
+    let server = start_server(rt, alloc, places, &signs, b"record SLOW LONG 1 slow 3\n", 2)?;
     let talked = talk(&rt, &signs, address, out);
     let served = server.join(&rt);
     talked?;
@@ -89,7 +105,64 @@ pub(crate) fn show<
     tell(out, "puts that passed the device", passed)
 }
 
-/// A server of one record, whose puts the gate holds.
+/// The server ends once one circuit is closed. Of four puts its device has begun two by then, one has made its record busy, and one waits behind another.
+fn show_ended<
+    R: Threads
+        + Wait
+        + Clock
+        + Net<Stream = TcpStream, Listener = TcpListener>
+        + Copy
+        + Drop
+        + Send
+        + 'static,
+    W: Write,
+>(rt: R, alloc: Global, out: &mut W) -> Result<(), Refusal> {
+    let signs = new_signs(alloc)?;
+    let (places, address) = bound(&rt)?;
+    let text = b"record SLOA LONG 1 slow 3\nrecord SLOB LONG 1 slow 3\nrecord SLOC LONG 1 slow 3\n";
+    let server = start_server(rt, alloc, places, &signs, text, 1)?;
+    let ended = end_beside(&rt, &signs, address, out);
+    signs.opened.store(1, Ordering::SeqCst);
+    let served = server.join(&rt);
+    ended?;
+    tell(out, "writes that it had applied by then", served?)?;
+    let begun = signs.entered.load(Ordering::SeqCst);
+    tell(out, "puts that its device had begun, and no more", begun)
+}
+
+/// Puts on three records, the first of them twice; and then another circuit is closed, and so the server is to end.
+fn end_beside<R: Net<Stream = TcpStream, Listener = TcpListener>, W: Write>(
+    rt: &R,
+    signs: &Signs,
+    address: SocketAddr,
+    out: &mut W,
+) -> Result<(), Refusal> {
+    let last = connected(rt, address)?;
+    greet(&last)?;
+    let stream = connected(rt, address)?;
+    greet(&stream)?;
+    let first = opened(&stream, b'A')?;
+    let second = opened(&stream, b'B')?;
+    let third = opened(&stream, b'C')?;
+    put(&stream, first, 41)?;
+    put(&stream, second, 42)?;
+    say_yes(out, "the device has two puts:", is_at(&signs.entered, 2))?;
+    put(&stream, third, 43)?;
+    put(&stream, first, 44)?;
+    // Once the reads are answered the server has handled the puts before them.
+    tell(out, "a third record has", read(&stream, third)?)?;
+    tell(out, "the first has still", read(&stream, first)?)?;
+    drop(last);
+    // It is closed once the server is to end. No put is done by then.
+    let is_closed = is_done(&stream).is_err();
+    say_yes(
+        out,
+        "the end closes a circuit whose puts are not done:",
+        is_closed,
+    )
+}
+
+/// A server of these records, whose puts the gate holds, until so many circuits are closed.
 fn start_server<
     R: Threads
         + Wait
@@ -104,14 +177,16 @@ fn start_server<
     alloc: Global,
     places: Places,
     signs: &Arc<Signs>,
+    text: &[u8],
+    circuits: u64,
 ) -> Result<JoinHandle<Result<u64, Refusal>>, Refusal> {
-    let file = read_records(alloc, b"record SLOW LONG 1 slow 3\n")?;
+    let file = read_records(alloc, text)?;
     let device = Gate {
         signs: Arc::try_clone(signs)?,
     };
     let spawned = thread::spawn(&rt, move || {
         let RecordFile { records, rules } = file;
-        serve(rt, alloc, places, &records, rules, device, Some(2))
+        serve(rt, alloc, places, &records, rules, device, Some(circuits))
     });
     match spawned {
         Ok(server) => Ok(server),
@@ -132,7 +207,7 @@ fn talk<R: Net<Stream = TcpStream, Listener = TcpListener>, W: Write>(
     greet(&second)?;
     let sid = opened(&first, b'W')?;
     put(&first, sid, 42)?;
-    say_yes(out, "the device has the put:", is_set(&signs.entered))?;
+    say_yes(out, "the device has the put:", is_at(&signs.entered, 1))?;
     let other = opened(&second, b'W')?;
     let read_beside = read(&second, other).is_ok();
     say_yes(out, "a read on another circuit is answered:", read_beside)?;

@@ -1,22 +1,22 @@
 //! What lies under a client's lock (`state`), and servers and clients in one process, each with a thread of its own. What came of it is `stdout`:
 //!
-//! - a server whose device holds a put until a read on another circuit was answered (`holding`);
+//! - servers whose device holds puts, until a read on another circuit was answered, and at their end (`holding`);
 //! - the lines `get`, `put` and `monitor`, what each says, and its status (`lines`);
 //! - servers whose device takes its time (`fairness`);
 //! - a client whose callers are four threads (`callers`), and the calls that these do not make (`calls`);
 //! - reads one after another, whose outcomes are told at once (`prompt`);
 //! - listeners that take their time (`listening`);
-//! - what a client does on its circuits, seen by a server by hand (`conduct`, `peer`), and clients of name servers, a repeater and two servers (`settings`);
+//! - what a client does on its circuits, seen by a server by hand (`conduct`, `peer`), and what it does at once (`at_once`);
+//! - clients of name servers, a repeater and two servers (`settings`);
 //! - a client with 10,000 subscriptions on one server (`spreading`).
 //!
 //! With words it prints something else instead:
 //!
 //! - growths: what came of growths that were refused under a client's lock (`state::growths`);
-//! - names PORT: whether a client that searches on a circuit to this port of this host alone reads 21 from TEMP (`settings`);
-//! - PORT CALLERS READS WINDOW: the microseconds that so many reads of TEMP by each caller took, with so many outstanding
-//!   at each, from when the channel was live (`timing`).
+//! - names PORT: whether a client that searches on a circuit to this port of this host alone reads 21 from TEMP (`settings`).
 #![tactic(auto)]
 
+mod at_once;
 mod callers;
 mod calls;
 mod client;
@@ -32,11 +32,8 @@ mod server;
 mod settings;
 mod spreading;
 mod state;
-mod timing;
 mod wire;
 
-use crate::client::{Task, use_client};
-use crate::timing::read_words;
 use ca_text::Refusal;
 use std::alloc::Global;
 use std::env;
@@ -55,31 +52,13 @@ fn main(rt: HostRuntime) -> ExitCode {
             [] => show(rt, rt.alloc(), &mut out, &mut rt.stdout()),
             [_] => state::growths::show(rt.alloc(), &mut out),
             [_, port] => settings::show_name_server(rt, rt.alloc(), port.as_str(), &mut out),
-            words => show_course(rt, rt.alloc(), words, &mut out),
+            _ => Err(Refusal::BadText),
         },
         Err(refusal) => Err(refusal),
     };
     match done {
         Ok(()) => ExitCode::SUCCESS,
         Err(_) => ExitCode::FAILURE,
-    }
-}
-
-/// Reads, timed.
-fn show_course<
-    R: Threads
-        + Wait
-        + Clock
-        + Net<Stream = TcpStream, Listener = TcpListener>
-        + Copy
-        + Drop
-        + Send
-        + 'static,
-    W: Write,
->(rt: R, alloc: Global, words: &[String], out: &mut W) -> Result<(), Refusal> {
-    match read_words(words) {
-        Some(course) => use_client(rt, alloc, course.port, Task::Read(course), out),
-        None => Err(Refusal::BadText),
     }
 }
 
@@ -112,6 +91,7 @@ fn show<
     prompt::show(rt, alloc, out)?;
     listening::show(rt, alloc, out)?;
     calls::show(rt, alloc, out)?;
+    at_once::show(rt, alloc, out)?;
     let conduct = conduct::show(rt, alloc, out);
     settings::show(rt, alloc, out)?;
     spreading::show(rt, alloc, out)?;

@@ -1,4 +1,4 @@
-//! A server of TEMP, a LONG, that speaks the protocol by hand with one client.
+//! A server of LONGs that speaks the protocol by hand with one client.
 
 use crate::server::bound;
 use crate::wire::{send, take};
@@ -11,10 +11,13 @@ use std::time::{Clock, Duration};
 /// A client is waited for so long.
 const SECONDS: u64 = 10;
 
-/// The SID of each channel.
-const SID: u32 = 7;
-
 const CREATE: u16 = 18;
+
+/// The name of the record, as a search has it: with zeros up to 8 bytes.
+pub(crate) const TEMP: [u8; 8] = *b"TEMP\0\0\0\0";
+
+/// So many datagrams are looked through for a search.
+const LOOKED_THROUGH: u64 = 1_000;
 
 /// Where searches and circuits of a client come in.
 #[derive(Drop)]
@@ -71,16 +74,6 @@ impl Peer {
         }
     }
 
-    /// The CID of the next search, and who asks.
-    pub(crate) fn search(&self) -> Result<(u32, SocketAddr), Refusal> {
-        let mut bytes = [0u8; 64];
-        let from = self.datagram(&mut bytes)?;
-        Ok((
-            u32::from_be_bytes([bytes[28], bytes[29], bytes[30], bytes[31]]),
-            from,
-        ))
-    }
-
     /// The next circuit.
     pub(crate) fn accept<R: Clock>(&self, rt: &R) -> Result<TcpStream, Refusal> {
         for _ in 0..SECONDS * 1_000 {
@@ -92,17 +85,20 @@ impl Peer {
         Err(Refusal::Device)
     }
 
-    /// A circuit, if one waits.
-    pub(crate) fn accept_now(&self) -> Option<TcpStream> {
-        let (stream, _) = self.listener.accept().ok()?;
-        let most = Some(Duration::from_secs(SECONDS));
-        stream.set_read_timeout(most).ok()?;
-        Some(stream)
+    /// The CID of the next search for this name, of up to 8 bytes, and who asks. Those for others are left out.
+    pub(crate) fn searched(&self, name: [u8; 8]) -> Result<(u32, SocketAddr), Refusal> {
+        for _ in 0..LOOKED_THROUGH {
+            let mut bytes = [0u8; 2_048];
+            let from = self.datagram(&mut bytes)?;
+            if let Some(cid) = cid_of(&bytes, name) {
+                return Ok((cid, from));
+            }
+        }
+        Err(Refusal::Device)
     }
 
-    /// Answers the next search, and has the channel created on a new circuit, which it tells with its first message.
-    pub(crate) fn live<R: Clock>(&self, rt: &R) -> Result<(TcpStream, Message), Refusal> {
-        let (cid, to) = self.search()?;
+    /// Answers a search: its channel is here.
+    pub(crate) fn answer(&self, cid: u32, to: SocketAddr) -> Result<(), Refusal> {
         let mut found = [0u8; 40];
         found[7] = 13;
         found[17] = 6;
@@ -111,7 +107,22 @@ impl Peer {
         found[24..28].copy_from_slice(&u32::MAX.to_be_bytes());
         found[28..32].copy_from_slice(&cid.to_be_bytes());
         found[33] = 13;
-        self.send(&found, to)?;
+        self.send(&found, to)
+    }
+
+    /// A circuit, if one waits.
+    pub(crate) fn accept_now(&self) -> Option<TcpStream> {
+        let (stream, _) = self.listener.accept().ok()?;
+        let most = Some(Duration::from_secs(SECONDS));
+        stream.set_read_timeout(most).ok()?;
+        stream.set_nodelay(true).ok()?;
+        Some(stream)
+    }
+
+    /// Answers the next search for TEMP, and has the channel created on a new circuit, which it tells with its first message.
+    pub(crate) fn live<R: Clock>(&self, rt: &R) -> Result<(TcpStream, Message), Refusal> {
+        let (cid, to) = self.searched(TEMP)?;
+        self.answer(cid, to)?;
         let stream = self.accept(rt)?;
         let greeting = heard(&stream)?;
         for _ in 0..3 {
@@ -125,8 +136,20 @@ impl Peer {
     }
 }
 
-/// A channel to a LONG that may be read and written.
-fn create(stream: &TcpStream, cid: u32) -> Result<(), Refusal> {
+/// The CID of a search for this name in a datagram: the name comes right after the CID, which stands there twice.
+fn cid_of(datagram: &[u8], name: [u8; 8]) -> Option<u32> {
+    let mut cid = 0u32;
+    for part in datagram.chunks(8) {
+        if part == name.as_slice() {
+            return Some(cid);
+        }
+        cid = u32::from_be_bytes([part[0], part[1], part[2], part[3]]);
+    }
+    None
+}
+
+/// A channel to a LONG that may be read and written. Its SID is its CID.
+pub(crate) fn create(stream: &TcpStream, cid: u32) -> Result<(), Refusal> {
     let rights = Message {
         command: 22,
         data_type: 0,
@@ -140,7 +163,7 @@ fn create(stream: &TcpStream, cid: u32) -> Result<(), Refusal> {
         data_type: 5,
         count: 1,
         p1: cid,
-        p2: SID,
+        p2: cid,
     };
     tell_message(stream, created, &[])
 }
@@ -164,14 +187,20 @@ pub(crate) fn heard(stream: &TcpStream) -> Result<Message, Refusal> {
     })
 }
 
-/// Sends a message with this payload, of a multiple of 8 bytes.
+/// Sends a message with this payload, of a multiple of 8 bytes up to 48, in one write: so it is there as a whole.
 pub(crate) fn tell_message(
     stream: &TcpStream,
     message: Message,
     payload: &[u8],
 ) -> Result<(), Refusal> {
-    send(stream, &header_of(message, payload.len()))?;
-    send(stream, payload)
+    let mut bytes = [0u8; 64];
+    bytes[0..16].copy_from_slice(&header_of(message, payload.len()));
+    let end = payload.len().saturating_add(16);
+    let Some(place) = bytes.get_mut(16..end) else {
+        return Err(Refusal::TooLarge);
+    };
+    place.copy_from_slice(payload);
+    send(stream, &bytes[0..end])
 }
 
 /// The header of a message with so many bytes of payload.
@@ -190,4 +219,19 @@ pub(crate) fn header_of(message: Message, size: usize) -> [u8; 16] {
 pub(crate) fn tell_value(stream: &TcpStream, request: Message, value: u8) -> Result<(), Refusal> {
     let reply = Message { p1: 1, ..request };
     tell_message(stream, reply, &[0, 0, 0, value, 0, 0, 0, 0])
+}
+
+/// Answers a subscription by three updates of one LONG, in one write: so they are read together.
+pub(crate) fn tell_updates(
+    stream: &TcpStream,
+    request: Message,
+    values: [u8; 3],
+) -> Result<(), Refusal> {
+    let mut bytes = [0u8; 72];
+    let header = header_of(Message { p1: 1, ..request }, 8);
+    for (update, value) in bytes.chunks_mut(24).zip(&values) {
+        update[0..16].copy_from_slice(&header);
+        update[19] = *value;
+    }
+    send(stream, &bytes)
 }

@@ -3,7 +3,7 @@
 
 use crate::client::setting;
 use crate::moments::{began, is_within};
-use crate::peer::Peer;
+use crate::peer::{Peer, TEMP};
 use crate::server::{bound, start_server};
 use crate::{say_yes, tell};
 use ca_arena::Handle;
@@ -297,11 +297,11 @@ fn searched_at_beacon<R: Wait + Clock>(
     context.open(rt, b"TEMP", 0)?;
     // They come after 32 ms, and then each after twice as long.
     for _ in 0..7 {
-        peer.search()?;
+        peer.searched(TEMP)?;
     }
     let began = began(rt)?;
     repeater.send(&BEACON, client)?;
-    peer.search()?;
+    peer.searched(TEMP)?;
     Ok(register == REGISTER && is_within(rt, &began, 1_200))
 }
 

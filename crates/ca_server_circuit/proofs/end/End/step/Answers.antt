@@ -9,6 +9,7 @@ use Rattle.ca_text.specs.Limits.{output_limit}
 use Rattle.ca_wire.specs.Messages.{read_request}
 use Rattle.ca_model.specs.Due.{Due}
 use Rattle.ca_model.specs.Server.{OpenChannel, ServerEnd}
+use Rattle.ca_server_circuit.specs.declared.effect.Effect.TheVariants as told
 use Rattle.ca_server_circuit.specs.declared.step.FollowUp.TheVariants as effect
 use Rattle.ca_server_circuit.specs.Clearing.{ArePuts}
 use Rattle.ca_server_circuit.specs.Handling.{AllStay, AreServed, Does, known}
@@ -55,7 +56,7 @@ returns-in-Ok c =
     let takes = subst (λ (x : ServerEnd). TakesFirst x.link m t.0) c.self.view_is t.1 in
     let first = taken-first _ e c.next_bare.new.self t.0 c.self.view_is t.2 in
     let x : Takes e = record { room = room; m = m; rest = t.0; takes = takes } in
-    (x, subst (λ (w : ServerEnd). Does (Due (known c.args.port s w) m) s c.args.circuit w m effect.Quiet s c.read.new.self) first (does-reply c.args.port s c.args.circuit _ m c.read.new.self command.ReadNotify refl refl refl (c.in-Ok.ensures.ok c.args.port)))
+    (x, subst (λ (w : ServerEnd). Does (Due (known c.args.port s w) m) s c.args.circuit w m (effect.Quiet told.Quiet) s c.read.new.self) first (does-reply c.args.port s c.args.circuit _ m c.read.new.self command.ReadNotify refl refl refl refl (c.in-Ok.ensures.ok c.args.port)))
 
 pub returns-in-Err : goal.returns-in-Err
 returns-in-Err c =

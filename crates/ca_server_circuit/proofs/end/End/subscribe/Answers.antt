@@ -13,7 +13,7 @@ returns-in_ok-refuse-in-Stray-clause-ok c port h =
     let e = c.args.self.now in
     let m = first_at e.link.input.bytes c.args.head.now in
     let is : IsStray e m.p1 c.in-Stray.cid = subst (λ (n : ℕ). IsStray e n c.in-Stray.cid) (ap (λ (w : Wanted). w.sid) c.named_by-wanted.ensures) c.in-Stray.ensures.seeks in
-    replies-does (Subscribes (known port s e) m) s h e c.refuse.new.self m (stray-event port s e c.refuse.new.self m c.in-Stray.cid is c.in_ok-refuse-in-Stray.ensures.ok)
+    replies-does (Subscribes (known port s e) m) s h e c.refuse.new.self m c.requires.command (stray-event port s e c.refuse.new.self m c.in-Stray.cid is c.in_ok-refuse-in-Stray.ensures.ok)
 
 pub subscribe_on-requires-clause-served : goal.subscribe_on-requires-clause-served
 subscribe_on-requires-clause-served c =

@@ -40,5 +40,5 @@ returns-in_ok-refuse-in-Some-clause-ok c port h =
     let many = how-many _ e c.len-others.result c.self.view_is c.len-others.ensures in
     let status = c.in-Some.status.number in
     let fault = fault-is e m i.r.state c.state-state.result.now bits c.has-in_use.result c.len-others.result (Some status) state used many (subst (λ (b : List ℕ). FaultIs c.state-state.result.now bits c.has-in_use.result c.len-others.result (Some status) (message_of c.args.head.now.header b)) c.payload-payload.ensures c.in-Some.ensures) in
-    replies-does (Subscribes (known port s e) m) s h e c.refuse.new.self m
+    replies-does (Subscribes (known port s e) m) s h e c.refuse.new.self m c.requires.command
     (refused-event port s e c.refuse.new.self m c.args.seat i bits status right fault c.in_ok-refuse-in-Some.ensures.ok)

@@ -3,6 +3,7 @@ use Rattle.ca_records.specs.declared.puts.Begun.TheVariants as begun
 use Rattle.ca_records.specs.Puts.{Record}
 use Rattle.ca_records.specs.Store.{Becomes, Store}
 use Rattle.ca_wire.specs.declared.requests.Wanted.{Wanted}
+use Rattle.ca_server_circuit.specs.declared.effect.Effect.TheVariants as told
 use Rattle.ca_server_circuit.specs.declared.step.FollowUp.TheVariants as effect
 use Rattle.ca_server_circuit.specs.Handling.{Does, Writes, known}
 use Rattle.ca_server_circuit.specs.Putting.{IsRefused, IsTaken}
@@ -42,5 +43,5 @@ returns-in_ok-refuse-in-Refused-clause-ok c port h =
     let w = asked-is s c.begin.new.records c.args.seat.place bits None (begun.Refused c.in-Refused.status) m c.named_by-wanted.result c.payload-payload.result.now c.named_by-wanted.ensures c.payload-payload.ensures (rw c.in-Refused.is at c.in_ok-begun.ensures.ok) in
     let one : w.0 ≡ i.r = one-record s c.args.seat.place w.0 i.r w.1 i.at in
     let refused = subst (λ (r : Record). IsRefused r bits None m c.in-Refused.status.number) one w.2 in
-    subst (λ (t : Store). Does (Writes (known port s e) m) s h e m effect.Quiet t c.refuse.new.self) (sym w.3)
+    subst (λ (t : Store). Does (Writes (known port s e) m) s h e m (effect.Quiet told.Quiet) t c.refuse.new.self) (sym w.3)
     (write-refused port s h e c.refuse.new.self m c.args.seat i bits c.in-Refused.status.number right c.requires.command refused c.in_ok-refuse-in-Refused.ensures.ok)

@@ -19,7 +19,7 @@ use Rattle.ca_server_core.specs.Covering.{AreLed, AreListed, Covers}
 use Rattle.ca_server_circuit.specs.Handling.{is_wrote}
 use Rattle.ca_server_core.specs.Noting.{ServesAndPumps}
 use Rattle.ca_server_core.specs.Serving.{more_applied, stepped}
-use Rattle.ca_server_core.specs.declared.effect.Effect.TheVariants as told
+use Rattle.ca_server_circuit.specs.declared.effect.Effect.TheVariants as told
 use Rattle.ca_server_core.specs.declared.stepping.Step.TheVariants as own
 use Rattle.ca_server_core.proofs.server.ServerCore.serve_and_pump.Goals.{then-is_quiet-via-then-is_quiet, then-is_quiet-via-else-is_quiet+then-follow_and_pump}
 use Rattle.ca_server_core.proofs.server.ServerCore.serve_and_pump.Goals as goal
@@ -54,12 +54,12 @@ invariant_of-self-then-is_quiet c =
     let u = c.step_counting_on.new in
     let did = (rw c.in-Some-Handled.field-0-is at c.in-Some-Handled.ensures.pumps) (sym c.is_quiet.ensures ∙ c.if-is_quiet.true) in
     record {
-      sound = sound-pumped did.1 u.records did.0 u.circuits c.args.circuit did.3 (step-sound i.port i.records did.1 i.circuits did.0 c.args.circuit Quiet did.2 c.self.invariant.sound);
-      covered = covers-thinned i.watchers did.0 u.circuits (thins-pumped did.1 u.records did.0 u.circuits c.args.circuit did.3) (step-covers i.port i.watchers i.records did.1 i.circuits did.0 c.args.circuit Quiet did.2 c.self.invariant.covered);
-      listed = listed-pumped did.1 u.records did.0 u.circuits c.args.circuit i.watchers did.3 (listed-step i.port i.records did.1 i.circuits did.0 c.args.circuit Quiet i.watchers did.2 c.self.invariant.listed);
+      sound = sound-pumped did.1 u.records did.0 u.circuits c.args.circuit did.4 (step-sound i.port i.records did.1 i.circuits did.0 c.args.circuit (Quiet did.2) did.3 c.self.invariant.sound);
+      covered = covers-thinned i.watchers did.0 u.circuits (thins-pumped did.1 u.records did.0 u.circuits c.args.circuit did.4) (step-covers i.port i.watchers i.records did.1 i.circuits did.0 c.args.circuit (Quiet did.2) did.3 c.self.invariant.covered);
+      listed = listed-pumped did.1 u.records did.0 u.circuits c.args.circuit i.watchers did.4 (listed-step i.port i.records did.1 i.circuits did.0 c.args.circuit (Quiet did.2) i.watchers did.3 c.self.invariant.listed);
       led = (
-          let listed = listed-step i.port i.records did.1 i.circuits did.0 c.args.circuit Quiet i.leading did.2 c.self.invariant.led.listed in
-          led-thinned (records_of did.1) (records_of u.records) i.leading did.0 u.circuits (thins-pumped did.1 u.records did.0 u.circuits c.args.circuit did.3) (listed-pumped did.1 u.records did.0 u.circuits c.args.circuit i.leading did.3 listed) (step-led i.port i.leading i.records did.1 i.circuits did.0 c.args.circuit Quiet did.2 listed c.self.invariant.led)
+          let listed = listed-step i.port i.records did.1 i.circuits did.0 c.args.circuit (Quiet did.2) i.leading did.3 c.self.invariant.led.listed in
+          led-thinned (records_of did.1) (records_of u.records) i.leading did.0 u.circuits (thins-pumped did.1 u.records did.0 u.circuits c.args.circuit did.4) (listed-pumped did.1 u.records did.0 u.circuits c.args.circuit i.leading did.4 listed) (step-led i.port i.leading i.records did.1 i.circuits did.0 c.args.circuit (Quiet did.2) did.3 listed c.self.invariant.led)
           );
     }
 
@@ -74,13 +74,13 @@ returns-then-is_quiet-clause-serves c =
     elim c.then-is_quiet.branch [
       | then-is_quiet-via-then-is_quiet w ↦
           let did = (rw c.in-Some-Handled.field-0-is at c.in-Some-Handled.ensures.pumps) (sym c.is_quiet.ensures ∙ w.if-is_quiet.true) in
-          let sound = step-sound i.port i.records did.1 i.circuits did.0 h Quiet did.2 c.self.invariant.sound in
-          let settles = handled-settles i.port i.records did.1 i.circuits did.0 h Quiet _ did.2 in
+          let sound = step-sound i.port i.records did.1 i.circuits did.0 h (Quiet did.2) did.3 c.self.invariant.sound in
+          let settles = handled-settles i.port i.records did.1 i.circuits did.0 h (Quiet did.2) _ did.3 in
           at u.left (server_of i.port u.records i.moment u.circuits i.beacons i.applied) (
             server_of i.port did.1 i.moment did.0 i.beacons i.applied,
-            viewed-quiet c.args.self.now i.port i.moment i.applied i.applied i.beacons i.records did.1 i.circuits did.0 h c.self.view_is did.2
-                (made-followed-by c.args.self.now i.port i.moment i.applied i.applied _ i.beacons i.records did.1 did.1 i.circuits did.0 did.0 did.0 h Quiet false (own.Handled told.Quiet) c.self.view_is refl refl long did.2 (refl, refl) sound settles),
-            (pumps-at (server_of i.port did.1 i.moment did.0 i.beacons i.applied) i.port i.moment i.applied i.beacons did.1 u.records did.0 u.circuits h refl did.3, (rw c.in-Some-Handled.field-0-is at c.in-Some-Handled.ensures.left) refl),
+            viewed-quiet c.args.self.now i.port i.moment i.applied i.applied i.beacons i.records did.1 i.circuits did.0 h did.2 c.self.view_is did.3
+                (made-followed-by c.args.self.now i.port i.moment i.applied i.applied _ i.beacons i.records did.1 did.1 i.circuits did.0 did.0 did.0 h (Quiet did.2) false (own.Handled told.Quiet) c.self.view_is refl refl long did.3 (refl, refl) sound settles),
+            (pumps-at (server_of i.port did.1 i.moment did.0 i.beacons i.applied) i.port i.moment i.applied i.beacons did.1 u.records did.0 u.circuits h refl did.4, (rw c.in-Some-Handled.field-0-is at c.in-Some-Handled.ensures.left) refl),
           ) w.left-is w.self-is
       | then-is_quiet-via-else-is_quiet+then-follow_and_pump w ↦
           let f = w.follow_and_pump.new in

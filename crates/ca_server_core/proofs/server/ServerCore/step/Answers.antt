@@ -1,4 +1,4 @@
-use Rattle.std.proofs.Common.{◌∙◌, false, length, refl, sym, ap}
+use Rattle.std.proofs.Common.{◌≡◌, ◌∙◌, false, length, refl, sym, ap}
 use Rattle.ca_wire.specs.Fields.{Fields}
 use Rattle.ca_model.specs.Due.{Action}
 use Rattle.ca_ids.specs.Table.{under}
@@ -12,10 +12,11 @@ use Rattle.ca_server_core.proofs.Led.{led-thinned}
 use Rattle.ca_server_core.proofs.Noted.{broke-closes, none-closes}
 use Rattle.ca_server_core.proofs.Listed.{listed-broke, listed-none, listed-step}
 use Rattle.ca_server_core.proofs.Served.{quiet-is}
-use Rattle.ca_server_core.specs.Effects.{IsEffect, effect_of}
+use Rattle.ca_server_circuit.specs.Effects.{effect_due}
+use Rattle.ca_server_circuit.specs.Handling.{effect_of}
 use Rattle.ca_server_core.proofs.Stepped.{broke-sound, handled-settles, made-broke, made-none, none-sound, step-sound, viewed-broke, viewed-none}
 use Rattle.ca_server_circuit.specs.declared.step.FollowUp.TheVariants.{Quiet}
-use Rattle.ca_server_core.specs.declared.effect.Effect.TheVariants as told
+use Rattle.ca_server_circuit.specs.declared.effect.Effect.TheVariants as told
 use Rattle.ca_server_core.specs.declared.stepping.Step.TheVariants as own
 use Rattle.ca_server_core.proofs.server.ServerCore.step.Goals as goal
 
@@ -23,12 +24,12 @@ pub invariant_of-self : goal.invariant_of-self
 invariant_of-self c =
     let i = c.self.inside in
     let quiet = quiet-is c.in-Some-Handled.left (sym c.is_quiet.ensures ∙ c.if-is_quiet.true) in
-    let did = rw quiet at (rw c.in-Some-Handled.field-0-is at c.in-Some-Handled.ensures.steps) in
+    let did = rw quiet.1 at (rw c.in-Some-Handled.field-0-is at c.in-Some-Handled.ensures.steps) in
     record {
-      sound = step-sound i.port i.records c.step_on.new.records i.circuits c.step_on.new.circuits c.args.circuit Quiet did c.self.invariant.sound;
-      covered = step-covers i.port i.watchers i.records c.step_on.new.records i.circuits c.step_on.new.circuits c.args.circuit Quiet did c.self.invariant.covered;
-      listed = listed-step i.port i.records c.step_on.new.records i.circuits c.step_on.new.circuits c.args.circuit Quiet i.watchers did c.self.invariant.listed;
-      led = step-led i.port i.leading i.records c.step_on.new.records i.circuits c.step_on.new.circuits c.args.circuit Quiet did (listed-step i.port i.records c.step_on.new.records i.circuits c.step_on.new.circuits c.args.circuit Quiet i.leading did c.self.invariant.led.listed) c.self.invariant.led;
+      sound = step-sound i.port i.records c.step_on.new.records i.circuits c.step_on.new.circuits c.args.circuit (Quiet quiet.0) did c.self.invariant.sound;
+      covered = step-covers i.port i.watchers i.records c.step_on.new.records i.circuits c.step_on.new.circuits c.args.circuit (Quiet quiet.0) did c.self.invariant.covered;
+      listed = listed-step i.port i.records c.step_on.new.records i.circuits c.step_on.new.circuits c.args.circuit (Quiet quiet.0) i.watchers did c.self.invariant.listed;
+      led = step-led i.port i.leading i.records c.step_on.new.records i.circuits c.step_on.new.circuits c.args.circuit (Quiet quiet.0) did (listed-step i.port i.records c.step_on.new.records i.circuits c.step_on.new.circuits c.args.circuit (Quiet quiet.0) i.leading did c.self.invariant.led.listed) c.self.invariant.led;
     }
 
 pub returns-then-is_quiet-clause-steps : goal.returns-then-is_quiet-clause-steps
@@ -36,22 +37,22 @@ returns-then-is_quiet-clause-steps c =
     let i = c.self.inside in
     let u = c.step_on.new in
     let quiet = quiet-is c.in-Some-Handled.left (sym c.is_quiet.ensures ∙ c.if-is_quiet.true) in
-    let did = rw quiet at (rw c.in-Some-Handled.field-0-is at c.in-Some-Handled.ensures.steps) in
+    let did = rw quiet.1 at (rw c.in-Some-Handled.field-0-is at c.in-Some-Handled.ensures.steps) in
     let long = c.in-Some-Handled.ensures.waited ∙ ap (λ (z : Server). length (output_of (under z.circuits c.args.circuit))) c.self.view_is in
-    let sound = step-sound i.port i.records u.records i.circuits u.circuits c.args.circuit Quiet did c.self.invariant.sound in
-    let settles = handled-settles i.port i.records u.records i.circuits u.circuits c.args.circuit Quiet _ did in
-    viewed-followed c.args.self.now i.port i.moment i.applied i.applied _ i.beacons i.records u.records u.records i.circuits u.circuits u.circuits u.circuits c.args.circuit Quiet false (own.Handled told.Quiet) c.self.view_is refl refl long did (refl, refl) sound settles
+    let sound = step-sound i.port i.records u.records i.circuits u.circuits c.args.circuit (Quiet quiet.0) did c.self.invariant.sound in
+    let settles = handled-settles i.port i.records u.records i.circuits u.circuits c.args.circuit (Quiet quiet.0) _ did in
+    viewed-followed c.args.self.now i.port i.moment i.applied i.applied _ i.beacons i.records u.records u.records i.circuits u.circuits u.circuits u.circuits c.args.circuit (Quiet quiet.0) false (own.Handled told.Quiet) c.self.view_is refl refl long did (refl, refl) sound settles
 
 pub returns-then-is_quiet-clause-closes : goal.returns-then-is_quiet-clause-closes
 returns-then-is_quiet-clause-closes c =
     let i = c.self.inside in
     let u = c.step_on.new in
     let quiet = quiet-is c.in-Some-Handled.left (sym c.is_quiet.ensures ∙ c.if-is_quiet.true) in
-    let did = rw quiet at (rw c.in-Some-Handled.field-0-is at c.in-Some-Handled.ensures.steps) in
+    let did = rw quiet.1 at (rw c.in-Some-Handled.field-0-is at c.in-Some-Handled.ensures.steps) in
     let long = c.in-Some-Handled.ensures.waited ∙ ap (λ (z : Server). length (output_of (under z.circuits c.args.circuit))) c.self.view_is in
-    let sound = step-sound i.port i.records u.records i.circuits u.circuits c.args.circuit Quiet did c.self.invariant.sound in
-    let settles = handled-settles i.port i.records u.records i.circuits u.circuits c.args.circuit Quiet _ did in
-    (made-followed c.args.self.now i.port i.moment i.applied i.applied _ i.beacons i.records u.records u.records i.circuits u.circuits u.circuits u.circuits c.args.circuit Quiet false (own.Handled told.Quiet) c.self.view_is refl refl long did (refl, refl) sound settles).1
+    let sound = step-sound i.port i.records u.records i.circuits u.circuits c.args.circuit (Quiet quiet.0) did c.self.invariant.sound in
+    let settles = handled-settles i.port i.records u.records i.circuits u.circuits c.args.circuit (Quiet quiet.0) _ did in
+    (made-followed c.args.self.now i.port i.moment i.applied i.applied _ i.beacons i.records u.records u.records i.circuits u.circuits u.circuits u.circuits c.args.circuit (Quiet quiet.0) false (own.Handled told.Quiet) c.self.view_is refl refl long did (refl, refl) sound settles).1
 
 pub follow-requires-clause-sound : goal.follow-requires-clause-sound
 follow-requires-clause-sound c =
@@ -152,13 +153,13 @@ returns-then-is_quiet-clause-tells c =
     let i = c.self.inside in
     let u = c.step_on.new in
     let quiet = quiet-is c.in-Some-Handled.left (sym c.is_quiet.ensures ∙ c.if-is_quiet.true) in
-    let did = rw quiet at (rw c.in-Some-Handled.field-0-is at c.in-Some-Handled.ensures.steps) in
+    let did = rw quiet.1 at (rw c.in-Some-Handled.field-0-is at c.in-Some-Handled.ensures.steps) in
     let long = c.in-Some-Handled.ensures.waited ∙ ap (λ (z : Server). length (output_of (under z.circuits c.args.circuit))) c.self.view_is in
-    let sound = step-sound i.port i.records u.records i.circuits u.circuits c.args.circuit Quiet did c.self.invariant.sound in
-    let settles = handled-settles i.port i.records u.records i.circuits u.circuits c.args.circuit Quiet _ did in
-    let made = made-followed-by c.args.self.now i.port i.moment i.applied i.applied _ i.beacons i.records u.records u.records i.circuits u.circuits u.circuits u.circuits c.args.circuit Quiet false (own.Handled told.Quiet) c.self.view_is refl refl long did (refl, refl) sound settles
-    (λ (m : Fields) (a : Action). IsEffect m a (effect_of Quiet)) (λ m a is. told-as m a Quiet u.records is) in
-    (made.0, made.1)
+    let sound = step-sound i.port i.records u.records i.circuits u.circuits c.args.circuit (Quiet quiet.0) did c.self.invariant.sound in
+    let settles = handled-settles i.port i.records u.records i.circuits u.circuits c.args.circuit (Quiet quiet.0) _ did in
+    let made = made-followed-by c.args.self.now i.port i.moment i.applied i.applied _ i.beacons i.records u.records u.records i.circuits u.circuits u.circuits u.circuits c.args.circuit (Quiet quiet.0) false (own.Handled told.Quiet) c.self.view_is refl refl long did (refl, refl) sound settles
+    (λ (m : Fields) (a : Action). effect_of (Quiet quiet.0) ≡ effect_due m a) (λ m a is. told-as m a (Quiet quiet.0) u.records is) in
+    (made.0, c.effect.ensures ∙ ap effect_of quiet.1 ∙ made.1)
 
 pub returns-else-is_quiet-clause-tells : goal.returns-else-is_quiet-clause-tells
 returns-else-is_quiet-clause-tells c =
@@ -168,8 +169,8 @@ returns-else-is_quiet-clause-tells c =
     let f = c.follow.new in
     let long = c.in-Some-Handled.ensures.waited ∙ ap (λ (z : Server). length (output_of (under z.circuits c.args.circuit))) c.self.view_is in
     let made = made-followed-by c.args.self.now i.port i.moment i.applied c.more_applied-self-inside.result _ i.beacons i.records c.step_on.new.records f.records i.circuits c.step_on.new.circuits f.circuits c.settle.new.circuits c.args.circuit left c.is_write.result c.settle.result c.self.view_is c.is_write.ensures c.more_applied-self-inside.ensures long did c.follow.ensures.follows c.follow.ensures.sound c.settle.ensures.settles
-    (λ (m : Fields) (a : Action). IsEffect m a (effect_of left)) (λ m a is. told-as m a left c.step_on.new.records is) in
-    tells-by c.args.self.now c.args.circuit left c.settle.result _ made (λ e is. c.settle.ensures.tells e is ∙ c.effect_of-effect.ensures)
+    (λ (m : Fields) (a : Action). effect_of left ≡ effect_due m a) (λ m a is. told-as m a left c.step_on.new.records is) in
+    tells-by c.args.self.now c.args.circuit left c.settle.result _ made (λ e is. c.settle.ensures.tells e is ∙ c.effect-effect.ensures)
 
 pub returns-in-Some-Breaks-clause-tells : goal.returns-in-Some-Breaks-clause-tells
 returns-in-Some-Breaks-clause-tells c =

@@ -1,4 +1,5 @@
-//! Reads by callers in threads, timed: what `bench/client_threads` runs.
+//! Reads by callers in threads, timed.
+
 use ca_arena::Handle;
 use ca_board::Ticket;
 use ca_client::Caller;
@@ -35,21 +36,6 @@ pub(crate) fn read_words(words: &[String]) -> Option<Course> {
         reads: reads.as_str().parse::<u64>().ok()?,
         window: usize::from(window.as_str().parse::<u16>().ok()?),
     })
-}
-
-/// Prints the microseconds from when the channel is live until all callers have read.
-pub(crate) fn timed<R: Threads + Wait + Clock + Copy + Send + 'static, W: Write>(
-    rt: R,
-    alloc: Global,
-    context: &Arc<Context<Nobody>>,
-    course: Course,
-    out: &mut W,
-) -> Result<(), Refusal> {
-    let took = took(rt, alloc, context, course)?;
-    match writeln!(out, "{took}") {
-        Ok(()) => Ok(()),
-        Err(_) => Err(Refusal::Device),
-    }
 }
 
 /// The microseconds from when the channel is live until all callers have read.
