@@ -1,6 +1,6 @@
 -- The state under the lock, as requests are issued and refused.
-use Rattle.std.proofs.Common.{◌≡◌, ℕ, ◌<◌, List, [], ◌∷◌, Ok, Err, refl, sym, ap, ◌∙◌, subst}
-use Rattle.std.specs.Prelude.{slice_set}
+use Rattle.std.proofs.Common.{◌≡◌, ℕ, ◌<◌, List, [], ◌∷◌, Ok, Err, refl, sym, ap, ◌∙◌, subst, inl, ⊎_elim}
+use Rattle.std.specs.Prelude.{IsErrAnd, Option, Result, Some, None, slice_set}
 use Rattle.std.proofs.Math.ListN.{length-set}
 use Rattle.atomic_table.specs.Seated.{TableId}
 use Rattle.ca_text.specs.declared.refusal.Refusal.{Refusal}
@@ -8,7 +8,8 @@ use Rattle.ca_text.specs.declared.refusal.Refusal.TheVariants as refusal
 use Rattle.ca_arena.specs.declared.handle.Handle.{Handle}
 use Rattle.ca_board.specs.declared.ticket.Ticket.{Ticket}
 use Rattle.ca_board.specs.History.{Has}
-use Rattle.ca_board.specs.Views.{CoreView, IsDue, with_arm}
+use Rattle.ca_board.specs.Views.{CallerView, CoreView, HasGivenUp, IsDue, IsOutside, with_arm}
+use Rattle.ca_dbr.specs.declared.value.Outcome.{Outcome}
 use Rattle.ca_dbr.specs.Elements.{Elements, elements}
 use Rattle.ca_ids.specs.Table.{MayGive, with_held}
 use Rattle.ca_requests.specs.Calls.{new_request}
@@ -22,9 +23,9 @@ use Rattle.ca_model.proofs.Changes.{placed-issued}
 use Rattle.ca_model.proofs.Placed.{keeps-sending}
 use Rattle.ca_client.specs.declared.ask.Request.{Request}
 use Rattle.ca_client.specs.declared.ask.Request.TheVariants as request
-use Rattle.ca_client.specs.Awaited.{IsState, Waits}
-use Rattle.ca_client.specs.Calls.{HasIssued, OnlyRecycled}
-use Rattle.ca_client.proofs.Tickets.{awaited_issue, awaited_recycled, awaited_refused}
+use Rattle.ca_client.specs.Awaited.{IsState, StateView, Waits}
+use Rattle.ca_client.specs.Calls.{HasArmedOne, HasIssued, HasIssuedUnderLock}
+use Rattle.ca_client.proofs.Tickets.{OnlyRecycled, awaited_issue, awaited_recycled, awaited_refused}
 use Rattle.ca_client.proofs.Waiting.{Same, issued-apart, issued-back, issued-listed, same-sending}
 
 pub state-recycled : (x : Client) (v w : CoreView) (board : TableId) (ts : List Ticket) → IsState x v board ts → OnlyRecycled v w → IsState x w board ts
@@ -103,3 +104,17 @@ state-issued x v mid armed board ts t asked q y s o e new due f =
           (λ k w at. issued-apart x q k i.may w at)
           (λ k w. issued-back x y q k r table w);
     }
+
+-- a give-up leaves which board the seat is of
+pub given_board : (v w : CallerView) (t : Ticket) (given : Option Outcome) → HasGivenUp v t given w → w.board ≡ v.board
+given_board v w t None g = ⊎_elim
+    (λ (e : IsOutside v t w). ap (λ (z : CallerView). z.board) e.1)
+    (λ r. ⊎_elim (λ e. ap (λ (z : CallerView). z.board) e.0) (λ e. ap (λ (z : CallerView). z.board) e.2) r)
+    g
+given_board v w t (Some o) g = ap (λ (z : CallerView). z.board) g.1
+
+-- no cell could be armed
+pub issued-none : (old : StateView) (asked : Request) (e : Refusal) (new : StateView) (r : Result (Handle × Ticket) Refusal) → IsErrAnd r (λ (f : Refusal). f ≡ e) → new.tickets ≡ old.tickets → new.core ≡ old.core → HasArmedOne old.seat (Err e) new.seat → new.own ≡ old.own
+    → HasIssuedUnderLock old asked r new
+issued-none old asked e new (Ok h) is tickets core none own = absurd is
+issued-none old asked e new (Err f) is tickets core none own = (tickets, core, inl (subst (λ (x : Refusal). HasArmedOne old.seat (Err x) new.seat) (sym is) none, own))

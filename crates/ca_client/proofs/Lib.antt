@@ -11,6 +11,5 @@ pub mod Given
 pub mod Frames
 pub mod Drained
 pub mod Ticked
-pub mod Boards
 pub mod Tapes
 pub mod Begun

@@ -1,17 +1,19 @@
 -- Tickets that are awaited, through recycles, arms and fills.
-use Rattle.std.proofs.Common.{◌≡◌, ◌≢◌, ◌⊎◌, ◌<◌, ℕ, zero, suc, List, [], ◌∷◌, length, set, get_or, Bool, true, false, refl, sym, ap, ◌∙◌, subst, ⊎_elim, inl, inr, arith, IsTrue, IsFalse}
+use Rattle.std.proofs.Common.{◌≡◌, ◌≢◌, ◌⊎◌, ◌<◌, ℕ, zero, suc, List, [], ◌∷◌, length, set, get_or, Bool, true, false, refl, sym, ap, ◌∙◌, subst, ⊎_elim, inl, inr, arith, IsTrue, IsFalse, Ok, Err}
 use Rattle.std.proofs.Math.ListN.{length-set}
+use Rattle.ca_text.specs.declared.refusal.Refusal.{Refusal}
 use Rattle.ca_arena.specs.declared.handle.Handle.{Handle}
 use Rattle.ca_board.specs.declared.ticket.Ticket.{Ticket}
 use Rattle.ca_board.specs.declared.ticket.Filled.{Filled}
 use Rattle.ca_board.specs.declared.ticket.Filled.TheVariants.{Stored, GivenUp}
 use Rattle.ca_board.specs.History.{ticket, Has, IsUnfilled}
-use Rattle.ca_board.specs.Views.{CoreView, IsDue, HasFilled, HasRecycled, with_arm, with_fill, with_refusal}
+use Rattle.ca_board.specs.Views.{CoreView, IsDue, HasArmed, HasFilled, HasRecycled, with_arm, with_fill, with_refusal}
 use Rattle.ca_board.proofs.Outstanding.{due_filled}
 use Rattle.ca_board.proofs.Stock.{has_snoc}
 use Rattle.ca_dbr.specs.declared.value.Outcome.{Outcome}
+use Rattle.std.specs.Prelude.{Result}
 use Rattle.ca_client.specs.Awaited.{AreAwaited, Completion, Fillable, Fills, FillsAll, ticket_of}
-use Rattle.ca_client.specs.Calls.{OnlyRecycled}
+use Rattle.ca_client.specs.Calls.{AreInUse, HasArmedAfter, HasArmedOne, Recycles, RecyclesBelow, RecyclesEach}
 
 -- a fill, as it is said here
 pub filled_is : (v w : CoreView) (t : Ticket) (o : Outcome) (r : Filled) → HasFilled v t o r w → Fills v t o w
@@ -71,9 +73,38 @@ module _ (ts : List Ticket) where
 
 -- ---- recycles
 
-pub recycled_more : (v w u : CoreView) (k : ℕ) (r : Bool) → OnlyRecycled v w → (IsTrue r → HasRecycled w k u) → (IsFalse r → u ≡ w) → OnlyRecycled v u
-recycled_more v w u k true o f g = let h = f refl in subst (OnlyRecycled v) (sym h.2) o
-recycled_more v w u k false o f g = subst (OnlyRecycled v) (sym (g refl)) o
+-- Nothing but recycles was done with the seat.
+abbrev pub OnlyRecycled : CoreView → CoreView → Type 0
+OnlyRecycled v w = (w.board ≡ v.board) × (w.arms ≡ v.arms) × (w.fills ≡ v.fills) × (w.refused ≡ v.refused)
+
+pub recycles_is : (v w : CoreView) (k : ℕ) (r : Bool) → (IsTrue r → HasRecycled v k w) → (IsFalse r → w ≡ v) → Recycles v k w
+recycles_is v w k true f g = inl (f refl)
+recycles_is v w k false f g = inr (g refl)
+
+pub only_more : (v w u : CoreView) (k : ℕ) → OnlyRecycled v w → Recycles w k u → OnlyRecycled v u
+only_more v w u k o r = ⊎_elim (λ (h : HasRecycled w k u). subst (OnlyRecycled v) (sym h.2) o) (λ (e : u ≡ w). subst (OnlyRecycled v) (sym e) o) r
+
+only_below : (n : ℕ) (v w : CoreView) → RecyclesBelow n v w → OnlyRecycled v w
+only_below zero v w e = subst (OnlyRecycled v) (sym e) (refl, refl, refl, refl)
+only_below (suc n) v w r = only_more v r.0 w n (only_below n v r.0 r.1) r.2
+
+pub only_each : (v w : CoreView) → RecyclesEach v w → OnlyRecycled v w
+only_each v w r = only_below r.0 v w r.2
+
+-- after some recycles one cell was armed
+pub armed_after : (v w : CoreView) (t : Ticket) → HasArmedOne v (Ok t) w → (mid : CoreView) × OnlyRecycled v mid × HasArmed mid (Ok t) w
+armed_after v w t a = ⊎_elim
+    (λ (f : HasArmed v (Ok t) w). (v, (refl, refl, refl, refl), f))
+    (λ (f : AreInUse v × HasArmedAfter v (Ok t) w). (f.1.0, only_each v f.1.0 f.1.1, f.1.2))
+    a
+
+pub armed_on : (v mid w : CoreView) (r : Result Ticket Refusal) → AreInUse v → RecyclesEach v mid → HasArmed mid r w → HasArmedOne v r w
+armed_on v mid w (Ok t) used each a = inr (used, (mid, each, a))
+armed_on v mid w (Err e) used each a = (used, (mid, each, a))
+
+-- or none
+pub unarmed : (v w : CoreView) (e : Refusal) → HasArmedOne v (Err e) w → OnlyRecycled v w
+unarmed v w e a = subst (OnlyRecycled v) (sym a.1.2.1) (only_each v a.1.0 a.1.1)
 
 pub due_recycled : (v w : CoreView) (u : Ticket) → OnlyRecycled v w → IsDue v u → IsDue w u
 due_recycled v w u o d = (

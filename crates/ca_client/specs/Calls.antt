@@ -1,12 +1,12 @@
 -- Statement: what the functions that are lent the state under the lock do.
-use Rattle.std.specs.Prelude.{◌≡◌, ◌⊎◌, ℕ, ◌<◌, List, [], ◌∷◌, Option, Some, None, Result, Ok, Err, map, slice_set}
+use Rattle.std.specs.Prelude.{◌≡◌, ◌⊎◌, ℕ, zero, suc, ◌<◌, List, [], ◌∷◌, Option, Some, None, Result, Ok, Err, map, slice_set}
 use Rattle.ca_text.specs.Limits.{board_cells}
 use Rattle.ca_text.specs.declared.refusal.Refusal.{Refusal}
-use Rattle.ca_text.specs.declared.refusal.Refusal.TheVariants.{NoCell, OutOfMemory}
+use Rattle.ca_text.specs.declared.refusal.Refusal.TheVariants.{OutOfMemory}
 use Rattle.ca_arena.specs.declared.handle.Handle.{Handle}
 use Rattle.ca_board.specs.declared.ticket.Ticket.{Ticket}
 use Rattle.ca_board.specs.History.{InUse}
-use Rattle.ca_board.specs.Views.{CallerView, CoreView, HasArmed, HasGivenUp, caller_start}
+use Rattle.ca_board.specs.Views.{CoreView, HasArmed, HasGivenUp, HasRecycled, caller_start, core_start}
 use Rattle.ca_dbr.specs.declared.value.Outcome.{Outcome}
 use Rattle.ca_dbr.specs.Elements.{elements}
 use Rattle.ca_model.specs.Answers.{Closing, Notice, Sending}
@@ -24,13 +24,31 @@ use Rattle.ca_client.specs.Awaited.{FillsAll, StateView, completions, others}
 
 -- ---- issue
 
--- Nothing but recycles was done with the seat.
-abbrev pub OnlyRecycled : CoreView → CoreView → Type 0
-OnlyRecycled v w = (w.board ≡ v.board) × (w.arms ≡ v.arms) × (w.fills ≡ v.fills) × (w.refused ≡ v.refused)
+-- each cell is in use
+abbrev pub AreInUse : CoreView → Type 0
+AreInUse v = (k : ℕ) → k < board_cells → InUse v.arms v.recycles k
 
--- a cell was armed after some recycles, or each is in use
+-- a recycle of the cell: it was freed, or nothing was done
+abbrev pub Recycles : CoreView → ℕ → CoreView → Type 0
+Recycles old k new = HasRecycled old k new ⊎ (new ≡ old)
+
+-- one of each of the first n cells, in order
+abbrev pub RecyclesBelow : ℕ → CoreView → CoreView → Type 0
+RecyclesBelow zero old new = new ≡ old
+RecyclesBelow (suc n) old new = (mid : CoreView) × RecyclesBelow n old mid × Recycles mid n new
+
+-- one of each cell, and nothing else
+abbrev pub RecyclesEach : CoreView → CoreView → Type 0
+RecyclesEach old new = (n : ℕ) × (n ≡ board_cells) × RecyclesBelow n old new
+
+-- a recycle of each cell, and then what an arm answers
+abbrev pub HasArmedAfter : CoreView → Result Ticket Refusal → CoreView → Type 0
+HasArmedAfter old result new = (mid : CoreView) × RecyclesEach old mid × HasArmed mid result new
+
+-- A free cell was armed; or each was in use, and was recycled if it could be: then one was armed, or each is in use still.
 abbrev pub HasArmedOne : CoreView → Result Ticket Refusal → CoreView → Type 0
-HasArmedOne old result new = (mid : CoreView) × OnlyRecycled old mid × HasArmed mid result new
+HasArmedOne old (Ok t) new = HasArmed old (Ok t) new ⊎ (AreInUse old × HasArmedAfter old (Ok t) new)
+HasArmedOne old (Err e) new = AreInUse old × HasArmedAfter old (Err e) new
 
 -- what the core answers to a request, and leaves
 abbrev pub HasIssued : Client → Request → Result Handle Refusal → Client → Type 0
@@ -38,19 +56,17 @@ HasIssued old (request.Read h data_type count) result new =
     (sent : List Sending) × ClientReads old h (record { data_type = data_type; count = count }) result sent new
 HasIssued old (request.Put h value) result new = (sent : List Sending) × ClientPuts old h (elements value) result sent new
 
--- A request was made: a cell was armed after the recycles, the core made its call, and the ticket is at the request's index. Or it was refused:
--- as NoCell, if every cell is in use; or by the core, which it left as it was, and its ticket was given up.
-abbrev pub HasIssuedUnderLock : StateView → CallerView → Request → Result (Handle × Ticket) Refusal → StateView → CallerView → Type 0
-HasIssuedUnderLock old me asked (Ok r) new me' =
-    (mid : CoreView) × OnlyRecycled old.seat mid × HasArmed mid (Ok r.1) new.seat
-    × HasIssued old.core asked (Ok r.0) new.core
-    × (new.tickets ≡ slice_set old.tickets r.0.index r.1) × (me' ≡ me)
-HasIssuedUnderLock old me asked (Err e) new me' =
+-- A request was made: a cell was armed, the core made its call, and the ticket is at the request's index. Or it was refused: as NoCell, since each cell
+-- is in use, and the core was not asked; or by the core, which it left as it was, and the ticket was given up and its cell recycled.
+abbrev pub HasIssuedUnderLock : StateView → Request → Result (Handle × Ticket) Refusal → StateView → Type 0
+HasIssuedUnderLock old asked (Ok r) new =
+    HasArmedOne old.seat (Ok r.1) new.seat × HasIssued old.core asked (Ok r.0) new.core
+    × (new.tickets ≡ slice_set old.tickets r.0.index r.1) × (new.own ≡ old.own)
+HasIssuedUnderLock old asked (Err e) new =
     (new.tickets ≡ old.tickets) × (new.core ≡ old.core)
-    × ((mid : CoreView) × OnlyRecycled old.seat mid
-    × (((e ≡ NoCell) × (new.seat ≡ mid) × (me' ≡ me) × ((k : ℕ) → k < board_cells → InUse mid.arms mid.recycles k))
-    ⊎ ((t : Ticket) × (armed : CoreView) × (given : Option Outcome) × HasArmed mid (Ok t) armed × HasIssued old.core asked (Err e) new.core
-    × HasGivenUp me t given me' × OnlyRecycled armed new.seat)))
+    × ((HasArmedOne old.seat (Err e) new.seat × (new.own ≡ old.own))
+    ⊎ ((t : Ticket) × (armed : CoreView) × (given : Option Outcome) × HasArmedOne old.seat (Ok t) armed × HasIssued old.core asked (Err e) new.core
+    × HasGivenUp old.own t given new.own × Recycles armed t.cell new.seat))
 
 -- ---- step
 
@@ -94,14 +110,15 @@ abbrev pub HasSteppedUnderLock : StateView → Ask → Answer → StateView → 
 HasSteppedUnderLock old asked result new =
     (ns : List Notice) × HasAnswered old.core asked ns result new.core
     × FillsAll old.tickets old.seat (completions ns) new.seat
-    × HandsBack result (others ns) × (new.tickets ≡ old.tickets)
+    × HandsBack result (others ns) × (new.tickets ≡ old.tickets) × (new.own ≡ old.own)
 
 -- ---- new
 
--- nothing was asked yet, and the caller's seat is of the board
-pub record IsFresh (setting : ClientSetting) (state : StateView) (me : CallerView) : Type 0 where
+-- nothing was asked yet, and both seats are of one board
+pub record IsFresh (setting : ClientSetting) (state : StateView) : Type 0 where
   pub core : ClientBegins setting (Ok state.core)
-  pub caller : me ≡ caller_start state.seat.board
+  pub seat : state.seat ≡ core_start state.own.board
+  pub own : state.own ≡ caller_start state.own.board
 
 -- Nothing was begun: the core refused; or it would have begun, and memory lacked for the board or the tickets.
 abbrev pub HasNotBegun : ClientSetting → Refusal → Type 0

@@ -7,4 +7,3 @@ pub mod Beginning
 pub mod Stepping
 pub mod Turns
 pub mod Turning
-pub mod Desks

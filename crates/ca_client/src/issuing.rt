@@ -1,36 +1,34 @@
 ghost use Rattle.std.specs.Prelude.{◌≡◌};
-ghost use Rattle.ca_client.specs.Calls.{HasArmedOne, HasIssued, HasIssuedUnderLock, OnlyRecycled};
+ghost use Rattle.ca_client.specs.Calls.{HasArmedOne, HasIssued, HasIssuedUnderLock, RecyclesEach};
 
 use crate::ask::Request;
-use crate::state::State;
+use crate::state::ClientState;
 use ca_arena::Handle;
-use ca_board::{Board, CallerSeat, CoreSeat, Ticket};
+use ca_board::{Board, CoreSeat, Ticket};
 use ca_client_core::ClientCore;
 use ca_text::{BOARD_CELLS, Refusal};
 
 /// Arms a cell for a request, makes it, and keeps its ticket.
 ///
-/// Refused as NoCell if every cell is in use, and then as the core refuses it; the ticket is given up then.
+/// Refused as NoCell if every cell is in use, and then as the core refuses it; then the ticket is given up and its cell recycled.
 pub fn issue_under_lock(
-    state: &mut State,
-    caller: &mut CallerSeat,
+    state: &mut ClientState,
     request: &Request,
 ) -> Result<(Handle, Ticket), Refusal>
-    requires { caller.old.board ≡ state.old.seat.board }
-    ensures { HasIssuedUnderLock state.old caller.old request.now result state.new caller.new }
+    ensures { HasIssuedUnderLock state.old request.now result state.new }
 {
-    let State {
+    let ClientState {
         core,
-        board,
         seat,
         tickets,
+        own,
     } = state;
-    let ticket = arm_one(board, seat)?;
+    let ticket = arm_one(own.board(), seat)?;
     let handle = match issue(core, request) {
         Ok(handle) => handle,
         Err(refusal) => {
-            board.give_up(caller, ticket);
-            board.recycle(seat, ticket.cell);
+            own.give_up(ticket);
+            own.board().recycle(seat, ticket.cell);
             return Err(refusal);
         }
     };
@@ -38,7 +36,7 @@ pub fn issue_under_lock(
     Ok((handle, ticket))
 }
 
-// Arms a cell. Only if none is free are those freed whose tickets have ended.
+// Arms a cell. If none is free, each is recycled first whose ticket has ended.
 fn arm_one(board: &Board, seat: &mut CoreSeat) -> Result<Ticket, Refusal>
     requires { seat.old.board ≡ board.now }
     ensures { HasArmedOne seat.old result seat.new }
@@ -62,10 +60,10 @@ fn issue(core: &mut ClientCore, request: &Request) -> Result<Handle, Refusal>
     }
 }
 
-// Frees every cell that it can.
+// Recycles every cell that it can.
 fn recycle_all(board: &Board, seat: &mut CoreSeat)
     requires { seat.old.board ≡ board.now }
-    ensures { OnlyRecycled seat.old seat.new }
+    ensures { RecyclesEach seat.old seat.new }
 {
     for cell in 0..BOARD_CELLS {
         board.recycle(seat, cell);

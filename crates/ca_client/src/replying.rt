@@ -2,12 +2,12 @@
 ghost use Rattle.ca_client.specs.Replies.{HasSteppedOn};
 
 use crate::answer::{Answer, Steps};
-use crate::state::State;
+use crate::state::ClientState;
 use crate::stepping::{Begun, begin, finish};
 use ca_arena::Handle;
 
 /// Steps a circuit until a step does something else than to read a reply, or so many have read one. Each is as `step_under_lock`.
-pub fn step_all(state: &mut State, circuit: Handle, most: usize) -> Steps
+pub fn step_all(state: &mut ClientState, circuit: Handle, most: usize) -> Steps
     ensures { HasSteppedOn circuit most state.old result state.new }
 {
     for replies in 0..most {

@@ -11,7 +11,7 @@ ghost use Rattle.ca_client.specs.declared.stepping.Begun.TheVariants as begun;
 use crate::answer::{Answer, Ended};
 use crate::ask::Ask;
 use crate::filling::{fill_all, fill_one};
-use crate::state::State;
+use crate::state::ClientState;
 use crate::ticking::tick;
 use ca_arena::Handle;
 use ca_board::{Board, CoreSeat, Ticket};
@@ -20,7 +20,7 @@ use ca_client_tables::First;
 
 /// Makes one call of the core, hands the outcome of each request that it completes to the request's ticket, and hands back the other
 /// notices.
-pub fn step_under_lock(state: &mut State, asked: Ask) -> Answer
+pub fn step_under_lock(state: &mut ClientState, asked: Ask) -> Answer
     ensures { HasSteppedUnderLock state.old asked result state.new }
 {
     if let Ask::Step(circuit) = asked {
@@ -31,7 +31,7 @@ pub fn step_under_lock(state: &mut State, asked: Ask) -> Answer
 
 // The same. Most calls are steps, and a function pays for the locals of all that it takes into itself: so the other calls stand out of line.
 #[inline(never)]
-fn step_any(state: &mut State, asked: Ask) -> Answer
+fn step_any(state: &mut ClientState, asked: Ask) -> Answer
     ensures { HasSteppedUnderLock state.old asked result state.new }
 {
     match asked {
@@ -44,7 +44,7 @@ fn step_any(state: &mut State, asked: Ask) -> Answer
     }
 }
 
-fn step(state: &mut State, circuit: Handle) -> Answer
+fn step(state: &mut ClientState, circuit: Handle) -> Answer
     ensures { HasSteppedUnderLock state.old (ask.Step circuit) result state.new }
 {
     match begin(state, circuit) {
@@ -67,18 +67,18 @@ pub(crate) enum Begun {
 
 // Begins a step. Most messages are replies, for which that is all: so this is small.
 #[inline(always)]
-pub(crate) fn begin(state: &mut State, circuit: Handle) -> Begun
+pub(crate) fn begin(state: &mut ClientState, circuit: Handle) -> Begun
     ensures { Begins state.old circuit result state.new }
 {
-    let State {
+    let ClientState {
         core,
-        board,
         seat,
         tickets,
+        own,
     } = state;
     let first = match core.advance(circuit) {
         Advanced::Completed(request, outcome) => {
-            fill_one(board, seat, tickets, request, outcome);
+            fill_one(own.board(), seat, tickets, request, outcome);
             return Begun::Filled;
         }
         Advanced::Unawaited => return Begun::Filled,
@@ -90,20 +90,20 @@ pub(crate) fn begin(state: &mut State, circuit: Handle) -> Begun
 
 // Does the rest of a step that began so.
 #[inline(never)]
-pub(crate) fn finish(state: &mut State, circuit: Handle, first: First) -> Answer
+pub(crate) fn finish(state: &mut ClientState, circuit: Handle, first: First) -> Answer
     requires { (before : StateView) × Begins before circuit (begun.Other first) state.old }
     ensures steps { (before : StateView) → Begins before circuit (begun.Other first) state.old
         → HasSteppedUnderLock before (ask.Step circuit) result state.new }
     ensures other { IsOther result }
 {
-    let State {
+    let ClientState {
         core,
-        board,
         seat,
         tickets,
+        own,
     } = state;
     let stepped = core.finish(circuit, first);
-    hand_over(board, seat, tickets, stepped)
+    hand_over(own.board(), seat, tickets, stepped)
 }
 
 // Hands the completions of a step over, and the rest back.
@@ -131,62 +131,62 @@ fn hand_over(board: &Board, seat: &mut CoreSeat, tickets: &Vec<Ticket>, stepped:
 }
 
 // Ends a circuit that was cut.
-pub(crate) fn cut(state: &mut State, circuit: Handle) -> Ended
+pub(crate) fn cut(state: &mut ClientState, circuit: Handle) -> Ended
     ensures { HasSteppedUnderLock state.old (ask.Cut circuit) (answer.Closed result) state.new }
 {
-    let State {
+    let ClientState {
         core,
-        board,
         seat,
         tickets,
+        own,
     } = state;
     let closing = core.cut(circuit);
-    settle(board, seat, tickets, closing)
+    settle(own.board(), seat, tickets, closing)
 }
 
-fn close(state: &mut State, circuit: Handle) -> Ended
+fn close(state: &mut ClientState, circuit: Handle) -> Ended
     ensures { HasSteppedUnderLock state.old (ask.Close circuit) (answer.Closed result) state.new }
 {
-    let State {
+    let ClientState {
         core,
-        board,
         seat,
         tickets,
+        own,
     } = state;
     let closing = core.close(circuit);
-    settle(board, seat, tickets, closing)
+    settle(own.board(), seat, tickets, closing)
 }
 
-fn connect(state: &mut State, circuit: Handle) -> Answer
+fn connect(state: &mut ClientState, circuit: Handle) -> Answer
     ensures { HasSteppedUnderLock state.old (ask.Connect circuit) result state.new }
 {
-    let State {
+    let ClientState {
         core,
-        board,
         seat,
         tickets,
+        own,
     } = state;
     let closing = match core.connected(circuit) {
         Some(closing) => closing,
         None => return Answer::Connected,
     };
-    Answer::Closed(settle(board, seat, tickets, closing))
+    Answer::Closed(settle(own.board(), seat, tickets, closing))
 }
 
-fn clear(state: &mut State, channel: Handle) -> Answer
+fn clear(state: &mut ClientState, channel: Handle) -> Answer
     ensures { HasSteppedUnderLock state.old (ask.Clear channel) result state.new }
 {
-    let State {
+    let ClientState {
         core,
-        board,
         seat,
         tickets,
+        own,
     } = state;
     let notices = match core.clear(channel) {
         Ok(notices) => notices,
         Err(refusal) => return Answer::Refused(refusal),
     };
-    Answer::Notices(fill_all(board, seat, tickets, notices))
+    Answer::Notices(fill_all(own.board(), seat, tickets, notices))
 }
 
 // Hands the completions of an end over.

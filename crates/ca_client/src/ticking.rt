@@ -6,19 +6,19 @@ ghost use Rattle.ca_client.specs.declared.ask.Ask.TheVariants as ask;
 
 use crate::answer::Answer;
 use crate::filling::parts;
-use crate::state::State;
+use crate::state::ClientState;
 use ca_board::{Board, CoreSeat, Ticket};
 use ca_client_core::{Left, Notices, Ticked};
 
 // The core is told the time: the tickets of the requests that end with circuits are filled, and notices of lost channels are dropped.
-pub(crate) fn tick(state: &mut State, now: u64) -> Answer
+pub(crate) fn tick(state: &mut ClientState, now: u64) -> Answer
     ensures { HasSteppedUnderLock state.old (ask.Tick now) result state.new }
 {
-    let State {
+    let ClientState {
         core,
-        board,
         seat,
         tickets,
+        own,
     } = state;
     let ticked = match core.tick(now) {
         Ok(ticked) => ticked,
@@ -28,7 +28,7 @@ pub(crate) fn tick(state: &mut State, now: u64) -> Answer
         datagrams,
         mut closings,
     } = ticked;
-    drain_all(board, seat, tickets, &mut closings);
+    drain_all(own.board(), seat, tickets, &mut closings);
     Answer::Ticked(Ticked {
         datagrams,
         closings,

@@ -8,7 +8,7 @@ ghost use Rattle.ca_client.specs.Turns.{Turns, with_core};
 
 use crate::answer::Ended;
 use crate::socket::{Moved, Socket};
-use crate::state::State;
+use crate::state::ClientState;
 use crate::stepping::cut;
 use ca_arena::Handle;
 use ca_text::Refusal;
@@ -29,7 +29,11 @@ enum Turned {
 
 /// Moves bytes between a circuit and its socket, by at most 16 reads and writes. A fault of the socket cuts the circuit, and so do bytes
 /// for which there is no memory.
-pub fn turn_over<S: Socket>(state: &mut State, circuit: Handle, socket: &mut S) -> Option<Ended>
+pub fn turn_over<S: Socket>(
+    state: &mut ClientState,
+    circuit: Handle,
+    socket: &mut S,
+) -> Option<Ended>
     requires { S.fault_count socket.old < 2 ^ 63 }
     ensures { Turns
         S.fault_count
@@ -54,7 +58,7 @@ pub fn turn_over<S: Socket>(state: &mut State, circuit: Handle, socket: &mut S) 
 }
 
 // One read or one write.
-fn once<S: Socket>(state: &mut State, circuit: Handle, socket: &mut S, writes: bool) -> Turned
+fn once<S: Socket>(state: &mut ClientState, circuit: Handle, socket: &mut S, writes: bool) -> Turned
     requires { S.fault_count socket.old < 2 ^ 63 }
     ensures { Tries
         S.fault_count
@@ -75,7 +79,7 @@ fn once<S: Socket>(state: &mut State, circuit: Handle, socket: &mut S, writes: b
 }
 
 #[tactic(auto, using(crate::proofs::Given::refused_so))]
-fn read_once<S: Socket>(state: &mut State, circuit: Handle, socket: &mut S) -> Turned
+fn read_once<S: Socket>(state: &mut ClientState, circuit: Handle, socket: &mut S) -> Turned
     requires { S.fault_count socket.old < 2 ^ 63 }
     ensures { Tries
         S.fault_count
@@ -112,7 +116,7 @@ fn is_closed(refusal: Refusal) -> bool
     refusal == Refusal::CircuitClosed
 }
 
-fn write_once<S: Socket>(state: &mut State, circuit: Handle, socket: &mut S) -> Turned
+fn write_once<S: Socket>(state: &mut ClientState, circuit: Handle, socket: &mut S) -> Turned
     requires { S.fault_count socket.old < 2 ^ 63 }
     ensures { Tries
         S.fault_count
@@ -125,7 +129,7 @@ fn write_once<S: Socket>(state: &mut State, circuit: Handle, socket: &mut S) -> 
         socket.new
         state.new }
 {
-    let out = state.out_bytes(circuit);
+    let out = state.core().out_bytes(circuit);
     if out.is_empty() {
         return Turned::GoesOn;
     }

@@ -9,7 +9,7 @@ use crate::listener::{Change, Ear, Ears, Listener};
 use crate::shared::{Locked, Shared};
 use ca_arena::Handle;
 use ca_board::Ticket;
-use ca_client::{Answer, Ask, Caller, Desk, Request};
+use ca_client::{Answer, Ask, Caller, ClientState, Request, issue_under_lock, step_under_lock};
 use ca_client_core::{Address, ChannelState};
 use ca_dbr::{Outcome, Value};
 use ca_dgram::register;
@@ -77,13 +77,13 @@ impl<L: Listener> Context<L> {
             repeater,
         } = setting;
         let parts = Parts::new(&rt, alloc, repeater)?;
-        let desk = Desk::new(alloc, user, host, servers, &names, 0)?;
-        joined(rt, alloc, desk, parts)
+        let state = ClientState::new(alloc, user, host, servers, &names, 0)?;
+        joined(rt, alloc, state, parts)
     }
 
     /// A caller, for one thread.
     pub fn caller<R: Wait>(&self, rt: &R) -> Result<Caller, AllocError> {
-        self.shared.locked.lock(rt).desk.caller()
+        self.shared.locked.lock(rt).state.caller()
     }
 
     /// The outcome of a ticket, if it is there. It waits for nobody. If it is not there, requests that wait to be sent go out, and what came may be read, so
@@ -147,7 +147,7 @@ impl<L: Listener> Context<L> {
         room: Value,
     ) -> Result<Ticket, Refusal> {
         let mut guard = self.shared.hold(rt);
-        guard.desk.recycle(room);
+        guard.state.recycle(room);
         self.issue_under(guard, &Request::Read(channel, data_type, count))
     }
 
@@ -211,7 +211,7 @@ impl<L: Listener> Context<L> {
         request: &Request,
     ) -> Result<Ticket, Refusal> {
         let mut guard = guard;
-        let issued = guard.desk.issue(request);
+        let issued = issue_under_lock(&mut guard.state, request);
         let all = guard.note();
         if guard.is_told() {
             self.shared.ask();
@@ -226,7 +226,7 @@ impl<L: Listener> Context<L> {
 
     /// Writes a value, with no outcome: it goes out at once. Refused as `ClientCore::write`.
     pub fn put<R: Wait>(&self, rt: &R, channel: Handle, value: &Value) -> Result<(), Refusal> {
-        let written = self.shared.locked.lock(rt).desk.write(channel, value);
+        let written = self.shared.locked.lock(rt).state.write(channel, value);
         self.wake();
         written
     }
@@ -272,7 +272,12 @@ impl<L: Listener> Context<L> {
 
     /// Where a channel is. Refused as StaleHandle if the handle is stale.
     pub fn channel_state<R: Wait>(&self, rt: &R, channel: Handle) -> Result<ChannelState, Refusal> {
-        self.shared.locked.lock(rt).desk.channel_state(channel)
+        self.shared
+            .locked
+            .lock(rt)
+            .state
+            .core()
+            .channel_state(channel)
     }
 
     /// Waits for the outcome of a ticket, for at most so many turns of 10 ms. None as `wait_for` says `TimedOut` or `Over`.
@@ -457,7 +462,7 @@ enum Led {
 
 impl<L: Listener> Locked<L> {
     fn open(&mut self, name: &[u8], priority: u16) -> Result<Handle, Refusal> {
-        let channel = self.desk.open(name, priority, self.moment)?;
+        let channel = self.state.open(name, priority, self.moment)?;
         self.spread.add(channel, priority);
         Ok(channel)
     }
@@ -470,7 +475,7 @@ impl<L: Listener> Locked<L> {
     }
 
     fn clear(&mut self, channel: Handle) -> Result<(), Refusal> {
-        match self.desk.step(Ask::Clear(channel)) {
+        match step_under_lock(&mut self.state, Ask::Clear(channel)) {
             Answer::Refused(refusal) => Err(refusal),
             _ => {
                 self.spread.remove(channel);
@@ -490,7 +495,7 @@ impl<L: Listener> Locked<L> {
         if self.changes.reserve(1).is_err() {
             return Err((listener, Refusal::OutOfMemory));
         }
-        match self.desk.subscribe(channel, data_type, count, mask) {
+        match self.state.subscribe(channel, data_type, count, mask) {
             Ok(subscription) => {
                 self.lead.hear();
                 self.changes.push_reserved(Change::Hears(Ear {
@@ -505,7 +510,7 @@ impl<L: Listener> Locked<L> {
 
     fn unsubscribe(&mut self, subscription: Handle) -> Result<(), Refusal> {
         self.changes.reserve(1)?;
-        self.desk.unsubscribe(subscription)?;
+        self.state.unsubscribe(subscription)?;
         self.changes.push_reserved(Change::Ends(subscription));
         Ok(())
     }
@@ -564,7 +569,7 @@ impl<L: Listener> Parts<L> {
 fn joined<R: Net + Clock + Copy + Drop, L: Listener>(
     rt: R,
     alloc: Global,
-    desk: Desk,
+    state: ClientState,
     parts: Parts<L>,
 ) -> Result<(Context<L>, Engine<R, L>), Refusal> {
     let Parts {
@@ -578,7 +583,7 @@ fn joined<R: Net + Clock + Copy + Drop, L: Listener>(
         ears,
         began,
     } = parts;
-    let locked = Locked::new(alloc, desk)?;
+    let locked = Locked::new(alloc, state)?;
     let shared = Arc::new(
         alloc,
         Shared::new(locked, sockets, sockets_waker, thread_waker),

@@ -3,7 +3,7 @@ use crate::lead::{TURN, wait_at};
 use crate::links::{Brought, Heard, Link, Tries, close_all, connect, forget};
 use crate::listener::{Ears, Listener};
 use crate::shared::{Locked, Place, Shared};
-use ca_client::{Answer, Ask, Desk};
+use ca_client::{Answer, Ask, ClientState, step_under_lock};
 use ca_client_core::{Notice, Ticked};
 use ca_dbr::Outcome;
 use ca_text::Refusal;
@@ -153,7 +153,7 @@ impl<N: Net + Drop, L: Listener> Engine<N, L> {
         );
         swap(&mut locked.told, &mut self.told);
         if locked.ending {
-            close_all(&mut locked.desk, &mut locked.links);
+            close_all(&mut locked.state, &mut locked.links);
             return (None, brought);
         }
         // What it was brought may be the leader's.
@@ -215,11 +215,11 @@ fn turn<N: Net, L: Listener>(
     let told_before = !locked.told.is_empty();
     ears.follow(&mut locked.changes);
     let brought = locked.serve();
-    let hears = hear(&mut locked.desk, datagrams, now);
-    let ended = tick(&mut locked.desk, datagrams, &mut locked.links, now);
+    let hears = hear(&mut locked.state, datagrams, now);
+    let ended = tick(&mut locked.state, datagrams, &mut locked.links, now);
     connect(
         net,
-        &mut locked.desk,
+        &mut locked.state,
         registry,
         &mut locked.links,
         tries,
@@ -235,22 +235,22 @@ fn turn<N: Net, L: Listener>(
 }
 
 // Search replies and beacons. It says whether there may be more.
-fn hear(desk: &mut Desk, datagrams: &UdpSocket, now: u64) -> bool {
+fn hear(state: &mut ClientState, datagrams: &UdpSocket, now: u64) -> bool {
     let mut buffer = [0u8; 4096];
     for _ in 0..DATAGRAMS {
         let Ok((size, from)) = datagrams.recv_from(&mut buffer[..]) else {
             return false;
         };
         if let Some(address) = from_system(from) {
-            let _ = desk.datagram(now, address, &buffer[..size.min(4096)]);
+            let _ = state.datagram(now, address, &buffer[..size.min(4096)]);
         }
     }
     true
 }
 
 // A moment: its searches are sent, and circuits that were silent too long are let go. It says whether there were any.
-fn tick(desk: &mut Desk, datagrams: &UdpSocket, links: &mut Vec<Link>, now: u64) -> bool {
-    let Answer::Ticked(ticked) = desk.step(Ask::Tick(now)) else {
+fn tick(state: &mut ClientState, datagrams: &UdpSocket, links: &mut Vec<Link>, now: u64) -> bool {
+    let Answer::Ticked(ticked) = step_under_lock(state, Ask::Tick(now)) else {
         return false;
     };
     let Ticked {

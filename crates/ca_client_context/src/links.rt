@@ -3,7 +3,9 @@ ghost use Rattle.std.specs.Vec.{vec_capacity, vec_len};
 
 use crate::addresses::to_system;
 use ca_arena::Handle;
-use ca_client::{Answer, Ask, Desk, Moved, Socket, Told, Wire};
+use ca_client::{
+    Answer, Ask, ClientState, Moved, Socket, Told, Wire, step_all, step_under_lock, turn_over,
+};
 use ca_client_core::{Notice, WantedCircuit};
 use mio::net::TcpStream;
 use mio::{Interest, Registry, Token};
@@ -124,13 +126,13 @@ impl Tries {
 // Connects the circuits that are wanted. One that cannot be is cut.
 pub(crate) fn connect<R: Net>(
     rt: &R,
-    desk: &mut Desk,
+    state: &mut ClientState,
     registry: &Registry,
     links: &mut Vec<Link>,
     tries: &mut Tries,
     now: u64,
 ) {
-    let Ok(wanted) = desk.wanted() else {
+    let Ok(wanted) = state.core().wanted() else {
         return;
     };
     for index in 0..wanted.len() {
@@ -143,12 +145,12 @@ pub(crate) fn connect<R: Net>(
         }
         match reach(rt, registry, wanted[index]) {
             Some(link) => {
-                if let Answer::Connected = desk.step(Ask::Connect(circuit)) {
+                if let Answer::Connected = step_under_lock(state, Ask::Connect(circuit)) {
                     links.push_reserved(link);
                 }
             }
             None => {
-                desk.step(Ask::Cut(circuit));
+                step_under_lock(state, Ask::Cut(circuit));
             }
         }
     }
@@ -233,12 +235,16 @@ impl Brought {
 }
 
 // Moves the bytes of all circuits, and reads their messages.
-pub(crate) fn serve(desk: &mut Desk, links: &mut Vec<Link>, told: &mut Vec<Heard>) -> Brought {
+pub(crate) fn serve(
+    state: &mut ClientState,
+    links: &mut Vec<Link>,
+    told: &mut Vec<Heard>,
+) -> Brought {
     let mut brought = Brought::nothing();
     for turn in 0..links.len() {
         // From the last to the first, so that one that ends can be taken out.
         let index = links.len().saturating_sub(turn + 1);
-        match serve_at(desk, links, index, told) {
+        match serve_at(state, links, index, told) {
             Served::On(one) => brought = brought.and(one),
             Served::Over => {
                 forget_at(links, index);
@@ -260,11 +266,15 @@ pub(crate) fn is_any_behind(links: &[Link]) -> bool {
 }
 
 // Sends what waits on all circuits, as far as that can be now. It says whether all went and no circuit ended.
-pub(crate) fn send_all(desk: &mut Desk, links: &mut Vec<Link>, told: &mut Vec<Heard>) -> bool {
+pub(crate) fn send_all(
+    state: &mut ClientState,
+    links: &mut Vec<Link>,
+    told: &mut Vec<Heard>,
+) -> bool {
     let mut all = true;
     for turn in 0..links.len() {
         let index = links.len().saturating_sub(turn + 1);
-        match send_at(desk, links, index, told) {
+        match send_at(state, links, index, told) {
             Served::On(one) => all = all && !one.more,
             Served::Over => {
                 forget_at(links, index);
@@ -294,27 +304,37 @@ impl Served {
     }
 }
 
-fn serve_at(desk: &mut Desk, links: &mut Vec<Link>, index: usize, told: &mut Vec<Heard>) -> Served {
+fn serve_at(
+    state: &mut ClientState,
+    links: &mut Vec<Link>,
+    index: usize,
+    told: &mut Vec<Heard>,
+) -> Served {
     match links.get_mut(index) {
-        Some(link) => serve_one(desk, link, told),
+        Some(link) => serve_one(state, link, told),
         None => Served::On(Brought::nothing()),
     }
 }
 
-fn send_at(desk: &mut Desk, links: &mut Vec<Link>, index: usize, told: &mut Vec<Heard>) -> Served {
+fn send_at(
+    state: &mut ClientState,
+    links: &mut Vec<Link>,
+    index: usize,
+    told: &mut Vec<Heard>,
+) -> Served {
     match links.get_mut(index) {
-        Some(link) => send_one(desk, link, told),
+        Some(link) => send_one(state, link, told),
         None => Served::On(Brought::nothing()),
     }
 }
 
-fn send_one(desk: &mut Desk, link: &mut Link, told: &mut Vec<Heard>) -> Served {
+fn send_one(state: &mut ClientState, link: &mut Link, told: &mut Vec<Heard>) -> Served {
     // Nothing is sent without room for what a fault tells.
     if told.reserve(1).is_err() || link.wire.faults() >= MOST_FAULTS {
         return Served::behind();
     }
     link.wire.drained = true;
-    if let Some(ended) = desk.turn(link.circuit, &mut link.wire) {
+    if let Some(ended) = turn_over(state, link.circuit, &mut link.wire) {
         keep(told, ended.told);
         return Served::Over;
     }
@@ -325,24 +345,24 @@ fn send_one(desk: &mut Desk, link: &mut Link, told: &mut Vec<Heard>) -> Served {
     }
 }
 
-fn serve_one(desk: &mut Desk, link: &mut Link, told: &mut Vec<Heard>) -> Served {
+fn serve_one(state: &mut ClientState, link: &mut Link, told: &mut Vec<Heard>) -> Served {
     // Nothing is read without room for what it tells.
     if told.reserve(1).is_err() {
         return Served::On(Brought::nothing());
     }
     if link.wire.faults() >= MOST_FAULTS {
-        if let Answer::Closed(ended) = desk.step(Ask::Cut(link.circuit)) {
+        if let Answer::Closed(ended) = step_under_lock(state, Ask::Cut(link.circuit)) {
             keep(told, ended.told);
         }
         return Served::Over;
     }
     link.wire.drained = false;
     link.wire.came = false;
-    if let Some(ended) = desk.turn(link.circuit, &mut link.wire) {
+    if let Some(ended) = turn_over(state, link.circuit, &mut link.wire) {
         keep(told, ended.told);
         return Served::Over;
     }
-    match handle_all(desk, link.circuit, told) {
+    match handle_all(state, link.circuit, told) {
         Served::On(brought) => Served::On(brought.and(link.left(brought))),
         Served::Over => Served::Over,
     }
@@ -361,14 +381,14 @@ impl Link {
 }
 
 // Handles the messages that came on a circuit.
-fn handle_all(desk: &mut Desk, circuit: Handle, told: &mut Vec<Heard>) -> Served {
+fn handle_all(state: &mut ClientState, circuit: Handle, told: &mut Vec<Heard>) -> Served {
     let mut brought = Brought::nothing();
     let mut left = STEPS;
     for _ in 0..STEPS {
         if told.reserve(1).is_err() {
             return Served::On(brought);
         }
-        let steps = desk.step_all(circuit, left);
+        let steps = step_all(state, circuit, left);
         brought.any = brought.any || steps.replies > 0;
         left = left.saturating_sub(steps.replies.saturating_add(1));
         match steps.answer {
@@ -408,9 +428,9 @@ pub(crate) fn forget(links: &mut Vec<Link>, circuit: Handle) {
 }
 
 // Ends all circuits.
-pub(crate) fn close_all(desk: &mut Desk, links: &mut Vec<Link>) {
+pub(crate) fn close_all(state: &mut ClientState, links: &mut Vec<Link>) {
     for index in 0..links.len() {
-        desk.step(Ask::Close(links[index].circuit));
+        step_under_lock(state, Ask::Close(links[index].circuit));
     }
     links.clear();
 }

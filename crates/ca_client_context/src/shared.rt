@@ -3,7 +3,7 @@ use crate::links::{Brought, Heard, Link, is_any_behind, is_any_full, send_all, s
 use crate::listener::{Change, Listener};
 use crate::spread::Spread;
 use ca_board::Ticket;
-use ca_client::{Desk, Request};
+use ca_client::{ClientState, Request, issue_under_lock};
 use ca_dbr::Value;
 use ca_text::Refusal;
 use mio::Waker;
@@ -50,7 +50,7 @@ pub(crate) enum Place {
 // What lies under the lock.
 #[derive(Drop)]
 pub(crate) struct Locked<L: Listener> {
-    pub(crate) desk: Desk,
+    pub(crate) state: ClientState,
     pub(crate) links: Vec<Link>,
     pub(crate) spread: Spread,
     // What listeners have not been told yet.
@@ -66,9 +66,9 @@ pub(crate) struct Locked<L: Listener> {
 }
 
 impl<L: Listener> Locked<L> {
-    pub(crate) fn new(alloc: Global, desk: Desk) -> Result<Locked<L>, AllocError> {
+    pub(crate) fn new(alloc: Global, state: ClientState) -> Result<Locked<L>, AllocError> {
         Ok(Locked {
-            desk,
+            state,
             links: Vec::new(alloc),
             spread: Spread::new(alloc)?,
             told: Vec::new(alloc),
@@ -111,9 +111,9 @@ impl<L: Listener> Locked<L> {
     ) -> Result<bool, Refusal> {
         tickets.reserve(1)?;
         if let Some(room) = rooms.pop() {
-            self.desk.recycle(room);
+            self.state.recycle(room);
         }
-        let (_, ticket) = self.desk.issue(request)?;
+        let (_, ticket) = issue_under_lock(&mut self.state, request)?;
         tickets.push_reserved(ticket);
         Ok(self.note())
     }
@@ -126,7 +126,7 @@ impl<L: Listener> Locked<L> {
     // Sends what waits on all circuits, as far as that can be now. It says whether nothing is left for the thread of input and output.
     pub(crate) fn send(&mut self) -> bool {
         self.unsent = 0;
-        send_all(&mut self.desk, &mut self.links, &mut self.told)
+        send_all(&mut self.state, &mut self.links, &mut self.told)
     }
 
     // A caller would move bytes. It says whether that may.
@@ -158,7 +158,7 @@ impl<L: Listener> Locked<L> {
     // Moves bytes, and reads what came.
     pub(crate) fn move_all(&mut self) -> Brought {
         self.unsent = 0;
-        serve(&mut self.desk, &mut self.links, &mut self.told)
+        serve(&mut self.state, &mut self.links, &mut self.told)
     }
 
     // Whether there is something for the thread of input and output to do, after what a caller moved.

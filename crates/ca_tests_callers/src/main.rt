@@ -1,4 +1,4 @@
-//! What lies under a client's lock (`desk`), and servers and clients in one process, each with a thread of its own. What came of it is `stdout`:
+//! What lies under a client's lock (`state`), and servers and clients in one process, each with a thread of its own. What came of it is `stdout`:
 //!
 //! - servers whose device holds puts, until a read on another circuit was answered, and at their end (`holding`);
 //! - the lines `get`, `put` and `monitor`, what each says, and its status (`lines`);
@@ -12,7 +12,7 @@
 //!
 //! With words it prints something else instead:
 //!
-//! - growths: what came of growths that were refused under a client's lock (`desk::growths`);
+//! - growths: what came of growths that were refused under a client's lock (`state::growths`);
 //! - names PORT: whether a client that searches on a circuit to this port of this host alone reads 21 from TEMP (`settings`).
 #![tactic(auto)]
 
@@ -21,7 +21,6 @@ mod callers;
 mod calls;
 mod client;
 mod conduct;
-mod desk;
 mod fairness;
 mod holding;
 mod lines;
@@ -32,6 +31,7 @@ mod prompt;
 mod server;
 mod settings;
 mod spreading;
+mod state;
 mod wire;
 
 use ca_text::Refusal;
@@ -50,7 +50,7 @@ fn main(rt: HostRuntime) -> ExitCode {
     let done = match words(&rt) {
         Ok(words) => match words.as_slice() {
             [] => show(rt, rt.alloc(), &mut out, &mut rt.stdout()),
-            [_] => desk::growths::show(rt.alloc(), &mut out),
+            [_] => state::growths::show(rt.alloc(), &mut out),
             [_, port] => settings::show_name_server(rt, rt.alloc(), port.as_str(), &mut out),
             _ => Err(Refusal::BadText),
         },
@@ -83,7 +83,7 @@ fn show<
     W: Write,
     E: Write,
 >(rt: R, alloc: Global, out: &mut W, err: &mut E) -> Result<(), Refusal> {
-    desk::show(alloc, out)?;
+    state::show(alloc, out)?;
     holding::show(rt, alloc, out)?;
     fairness::show(rt, alloc, out)?;
     lines::show(rt, alloc, out, err)?;

@@ -1,4 +1,4 @@
-use Rattle.std.proofs.Common.{ℕ, inl, inr, refl, subst, sym}
+use Rattle.std.proofs.Common.{ℕ, inr, subst, sym}
 use Rattle.std.proofs.Math.Numerals.{add-one}
 use Rattle.ca_client.specs.Replies.{Replies}
 use Rattle.ca_client.proofs.replying.step_all.Goals as goal
