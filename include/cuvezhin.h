@@ -1,11 +1,12 @@
-/* cuvezhin.h: the server of EPICS Channel Access, protocol 4.13, for C11 and C++17.
+/* cuvezhin.h: both ends of EPICS Channel Access, protocol 4.13, for C11 and C++17.
  *
  * The library does no input or output, has no thread and no clock. You have the sockets: bytes that came go in, bytes that are to be sent come
- * out, and moments are handed in, in milliseconds of any clock that does not go back. docs/EMBEDDING.md goes from nothing to a server.
+ * out, and moments are handed in, in milliseconds of any clock that does not go back. docs/EMBEDDING.md goes from nothing to a server
+ * and a client.
  *
  * What each call does is proved. That rests on these promises of yours, which nothing checks:
  *
- *   1. A struct of an object (cvz_server) is all zero before its first use, is written by these calls alone, and is not copied while it
+ *   1. A struct of an object (cvz_server, cvz_client) is all zero before its first use, is written by these calls alone, and is not copied while it
  *      has an object.
  *   2. Each pointer is to what its type says, and none is NULL, also where its count is 0. A count is no more than what is there.
  *   3. What is passed to one call to be written overlaps nothing else that is passed to it.
@@ -25,7 +26,8 @@
  * Answers: an int32_t is 0, or what the call says, or below zero a refusal. A refusal changes nothing. A size_t is how many bytes were
  * written. Memory is asked of malloc, and a call that gets none is refused by CVZ_OUT_OF_MEMORY, or closes the circuit that needed it.
  *
- * Handles of circuits are numbers. No handle is given twice by one object, so a call with an old one finds nothing.
+ * Handles of circuits, channels, requests and subscriptions are numbers. No handle is given twice by one object for the same kind of thing, so
+ * a call with an old one finds nothing.
  */
 #ifndef CUVEZHIN_H
 #define CUVEZHIN_H
@@ -205,6 +207,137 @@ size_t cvz_server_beacon(cvz_server *server, uint64_t now, uint8_t *room, size_t
 /* How many writes of clients were applied, and how many puts wait. */
 uint64_t cvz_server_applied(cvz_server *server);
 uint64_t cvz_server_waiting(cvz_server *server);
+
+/* ---- a client
+ *
+ * A client searches for the channels that were opened (cvz_client_tick, cvz_client_search, cvz_client_datagram), says which circuits it wants
+ * (cvz_client_wanted, cvz_client_connected), and then speaks on them (cvz_client_give, _step, _output, _sent). What a call reports are notices:
+ * after a call that says so, take them one by one by cvz_client_next. What was not taken is gone at the next call that reports. */
+
+typedef struct cvz_client {
+    void *at;
+} cvz_client;
+
+/* An IPv4 address, its first number in the highest byte, and a port: both as numbers of this machine. */
+typedef struct cvz_address {
+    uint32_t host;
+    uint16_t port;
+} cvz_address;
+
+/* A circuit that is to be connected by TCP. */
+typedef struct cvz_wanted {
+    uint64_t circuit;
+    uint32_t host;
+    uint16_t port;
+    uint16_t priority;
+} cvz_wanted;
+
+/* How far a channel is. */
+enum { CVZ_SEARCHING = 0, CVZ_CONNECTING = 1, CVZ_CREATING = 2, CVZ_LIVE = 3, CVZ_LEAVING = 4 };
+
+typedef struct cvz_channel {
+    uint32_t state;
+    uint32_t type;                   /* if it is live, its native type, 0 to 6, */
+    uint32_t greatest;               /* its greatest count, */
+    uint32_t rights;                 /* and the bits 1 to read, 2 to write; else 0 */
+} cvz_channel;
+
+/* What a notice is about: a channel that is live, or was lost; a request that is complete; an update of a subscription; a subscription that
+ * the server refused, which is over; a plain write that it refused. */
+enum { CVZ_NOTICE_LIVE = 1, CVZ_NOTICE_LOST = 2, CVZ_NOTICE_COMPLETED = 3, CVZ_NOTICE_UPDATE = 4, CVZ_NOTICE_ENDED = 5, CVZ_NOTICE_WRITE_REFUSED = 6 };
+
+/* What became of a request, or what an update brought. */
+enum { CVZ_VALUE = 0, CVZ_DONE = 1, CVZ_FAILED = 2, CVZ_UNREADABLE = 3, CVZ_LOST = 4 };
+
+typedef struct cvz_notice {
+    uint64_t of;                     /* the channel, the request or the subscription */
+    uint32_t kind;
+    uint32_t outcome;                /* of a request or an update, else 0 */
+    uint32_t status;                 /* the server's status if it refused; why it is unreadable, as a refusal above zero; else 0 */
+    uint32_t type;                   /* of a value, 0 to 6, */
+    uint64_t count;                  /* and its count; else 0 */
+} cvz_notice;
+
+/* Two more causes for which a client's end closes: a silence that was too long, and cvz_client_close. */
+enum { CVZ_CAUSE_SILENCE = 5, CVZ_CAUSE_ASKED = 6 };
+
+/* Makes a client of this user at this host, from this moment. It searches by datagrams to the servers, and on a circuit to each name server.
+ * An object that the struct had is freed. 0, CVZ_NAME_LENGTH, CVZ_ARENA_FULL or CVZ_OUT_OF_MEMORY; then the struct has what it had. */
+int32_t cvz_client_new(cvz_client *client, const uint8_t *user, size_t user_size, const uint8_t *host, size_t host_size, const cvz_address *servers,
+                       size_t server_count, const cvz_address *name_servers, size_t name_server_count, uint64_t now);
+
+/* Frees the client, if there is one. */
+void cvz_client_free(cvz_client *client);
+
+/* Opens a channel, which is searched for from now on, and writes its handle; its circuit is to have this priority, 0 to 99.
+ * 0, CVZ_NAME_LENGTH, CVZ_BAD_PRIORITY, CVZ_ARENA_FULL or CVZ_OUT_OF_MEMORY. */
+int32_t cvz_client_open(cvz_client *client, const uint8_t *name, size_t name_size, uint16_t priority, uint64_t now, uint64_t *channel);
+
+/* Writes how far the channel is. 0 or CVZ_STALE_HANDLE. */
+int32_t cvz_client_channel(cvz_client *client, uint64_t channel, cvz_channel *told);
+
+/* Lets the channel go. It reports: its open requests are complete, as lost. 0, CVZ_STALE_HANDLE or CVZ_OUT_OF_MEMORY. */
+int32_t cvz_client_clear(cvz_client *client, uint64_t channel);
+
+/* Asks for the value of a live channel, as this type from 0 to 20 and with this count (0: those that there are), and writes the request's handle.
+ * 0, CVZ_STALE_HANDLE, CVZ_NOT_LIVE, CVZ_BAD_TYPE, CVZ_NO_ACCESS, CVZ_BAD_COUNT, CVZ_OUTPUT_FULL, CVZ_ARENA_FULL or CVZ_OUT_OF_MEMORY. */
+int32_t cvz_client_read(cvz_client *client, uint64_t channel, uint16_t type, uint32_t count, uint64_t *request);
+
+/* Writes a value, an image of one of the types 0 to 6, and is told nothing if that is done.
+ * 0, CVZ_BAD_TYPE, CVZ_SHORT, CVZ_STALE_HANDLE, CVZ_NOT_LIVE, CVZ_NO_ACCESS, CVZ_BAD_COUNT, CVZ_OUTPUT_FULL or CVZ_OUT_OF_MEMORY. */
+int32_t cvz_client_write(cvz_client *client, uint64_t channel, uint16_t type, uint32_t count, const uint8_t *image, size_t image_size);
+
+/* The same, and the request is complete once that is done. CVZ_ARENA_FULL too. */
+int32_t cvz_client_put(cvz_client *client, uint64_t channel, uint16_t type, uint32_t count, const uint8_t *image, size_t image_size, uint64_t *request);
+
+/* Subscribes to a live channel, and writes the subscription's handle. As cvz_client_read, and CVZ_BAD_EVENT for a mask with none of its low
+ * four bits. */
+int32_t cvz_client_subscribe(cvz_client *client, uint64_t channel, uint16_t type, uint32_t count, uint16_t mask, uint64_t *subscription);
+
+/* Ends the subscription. 0, CVZ_STALE_HANDLE, CVZ_OUTPUT_FULL or CVZ_OUT_OF_MEMORY. */
+int32_t cvz_client_unsubscribe(cvz_client *client, uint64_t subscription);
+
+/* Writes the circuit at this place, from 0, of those that are to be connected. 1, 0 if there is none, or CVZ_OUT_OF_MEMORY. */
+int32_t cvz_client_wanted(cvz_client *client, size_t place, cvz_wanted *told);
+
+/* The circuit was connected. 0; or CVZ_CLOSED, with the cause: then it reports, and cvz_client_left has what is left to be sent. */
+int32_t cvz_client_connected(cvz_client *client, uint64_t circuit, uint32_t *cause);
+
+/* These bytes came on the circuit, and whether more are there to be read. 0, CVZ_CIRCUIT_CLOSED or CVZ_OUT_OF_MEMORY. */
+int32_t cvz_client_give(cvz_client *client, uint64_t circuit, const uint8_t *bytes, size_t size, bool more);
+
+/* Reads the circuit's next message. CVZ_NEEDS_BYTES: none has come whole. CVZ_HANDLED: it reports. CVZ_CLOSED, with the cause: it reports, and
+ * cvz_client_left has what is left to be sent. */
+int32_t cvz_client_step(cvz_client *client, uint64_t circuit, uint32_t *cause);
+
+/* The circuit was lost, or could not be connected; or it is to end. It reports, and cvz_client_left has what is left. 0. */
+int32_t cvz_client_cut(cvz_client *client, uint64_t circuit);
+int32_t cvz_client_close(cvz_client *client, uint64_t circuit);
+
+/* As cvz_server_output, cvz_server_sent and cvz_server_left. */
+size_t cvz_client_output(cvz_client *client, uint64_t circuit, uint8_t *room, size_t room_size);
+int32_t cvz_client_sent(cvz_client *client, uint64_t circuit, size_t size);
+size_t cvz_client_left(cvz_client *client, uint8_t *room, size_t room_size);
+
+/* A moment. cvz_client_search then has the datagrams that are to be sent, and cvz_client_ended the circuits that were silent too long.
+ * 0 or CVZ_OUT_OF_MEMORY. */
+int32_t cvz_client_tick(cvz_client *client, uint64_t now);
+
+/* Hands over the next of those datagrams, writes where it goes, and says how long it is, or 0. 2,048 bytes take each. */
+size_t cvz_client_search(cvz_client *client, cvz_address *to, uint8_t *room, size_t room_size);
+
+/* Hands over one of those circuits, the last one first: 1, or 0 once there is none. It reports, and cvz_client_left has what is left. */
+int32_t cvz_client_ended(cvz_client *client, uint64_t *circuit);
+
+/* Takes a datagram that came from there: answers to searches, and beacons. 0 or CVZ_OUT_OF_MEMORY. */
+int32_t cvz_client_datagram(cvz_client *client, uint64_t now, const cvz_address *from, const uint8_t *bytes, size_t size);
+
+/* Writes the next notice of the last call that reports. 1, or 0 once there is none. */
+int32_t cvz_client_next(cvz_client *client, cvz_notice *told);
+
+/* Copies the image of the value of the notice that was taken last, as far as the room takes it, and writes how long it is. The type is the
+ * notice's, or that plus CVZ_STS or CVZ_TIME. 0, CVZ_BAD_TYPE or CVZ_OUT_OF_MEMORY. */
+int32_t cvz_client_value(cvz_client *client, uint16_t type, uint8_t *room, size_t room_size, size_t *size);
 
 #ifdef __cplusplus
 }

@@ -97,26 +97,111 @@ static int run(cvz_server *server)
     return refused;
 }
 
+/* Whether a call of a client went well, or found no memory: then it counts that. */
+static bool is_well(int32_t answer, int *refused, bool *is_wrong)
+{
+    *refused += answer == CVZ_OUT_OF_MEMORY;
+    *is_wrong = *is_wrong || (answer < 0 && answer != CVZ_OUT_OF_MEMORY);
+    return answer >= 0;
+}
+
+/* What the client said is answered by the server, until neither has anything to say. False if an end has closed. */
+static bool talk(cvz_server *server, uint64_t at, cvz_client *client, uint64_t circuit, int *refused, bool *is_wrong)
+{
+    static uint8_t bytes[65536];
+    bool is_on = true;
+    for (int turn = 0; turn < 4 && is_on; turn++) {
+        size_t size = cvz_client_output(client, circuit, bytes, sizeof bytes);
+        uint32_t cause = 0;
+        cvz_step did = {0};
+        int32_t answer;
+        cvz_notice told;
+        cvz_client_sent(client, circuit, size);
+        is_on = is_well(cvz_server_give(server, at, bytes, size), refused, is_wrong);
+        while (is_on && (answer = cvz_server_step(server, at, &did)) != CVZ_NEEDS_BYTES)
+            is_on = answer == CVZ_HANDLED;
+        cvz_server_pump(server, at);
+        size = cvz_server_output(server, at, bytes, sizeof bytes);
+        cvz_server_sent(server, at, size);
+        is_on = is_on && is_well(cvz_client_give(client, circuit, bytes, size, false), refused, is_wrong);
+        while (is_on && (answer = cvz_client_step(client, circuit, &cause)) != CVZ_NEEDS_BYTES) {
+            is_on = answer == CVZ_HANDLED;
+            while (cvz_client_next(client, &told) == 1) {
+                *refused += told.outcome == CVZ_FAILED || told.outcome == CVZ_UNREADABLE || told.kind == CVZ_NOTICE_ENDED;
+                if (told.outcome == CVZ_VALUE && told.count > 0)
+                    is_well(cvz_client_value(client, CVZ_TIME + CVZ_LONG, bytes, sizeof bytes, &size), refused, is_wrong);
+            }
+        }
+        *refused += did.cause == CVZ_CAUSE_OUT_OF_MEMORY || cause == CVZ_CAUSE_OUT_OF_MEMORY;
+    }
+    return is_on;
+}
+
+/* All calls of a client once, with a server that has memory until then. Answers how many found none, or -1 if one answered anything else. */
+static int run_client(cvz_server *server, cvz_client *client)
+{
+    static uint8_t bytes[2048];
+    const uint8_t image[4] = {0, 0, 0, 21};
+    const cvz_address at = {0x7f000001, 5064};
+    uint64_t channel, circuit, request;
+    cvz_address to;
+    cvz_wanted wanted;
+    uint32_t cause;
+    size_t size;
+    int refused = 0;
+    bool is_wrong = false;
+    if (!is_well(cvz_server_new(server, 5064, 0), &refused, &is_wrong) || !is_well(cvz_server_add(server, T("TEMP"), 1, false, CVZ_LONG, 1, image, 4), &refused, &is_wrong)
+        || !is_well(cvz_server_accept(server, &circuit), &refused, &is_wrong) || !is_well(cvz_client_new(client, T("me"), T("here"), &at, 1, &at, 0, 0), &refused, &is_wrong)
+        || !is_well(cvz_client_open(client, T("TEMP"), 0, 0, &channel), &refused, &is_wrong) || !is_well(cvz_client_tick(client, 1000), &refused, &is_wrong)
+        || (size = cvz_client_search(client, &to, bytes, sizeof bytes)) == 0 || !is_well(cvz_server_datagram(server, bytes, size), &refused, &is_wrong)
+        || (size = cvz_server_answer(server, bytes, sizeof bytes)) == 0 || !is_well(cvz_client_datagram(client, 1000, &at, bytes, size), &refused, &is_wrong)
+        || cvz_client_wanted(client, 0, &wanted) != 1)
+        return is_wrong ? -1 : refused + (refused == 0);
+    if (cvz_client_connected(client, wanted.circuit, &cause) != 0)
+        return cause == CVZ_CAUSE_OUT_OF_MEMORY ? refused + 1 : -1;
+    if (!talk(server, circuit, client, wanted.circuit, &refused, &is_wrong))
+        return is_wrong ? -1 : refused;
+    if (is_well(cvz_client_subscribe(client, channel, CVZ_TIME + CVZ_LONG, 1, CVZ_MASK_VALUE, &request), &refused, &is_wrong)
+        && !talk(server, circuit, client, wanted.circuit, &refused, &is_wrong))
+        return is_wrong ? -1 : refused;
+    if (is_well(cvz_client_put(client, channel, CVZ_LONG, 1, image, 4, &request), &refused, &is_wrong)
+        && !talk(server, circuit, client, wanted.circuit, &refused, &is_wrong))
+        return is_wrong ? -1 : refused;
+    if (is_well(cvz_client_read(client, channel, CVZ_TIME + CVZ_LONG, 1, &request), &refused, &is_wrong)
+        && !talk(server, circuit, client, wanted.circuit, &refused, &is_wrong))
+        return is_wrong ? -1 : refused;
+    is_well(cvz_client_clear(client, channel), &refused, &is_wrong);
+    cvz_client_close(client, wanted.circuit);
+    return is_wrong ? -1 : refused;
+}
+
 int main(void)
 {
     int passed = 0, failed = 0, refused;
+    bool is_client = false;
     for (long n = 0;; n++) {
         cvz_server server = {0};
+        cvz_client client = {0};
         bool all;
         requests = 0;
         left = n;
-        refused = run(&server);
+        refused = is_client ? run_client(&server, &client) : run(&server);
         all = requests <= n;
         left = -1;
         cvz_server_free(&server);
+        cvz_client_free(&client);
         if (refused < 0 || blocks != 0 || (all && refused != 0) || (!all && n == 0 && refused == 0)) {
-            printf("request %ld refused: %d calls found no memory, %ld blocks are left\n", n, refused, blocks);
+            printf("%s, request %ld refused: %d calls found no memory, %ld blocks are left\n", is_client ? "client" : "server", n, refused, blocks);
             failed++;
             blocks = 0;
         }
         passed++;
-        if (all)
+        if (all && is_client)
             break;
+        if (all) {
+            is_client = true;
+            n = -1;
+        }
     }
     printf("%d passed, %d failed\n", passed - failed, failed);
     return failed != 0;

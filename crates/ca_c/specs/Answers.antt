@@ -1,7 +1,12 @@
 -- Vocabulary: what a call answers to C, as numbers.
-use Rattle.std.specs.Prelude.{ℕ, ℤ, pos, neg_ℤ, ◌%◌, ◌/◌, ◌*◌, ◌+◌, Result, Ok, Err}
+use Rattle.std.specs.Prelude.{ℕ, ℤ, pos, neg_ℤ, ◌≡◌, ◌%◌, ◌/◌, ◌*◌, ◌+◌, ◌++◌, List, Option, Some, None, Result, Ok, Err, drop, length, min, take}
 use Rattle.ca_arena.specs.declared.handle.Handle.{Handle}
 use Rattle.ca_text.specs.declared.refusal.Refusal.{Refusal}
+use Rattle.ca_dbr.specs.declared.data_type.DataType.{DataType}
+use Rattle.ca_dbr.specs.declared.value.Meta.{Meta}
+use Rattle.ca_dbr.specs.Elements.{Elements}
+use Rattle.ca_dbr.specs.Reading.{Reads}
+use Rattle.ca_dbr.specs.Types.{type_number}
 use Rattle.ca_text.specs.Refusal.{refusal_number}
 
 -- the version of the interface: 1.0
@@ -28,3 +33,21 @@ number_of h = h.generation * 65536 + h.index
 -- the handle whose number this is
 abbrev pub handle_of : ℕ → Handle
 handle_of n = record { index = n % 65536; generation = n / 65536 % 4294967296 }
+
+-- what is written where a call succeeds
+abbrev pub Tells : {X Y : Type 0} → (X → Y) → Result X Refusal → (before after : Y) → Type 0
+Tells f (Ok x) before after = after ≡ f x
+Tells f (Err r) before after = after ≡ before
+
+-- the bytes are copied to the room, as many as it has room for, and they wait still
+abbrev pub Shows : (bytes : List ℕ) → ℕ → (before after : List ℕ) → Type 0
+Shows bytes n before after = (n ≡ min (length bytes) (length before)) × (after ≡ take n bytes ++ drop n before)
+
+-- bytes that there may be are shown
+abbrev pub ShowsAny : Option (List ℕ) → ℕ → (before after : List ℕ) → Type 0
+ShowsAny (Some bytes) n before after = Shows bytes n before after
+ShowsAny None n before after = (n ≡ 0) × (after ≡ before)
+
+-- the image is that of this value with this metadata
+abbrev pub IsImage : (number count : ℕ) → (image : List ℕ) → Elements → Meta → Type 0
+IsImage number count image value meta = (form : DataType) × (type_number form ≡ number) × Reads form count image value meta

@@ -1,3 +1,5 @@
 pub mod Answers
+pub mod ClientTold
+pub mod Clients
 pub mod Servers
 pub mod Steps

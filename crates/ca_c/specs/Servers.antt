@@ -3,9 +3,7 @@ use Rattle.std.specs.Prelude.{ℕ, ℤ, pos, ◌≡◌, ◌<◌, ◌⊎◌, ◌+
 use Rattle.ca_arena.specs.declared.handle.Handle.{Handle}
 use Rattle.ca_dbr.specs.declared.value.Meta.{Meta}
 use Rattle.ca_dbr.specs.Elements.{Elements}
-use Rattle.ca_dbr.specs.Reading.{ReadRefused, Reads}
-use Rattle.ca_dbr.specs.Types.{type_number}
-use Rattle.ca_dbr.specs.declared.data_type.DataType.{DataType}
+use Rattle.ca_dbr.specs.Reading.{ReadRefused}
 use Rattle.ca_ids.specs.Table.{under}
 use Rattle.ca_model.specs.Server.{new_server}
 use Rattle.ca_model.specs.ServerCalls.{AddsRecord, AnswersDatagram, Beacons, Finishes, Posts, Removes, stamped, waiting}
@@ -19,7 +17,7 @@ use Rattle.ca_server_core.specs.declared.stepping.Step.TheVariants.{Closed}
 use Rattle.ca_text.specs.declared.refusal.Refusal.{Refusal}
 use Rattle.ca_text.specs.declared.refusal.Refusal.TheVariants as refusal
 use Rattle.ca_wire.specs.Fields.{Fields}
-use Rattle.ca_c.specs.Answers.{code_of, handle_of, number_of, refusal_code}
+use Rattle.ca_c.specs.Answers.{IsImage, Shows, ShowsAny, Tells, code_of, handle_of, number_of, refusal_code}
 use Rattle.ca_c.specs.Steps.{step_number, told_of}
 use Rattle.ca_c.specs.declared.server_object.ServerObject.{ServerObject}
 use Rattle.ca_c.specs.declared.step.CvzStep.{CvzStep}
@@ -34,13 +32,8 @@ Begins port now n before after =
     ((n ≡ pos 0) × ((s : ServerObject) × (after ≡ Some s) × (s.core ≡ new_server port now [] []) × (s.left ≡ []) × (s.answers.items ≡ []) × (s.taken ≡ 0)))
     ⊎ ((n ≡ refusal_code refusal.OutOfMemory) × (after ≡ before))
 
--- a number that is written where a call succeeds
-abbrev pub Writes : {X : Type 0} → (X → ℕ) → Result X Refusal → (before after : ℕ) → Type 0
-Writes f (Ok x) before after = after ≡ f x
-Writes f (Err r) before after = after ≡ before
-
 abbrev pub DoesAccept : ServerObject → ℤ → ServerObject → (before after : ℕ) → Type 0
-DoesAccept s n t before after = (r : Result Handle Refusal) × ((n ≡ code_of r) × Accepts s.core r t.core × Writes number_of r before after × KeepsRest s t)
+DoesAccept s n t before after = (r : Result Handle Refusal) × ((n ≡ code_of r) × Accepts s.core r t.core × Tells number_of r before after × KeepsRest s t)
 
 abbrev pub DoesGive : ServerObject → ℤ → ServerObject → (circuit : ℕ) → (bytes : List ℕ) → Type 0
 DoesGive s n t circuit bytes = (r : Result (Unit {0}) Refusal) × ((n ≡ code_of r) × Gives s.core (handle_of circuit) bytes r t.core × KeepsRest s t)
@@ -64,10 +57,6 @@ DoesCut s n t circuit = (n ≡ pos 0) × Cuts s.core (handle_of circuit) t.core 
 abbrev pub DoesStamp : ServerObject → ℤ → ServerObject → (seconds nanos : ℕ) → Type 0
 DoesStamp s n t seconds nanos = (n ≡ pos 0) × (t.core ≡ stamped (record { seconds = seconds; nanos = nanos }) s.core) × KeepsRest s t
 
--- the bytes are copied to the room, as many as it has room for, and they wait still
-abbrev pub Shows : (bytes : List ℕ) → ℕ → (before after : List ℕ) → Type 0
-Shows bytes n before after = (n ≡ min (length bytes) (length before)) × (after ≡ take n bytes ++ drop n before)
-
 abbrev pub DoesOutput : ServerObject → ℕ → ServerObject → (circuit : ℕ) → (before after : List ℕ) → Type 0
 DoesOutput s n t circuit before after = Shows (output_of (under s.core.circuits (handle_of circuit))) n before after × (t ≡ s)
 
@@ -80,10 +69,6 @@ DoesSent s n t circuit count =
 -- the first bytes that are left of the circuit that closed last are handed over
 abbrev pub DoesLeft : ServerObject → ℕ → ServerObject → (before after : List ℕ) → Type 0
 DoesLeft s n t before after = Shows s.left n before after × (t.left ≡ drop n s.left) × (t.core ≡ s.core) × (t.answers ≡ s.answers) × (t.taken ≡ s.taken)
-
--- the image is that of this value with this metadata
-abbrev pub IsImage : (number count : ℕ) → (image : List ℕ) → Elements → Meta → Type 0
-IsImage number count image value meta = (form : DataType) × (type_number form ≡ number) × Reads form count image value meta
 
 unfoldable pub DoesAdd : ServerObject → ℤ → ServerObject → (name : List ℕ) → (greatest : ℕ) → (slow : Bool) → (number count : ℕ) → (image : List ℕ) → Type 0
 DoesAdd s n t name greatest slow number count image =
@@ -111,11 +96,6 @@ Answered (Err e) s t = t ≡ s
 
 unfoldable pub DoesDatagram : ServerObject → ℤ → ServerObject → (bytes : List ℕ) → Type 0
 DoesDatagram s n t bytes = (r : Result (List (List ℕ)) Refusal) × ((n ≡ code_of r) × AnswersDatagram s.core bytes r × Answered r s t)
-
--- bytes that there may be are shown
-abbrev pub ShowsAny : Option (List ℕ) → ℕ → (before after : List ℕ) → Type 0
-ShowsAny (Some bytes) n before after = Shows bytes n before after
-ShowsAny None n before after = (n ≡ 0) × (after ≡ before)
 
 -- the next of the datagrams that answer is handed over, if there is one
 abbrev pub DoesAnswer : ServerObject → ℕ → ServerObject → (before after : List ℕ) → Type 0

@@ -5,11 +5,17 @@
 #![tactic(auto)]
 
 mod answers;
+mod client;
+mod client_object;
+mod client_structs;
+mod cvz_client;
 mod cvz_server;
 mod server;
 mod server_object;
 mod step;
 mod version;
 
+pub use client_structs::{CvzAddress, CvzChannel, CvzNotice, CvzWanted};
+pub use cvz_client::CvzClient;
 pub use cvz_server::CvzServer;
 pub use step::CvzStep;

@@ -1,0 +1,56 @@
+-- Vocabulary: what a client tells C, as numbers.
+use Rattle.std.specs.Prelude.{ℕ}
+use Rattle.ca_arena.specs.declared.handle.Handle.{Handle}
+use Rattle.ca_client_core.specs.declared.channel_state.ChannelState.{ChannelState}
+use Rattle.ca_client_core.specs.declared.channel_state.ChannelState.TheVariants as state
+use Rattle.ca_client_core.specs.declared.notice.Notice.{Notice}
+use Rattle.ca_client_core.specs.declared.notice.Notice.TheVariants as notice
+use Rattle.ca_model.specs.Ends.{Why}
+use Rattle.ca_model.specs.Ends as why
+use Rattle.ca_dbr.specs.Elements.{Elements, base_of, count_of, elements}
+use Rattle.ca_dbr.specs.Types.{base_number}
+use Rattle.ca_dbr.specs.declared.value.Outcome.{Outcome}
+use Rattle.ca_dbr.specs.declared.value.Outcome.TheVariants as outcome
+use Rattle.ca_text.specs.Refusal.{refusal_number}
+use Rattle.ca_c.specs.Answers.{number_of}
+use Rattle.ca_c.specs.declared.client_structs.CvzChannel.{CvzChannel}
+use Rattle.ca_c.specs.declared.client_structs.CvzNotice.{CvzNotice}
+
+abbrev pub why_number : Why → ℕ
+why_number why.OutOfMemory = 1
+why_number why.Misaligned = 2
+why_number why.TooLarge = 3
+why_number why.Cut = 4
+why_number why.Silence = 5
+why_number why.Asked = 6
+
+-- a channel that is not live
+abbrev pub standing : ℕ → CvzChannel
+standing n = record { state = n; data_type = 0; greatest = 0; rights = 0 }
+
+abbrev pub channel_told : ChannelState → CvzChannel
+channel_told state.Searching = standing 0
+channel_told state.Connecting = standing 1
+channel_told state.Creating = standing 2
+channel_told (state.Live data_type greatest rights) = record { state = 3; data_type = data_type; greatest = greatest; rights = rights }
+channel_told state.Leaving = standing 4
+
+-- what brings no value
+abbrev pub became : (of kind outcome status : ℕ) → CvzNotice
+became of kind what status = record { of = of; kind = kind; outcome = what; status = status; data_type = 0; count = 0 }
+
+abbrev pub outcome_told : (of kind : ℕ) → Outcome → CvzNotice
+outcome_told of kind (outcome.Value value meta) =
+    record { of = of; kind = kind; outcome = 0; status = 0; data_type = base_number (base_of (elements value)); count = count_of (elements value) }
+outcome_told of kind outcome.Done = became of kind 1 0
+outcome_told of kind (outcome.Failed status) = became of kind 2 status.number
+outcome_told of kind (outcome.Unreadable refusal) = became of kind 3 (refusal_number refusal)
+outcome_told of kind outcome.Disconnected = became of kind 4 0
+
+abbrev pub notice_told : Notice → CvzNotice
+notice_told (notice.Live h) = became (number_of h) 1 0 0
+notice_told (notice.Lost h) = became (number_of h) 2 0 0
+notice_told (notice.Completed h what) = outcome_told (number_of h) 3 what
+notice_told (notice.Update h what) = outcome_told (number_of h) 4 what
+notice_told (notice.SubscriptionEnded h status) = became (number_of h) 5 0 status.number
+notice_told (notice.WriteRefused h status) = became (number_of h) 6 0 status.number
