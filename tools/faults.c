@@ -1,6 +1,6 @@
 /* Preloaded, it moves a program's clocks, and has calls of the system fail, as the words of a file say, which is mapped into memory.
  *
- * FAULTS is that file, of 72 bytes: nine numbers, in the order of `enum word`. It needs no header, so that any compiler does.
+ * FAULTS is that file, of 80 bytes: ten numbers, in the order of `enum word`. It needs no header, so that any compiler does.
  */
 typedef __SIZE_TYPE__ size;
 
@@ -15,20 +15,23 @@ long syscall(long number, ...);
 int *__errno_location(void);
 void *dlsym(void *of, const char *name);
 void abort(void);
+void *__libc_malloc(size bytes);
+void *__libc_calloc(size count, size bytes);
+void *__libc_realloc(void *at, size bytes);
 
 enum { READ_AND_WRITE = 2, MAY_BOTH = 3, SHARED = 1 };
 
 enum { CLOCK = 228, WAIT_FOR_EVENTS = 232, RECEIVE_FROM = 45, ACCEPT = 288, REALTIME = 0, MONOTONIC = 1 };
 
 /* By how many nanoseconds each clock is moved; the fault of each wait for events, and of each read of a datagram, if it is not 0; the fault of so many accepts;
- * how many calls have failed; the fault of each new thread; and how many waits for events have begun. */
-enum word { OF_REALTIME, OF_MONOTONIC, OF_EVENTS, OF_DATAGRAMS, OF_ACCEPTS, ACCEPTS, FAILED, OF_THREADS, WAITS };
+ * how many calls have failed; the fault of each new thread; how many waits for events have begun; and the fault of each call for memory. */
+enum word { OF_REALTIME, OF_MONOTONIC, OF_EVENTS, OF_DATAGRAMS, OF_ACCEPTS, ACCEPTS, FAILED, OF_THREADS, WAITS, OF_MEMORY };
 
 static volatile long *words;
 
 __attribute__((constructor)) static void begin(void) {
     int file = open(getenv("FAULTS"), READ_AND_WRITE);
-    words = mmap(0, 72, MAY_BOTH, SHARED, file, 0);
+    words = mmap(0, 80, MAY_BOTH, SHARED, file, 0);
     if (file < 0 || words == (void *)-1)
         abort();
 }
@@ -66,4 +69,21 @@ int accept4(int socket, void *from, void *length, int flags) {
 int pthread_create(void *thread, const void *attributes, void *(*work)(void *), void *words_of) {
     int (*create)(void *, const void *, void *(*)(void *), void *) = dlsym((void *)-1L, "pthread_create");
     return words[OF_THREADS] ? (int)words[OF_THREADS] : create(thread, attributes, work, words_of);
+}
+
+/* Memory is asked for before `begin`, too. */
+static int is_refused(void) {
+    return words && words != (void *)-1 && words[OF_MEMORY] && failed(words[OF_MEMORY]);
+}
+
+void *malloc(size bytes) {
+    return is_refused() ? 0 : __libc_malloc(bytes);
+}
+
+void *calloc(size count, size bytes) {
+    return is_refused() ? 0 : __libc_calloc(count, bytes);
+}
+
+void *realloc(void *at, size bytes) {
+    return is_refused() ? 0 : __libc_realloc(at, bytes);
 }

@@ -2,7 +2,7 @@
 //! which each piece is done once the one before has come there. A row takes some milliseconds, and a second or more if each piece is left to a turn. A busy machine
 //! holds rows up, so one of some is to be soon over.
 
-mod channels;
+pub(crate) mod channels;
 
 use crate::client::setting;
 use crate::moments::{began, is_within};

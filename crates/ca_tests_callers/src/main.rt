@@ -6,7 +6,7 @@
 //! - a client whose callers are four threads (`callers`), and the calls that these do not make (`calls`);
 //! - reads one after another, whose outcomes are told at once (`prompt`);
 //! - listeners that take their time (`listening`);
-//! - what a client does on its circuits, seen by a server by hand (`conduct`, `peer`), and what it does at once (`at_once`);
+//! - what a client does on its circuits, seen by a server by hand (`conduct`, `peer`), and what it does at once (`at_once`, `bursts`, `reaching`);
 //! - clients of name servers, a repeater and two servers (`settings`);
 //! - a client with 10,000 subscriptions on one server (`spreading`).
 //!
@@ -17,6 +17,7 @@
 #![tactic(auto)]
 
 mod at_once;
+mod bursts;
 mod callers;
 mod calls;
 mod client;
@@ -28,6 +29,7 @@ mod listening;
 mod moments;
 mod peer;
 mod prompt;
+mod reaching;
 mod server;
 mod settings;
 mod spreading;
@@ -92,6 +94,8 @@ fn show<
     listening::show(rt, alloc, out)?;
     calls::show(rt, alloc, out)?;
     at_once::show(rt, alloc, out)?;
+    bursts::show(rt, alloc, out)?;
+    reaching::show(rt, alloc, out)?;
     let conduct = conduct::show(rt, alloc, out);
     settings::show(rt, alloc, out)?;
     spreading::show(rt, alloc, out)?;

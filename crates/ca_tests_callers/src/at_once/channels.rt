@@ -233,7 +233,7 @@ fn await_number<R: Clock>(rt: &R, number: &AtomicU64, wanted: u64) {
 }
 
 /// A name of seven bytes with this number, and a zero.
-fn name_of(number: u32) -> [u8; 8] {
+pub(crate) fn name_of(number: u32) -> [u8; 8] {
     let mut name = *b"C000000\0";
     let mut left = number;
     for place in [6usize, 5, 4, 3, 2, 1] {
