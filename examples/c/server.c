@@ -89,6 +89,7 @@ static bool send_all(cvz_server *server, nfds_t at)
 static bool serve(cvz_server *server, nfds_t at)
 {
     uint8_t bytes[65536];
+    size_t left;
     cvz_step did;
     if (polled[at].revents & (POLLIN | POLLHUP | POLLERR)) {
         ssize_t size = recv(polled[at].fd, bytes, sizeof bytes, 0);
@@ -114,9 +115,10 @@ static bool serve(cvz_server *server, nfds_t at)
             else if (polled[at].events == POLLOUT)
                 return true;
             break;
-        default:                       /* CVZ_CLOSED: what is left goes out as far as it does */
-            while (cvz_server_left(server, bytes, sizeof bytes) > 0)
-                continue;
+        default:                       /* CVZ_CLOSED: what is left goes out, as far as the socket takes it now */
+            while ((left = cvz_server_left(server, bytes, sizeof bytes)) > 0)
+                if (send(polled[at].fd, bytes, left, MSG_NOSIGNAL) < 0)
+                    break;
             return false;
         }
     }
