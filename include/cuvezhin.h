@@ -27,7 +27,7 @@
  * written. Memory is asked of malloc, and a call that gets none is refused by CVZ_OUT_OF_MEMORY, or closes the circuit that needed it.
  *
  * Handles of circuits, channels, requests and subscriptions are numbers. No handle is given twice by one object for the same kind of thing, so
- * a call with an old one finds nothing.
+ * a call with an old one finds nothing. The low 48 bits count; no handle has others.
  */
 #ifndef CUVEZHIN_H
 #define CUVEZHIN_H
