@@ -19,6 +19,7 @@ enum { WRITE_AND_APPEND = 02001, NO_MEMORY = 12 };
 
 static int log = -1;
 static unsigned long made, refused;
+static volatile int is_counting;
 
 __attribute__((constructor)) static void begin(void) {
     refused = strtoul(getenv("GROWTHS_REFUSED"), 0, 10);
@@ -27,17 +28,21 @@ __attribute__((constructor)) static void begin(void) {
         abort();
 }
 
-/* Whether this growth, which begins, is to be refused. What is made before `begin` does not count. */
+/* Whether this growth, which begins, is to be refused. What is made before `begin` does not count. A growth takes its number and leaves its byte before
+ * that of another thread does. */
 static int is_refused(void) {
+    int is_it;
     if (log < 0)
         return 0;
-    made++;
-    if (write(log, made == refused ? "-" : "+", 1) != 1)
+    while (__sync_lock_test_and_set(&is_counting, 1))
+        ;
+    is_it = ++made == refused;
+    if (write(log, is_it ? "-" : "+", 1) != 1)
         abort();
-    if (made != refused)
-        return 0;
-    *__errno_location() = NO_MEMORY;
-    return 1;
+    __sync_lock_release(&is_counting);
+    if (is_it)
+        *__errno_location() = NO_MEMORY;
+    return is_it;
 }
 
 void *malloc(size bytes) {
