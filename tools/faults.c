@@ -1,6 +1,6 @@
 /* Preloaded, it moves a program's clocks, and has calls of the system fail, as the words of a file say, which is mapped into memory.
  *
- * FAULTS is that file, of 80 bytes: ten numbers, in the order of `enum word`. It needs no header, so that any compiler does.
+ * FAULTS is that file, of 96 bytes: twelve numbers, in the order of `enum word`. It needs no header, so that any compiler does.
  */
 typedef __SIZE_TYPE__ size;
 
@@ -21,17 +21,20 @@ void *__libc_realloc(void *at, size bytes);
 
 enum { READ_AND_WRITE = 2, MAY_BOTH = 3, SHARED = 1 };
 
-enum { CLOCK = 228, WAIT_FOR_EVENTS = 232, RECEIVE_FROM = 45, ACCEPT = 288, REALTIME = 0, MONOTONIC = 1 };
+enum { WRITE = 1, SLEEP = 35, SOCKET = 41, RECEIVE_FROM = 45, SET_OPTION = 54, CLOCK = 228, WAIT_FOR_EVENTS = 232, ACCEPT = 288 };
+
+enum { REALTIME = 0, MONOTONIC = 1, OF_SOCKETS = 1, SENDS = 7, RECEIVES = 8 };
 
 /* By how many nanoseconds each clock is moved; the fault of each wait for events, and of each read of a datagram, if it is not 0; the fault of so many accepts;
- * how many calls have failed; the fault of each new thread; how many waits for events have begun; and the fault of each call for memory. */
-enum word { OF_REALTIME, OF_MONOTONIC, OF_EVENTS, OF_DATAGRAMS, OF_ACCEPTS, ACCEPTS, FAILED, OF_THREADS, WAITS, OF_MEMORY };
+ * how many calls have failed; the fault of each new thread; how many waits for events have begun; the fault of each call for memory; how many bytes each new socket is
+ * to keep, for either direction; and how many nanoseconds each wake of another thread takes: a write of eight bytes. */
+enum word { OF_REALTIME, OF_MONOTONIC, OF_EVENTS, OF_DATAGRAMS, OF_ACCEPTS, ACCEPTS, FAILED, OF_THREADS, WAITS, OF_MEMORY, KEPT, OF_WAKES };
 
 static volatile long *words;
 
 __attribute__((constructor)) static void begin(void) {
     int file = open(getenv("FAULTS"), READ_AND_WRITE);
-    words = mmap(0, 80, MAY_BOTH, SHARED, file, 0);
+    words = mmap(0, 96, MAY_BOTH, SHARED, file, 0);
     if (file < 0 || words == (void *)-1)
         abort();
 }
@@ -58,6 +61,23 @@ int epoll_wait(int poll, void *events, int most, int milliseconds) {
 
 long recvfrom(int socket, void *to, size bytes, int flags, void *from, void *length) {
     return words[OF_DATAGRAMS] ? failed(words[OF_DATAGRAMS]) : syscall(RECEIVE_FROM, socket, to, bytes, flags, from, length);
+}
+
+int socket(int family, int kind, int protocol) {
+    int made = (int)syscall(SOCKET, family, kind, protocol), kept = (int)words[KEPT];
+    if (made >= 0 && kept) {
+        syscall(SET_OPTION, made, OF_SOCKETS, SENDS, &kept, sizeof kept);
+        syscall(SET_OPTION, made, OF_SOCKETS, RECEIVES, &kept, sizeof kept);
+    }
+    return made;
+}
+
+long write(int file, const void *from, size bytes) {
+    long done = syscall(WRITE, file, from, bytes);
+    struct moment pause = {0, words[OF_WAKES]};
+    if (bytes == 8 && pause.nanos)
+        syscall(SLEEP, &pause, 0);
+    return done;
 }
 
 int accept4(int socket, void *from, void *length, int flags) {

@@ -3,6 +3,7 @@
 //! holds rows up, so one of some is to be soon over.
 
 pub(crate) mod channels;
+pub(crate) mod large;
 
 use crate::client::setting;
 use crate::moments::{began, is_within};
@@ -17,7 +18,7 @@ use std::alloc::Global;
 use std::io::Write;
 use std::net::{Net, TcpListener, TcpStream};
 use std::sync::{Arc, Wait};
-use std::thread::Threads;
+use std::thread::{JoinHandle, Threads};
 use std::time::{Clock, Duration};
 
 const EVENT_ADD: u16 = 1;
@@ -90,30 +91,48 @@ pub(crate) fn show<
         + 'static,
     W: Write,
 >(rt: R, alloc: Global, out: &mut W) -> Result<(), Refusal> {
+    let (mut both, thread) = begun(rt, alloc)?;
+    let shown = both.show_all(&rt, out);
+    both.end(&rt, thread);
+    shown
+}
+
+fn begun<
+    R: Threads
+        + Wait
+        + Clock
+        + Net<Stream = TcpStream, Listener = TcpListener>
+        + Copy
+        + Drop
+        + Send
+        + 'static,
+>(rt: R, alloc: Global) -> Result<(Both, JoinHandle<()>), Refusal> {
     let peer = Peer::new(&rt)?;
     let (context, engine) = Context::<Nobody>::new(rt, alloc, setting(alloc, peer.port)?)?;
     let thread = start(rt, engine)?;
-    let mut both = Both {
+    let both = Both {
         alloc,
         caller: context.caller(&rt)?,
         context: Arc::new(alloc, context)?,
         peer,
         names: 0,
     };
-    let shown = both.show_all(&rt, out);
-    both.context.end(&rt);
-    thread.join(&rt);
-    shown
+    Ok((both, thread))
 }
 
 impl Both {
+    fn end<R: Threads + Wait>(&self, rt: &R, thread: JoinHandle<()>) {
+        self.context.end(rt);
+        thread.join(rt);
+    }
+
     fn show_all<R: Threads + Wait + Clock + Copy + Send + 'static, W: Write>(
         &mut self,
         rt: &R,
         out: &mut W,
     ) -> Result<(), Refusal> {
         let channel = self.context.open(rt, b"TEMP", 0)?;
-        let (stream, _) = self.peer.live(rt)?;
+        let (stream, _) = self.peer.live(rt, 1)?;
         let _ = self.context.wait_live_for(rt, channel, long())?;
         let is_soon = self.is_row_soon(rt, channel, &stream, Row::Writes)?;
         say_yes(out, "writes without an outcome go out at once:", is_soon)?;

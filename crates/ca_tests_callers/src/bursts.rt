@@ -101,7 +101,7 @@ pub(crate) fn show<
 impl Both {
     fn show_rows<R: Wait + Clock, W: Write>(&mut self, rt: &R, out: &mut W) -> Result<(), Refusal> {
         let channel = self.context.open(rt, b"TEMP", 0)?;
-        let (stream, _) = self.peer.live(rt)?;
+        let (stream, _) = self.peer.live(rt, 1)?;
         let most = Duration::from_secs(10);
         let _ = self.context.wait_live_for(rt, channel, most)?;
         let Some(mask) = Mask::new(1) else {

@@ -173,7 +173,7 @@ impl Both {
         out: &mut W,
     ) -> Result<(Ticket, TcpStream), Refusal> {
         let channel = self.context.open(rt, b"TEMP", 7)?;
-        let (stream, greeting) = self.peer.live(rt)?;
+        let (stream, greeting) = self.peer.live(rt, 1)?;
         let is_first = greeting.command == VERSION && greeting.data_type == 7;
         say_yes(out, "the first message has the priority:", is_first)?;
         let state = self.context.wait_live_for(rt, channel, long())?;
@@ -471,7 +471,7 @@ impl Both {
         out: &mut W,
     ) -> Result<(Ticket, TcpStream), Refusal> {
         let channel = self.context.open(rt, b"TEMP", 0)?;
-        let (stream, _) = self.peer.live(rt)?;
+        let (stream, _) = self.peer.live(rt, 1)?;
         let _ = self.context.wait_live_for(rt, channel, long())?;
         let ticket = self.context.get(rt, channel, 5, 1)?;
         let _ = heard(&stream)?;
@@ -482,7 +482,7 @@ impl Both {
             "a circuit that is lost ends its requests:",
             is_disconnected(&outcome),
         )?;
-        let (again, _) = self.peer.live(rt)?;
+        let (again, _) = self.peer.live(rt, 1)?;
         let state = self.context.wait_live_for(rt, channel, long())?;
         let is_back = matches!(state, ChannelState::Live(_, _, _));
         let is_read = self.read(rt, channel, &again, 26)?;

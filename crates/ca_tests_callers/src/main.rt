@@ -12,6 +12,7 @@
 //!
 //! With words it prints something else instead:
 //!
+//! - large: whether writes go on at once that are larger than a socket takes (`at_once::large`);
 //! - growths: what came of growths that were refused under a client's lock (`state::growths`);
 //! - names PORT: whether a client that searches on a circuit to this port of this host alone reads 21 from TEMP (`settings`).
 #![tactic(auto)]
@@ -52,7 +53,10 @@ fn main(rt: HostRuntime) -> ExitCode {
     let done = match words(&rt) {
         Ok(words) => match words.as_slice() {
             [] => show(rt, rt.alloc(), &mut out, &mut rt.stdout()),
-            [_] => state::growths::show(rt.alloc(), &mut out),
+            [word] => match word.as_str() {
+                "large" => at_once::large::show(rt, rt.alloc(), &mut out),
+                _ => state::growths::show(rt.alloc(), &mut out),
+            },
             [_, port] => settings::show_name_server(rt, rt.alloc(), port.as_str(), &mut out),
             _ => Err(Refusal::BadText),
         },

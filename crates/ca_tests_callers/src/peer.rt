@@ -120,7 +120,11 @@ impl Peer {
     }
 
     /// Answers the next search for TEMP, and has the channel created on a new circuit, which it tells with its first message.
-    pub(crate) fn live<R: Clock>(&self, rt: &R) -> Result<(TcpStream, Message), Refusal> {
+    pub(crate) fn live<R: Clock>(
+        &self,
+        rt: &R,
+        count: u16,
+    ) -> Result<(TcpStream, Message), Refusal> {
         let (cid, to) = self.searched(TEMP)?;
         self.answer(cid, to)?;
         let stream = self.accept(rt)?;
@@ -128,7 +132,7 @@ impl Peer {
         for _ in 0..3 {
             let message = heard(&stream)?;
             if message.command == CREATE {
-                create(&stream, message.p1)?;
+                create(&stream, message.p1, count)?;
                 return Ok((stream, greeting));
             }
         }
@@ -148,8 +152,8 @@ fn cid_of(datagram: &[u8], name: [u8; 8]) -> Option<u32> {
     None
 }
 
-/// A channel to a LONG that may be read and written. Its SID is its CID.
-pub(crate) fn create(stream: &TcpStream, cid: u32) -> Result<(), Refusal> {
+/// A channel to so many LONGs that may be read and written. Its SID is its CID.
+pub(crate) fn create(stream: &TcpStream, cid: u32, count: u16) -> Result<(), Refusal> {
     let rights = Message {
         command: 22,
         data_type: 0,
@@ -161,7 +165,7 @@ pub(crate) fn create(stream: &TcpStream, cid: u32) -> Result<(), Refusal> {
     let created = Message {
         command: CREATE,
         data_type: 5,
-        count: 1,
+        count,
         p1: cid,
         p2: cid,
     };

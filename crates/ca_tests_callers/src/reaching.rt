@@ -110,7 +110,7 @@ impl Both {
         let peer = Peer::new(&rt)?;
         let (channel, stream) = self.reached(&rt, &peer, 0)?;
         let asked = heard_of(&stream, CREATE)?;
-        create(&stream, asked.p1)?;
+        create(&stream, asked.p1, 1)?;
         let _ = self.context.wait_live_for(&rt, channel, long())?;
         let waiter = Waiter {
             context: Arc::try_clone(&self.context)?,

@@ -126,7 +126,7 @@ impl Both {
             if asked.command != CREATE || asked.p1 != cid {
                 return Err(Refusal::NotLive);
             }
-            create(stream, cid)?;
+            create(stream, cid, 1)?;
         }
         for channel in channels {
             let state = self.context.wait_live_for(rt, *channel, long())?;
