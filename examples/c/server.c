@@ -75,20 +75,18 @@ static void post_long(cvz_server *server, const char *name, int32_t value)
     cvz_server_post(server, (const uint8_t *)name, strlen(name), CVZ_MASK_VALUE | CVZ_MASK_LOG, CVZ_TIME + CVZ_LONG, 1, (const uint8_t *)words, sizeof words);
 }
 
-/* The device: it has done what the put to MOVE asks for. The next put that waits makes it busy again, and is due then. */
+/* The device: it has done what the put to MOVE asks for. The next put that waits makes it busy again. */
 static void process(cvz_server *server)
 {
     static const uint8_t name[4] = "MOVE";
     uint32_t value;                    /* big-endian */
     size_t size;
-    due = 0;
     if (cvz_server_busy(server, name, sizeof name, (uint8_t *)&value, sizeof value, &size) == 0) {
         moved += ntohl(value);
         post_long(server, "MOVED", (int32_t)moved);
         cvz_server_finish(server, name, sizeof name);
     }
-    if (cvz_server_busy(server, name, sizeof name, (uint8_t *)&value, sizeof value, &size) == 0)
-        due = milliseconds() + 100;
+    due = cvz_server_busy(server, name, sizeof name, (uint8_t *)&value, sizeof value, &size) == CVZ_NOT_BUSY ? 0 : milliseconds() + 100;
 }
 
 /* Sends what waits on a circuit, as far as its socket takes it. False if the circuit was lost. */

@@ -153,13 +153,7 @@ impl ServerObject {
     }
 
     #[tactic(auto, unfolding(crate::specs::Servers::DoesBusy))]
-    pub(crate) fn busy(
-        &self,
-        alloc: Global,
-        name: &[u8],
-        room: &mut [u8],
-        size: &mut usize,
-    ) -> i32
+    pub(crate) fn busy(&self, alloc: Global, name: &[u8], room: &mut [u8], size: &mut usize) -> i32
         ensures { DoesBusy self.now result self.now name.now size.old size.new room.old room.new }
     {
         let Some(value) = self.core.busy_value(name) else {
