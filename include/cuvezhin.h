@@ -1,4 +1,4 @@
-/* cuvezhin.h: both ends of EPICS Channel Access, protocol 4.13, for C11 and C++17.
+/* cuvezhin.h: both ends of EPICS Channel Access, protocol 4.13, and its repeater, for C11 and C++17.
  *
  * The library does no input or output, has no thread and no clock. You have the sockets: bytes that came go in, bytes that are to be sent come
  * out, and moments are handed in, in milliseconds of any clock that does not go back. docs/EMBEDDING.md goes from nothing to a server
@@ -6,7 +6,7 @@
  *
  * What each call does is proved. That rests on these promises of yours, which nothing checks:
  *
- *   1. A struct of an object (cvz_server, cvz_client) is all zero before its first use, is written by these calls alone, and is not copied while it
+ *   1. A struct of an object (cvz_server, cvz_client, cvz_repeater) is all zero before its first use, is written by these calls alone, and is not copied while it
  *      has an object.
  *   2. Each pointer is to what its type says, and none is NULL, also where its count is 0. A count is no more than what is there.
  *   3. What is passed to one call to be written overlaps nothing else that is passed to it.
@@ -43,7 +43,7 @@ extern "C" {
 /* ---- the version */
 
 #define CVZ_VERSION_MAJOR 1
-#define CVZ_VERSION_MINOR 0
+#define CVZ_VERSION_MINOR 1
 
 /* The version of the library: 65,536 times its first number, and its second. A library serves each program whose header has the same first
  * number, and a second one that is not greater: calls are added, and none changes or goes. */
@@ -98,6 +98,12 @@ enum {
     CVZ_TIME = 14                    /* added to one of these: with a time stamp too */
 };
 
+/* An IPv4 address, its first number in the highest byte, and a port: both as numbers of this machine. */
+typedef struct cvz_address {
+    uint32_t host;
+    uint16_t port;
+} cvz_address;
+
 /* Which changes a subscription is told of. A write is a change of value, and one for the archive. */
 enum { CVZ_MASK_VALUE = 1, CVZ_MASK_LOG = 2, CVZ_MASK_ALARM = 4 };
 
@@ -114,7 +120,7 @@ enum { CVZ_NEEDS_BYTES = 0, CVZ_HANDLED = 1, CVZ_STEP_OUTPUT_FULL = 2, CVZ_CLOSE
 enum {
     CVZ_QUIET = 0,                   /* nothing of which you have to know */
     CVZ_WROTE = 1,                   /* a record was written */
-    CVZ_BUSIED = 2,                  /* a record was written and is busy: process it, then call cvz_server_finish */
+    CVZ_BUSIED = 2,                  /* a record was written and is busy: process cvz_server_busy, then call cvz_server_finish */
     CVZ_QUEUED = 3,                  /* a put waits behind another */
     CVZ_REFUSED = 4,                 /* a channel was refused */
     CVZ_CREATED = 5,                 /* a channel was created */
@@ -139,6 +145,16 @@ typedef struct cvz_step {
  * 0 or CVZ_OUT_OF_MEMORY; then the struct has what it had. */
 int32_t cvz_server_new(cvz_server *server, uint16_t port, uint64_t now);
 
+/* The same, with the records and the rules of access that this text says, as a record file of `ca serve --records` does. Its lines are, in any
+ * order, with one blank between two words:
+ *
+ *   record NAME TYPE COUNT quick|slow VALUE ..      rule USER HOST NAME rw|r|w|-
+ *
+ * The first rule that meets a client's user and host and the record's name says whether it may read and write that; `*` meets all. What no rule
+ * meets may be read and written. Records may be added later, rules may not. 0, CVZ_BAD_TEXT if a line is not understood, or CVZ_OUT_OF_MEMORY;
+ * then the struct has what it had. Since 1.1. */
+int32_t cvz_server_load(cvz_server *server, uint16_t port, uint64_t now, const uint8_t *text, size_t text_size);
+
 /* Frees the server, if there is one. */
 void cvz_server_free(cvz_server *server);
 
@@ -159,9 +175,13 @@ int32_t cvz_server_post(cvz_server *server, const uint8_t *name, size_t name_siz
 /* Writes of clients that are applied from now on have this time stamp: seconds since 1990-01-01 00:00:00 UTC, and nanoseconds. 0. */
 int32_t cvz_server_stamp(cvz_server *server, uint32_t seconds, uint32_t nanoseconds);
 
-/* Finishes the put that makes the record busy: its reply goes out, and the next put that waits is applied. 0, CVZ_UNKNOWN_RECORD or
- * CVZ_NOT_BUSY. */
+/* Finishes the put that makes the record busy: its reply goes out, and the next put that waits is applied and makes it busy, which no step tells:
+ * ask cvz_server_busy. 0, CVZ_UNKNOWN_RECORD or CVZ_NOT_BUSY. */
 int32_t cvz_server_finish(cvz_server *server, const uint8_t *name, size_t name_size);
+
+/* The value for which a put makes the record busy, which is what is to be processed: copies its image in the record's own type, 0 to 6, as far as
+ * the room takes it, and writes how long it is. 0, CVZ_NOT_BUSY if no put makes a record of this name busy, or CVZ_OUT_OF_MEMORY. Since 1.1. */
+int32_t cvz_server_busy(cvz_server *server, const uint8_t *name, size_t name_size, uint8_t *room, size_t room_size, size_t *size);
 
 /* A circuit was accepted: writes its handle. 0, CVZ_ARENA_FULL or CVZ_OUT_OF_MEMORY. */
 int32_t cvz_server_accept(cvz_server *server, uint64_t *circuit);
@@ -217,12 +237,6 @@ uint64_t cvz_server_waiting(cvz_server *server);
 typedef struct cvz_client {
     void *at;
 } cvz_client;
-
-/* An IPv4 address, its first number in the highest byte, and a port: both as numbers of this machine. */
-typedef struct cvz_address {
-    uint32_t host;
-    uint16_t port;
-} cvz_address;
 
 /* A circuit that is to be connected by TCP. */
 typedef struct cvz_wanted {
@@ -338,6 +352,32 @@ int32_t cvz_client_next(cvz_client *client, cvz_notice *told);
 /* Copies the image of the value of the notice that was taken last, as far as the room takes it, and writes how long it is. The type is the
  * notice's, or that plus CVZ_STS or CVZ_TIME. 0, CVZ_BAD_TYPE or CVZ_OUT_OF_MEMORY. */
 int32_t cvz_client_value(cvz_client *client, uint16_t type, uint8_t *room, size_t room_size, size_t *size);
+
+/* ---- a repeater
+ *
+ * A host has one, at UDP port 5065. The clients of the host register with it, and it hands each datagram that comes on to all of them but the one
+ * that sent it, so that all hear the beacons at that port. It has 64 members at most. */
+
+typedef struct cvz_repeater {
+    void *at;
+} cvz_repeater;
+
+/* Makes a repeater with no member. An object that the struct had is freed. 0 or CVZ_OUT_OF_MEMORY; then the struct has what it had. Since 1.1. */
+int32_t cvz_repeater_new(cvz_repeater *repeater);
+
+/* Frees the repeater, if there is one. */
+void cvz_repeater_free(cvz_repeater *repeater);
+
+/* Takes a datagram that came from there. cvz_repeater_outgoing has what is to be sent for it; what was not taken of the one before is gone.
+ * 0 or CVZ_OUT_OF_MEMORY. */
+int32_t cvz_repeater_datagram(cvz_repeater *repeater, const cvz_address *from, const uint8_t *bytes, size_t size);
+
+/* Hands over the next of those datagrams, writes where it goes, and says how long it is, or 0. It is cut if the room is too small: 65,536 bytes
+ * take each. */
+size_t cvz_repeater_outgoing(cvz_repeater *repeater, cvz_address *to, uint8_t *room, size_t room_size);
+
+/* A datagram to there could not be sent, since nobody has the port any more: it is a member no more. 0. */
+int32_t cvz_repeater_refused(cvz_repeater *repeater, const cvz_address *to);
 
 #ifdef __cplusplus
 }

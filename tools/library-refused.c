@@ -51,6 +51,12 @@ static const uint8_t watch[] = {0, 1, 0, 16, 0, 5, 0, 1, 0, 1, 0, 0, 0, 0, 0, 9,
 static const uint8_t put[] = {0, 19, 0, 8, 0, 5, 0, 1, 0, 1, 0, 0, 0, 0, 0, 7, 0, 0, 0, 22, 0, 0, 0, 0};
 static const uint8_t search[] = {0, 6, 0, 8, 0, 5, 0, 13, 0, 0, 0, 3, 0, 0, 0, 3, 'T', 'E', 'M', 'P', 0, 0, 0, 0};
 
+/* CREATE_CHAN of SLOW, and WRITE_NOTIFY to it. */
+static const uint8_t slow[] = {0, 18, 0, 8, 0, 0, 0, 0, 0, 0, 0, 2, 0, 0, 0, 13, 'S', 'L', 'O', 'W', 0, 0, 0, 0,
+                               0, 19, 0, 8, 0, 5, 0, 1, 0, 1, 0, 1, 0, 0, 0, 8, 0, 0, 0, 23, 0, 0, 0, 0};
+static const uint8_t enroll[] = {0, 24, 0, 0, 0, 0, 0, 0, 0, 0, 0, 0, 127, 0, 0, 1};
+static const uint8_t beacon[] = {0, 13, 0, 0, 0, 13, 19, 200, 0, 0, 0, 7, 0, 0, 0, 0};
+
 /* Gives these bytes, and steps. Answers 0, or the refusal, or 1 if the end has closed for lack of memory, and 2 if it did anything else. */
 static int given(cvz_server *server, uint64_t circuit, const uint8_t *bytes, size_t size)
 {
@@ -65,6 +71,14 @@ static int given(cvz_server *server, uint64_t circuit, const uint8_t *bytes, siz
     return 0;
 }
 
+static bool refused_any(const int *answers)
+{
+    for (int i = 0; i < 11; i++)
+        if (answers[i] != 0)
+            return true;
+    return false;
+}
+
 /* All calls once. Answers how many found no memory, or -1 if one answered anything else. */
 static int run(cvz_server *server)
 {
@@ -72,7 +86,8 @@ static int run(cvz_server *server)
     const uint8_t image[8] = {0, 0, 0, 21};
     uint64_t circuit;
     int answers[12] = {0}, refused = 0;
-    answers[0] = cvz_server_new(server, 5064, 0);
+    size_t size;
+    answers[0] = cvz_server_load(server, 5064, 0, T("record SLOW LONG 1 slow 5\nrule me * SLOW rw\n"));
     if (answers[0] == 0) {
         answers[1] = cvz_server_add(server, T("TEMP"), 4, false, CVZ_LONG, 1, image, 4);
         if (answers[1] != 0)
@@ -86,6 +101,12 @@ static int run(cvz_server *server)
             answers[8] = cvz_server_post(server, T("TEMP"), CVZ_MASK_VALUE, CVZ_LONG, 2, image, 8);
             cvz_server_pump(server, circuit);
             cvz_server_output(server, circuit, room, sizeof room);
+            answers[10] = answers[5] || answers[6] || answers[7] ? 0 : given(server, circuit, slow, sizeof slow);
+            if (answers[10] == CVZ_CIRCUIT_CLOSED)
+                answers[10] = 1;       /* the post closed it, for lack of memory */
+            answers[11] = cvz_server_busy(server, T("SLOW"), room, sizeof room, &size);
+            if (answers[11] == CVZ_NOT_BUSY && refused_any(answers))
+                answers[11] = 0;
         }
         answers[9] = cvz_server_remove(server, T("TEMP"));
     }
@@ -175,31 +196,60 @@ static int run_client(cvz_server *server, cvz_client *client)
     return is_wrong ? -1 : refused;
 }
 
+/* How many datagrams are to be sent. */
+static int sends(cvz_repeater *repeater)
+{
+    uint8_t bytes[64];
+    cvz_address to;
+    int count = 0;
+    while (cvz_repeater_outgoing(repeater, &to, bytes, sizeof bytes) > 0)
+        count++;
+    return count;
+}
+
+/* Two clients register with a repeater, and a beacon comes. A datagram that found no memory sends nothing, and makes nobody a member. */
+static int run_repeater(cvz_repeater *repeater)
+{
+    const cvz_address server = {0x0a000009, 5064};
+    int refused = 0, members = 0;
+    bool is_wrong = false;
+    if (!is_well(cvz_repeater_new(repeater), &refused, &is_wrong))
+        return is_wrong ? -1 : refused;
+    for (uint16_t port = 40001; port <= 40002; port++) {
+        bool is_in = is_well(cvz_repeater_datagram(repeater, &(cvz_address){0x7f000001, port}, enroll, sizeof enroll), &refused, &is_wrong);
+        is_wrong = is_wrong || sends(repeater) != is_in;
+        members += is_in;
+    }
+    if (is_well(cvz_repeater_datagram(repeater, &server, beacon, sizeof beacon), &refused, &is_wrong))
+        is_wrong = is_wrong || sends(repeater) != members;
+    return is_wrong ? -1 : refused;
+}
+
 int main(void)
 {
-    int passed = 0, failed = 0, refused;
-    bool is_client = false;
-    for (long n = 0;; n++) {
+    static const char *names[] = {"server", "client", "repeater"};
+    int passed = 0, failed = 0, refused, kind = 0;
+    for (long n = 0; kind < 3; n++) {
         cvz_server server = {0};
         cvz_client client = {0};
+        cvz_repeater repeater = {0};
         bool all;
         requests = 0;
         left = n;
-        refused = is_client ? run_client(&server, &client) : run(&server);
+        refused = kind == 0 ? run(&server) : kind == 1 ? run_client(&server, &client) : run_repeater(&repeater);
         all = requests <= n;
         left = -1;
         cvz_server_free(&server);
         cvz_client_free(&client);
+        cvz_repeater_free(&repeater);
         if (refused < 0 || blocks != 0 || (all && refused != 0) || (!all && n == 0 && refused == 0)) {
-            printf("%s, request %ld refused: %d calls found no memory, %ld blocks are left\n", is_client ? "client" : "server", n, refused, blocks);
+            printf("%s, request %ld refused: %d calls found no memory, %ld blocks are left\n", names[kind], n, refused, blocks);
             failed++;
             blocks = 0;
         }
         passed++;
-        if (all && is_client)
-            break;
         if (all) {
-            is_client = true;
+            kind++;
             n = -1;
         }
     }

@@ -1,4 +1,5 @@
-/* A server of Channel Access on poll. Clients may read, write and monitor its records: TEMP, and COUNT, which goes up by one each second.
+/* A server of Channel Access on poll. Clients may read, write and monitor its records: TEMP; COUNT, which goes up by one each second; and MOVE, which
+ * is slow: a put to it is done 100 ms later, and MOVED, which may only be read, goes up by its value.
  *
  *     cc server.c $(pkg-config --cflags --libs cuvezhin) -o server && ./server 5064
  *
@@ -23,6 +24,16 @@ enum { INPUT, LISTENER, SEARCHES, CIRCUITS, PLACES = 64 };
 static struct pollfd polled[PLACES];   /* standard input, the listener, the socket of searches, and circuits */
 static uint64_t circuits[PLACES];      /* the handle of each circuit */
 static nfds_t used = CIRCUITS;
+static uint64_t due;                   /* when the put to MOVE is to be done, or 0 */
+static uint32_t moved;
+
+static const char records[] =
+    "record TEMP LONG 1 quick 21\n"
+    "record COUNT LONG 1 quick 0\n"
+    "record MOVE LONG 1 slow 0\n"
+    "record MOVED LONG 1 quick 0\n"
+    "rule * * COUNT r\n"
+    "rule * * MOVED r\n";
 
 static uint64_t milliseconds(void)
 {
@@ -64,6 +75,20 @@ static void post_long(cvz_server *server, const char *name, int32_t value)
     cvz_server_post(server, (const uint8_t *)name, strlen(name), CVZ_MASK_VALUE | CVZ_MASK_LOG, CVZ_TIME + CVZ_LONG, 1, (const uint8_t *)words, sizeof words);
 }
 
+/* The device: it has done what the put to MOVE asks for. The next put that waits makes it busy again. */
+static void process(cvz_server *server)
+{
+    static const uint8_t name[4] = "MOVE";
+    uint32_t value;                    /* big-endian */
+    size_t size;
+    if (cvz_server_busy(server, name, sizeof name, (uint8_t *)&value, sizeof value, &size) == 0) {
+        moved += ntohl(value);
+        post_long(server, "MOVED", (int32_t)moved);
+        cvz_server_finish(server, name, sizeof name);
+    }
+    due = cvz_server_busy(server, name, sizeof name, (uint8_t *)&value, sizeof value, &size) == CVZ_NOT_BUSY ? 0 : milliseconds() + 100;
+}
+
 /* Sends what waits on a circuit, as far as its socket takes it. False if the circuit was lost. */
 static bool send_all(cvz_server *server, nfds_t at)
 {
@@ -102,6 +127,8 @@ static bool serve(cvz_server *server, nfds_t at)
     for (;;) {
         switch (cvz_server_step(server, circuits[at], &did)) {
         case CVZ_HANDLED:
+            if (did.effect == CVZ_BUSIED)
+                due = milliseconds() + 100;
             break;
         case CVZ_NEEDS_BYTES:
             if (!send_all(server, at))
@@ -155,17 +182,14 @@ int main(int argc, char **argv)
 {
     cvz_server server = {0};
     struct sockaddr_in address = {.sin_family = AF_INET, .sin_port = htons((uint16_t)(argc > 1 ? atoi(argv[1]) : 5064))};
-    const uint8_t temperature[4] = {0, 0, 0, 21}, none[4] = {0};
     int32_t count = 0;
-    uint64_t next;
+    uint64_t next, wake;
 
     polled[LISTENER] = (struct pollfd){.fd = socket_on(SOCK_STREAM, &address), .events = POLLIN};
     polled[SEARCHES] = (struct pollfd){.fd = socket_on(SOCK_DGRAM, &address), .events = POLLIN};
     polled[INPUT] = (struct pollfd){.fd = 0, .events = POLLIN};
     listen(polled[LISTENER].fd, 16);
-    if (cvz_server_new(&server, ntohs(address.sin_port), milliseconds()) < 0
-        || cvz_server_add(&server, (const uint8_t *)"TEMP", 4, 1, false, CVZ_LONG, 1, temperature, sizeof temperature) < 0
-        || cvz_server_add(&server, (const uint8_t *)"COUNT", 5, 1, false, CVZ_LONG, 1, none, sizeof none) < 0) {
+    if (cvz_server_load(&server, ntohs(address.sin_port), milliseconds(), (const uint8_t *)records, sizeof records - 1) < 0) {
         fprintf(stderr, "server: out of memory\n");
         return 1;
     }
@@ -178,10 +202,13 @@ int main(int argc, char **argv)
             post_long(&server, "COUNT", ++count);
             next += 1000;
         }
+        if (due && now >= due)
+            process(&server);
         for (nfds_t at = CIRCUITS; at < used; at++)
             if (polled[at].events == POLLIN && !send_all(&server, at))
                 cvz_server_cut(&server, circuits[at]);
-        poll(polled, used, next > now ? (int)(next - now) : 0);
+        wake = due && due < next ? due : next;
+        poll(polled, used, wake > now ? (int)(wake - now) : 0);
         if (polled[INPUT].revents && getchar() == EOF)
             break;
         if (polled[LISTENER].revents)

@@ -1,17 +1,18 @@
 -- Vocabulary: what a call answers to C, as numbers.
-use Rattle.std.specs.Prelude.{ℕ, ℤ, pos, neg_ℤ, ◌≡◌, ◌%◌, ◌/◌, ◌*◌, ◌+◌, ◌++◌, List, Option, Some, None, Result, Ok, Err, drop, length, min, take}
+use Rattle.std.specs.Prelude.{ℕ, ℤ, pos, neg_ℤ, ◌≡◌, ◌%◌, ◌/◌, ◌*◌, ◌+◌, ◌++◌, List, [], Option, Some, None, Result, Ok, Err, drop, length, min, take}
 use Rattle.ca_arena.specs.declared.handle.Handle.{Handle}
 use Rattle.ca_text.specs.declared.refusal.Refusal.{Refusal}
 use Rattle.ca_dbr.specs.declared.data_type.DataType.{DataType}
 use Rattle.ca_dbr.specs.declared.value.Meta.{Meta}
 use Rattle.ca_dbr.specs.Elements.{Elements}
+use Rattle.ca_dbr.specs.Image.{Writes}
 use Rattle.ca_dbr.specs.Reading.{Reads}
 use Rattle.ca_dbr.specs.Types.{type_number}
 use Rattle.ca_text.specs.Refusal.{refusal_number}
 
--- the version of the interface: 1.0
+-- the version of the interface: 1.1
 abbrev pub version : ℕ
-version = 65536
+version = 65537
 
 -- what a call on a struct with no object answers
 abbrev pub no_object : ℤ
@@ -47,6 +48,17 @@ Shows bytes n before after = (n ≡ min (length bytes) (length before)) × (afte
 abbrev pub ShowsAny : Option (List ℕ) → ℕ → (before after : List ℕ) → Type 0
 ShowsAny (Some bytes) n before after = Shows bytes n before after
 ShowsAny None n before after = (n ≡ 0) × (after ≡ before)
+
+-- the image of a value is copied as far as the room takes it, and its size is told
+abbrev pub ShowsImage : Result (Unit {0}) Refusal → (image : List ℕ) → (size_before size_after : ℕ) → (before after : List ℕ) → Type 0
+ShowsImage (Ok _) image size_before size_after before after =
+    let k : ℕ = min (length image) (length before) in (size_after ≡ length image) × (after ≡ take k image ++ drop k before)
+ShowsImage (Err e) image size_before size_after before after = (size_after ≡ size_before) × (after ≡ before)
+
+-- the image of this value in this type is shown, or refused
+abbrev pub ShowsValue : (number : ℕ) → Elements → Meta → ℤ → (size_before size_after : ℕ) → (before after : List ℕ) → Type 0
+ShowsValue number value meta n size_before size_after before after =
+    (r : Result (Unit {0}) Refusal) × ((image : List ℕ) × ((n ≡ code_of r) × Writes number value meta [] r image × ShowsImage r image size_before size_after before after))
 
 -- the image is that of this value with this metadata
 abbrev pub IsImage : (number count : ℕ) → (image : List ℕ) → Elements → Meta → Type 0

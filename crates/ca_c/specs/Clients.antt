@@ -13,7 +13,6 @@ use Rattle.ca_dbr.specs.declared.value.Outcome.{Outcome}
 use Rattle.ca_dbr.specs.declared.value.Outcome.TheVariants as outcome
 use Rattle.ca_dbr.specs.declared.value.Value.{Value}
 use Rattle.ca_dbr.specs.Elements.{Elements, elements}
-use Rattle.ca_dbr.specs.Image.{Writes}
 use Rattle.ca_dbr.specs.Reading.{ReadRefused}
 use Rattle.ca_model.specs.Answers as answer
 use Rattle.ca_model.specs.Answers.{Closing, Sending, Stepped, Ticked}
@@ -25,7 +24,7 @@ use Rattle.ca_model.specs.Ends as ends
 use Rattle.ca_text.specs.Mask.{HasEvent}
 use Rattle.ca_text.specs.declared.refusal.Refusal.{Refusal}
 use Rattle.ca_text.specs.declared.refusal.Refusal.TheVariants as refusal
-use Rattle.ca_c.specs.Answers.{IsImage, Shows, ShowsAny, Tells, code_of, handle_of, number_of, refusal_code}
+use Rattle.ca_c.specs.Answers.{IsImage, Shows, ShowsAny, ShowsValue, Tells, code_of, handle_of, number_of, refusal_code}
 use Rattle.ca_c.specs.ClientTold.{channel_told, notice_told, why_number}
 use Rattle.ca_c.specs.declared.client_object.ClientObject.{ClientObject}
 use Rattle.ca_c.specs.declared.client_structs.CvzAddress.{CvzAddress}
@@ -206,15 +205,9 @@ NextOf None s n t before after = (n ≡ pos 0) × (after ≡ before) × (t ≡ s
 unfoldable pub DoesNext : ClientObject → ℤ → ClientObject → (before after : CvzNotice) → Type 0
 DoesNext s n t before after = NextOf s.notices s n t before after
 
--- the image of a value is copied as far as the room takes it, and its size is told
-abbrev pub ShowsImage : Result (Unit {0}) Refusal → (image : List ℕ) → (size_before size_after : ℕ) → (before after : List ℕ) → Type 0
-ShowsImage (Ok _) image size_before size_after before after =
-    let k : ℕ = min (length image) (length before) in (size_after ≡ length image) × (after ≡ take k image ++ drop k before)
-ShowsImage (Err e) image size_before size_after before after = (size_after ≡ size_before) × (after ≡ before)
-
+-- the image of the value that a notice brought, if it brought one
 abbrev pub ImageOf : Option (Value × Meta) → ℤ → (number : ℕ) → (size_before size_after : ℕ) → (before after : List ℕ) → Type 0
-ImageOf (Some v) n number size_before size_after before after =
-    (r : Result (Unit {0}) Refusal) × ((image : List ℕ) × ((n ≡ code_of r) × Writes number (elements v.0) v.1 [] r image × ShowsImage r image size_before size_after before after))
+ImageOf (Some v) n number size_before size_after before after = ShowsValue number (elements v.0) v.1 n size_before size_after before after
 ImageOf None n number size_before size_after before after = (n ≡ refusal_code refusal.BadType) × (size_after ≡ size_before) × (after ≡ before)
 
 unfoldable pub DoesValue : ClientObject → ℤ → ClientObject → (number : ℕ) → (size_before size_after : ℕ) → (before after : List ℕ) → Type 0

@@ -1,15 +1,19 @@
 -- Vocabulary: what each call of C does to a server: the contract of the call of `ServerCore` that it makes, with the number that it answers.
-use Rattle.std.specs.Prelude.{ℕ, ℤ, pos, ◌≡◌, ◌<◌, ◌⊎◌, ◌++◌, ◌+◌, Bool, List, [], Option, Some, None, Result, Ok, Err, drop, if◌then◌else◌, is_some, length, map, min, option_map, slice_get, take}
+use Rattle.std.specs.Prelude.{ℕ, ℤ, pos, ◌≡◌, ◌<◌, ◌⊎◌, ◌++◌, ◌+◌, Bool, false, IfErr, List, [], Option, Some, None, Result, Ok, Err, drop, if◌then◌else◌, is_some, length, map, min, option_map, slice_get, take}
 use Rattle.ca_arena.specs.declared.handle.Handle.{Handle}
 use Rattle.ca_dbr.specs.declared.value.Meta.{Meta}
-use Rattle.ca_dbr.specs.Elements.{Elements}
+use Rattle.ca_dbr.specs.Elements.{Elements, base_of}
 use Rattle.ca_dbr.specs.Reading.{ReadRefused}
-use Rattle.ca_ids.specs.Table.{under}
+use Rattle.ca_dbr.specs.Types.{base_number}
+use Rattle.ca_ids.specs.Table.{has_free, under}
 use Rattle.ca_model.specs.Server.{new_server}
 use Rattle.ca_model.specs.ServerCalls.{AddsRecord, AnswersDatagram, Beacons, Finishes, Posts, Removes, stamped, waiting}
 use Rattle.ca_model.specs.ServerSteps.{Accepts, Cuts, Gives, Pumps, Sends, Steps, Update, output_of}
-use Rattle.ca_records.specs.Record.{unset}
-use Rattle.ca_server_core.specs.Asking.{NamesUnder}
+use Rattle.ca_records.specs.Record.{RecordState, unset}
+use Rattle.ca_records.specs.Rules.{Rule}
+use Rattle.ca_script.specs.Grammar.{Refuses}
+use Rattle.ca_script.specs.RecordFiles.{FileReading, SaysFile}
+use Rattle.ca_server_core.specs.Asking.{NamesUnder, busy_value}
 use Rattle.ca_server_core.specs.Effects.{TellsEffect}
 use Rattle.ca_server_core.specs.Serving.{Closes, stepped}
 use Rattle.ca_server_core.specs.declared.stepping.Step.{Step}
@@ -17,7 +21,7 @@ use Rattle.ca_server_core.specs.declared.stepping.Step.TheVariants.{Closed}
 use Rattle.ca_text.specs.declared.refusal.Refusal.{Refusal}
 use Rattle.ca_text.specs.declared.refusal.Refusal.TheVariants as refusal
 use Rattle.ca_wire.specs.Fields.{Fields}
-use Rattle.ca_c.specs.Answers.{IsImage, Shows, ShowsAny, Tells, code_of, handle_of, number_of, refusal_code}
+use Rattle.ca_c.specs.Answers.{IsImage, Shows, ShowsAny, ShowsValue, Tells, code_of, handle_of, number_of, refusal_code}
 use Rattle.ca_c.specs.Steps.{step_number, told_of}
 use Rattle.ca_c.specs.declared.server_object.ServerObject.{ServerObject}
 use Rattle.ca_c.specs.declared.step.CvzStep.{CvzStep}
@@ -26,14 +30,30 @@ use Rattle.ca_c.specs.declared.step.CvzStep.{CvzStep}
 abbrev pub KeepsRest : ServerObject → ServerObject → Type 0
 KeepsRest s t = (t.left ≡ s.left) × (t.answers ≡ s.answers) × (t.taken ≡ s.taken)
 
+-- a server that began so, of which nothing waits for C
+abbrev pub IsBegun : (port now : ℕ) → List Rule → List RecordState → ServerObject → Type 0
+IsBegun port now rules records s = (s.core ≡ new_server port now rules records) × (s.left ≡ []) × (s.answers.items ≡ []) × (s.taken ≡ 0)
+
 -- a server with no record begins; or there is no memory, and C's struct has what it had
 abbrev pub Begins : (port now : ℕ) → ℤ → Option ServerObject → Option ServerObject → Type 0
 Begins port now n before after =
-    ((n ≡ pos 0) × ((s : ServerObject) × (after ≡ Some s) × (s.core ≡ new_server port now [] []) × (s.left ≡ []) × (s.answers.items ≡ []) × (s.taken ≡ 0)))
+    ((n ≡ pos 0) × ((s : ServerObject) × ((after ≡ Some s) × IsBegun port now [] [] s)))
     ⊎ ((n ≡ refusal_code refusal.OutOfMemory) × (after ≡ before))
 
+-- a server with the records and the rules of access that a record file says
+abbrev pub IsLoaded : (port now : ℕ) → (text : List ℕ) → ServerObject → Type 0
+IsLoaded port now text s = (file : FileReading) × (SaysFile text file × IsBegun port now file.rules file.records s)
+
+-- a server with those begins; or the file is refused, and C's struct has what it had
+abbrev pub Loads : (port now : ℕ) → (text : List ℕ) → ℤ → Option ServerObject → Option ServerObject → Type 0
+Loads port now text n before after =
+    ((n ≡ pos 0) × ((s : ServerObject) × ((after ≡ Some s) × IsLoaded port now text s)))
+    ⊎ ((e : Refusal) × ((n ≡ refusal_code e) × Refuses (SaysFile text) e × (after ≡ before)))
+
 abbrev pub DoesAccept : ServerObject → ℤ → ServerObject → (before after : ℕ) → Type 0
-DoesAccept s n t before after = (r : Result Handle Refusal) × ((n ≡ code_of r) × Accepts s.core r t.core × Tells number_of r before after × KeepsRest s t)
+DoesAccept s n t before after =
+    (r : Result Handle Refusal) × ((n ≡ code_of r) × Accepts s.core r t.core × IfErr r (λ e. e ≡ refusal.OutOfMemory → has_free s.core.circuits ≡ false)
+    × Tells number_of r before after × KeepsRest s t)
 
 abbrev pub DoesGive : ServerObject → ℤ → ServerObject → (circuit : ℕ) → (bytes : List ℕ) → Type 0
 DoesGive s n t circuit bytes = (r : Result (Unit {0}) Refusal) × ((n ≡ code_of r) × Gives s.core (handle_of circuit) bytes r t.core × KeepsRest s t)
@@ -88,6 +108,14 @@ DoesPost s n t name mask number count image =
 
 unfoldable pub DoesFinish : ServerObject → ℤ → ServerObject → (name : List ℕ) → Type 0
 DoesFinish s n t name = (r : Result (Unit {0}) Refusal) × ((sent : List (Handle × Fields)) × ((n ≡ code_of r) × Finishes s.core name sent r t.core × KeepsRest s t))
+
+-- the value for which a put makes the record busy is shown, in the record's own type; refused by NotBusy if none does
+abbrev pub ShowsBusy : Option Elements → ℤ → (size_before size_after : ℕ) → (before after : List ℕ) → Type 0
+ShowsBusy (Some value) n size_before size_after before after = ShowsValue (base_number (base_of value)) value unset n size_before size_after before after
+ShowsBusy None n size_before size_after before after = (n ≡ refusal_code refusal.NotBusy) × (size_after ≡ size_before) × (after ≡ before)
+
+unfoldable pub DoesBusy : ServerObject → ℤ → ServerObject → (name : List ℕ) → (size_before size_after : ℕ) → (before after : List ℕ) → Type 0
+DoesBusy s n t name size_before size_after before after = ShowsBusy (busy_value s.core name) n size_before size_after before after × (t ≡ s)
 
 -- the answers to a datagram wait for C, and none of them was taken
 abbrev pub Answered : Result (List (List ℕ)) Refusal → ServerObject → ServerObject → Type 0

@@ -1,10 +1,13 @@
 //! What a call answers, as numbers: 0 or a refusal, and a handle.
 
 ghost use Rattle.std.specs.Prelude.{◌≡◌, ◌≤◌, ◌++◌, drop, length, min, take};
-ghost use Rattle.ca_c.specs.Answers.{code_of, handle_of, number_of, refusal_code};
+ghost use Rattle.ca_dbr.specs.Elements.{elements};
+ghost use Rattle.ca_c.specs.Answers.{ShowsValue, code_of, handle_of, number_of, refusal_code};
 
 use ca_arena::Handle;
+use ca_dbr::{Meta, Value, write_value};
 use ca_text::Refusal;
+use std::alloc::Global;
 
 /// The struct has no object.
 pub(crate) const NO_OBJECT: i32 = -100;
@@ -52,4 +55,27 @@ pub(crate) fn filled(bytes: &[u8], room: &mut [u8]) -> usize
     let n = bytes.len().min(room.len());
     room[..n].copy_from_slice(&bytes[..n]);
     n
+}
+
+/// Copies the image of a value in this type, as far as there is room for it, and writes how long it is. Refused as BadType, then as OutOfMemory.
+pub(crate) fn shown(
+    alloc: Global,
+    data_type: u16,
+    value: &Value,
+    meta: &Meta,
+    room: &mut [u8],
+    size: &mut usize,
+) -> i32
+    ensures { ShowsValue data_type (elements value.now) meta.now result
+        size.old size.new room.old room.new }
+{
+    let mut image = Vec::new(alloc);
+    match write_value(data_type, value, meta, &mut image) {
+        Ok(()) => {
+            filled(image.as_slice(), room);
+            *size = image.len();
+            0
+        }
+        Err(refusal) => refused(refusal),
+    }
 }

@@ -4,7 +4,7 @@ ghost use Rattle.std.specs.Prelude.{◌≡◌};
 ghost use Rattle.ca_c.specs.Answers.{Tells, code_of, number_of};
 ghost use Rattle.ca_c.specs.Clients.{DoesChannel, DoesClear, DoesClose, DoesConnected, DoesCut, DoesDatagram, DoesEnded, DoesGive, DoesLeft, DoesNext, DoesOpen, DoesOutput, DoesPut, DoesRead, DoesSearch, DoesSent, DoesStep, DoesSubscribe, DoesTick, DoesUnsubscribe, DoesValue, DoesWanted, DoesWrite, outcome_value, value_of, wanted_told};
 
-use crate::answers::{code, filled, handle, number, refused};
+use crate::answers::{code, filled, handle, number, refused, shown};
 use crate::client_structs::{
     CvzAddress, CvzChannel, CvzNotice, CvzWanted, address, channel_told, notice_told, why_number,
 };
@@ -12,7 +12,7 @@ use ca_arena::Handle;
 use ca_client_core::{
     ClientCore, Closing, Datagram, Left, Notice, Notices, Stepped, WantedCircuit,
 };
-use ca_dbr::{Meta, Outcome, Value, read_value, write_value};
+use ca_dbr::{Meta, Outcome, Value, read_value};
 use ca_text::{Mask, Refusal};
 use ca_wire::Pipe;
 use std::alloc::Global;
@@ -320,15 +320,7 @@ impl ClientObject {
         let Some((value, meta)) = &self.value else {
             return refused(Refusal::BadType);
         };
-        let mut image = Vec::new(alloc);
-        match write_value(data_type, value, meta, &mut image) {
-            Ok(()) => {
-                filled(image.as_slice(), room);
-                *size = image.len();
-                0
-            }
-            Err(refusal) => refused(refusal),
-        }
+        shown(alloc, data_type, value, meta, room, size)
     }
 }
 

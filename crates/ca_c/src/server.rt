@@ -1,19 +1,22 @@
 //! The server's exports.
 
-ghost use Rattle.std.specs.Prelude.{◌≡◌, None};
+ghost use Rattle.std.specs.Prelude.{◌≡◌, None, IfErr, IfOk};
+ghost use Rattle.ca_script.specs.Grammar.{Refuses};
+ghost use Rattle.ca_script.specs.RecordFiles.{SaysFile};
 ghost use Rattle.ca_object.specs.Calling.{Calls};
 ghost use Rattle.ca_c.specs.Answers.{no_object};
-ghost use Rattle.ca_c.specs.Servers.{Begins, DoesAccept, DoesAdd, DoesAnswer, DoesApplied, DoesBeacon, DoesCut, DoesDatagram, DoesFinish, DoesGive, DoesLeft, DoesName, DoesOutput, DoesPost, DoesPump, DoesRemove, DoesSent, DoesStamp, DoesStep, DoesWaiting};
+ghost use Rattle.ca_c.specs.Servers.{Begins, IsBegun, IsLoaded, Loads, DoesAccept, DoesAdd, DoesAnswer, DoesApplied, DoesBeacon, DoesBusy, DoesCut, DoesDatagram, DoesFinish, DoesGive, DoesLeft, DoesName, DoesOutput, DoesPost, DoesPump, DoesRemove, DoesSent, DoesStamp, DoesStep, DoesWaiting};
 
 use crate::answers::{NO_OBJECT, refused};
 use crate::cvz_server::CvzServer;
 use crate::server_object::ServerObject;
 use crate::step::CvzStep;
-use ca_records::Records;
+use ca_records::{Records, Rule};
+use ca_script::{RecordFile, read_records};
 use ca_server_core::ServerCore;
 use ca_text::Refusal;
 use ca_wire::Pipe;
-use std::alloc::Global;
+use std::alloc::{AllocError, Global};
 
 /// Makes a server of this TCP port that begins at this moment, with no record. One that the struct had is freed. Refused as OutOfMemory:
 /// then the struct has what it had.
@@ -21,21 +24,69 @@ use std::alloc::Global;
 pub extern "C" fn cvz_server_new(alloc: Global, server: &mut CvzServer, port: u16, now: u64) -> i32
     ensures { Begins port now result server.old.value server.new.value }
 {
-    let records = Records::new(alloc);
-    let Ok(core) = ServerCore::new(port, now, &records, Vec::new(alloc)) else {
-        return refused(Refusal::OutOfMemory);
-    };
-    let begun = ServerObject {
+    match begun(alloc, port, now, &Records::new(alloc), Vec::new(alloc)) {
+        Ok(object) => {
+            server.put(alloc, object);
+            0
+        }
+        Err(_) => refused(Refusal::OutOfMemory),
+    }
+}
+
+/// Makes a server with the records and the rules of access that the text of a record file says. One that the struct had is freed. Refused as
+/// BadText if a line is not understood, or as OutOfMemory: then the struct has what it had.
+#[unsafe(no_mangle)]
+pub extern "C" fn cvz_server_load(
+    alloc: Global,
+    server: &mut CvzServer,
+    port: u16,
+    now: u64,
+    text: &[u8],
+) -> i32
+    ensures { Loads port now text.now result server.old.value server.new.value }
+{
+    match loaded(alloc, port, now, text) {
+        Ok(object) => {
+            server.put(alloc, object);
+            0
+        }
+        Err(refusal) => refused(refusal),
+    }
+}
+
+fn loaded(
+    alloc: Global,
+    port: u16,
+    now: u64,
+    text: &[u8],
+) -> Result<Box<ServerObject, Global>, Refusal>
+    ensures ok { IfOk result (λ b. IsLoaded port now text.now b.value) }
+    ensures err { IfErr result (Refuses (SaysFile text.now)) }
+{
+    let RecordFile { records, rules } = read_records(alloc, text)?;
+    Ok(begun(alloc, port, now, &records, rules)?)
+}
+
+fn begun(
+    alloc: Global,
+    port: u16,
+    now: u64,
+    records: &Records,
+    rules: Vec<Rule>,
+) -> Result<Box<ServerObject, Global>, AllocError>
+    ensures { IfOk result (λ b. IsBegun port now rules.items records.now b.value) }
+{
+    let core = ServerCore::new(port, now, records, rules)?;
+    let object = ServerObject {
         core,
         left: Pipe::new(alloc),
         answers: Vec::new(alloc),
         taken: 0,
     };
-    let Ok(object) = Box::new(alloc, begun) else {
-        return refused(Refusal::OutOfMemory);
-    };
-    server.put(alloc, object);
-    0
+    match Box::new(alloc, object) {
+        Ok(made) => Ok(made),
+        Err(_) => Err(AllocError),
+    }
 }
 
 /// Frees the server, if there is one.
@@ -270,6 +321,29 @@ pub extern "C" fn cvz_server_finish(alloc: Global, server: &mut CvzServer, name:
         return NO_OBJECT;
     };
     let answer = object.finish(name);
+    server.put(alloc, object);
+    answer
+}
+
+/// Copies the image of the value for which a put makes the record busy, in the record's own type, and writes how long it is. Refused as NotBusy
+/// if no put does.
+#[unsafe(no_mangle)]
+pub extern "C" fn cvz_server_busy(
+    alloc: Global,
+    server: &mut CvzServer,
+    name: &[u8],
+    room: &mut [u8],
+    size: &mut usize,
+) -> i32
+    ensures call { Calls no_object server.old.value result server.new.value
+        (λ s n t. DoesBusy s n t name.now size.old size.new room.old room.new) }
+    ensures kept_room { server.old.value ≡ None → room.new ≡ room.old }
+    ensures kept_size { server.old.value ≡ None → size.new ≡ size.old }
+{
+    let Some(object) = server.take(alloc) else {
+        return NO_OBJECT;
+    };
+    let answer = object.busy(alloc, name, room, size);
     server.put(alloc, object);
     answer
 }

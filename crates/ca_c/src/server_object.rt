@@ -1,11 +1,11 @@
 //! A server as C has it: its core, and what a call made that C has not taken yet.
 
 ghost use Rattle.std.specs.Prelude.{◌≡◌};
-ghost use Rattle.ca_c.specs.Servers.{DoesAccept, DoesAdd, DoesAnswer, DoesApplied, DoesBeacon, DoesCut, DoesDatagram, DoesFinish, DoesGive, DoesLeft, DoesName, DoesOutput, DoesPost, DoesPump, DoesRemove, DoesSent, DoesStamp, DoesStep, DoesWaiting};
+ghost use Rattle.ca_c.specs.Servers.{DoesAccept, DoesAdd, DoesAnswer, DoesApplied, DoesBeacon, DoesBusy, DoesCut, DoesDatagram, DoesFinish, DoesGive, DoesLeft, DoesName, DoesOutput, DoesPost, DoesPump, DoesRemove, DoesSent, DoesStamp, DoesStep, DoesWaiting};
 
-use crate::answers::{code, filled, handle, number, refused};
+use crate::answers::{code, filled, handle, number, refused, shown};
 use crate::step::{CvzStep, step_number, told_of};
-use ca_dbr::read_value;
+use ca_dbr::{Meta, read_value};
 use ca_server_core::{ServerCore, Step};
 use ca_text::Refusal;
 use ca_wire::{Pipe, Sid};
@@ -150,6 +150,17 @@ impl ServerObject {
         ensures { DoesFinish self.old result self.new name.now }
     {
         code(self.core.finish(name))
+    }
+
+    #[tactic(auto, unfolding(crate::specs::Servers::DoesBusy))]
+    pub(crate) fn busy(&self, alloc: Global, name: &[u8], room: &mut [u8], size: &mut usize) -> i32
+        ensures { DoesBusy self.now result self.now name.now size.old size.new room.old room.new }
+    {
+        let Some(value) = self.core.busy_value(name) else {
+            return refused(Refusal::NotBusy);
+        };
+        let own = value.base_type().number();
+        shown(alloc, own, value, &Meta::ZERO, room, size)
     }
 
     #[tactic(auto, unfolding(crate::specs::Servers::DoesDatagram))]
