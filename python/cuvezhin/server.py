@@ -1,0 +1,430 @@
+"""A server on asyncio: sockets and timers round the library's server. Everything here runs in the loop's thread."""
+import asyncio
+import inspect
+import os
+import secrets
+from collections.abc import Callable, Iterable, Sequence
+from types import TracebackType
+from typing import Any, Optional
+
+from . import _library as lib
+from . import addresses
+from ._inside import EVERY_CHANGE, Inside
+from .errors import Error, LibraryMissing, Refused
+from .record import Put, Record, Waiting, now
+from .values import EPOCH, Reading, elements, stamped
+
+# Milliseconds between the first two beacons, and between later ones at most.
+FIRST_BEACON, LONGEST_BEACON = 20, 15_000
+
+
+class _Peer(asyncio.Protocol):
+    """A circuit and its socket."""
+
+    def __init__(self, server: "Server") -> None:
+        self.server = server
+        self.handle = 0
+        self.host = ""
+        self.is_paused = self.is_full = self.is_over = False
+        self.records: dict[int, Record] = {}
+        self.subscribed: dict[int, set[int]] = {}
+        # The circuits on which the server hears of this client's records.
+        self.inside: set[int] = set()
+
+    def connection_made(self, transport: asyncio.BaseTransport) -> None:
+        assert isinstance(transport, asyncio.Transport)
+        self.transport = transport
+        host, port = transport.get_extra_info("peername")[:2]
+        self.host = f"{host}:{port}"
+        self.server._accept(self)
+
+    def data_received(self, data: bytes) -> None:
+        if not self.is_over:
+            self.server._came(self, data)
+
+    def pause_writing(self) -> None:
+        self.is_paused = True
+
+    def resume_writing(self) -> None:
+        self.is_paused = False
+        if self.is_over:
+            return
+        self.server._flush(self)
+        if self.is_full and not self.is_paused:
+            self.is_full = False
+            self.transport.resume_reading()
+            self.server._serve(self)
+
+    def connection_lost(self, exc: Optional[Exception]) -> None:
+        self.server._lost(self)
+
+
+class _Searches(asyncio.DatagramProtocol):
+    def __init__(self, server: "Server") -> None:
+        self.server = server
+
+    def datagram_received(self, data: bytes, addr: Any) -> None:
+        self.server._search(data, addr)
+
+    def error_received(self, exc: Exception) -> None:
+        """An answer or a beacon that reached nobody is not missed."""
+
+
+class Server:
+    """A server of Channel Access.
+
+        async with Server([Record("TEMP", 21.0)]) as server:
+            await server.serve_forever()
+
+    records   what it serves; `add` and `remove` change that
+    host      the address at which it listens; by default EPICS_CAS_INTF_ADDR_LIST, or all of this host
+    port      the port for circuits (TCP) and searches (UDP); by default EPICS_CAS_SERVER_PORT, EPICS_CA_SERVER_PORT, or 5064. 0 has the system choose
+    beacons   where beacons go; by default to this host's repeater, and to EPICS_CAS_BEACON_ADDR_LIST
+    on_put    is called with a Put after each put of a client to any record, before the record's own callback
+    rules     of access, "USER HOST RECORD RIGHTS" each, with rw, r, w or - as rights and * for any: the first that fits decides, and what fits none
+              may be read and written. User and host are what a client says of itself. They need a library of interface 1.1
+
+    `port` and `host` say where it listens once it was entered. Entering raises OSError if that place is taken, and Refused if a record is refused:
+    RecordExists, NameLength, or BadCount for over 262,144 elements. It serves 28,800 records at most, since that many it can hear of.
+    """
+
+    def __init__(self, records: Iterable[Record] = (), *, host: Optional[str] = None, port: Optional[int] = None,
+                 beacons: Optional[Sequence[addresses.Place]] = None, on_put: Optional[Callable[[Put], None]] = None, rules: Sequence[str] = ()) -> None:
+        listens, at = addresses.served(os.environ)
+        self.host = listens if host is None else host
+        self.port = at if port is None else port
+        self.on_put = on_put
+        self._rules = list(rules)
+        self._beacons = addresses.beacons(os.environ) if beacons is None else [addresses.address(it, addresses.REPEATER_PORT) for it in beacons]
+        self._given = list(records)
+        self._records: dict[str, Record] = {}
+        self._peers: dict[int, _Peer] = {}
+        # Those whose put waited behind another, and how many such puts wait for their callback.
+        self._queued: set[_Peer] = set()
+        self._orphans = 0
+        self._dirty: dict[_Peer, None] = {}
+        self._is_open = False
+
+    # ---- its life
+
+    async def __aenter__(self) -> "Server":
+        loop = self._loop = asyncio.get_running_loop()
+        self._stopped: asyncio.Future[None] = loop.create_future()
+        await self._listen()
+        self._core = lib.End(lib.SERVER, "server")
+        self._did = lib.Step()
+        self._began = loop.time()
+        self._stamp = (0, 0)
+        self._is_open = True
+        try:
+            self._inside = self._make()
+            for record in self._given:
+                self._add(record)
+            self._inside.settle()
+        except Error:
+            await self.close()
+            raise
+        self._wait = FIRST_BEACON
+        self._timer: Optional[asyncio.TimerHandle] = None
+        self._beacon()
+        await self._server.start_serving()
+        return self
+
+    def _make(self) -> "Inside":
+        """Makes the library's server, and the client by which it hears of its records, whom no rule binds."""
+        core, user = self._core, secrets.token_hex(16)
+        if self._rules:
+            if "load" not in lib.SERVER:
+                raise LibraryMissing("the library has no rules of access: they came with interface 1.1")
+            text = "".join(f"rule {it}\n" for it in [f"{user} localhost * rw", *self._rules]).encode()
+            lib.checked(core.call_load(core.at, self.port, 0, text, len(text)), "rules")
+        else:
+            lib.checked(core.call_new(core.at, self.port, 0))
+        return Inside(core, self.port, user)
+
+    async def _listen(self) -> None:
+        """Binds both sockets; if the system chooses the port, one that is free for both."""
+        for left in reversed(range(1 if self.port else 20)):
+            self._server = await self._loop.create_server(lambda: _Peer(self), self.host, self.port, start_serving=False)
+            port = self._server.sockets[0].getsockname()[1]
+            try:
+                self._datagrams, _ = await self._loop.create_datagram_endpoint(lambda: _Searches(self), (self.host, port), allow_broadcast=True)
+                self.port = port
+                return
+            except OSError:
+                self._server.close()
+                if not left:
+                    raise
+
+    async def __aexit__(self, kind: Optional[type[BaseException]], error: Optional[BaseException], trace: Optional[TracebackType]) -> None:
+        await self.close()
+
+    async def close(self) -> None:
+        """Closes all sockets. Callbacks that run are cancelled."""
+        if not self._is_open:
+            return
+        self._is_open = False
+        self._server.close()
+        self._datagrams.close()
+        if getattr(self, "_timer", None):
+            self._timer.cancel()
+        for peer in list(self._peers.values()):
+            peer.is_over = True
+            peer.transport.close()
+        tasks = [it._task for it in self._records.values() if it._task]
+        for task in tasks:
+            task.cancel()
+        await asyncio.gather(*tasks, return_exceptions=True)
+        await asyncio.sleep(0)
+        for record in self._records.values():
+            record._leave()
+        if hasattr(self, "_inside"):
+            self._inside.free()
+        self._core.free()
+        if not self._stopped.done():
+            self._stopped.set_result(None)
+
+    async def serve_forever(self) -> None:
+        """Waits until the server is closed."""
+        await asyncio.shield(self._stopped)
+
+    # ---- records
+
+    def __getitem__(self, name: str) -> Record:
+        return self._records[name]
+
+    def add(self, record: Record) -> None:
+        """Serves one more record. Raises Refused: RecordExists, NameLength or BadCount."""
+        self._add(record)
+        self._inside.settle()
+
+    def remove(self, record: Record) -> None:
+        """Serves the record no more: its channels are told, and its puts that wait are never applied. Raises Refused (UnknownRecord)."""
+        name = record.name.encode()
+        lib.checked(self._core.call_remove(self._core.at, name, len(name)), record.name)
+        del self._records[record.name]
+        self._inside.forget(record)
+        record._leave()
+        for peer in self._peers.values():
+            self._flush_soon(peer)
+
+    def _add(self, record: Record) -> None:
+        if record._server:
+            raise ValueError(f"{record.name} is served already")
+        core, name, value = self._core, record.name.encode("utf-8", "surrogateescape"), record.reading
+        many, image = elements(record.type, value.value)
+        lib.checked(core.call_add(core.at, name, len(name), record.count, record.slow, record.type, many, image, len(image)), record.name)
+        full = stamped(record.type, image, value.status, value.severity, value.seconds, value.nanoseconds)
+        core.call_post(core.at, name, len(name), EVERY_CHANGE, lib.TIME + record.type, many, full, len(full))
+        self._records[record.name] = record
+        record._server = self
+        self._inside.watch(record)
+
+    def _post(self, record: Record, mask: int, count: int, image: bytes) -> None:
+        core, name = self._core, record.name.encode("utf-8", "surrogateescape")
+        lib.checked(core.call_post(core.at, name, len(name), mask, lib.TIME + record.type, count, image, len(image)), record.name)
+        # The server hears of it as well: that is no put.
+        self._inside.hear((record._inside,))
+        self._tell(record)
+
+    def _tell(self, record: Record) -> None:
+        for peer in record._peers:
+            self._flush_soon(peer)
+
+    # ---- puts
+
+    def _wrote(self, peer: _Peer, did: lib.Step) -> None:
+        """A message of this circuit wrote a record."""
+        for record, found in self._inside.hear(peer.inside):
+            self._heard(record, found, peer, did.effect == lib.BUSIED)
+
+    def _heard(self, record: Record, found: Reading, peer: Optional[_Peer], is_busy: bool) -> None:
+        put = Put(record, found.value, record.value, peer and peer.host, None, found.time)
+        record.reading = found
+        self._tell(record)
+        if self.on_put:
+            self._called(self.on_put, put)
+        if record.slow:
+            record._puts.append(Waiting(put, is_busy, peer))
+            if not record._task:
+                record._task = self._loop.create_task(self._process(record))
+        elif record.on_put:
+            answer = self._called(record.on_put, put)
+            if inspect.isawaitable(answer):
+                asyncio.ensure_future(answer)
+
+    def _called(self, call: Callable[[Put], Any], put: Put) -> Any:
+        try:
+            return call(put)
+        except Exception as error:
+            self._complain(put.record, error)
+            return None
+
+    def _complain(self, record: Record, error: Exception) -> None:
+        self._loop.call_exception_handler({"message": f"the callback of {record.name} failed", "exception": error})
+
+    async def _process(self, record: Record) -> None:
+        """Runs the callback for each put to a slow record, one after another."""
+        while record._puts and record._server is self:
+            waiting = record._puts.popleft()
+            try:
+                answer = record.on_put(waiting.put) if record.on_put else None
+                if inspect.isawaitable(answer):
+                    await answer
+            except Exception as error:
+                self._complain(record, error)
+            if waiting.is_busy and record._server is self:
+                self._finish(record, waiting.peer)
+        if record._server is self:
+            record._task = None
+
+    def _finish(self, record: Record, peer: Optional[_Peer]) -> None:
+        """The put that makes the record busy is done; the next one that waits is applied by that."""
+        core, name = self._core, record.name.encode("utf-8", "surrogateescape")
+        before = core.call_applied(core.at)
+        if core.call_finish(core.at, name, len(name)) < 0:
+            return
+        if peer:
+            self._flush_soon(peer)
+        else:
+            self._orphans -= 1
+            for queued in self._queued:
+                self._flush_soon(queued)
+        if core.call_applied(core.at) != before:
+            whose = next(iter(self._queued)) if len(self._queued) == 1 else None
+            for heard, found in self._inside.hear((record._inside,)):
+                self._orphans += whose is None
+                self._heard(heard, found, whose, True)
+        elif not self._orphans and not core.call_waiting(core.at):
+            self._queued.clear()
+
+    # ---- circuits
+
+    def _accept(self, peer: _Peer) -> None:
+        if not self._is_open:
+            peer.is_over = True
+            peer.transport.abort()
+            return
+        try:
+            peer.handle = self._core.handle("", self._core.call_accept)
+        except Refused:
+            peer.is_over = True
+            peer.transport.abort()
+            return
+        self._peers[peer.handle] = peer
+        self._flush(peer)
+
+    def _came(self, peer: _Peer, data: bytes) -> None:
+        if self._core.call_give(self._core.at, peer.handle, data, len(data)) < 0:
+            self._core.call_cut(self._core.at, peer.handle)
+        self._serve(peer)
+
+    def _serve(self, peer: _Peer) -> None:
+        """Handles what came, message by message."""
+        core, did, handle = self._core, self._did, peer.handle
+        self._stamp = max(self._stamp, now())
+        core.call_stamp(core.at, self._stamp[0] - EPOCH, self._stamp[1])
+        while True:
+            answer = core.call_step(core.at, handle, did)
+            if answer == lib.HANDLED:
+                if did.effect:
+                    self._follow(peer, did)
+            elif answer == lib.NEEDS_BYTES:
+                self._flush(peer)
+                return
+            elif answer == lib.OUTPUT_FULL:
+                self._flush(peer)
+                if peer.is_paused:
+                    peer.is_full = True
+                    peer.transport.pause_reading()
+                    return
+            else:
+                self._end(peer, core.left())
+                return
+
+    def _follow(self, peer: _Peer, did: lib.Step) -> None:
+        """What a message did, beside its replies."""
+        effect, sid = did.effect, did.sid
+        if effect in (lib.WROTE, lib.BUSIED):
+            self._wrote(peer, did)
+        elif effect == lib.QUEUED:
+            self._queued.add(peer)
+        elif effect == lib.CREATED:
+            name = self._core.taken(self._core.call_name, peer.handle, sid).decode("utf-8", "surrogateescape")
+            record = self._records.get(name)
+            if record:
+                peer.records[sid] = record
+                peer.inside.add(record._inside)
+        elif effect == lib.SUBSCRIBED:
+            peer.subscribed.setdefault(sid, set()).add(did.subscription)
+            if sid in peer.records:
+                peer.records[sid]._peers[peer] += 1
+        elif effect == lib.CANCELLED:
+            if did.subscription in peer.subscribed.get(sid, ()):
+                peer.subscribed[sid].remove(did.subscription)
+                self._unsubscribe(peer, sid, 1)
+        elif effect == lib.CLEARED:
+            self._unsubscribe(peer, sid, len(peer.subscribed.pop(sid, ())))
+            peer.records.pop(sid, None)
+
+    def _unsubscribe(self, peer: _Peer, sid: int, many: int) -> None:
+        record = peer.records.get(sid)
+        if record and many:
+            record._peers[peer] -= many
+            if record._peers[peer] <= 0:
+                del record._peers[peer]
+
+    def _flush_soon(self, peer: _Peer) -> None:
+        if not self._dirty:
+            self._loop.call_soon(self._flush_dirty)
+        self._dirty[peer] = None
+
+    def _flush_dirty(self) -> None:
+        dirty, self._dirty = self._dirty, {}
+        for peer in dirty:
+            self._flush(peer)
+
+    def _flush(self, peer: _Peer) -> None:
+        """Sends what waits, updates too, as far as the socket takes it."""
+        core = self._core
+        while not peer.is_paused and not peer.is_over:
+            core.call_pump(core.at, peer.handle)
+            data = core.output(peer.handle)
+            if not data:
+                return
+            peer.transport.write(data)
+
+    def _lost(self, peer: _Peer) -> None:
+        if not peer.is_over:
+            self._core.call_cut(self._core.at, peer.handle)
+            self._core.call_step(self._core.at, peer.handle, self._did)
+            self._end(peer, b"")
+
+    def _end(self, peer: _Peer, left: bytes) -> None:
+        """The library has ended the circuit."""
+        peer.is_over = True
+        del self._peers[peer.handle]
+        self._queued.discard(peer)
+        for record in peer.records.values():
+            record._peers.pop(peer, None)
+        if left:
+            peer.transport.write(left)
+        peer.transport.close()
+
+    # ---- datagrams
+
+    def _search(self, data: bytes, peer: Any) -> None:
+        if self._is_open and self._core.call_datagram(self._core.at, data, len(data)) >= 0:
+            while (answer := self._core.taken(self._core.call_answer)):
+                self._datagrams.sendto(answer, peer)
+
+    def _beacon(self) -> None:
+        moment = int((self._loop.time() - self._began) * 1000)
+        beacon = self._core.taken(self._core.call_beacon, moment)
+        if beacon:
+            for place in self._beacons:
+                self._datagrams.sendto(beacon, place)
+            self._timer = self._loop.call_later(self._wait / 1000 + 0.002, self._beacon)
+            self._wait = min(2 * self._wait, LONGEST_BEACON)
+        else:
+            self._timer = self._loop.call_later(0.002, self._beacon)
