@@ -31,7 +31,9 @@ fn show_tickets<W: Write>(alloc: Global, out: &mut W) -> Result<(), Refusal> {
     let generations = tickets::each_generation(alloc)?;
     tell(out, "generations that gave their outcome once", generations)?;
     let back = tickets::fill_after_give_up(alloc)?;
-    say(out, "a fill after a give-up comes back", back)
+    say(out, "a fill after a give-up comes back", back)?;
+    let free = tickets::taken_back_is_free(alloc)?;
+    say(out, "a ticket that is taken back frees its cell", free)
 }
 
 /// Says whether something holds.

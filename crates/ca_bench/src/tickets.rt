@@ -178,6 +178,21 @@ fn comes_back_late(
     gone && freed && back && none
 }
 
+/// A ticket that is taken back gives nothing, and its cell is free, also where a caller gave it up before.
+pub(crate) fn taken_back_is_free(alloc: Global) -> Result<bool, Refusal> {
+    let (board, mut core) = Board::new(alloc)?;
+    let mut caller = board.caller(&mut core);
+    let unused = board.arm(&mut core)?;
+    board.take_back(&mut core, unused);
+    let gone = is_gone(&board, &mut caller, unused);
+    let given_up = board.arm(&mut core)?;
+    gives_up(&board, &mut caller, given_up);
+    board.take_back(&mut core, given_up);
+    let last = board.arm(&mut core)?;
+    let one_cell = given_up.cell == unused.cell && last.cell == unused.cell;
+    Ok(gone && one_cell && given_up.generation == 1 && last.generation == 2)
+}
+
 // 1 for what holds.
 pub(crate) fn count(holds: bool) -> usize
     ensures { result ≤ 1 }

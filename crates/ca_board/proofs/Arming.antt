@@ -33,6 +33,7 @@ arms_kept s id k g ts fs rs cs taker r inside is seat = let t₀ : Ticket = tick
               done = λ h at. absurd (omega arith);
               empty = λ h at. absurd (omega arith);
               given = λ h at _. absurd (omega arith);
+              state = λ h le. omega arith;
               held = λ e'. absurd (omega arith);
               armed = λ h le. dite (ℕ_discrete g h) (λ e'. subst (λ (y : ℕ). Has (ts ++ t₀ ∷ []) (ticket k y)) e' (has_last ts t₀)) (λ ne. has_snoc ts (ticket k h) t₀ (cell.armed h (omega arith)));
               past = λ h le. cell.past h (omega arith);
@@ -44,6 +45,7 @@ arms_kept s id k g ts fs rs cs taker r inside is seat = let t₀ : Ticket = tick
               done = c.done;
               empty = c.empty;
               given = c.given;
+              state = c.state;
               held = c.held;
               armed = λ h le. has_snoc ts (ticket j h) t₀ (c.armed h le);
               past = c.past;
@@ -114,6 +116,7 @@ recycles_kept s id k g ts fs rs cs taker r inside is low seat = let least = ends
               done = λ h at. absurd (omega arith);
               empty = λ h at. absurd (omega arith);
               given = λ h at _. absurd (omega arith);
+              state = λ h le. omega arith;
               held = λ e'. absurd (omega arith);
               armed = λ h le. cell.armed h (omega arith);
               past = λ h le. dite (ℕ_discrete g h) (λ e'. subst (λ (y : ℕ). Has (cs ++ t₀ ∷ []) (ticket k y)) e' (has_last cs t₀)) (λ ne. has_snoc cs (ticket k h) t₀ (cell.past h (omega arith)));
@@ -125,6 +128,7 @@ recycles_kept s id k g ts fs rs cs taker r inside is low seat = let least = ends
               done = c.done;
               empty = c.empty;
               given = c.given;
+              state = c.state;
               held = c.held;
               armed = c.armed;
               past = λ h le. has_snoc cs (ticket j h) t₀ (c.past h le);

@@ -88,6 +88,7 @@ takes_kept s id k g tk gs sn o keeper log taker r at inside is has = let e₀ : 
             done = λ h e'. absurd (omega arith);
             empty = λ h e'. absurd (omega arith);
             given = λ h e' _. absurd (omega arith);
+            state = λ h le. omega arith;
             held = λ e' h at'. absurd (omega arith);
             armed = λ h le. c.armed h (omega arith);
             past = λ h le. c.past h (omega arith);
@@ -169,6 +170,7 @@ hands_kept s id k g tk gs sn o keeper log taker r at inside has = let n : ℕ = 
             done = λ h e'. absurd (omega arith);
             empty = λ h e'. set_here s.homes k (some None) inside;
             given = λ h e' _. absurd (omega arith);
+            state = λ h le. omega arith;
             held = λ e' h at'. absurd (omega arith);
             armed = λ h le. c.armed h (omega arith);
             past = λ h le. c.past h (omega arith);
@@ -210,6 +212,7 @@ ups_kept s id k g tk gs sn keeper log taker r at inside is = let t₀ : Ticket =
             done = λ h e'. absurd (omega arith);
             empty = λ h e'. absurd (omega arith);
             given = λ h e' away. c.waiting g is away;
+            state = λ h le. omega arith;
             held = λ e' h at'. absurd (omega arith);
             armed = λ h le. c.armed h (omega arith);
             past = λ h le. c.past h (omega arith);

@@ -30,6 +30,7 @@ grabs_kept s id k g ts fs rs cs taker r inside is seat = let log' : CoreLog = co
         done = λ h at. absurd (omega arith);
         empty = λ h at. absurd (omega arith);
         given = λ h at _. absurd (omega arith);
+        state = c.state;
         held = λ e' h at. absurd (omega arith);
         armed = c.armed;
         past = c.past;
@@ -41,6 +42,7 @@ grabs_kept s id k g ts fs rs cs taker r inside is seat = let log' : CoreLog = co
         done = d.done;
         empty = d.empty;
         given = λ h at _. d.given h at (λ e. absurd (omega arith));
+        state = d.state;
         held = λ e'. absurd (ne (omega arith));
         armed = d.armed;
         past = d.past;
@@ -70,6 +72,7 @@ refuses_kept s id t₀ hand ts fs rs cs taker r gone seat = let log' : CoreLog =
     done = d.done;
     empty = d.empty;
     given = d.given;
+    state = d.state;
     held = d.held;
     armed = d.armed;
     past = d.past;
@@ -155,6 +158,7 @@ fills_kept s id k g ts fs rs cs o taker r inside is seat = let fs' : List Entry 
             done = λ h at. let same : g ≡ h = omega arith in (o, set_here s.homes k (some (Some o)) inside, subst (λ (y : ℕ). Has fs' (ticket k y, o)) same (has_last fs (ticket k g, o)));
             empty = λ h at. absurd (omega arith);
             given = λ h at _. absurd (omega arith);
+            state = λ h le. omega arith;
             held = λ e'. absurd (omega arith);
             armed = λ h le. c.armed h (omega arith);
             past = λ h le. c.past h (omega arith);
@@ -166,6 +170,7 @@ fills_kept s id k g ts fs rs cs o taker r inside is seat = let fs' : List Entry 
             done = λ h at. let p = d.done h at in (p.0, p.1, has_snoc fs (ticket j h, p.0) (ticket k g, o) p.2);
             empty = d.empty;
             given = λ h at _. d.given h at (λ e. ne (omega arith));
+            state = d.state;
             held = λ e'. absurd (omega arith);
             armed = d.armed;
             past = d.past;
@@ -218,6 +223,7 @@ returns_kept s id k ts fs rs cs taker r inside seat = let log' : CoreLog = core_
         done = λ h at. absurd (c.held refl h at);
         empty = λ h at. here;
         given = λ h at n. here;
+        state = c.state;
         held = λ e'. absurd (omega arith);
         armed = c.armed;
         past = c.past;
@@ -229,6 +235,7 @@ returns_kept s id k ts fs rs cs taker r inside seat = let log' : CoreLog = core_
         done = d.done;
         empty = d.empty;
         given = λ h at _. d.given h at (λ e. ne (omega arith));
+        state = d.state;
         held = λ e'. absurd (omega arith);
         armed = d.armed;
         past = d.past;

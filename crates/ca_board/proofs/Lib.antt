@@ -8,4 +8,5 @@ pub mod Start
 pub mod After
 pub mod Outstanding
 pub mod Seated
+pub mod TakingBack
 mod Parting

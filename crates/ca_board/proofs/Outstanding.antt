@@ -1,5 +1,5 @@
 -- Tickets that are outstanding together, where one more is armed, and where one is filled.
-use Rattle.std.proofs.Common.{◌≡◌, ◌≢◌, ◌<◌, ℕ, zero, suc, get_or, arith, List, [], ◌∷◌, ◌++◌, length, refl, sym, ap, ◌∙◌, subst, ⊎_elim}
+use Rattle.std.proofs.Common.{◌≡◌, ◌≢◌, ◌<◌, ℕ, zero, suc, get_or, arith, List, [], ◌∷◌, ◌++◌, length, refl, sym, ap, ◌∙◌, subst, ⊎_elim, inl, inr}
 use mathlib.Core.Option.{some}
 use lib.ListN.{get_elem?}
 use Rattle.atomic_table.proofs.Lists.{at_snoc}
@@ -9,7 +9,7 @@ use Rattle.ca_board.specs.declared.ticket.Filled.{Filled}
 use Rattle.ca_board.specs.declared.ticket.Filled.TheVariants.{Stored, GivenUp}
 use Rattle.std.specs.Prelude.{Bool, true, false, IsTrue, IsFalse}
 use Rattle.ca_board.specs.History.{ticket, Frees, Has, Entry}
-use Rattle.ca_board.specs.Views.{CoreView, IsDue, HasFilled, with_arm, with_recycle}
+use Rattle.ca_board.specs.Views.{CoreView, IsDue, HasFilled, HasTakenBack, with_arm, with_recycle, with_refusal}
 use Rattle.ca_board.specs.Outstanding.{AreDue}
 use Rattle.ca_board.proofs.Stock.{has_snoc, at_snoc_index}
 
@@ -26,12 +26,20 @@ due_more old new t ts all e due fresh = record {
       (at_snoc_index ts t u i a);
 }
 
+not_refused : (rs : List Ticket) (t u : Ticket) → ¬ (Has rs u) → t ≢ u → ¬ (Has (rs ++ t ∷ []) u)
+not_refused rs t u not apart h = ⊎_elim (λ was. not (h.0, was)) (λ (is : t ≡ u). apart is) (at_snoc rs t u h.0 h.1)
+
 -- a ticket stays due where another is filled
 pub due_filled : (old new : CoreView) (t u : Ticket) (o : Outcome) (r : Filled) → HasFilled old t o r new → IsDue old u → t ≢ u → IsDue new u
 due_filled old new t u o Stored f d apart = subst (λ (v : CoreView). IsDue v u) (sym f)
     (d.0, (λ p h. ⊎_elim (λ was. d.1 p (h.0, was)) (λ (is : (t, o) ≡ (u, p)). absurd (apart (ap (λ (x : Entry). x.0) is))) (at_snoc old.fills (t, o) (u, p) h.0 h.1)), d.2)
 due_filled old new t u o (GivenUp back) f d apart = subst (λ (v : CoreView). IsDue v u) (sym f.1)
-    (d.0, d.1, λ h. ⊎_elim (λ was. d.2 (h.0, was)) (λ (is : t ≡ u). absurd (apart is)) (at_snoc old.refused t u h.0 h.1))
+    (d.0, d.1, not_refused old.refused t u d.2 apart)
+
+-- and where another is taken back
+pub due_taken_back : (old new : CoreView) (t u : Ticket) → HasTakenBack old t new → IsDue old u → t ≢ u → IsDue new u
+due_taken_back old new t u (inl freed) d apart = subst (λ (v : CoreView). IsDue v u) (sym freed.2) (d.0, d.1, not_refused old.refused t u d.2 apart)
+due_taken_back old new t u (inr last) d apart = subst (λ (v : CoreView). IsDue v u) (sym last.1) (d.0, d.1, not_refused old.refused t u d.2 apart)
 
 -- a ticket stays due where a cell is recycled
 pub due_recycled : (old new : CoreView) (t u : Ticket) → new ≡ with_recycle old t → IsDue old u → IsDue new u

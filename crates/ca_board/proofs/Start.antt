@@ -39,6 +39,7 @@ begins n = (
       done = λ g is. absurd (omega arith);
       empty = λ g is. refl;
       given = λ g is _. refl;
+      state = λ h le. omega arith;
       held = λ e. absurd (omega arith);
       armed = λ g le. absurd (omega arith);
       past = λ g le. absurd (omega arith);

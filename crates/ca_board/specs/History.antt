@@ -59,7 +59,7 @@ core_view log caller = record { is_core = true; core = log; caller = caller; one
 abbrev pub caller_view : CallerLog → View
 caller_view caller = record { is_core = false; core = no_core; caller = caller; one = no_caller; other = no_caller }
 
--- One cell: its word, its slot, and the core's lists. The slot is at home and empty while the cell is free, waiting, empty
+-- One cell: its word, which has one of these six states, its slot, and the core's lists. The slot is at home and empty while the cell is free, waiting, empty
 -- or given up, but where the core holds it; it has the outcome of the fill while the cell is done. Each generation up to the
 -- word's was armed, and each below it was recycled
 pub record CellOk (log : CoreLog) (k n : ℕ) (home : maybe.Option (maybe.Option Slot)) : Type 0 where
@@ -68,6 +68,7 @@ pub record CellOk (log : CoreLog) (k n : ℕ) (home : maybe.Option (maybe.Option
   pub done : (g : ℕ) → n ≡ 8 * g + 2 → (o : Outcome) × (home ≡ some (some (Some o))) × Has log.fills (ticket k g, o)
   pub empty : (g : ℕ) → n ≡ 8 * g + 4 → home ≡ some (some None)
   pub given : (g : ℕ) → n ≡ 8 * g + 5 → ¬ (log.hand ≡ suc k) → home ≡ some (some None)
+  pub state : (g : ℕ) → 8 * g + 6 ≤ n → 8 * g + 8 ≤ n
   pub held : log.hand ≡ suc k → (g : ℕ) → n ≢ 8 * g + 2
   pub armed : (g : ℕ) → 8 * g + 1 ≤ n → Has log.arms (ticket k g)
   pub past : (g : ℕ) → 8 * g + 8 ≤ n → Has log.recycles (ticket k g)
@@ -166,6 +167,10 @@ refused_too v t = core_view (core_log v.core.arms v.core.fills (v.core.refused +
 abbrev pub recycled_too : View → Ticket → View
 recycled_too v t = core_view (core_log v.core.arms v.core.fills v.core.refused (v.core.recycles ++ t ∷ []) 0) v.caller
 
+-- a ticket was taken back, and given up by a part of the seat that is split off then
+abbrev pub back_too : View → Ticket → List Ticket → View
+back_too v t recycles = core_view (core_log v.core.arms v.core.fills (v.core.refused ++ t ∷ []) recycles 0) (caller_log [] (t ∷ []) [] 0 0)
+
 -- the core's seat holds the slot of the cell before this number, or none at 0
 abbrev pub holding : View → ℕ → View
 holding v h = core_view (core_log v.core.arms v.core.fills v.core.refused v.core.recycles h) v.caller
@@ -189,6 +194,12 @@ abbrev pub recycled : Step Slot → Sat → ℕ → Sat → Type 0
 recycled st m r m' = (g : ℕ) → (st.first ≡ 8 * g + 4) ⊎ (st.first ≡ 8 * g + 5)
     → (r ≡ st.first → Frees m.0.core.arms m.0.core.recycles st.word g × (m' ≡ (recycled_too m.0 (ticket st.word g), m.1)))
     × (r ≢ st.first → m' ≡ m)
+
+-- the core takes back a ticket that nobody has used: it is given up, by a seat of its own, and its cell is free for the next generation, or stays given up
+abbrev pub taken_back : Step Slot → Sat → ℕ → Sat → Type 0
+taken_back st m r m' = (g : ℕ)
+    → (st.first ≡ 8 * g + 8 → Frees m.0.core.arms m.0.core.recycles st.word g × (m' ≡ (back_too m.0 (ticket st.word g) (m.0.core.recycles ++ ticket st.word g ∷ []), m.1)))
+    × (st.first ≡ 8 * g + 5 → m' ≡ (back_too m.0 (ticket st.word g) m.0.core.recycles, m.1))
 
 -- the core holds the slot of a cell that waits, under whichever ticket; else nothing was done
 abbrev pub looked_at : Step Slot → Sat → ℕ → Sat → Type 0

@@ -1,7 +1,7 @@
 -- The seats of a board, as its calls speak of them: which board, and what was done with the seat.
 use Rattle.std.specs.Prelude.{◌≡◌, ◌≢◌, ◌⊎◌, ◌+◌, ◌*◌, ◌<◌, ◌≤◌, ℕ, ◌++◌, List, [], ◌∷◌, Option, Result, MatchOption, MatchResult}
 use Rattle.atomic_table.specs.Seated.{TableId}
-use Rattle.ca_text.specs.Limits.{board_cells}
+use Rattle.ca_text.specs.Limits.{board_cells, last_generation}
 use Rattle.ca_text.specs.declared.refusal.Refusal.{Refusal}
 use Rattle.ca_text.specs.declared.refusal.Refusal.TheVariants.{NoCell}
 use Rattle.ca_board.specs.History.{ticket, Has, HasEnded, IsUnfilled, IsLatest, IsOpen, InUse, IsNext, Frees, Reading}
@@ -10,8 +10,8 @@ use Rattle.ca_board.specs.declared.ticket.Filled.{Filled}
 use Rattle.ca_board.specs.declared.ticket.Filled.TheVariants.{Stored, GivenUp}
 use Rattle.ca_dbr.specs.declared.value.Outcome.{Outcome}
 
--- The core's seat: the tickets that it armed, its fills with their outcomes, the tickets whose fill came after a
--- give-up, and the tickets whose cell it freed after them
+-- The core's seat: the tickets that it armed, its fills with their outcomes, the tickets that it is not to fill, since the fill came after a
+-- give-up or the core took the ticket back, and the tickets whose cell it freed after them
 pub record CoreView : Type 0 where
   pub board : TableId
   pub arms : List Ticket
@@ -64,11 +64,11 @@ with_reading v k n = record { board = v.board; takes = v.takes; gives = v.gives;
 abbrev pub IsDue : CoreView → Ticket → Type 0
 IsDue v t = Has v.arms t × IsUnfilled v.fills t × ¬ (Has v.refused t)
 
--- What an arm answers: the next ticket of a cell that is free, which is then to be filled; or NoCell, if each
+-- What an arm answers: the next ticket of a cell that is free, which is then to be filled, and its cell was not freed since; or NoCell, if each
 -- cell is in use
 abbrev pub HasArmed : CoreView → Result Ticket Refusal → CoreView → Type 0
 HasArmed old result new = MatchResult result
-    (λ t. (new ≡ with_arm old t) × IsNext old.arms old.recycles t.cell t.generation × IsDue new t)
+    (λ t. (new ≡ with_arm old t) × IsNext old.arms old.recycles t.cell t.generation × IsDue new t × ¬ (Has new.recycles t))
     (λ e. (e ≡ NoCell) × (new ≡ old) × ((k : ℕ) → k < board_cells → InUse old.arms old.recycles k))
 
 -- What a fill of the ticket answers: it was stored; or the ticket was given up, and the same outcome comes back
@@ -118,3 +118,9 @@ HasFoundOpen old t new = IsOwnOpen old t × ((n : ℕ) × (n ≤ 8 * t.generatio
 -- What a recycle of the cell did where it answers true: the cell is free for its next generation
 abbrev pub HasRecycled : CoreView → ℕ → CoreView → Type 0
 HasRecycled old k new = (g : ℕ) × Frees old.arms old.recycles k g × (new ≡ with_recycle old (ticket k g))
+
+-- What taking a ticket back did: it is not to be filled any more, and its cell is free for its next generation, unless its own was the last
+abbrev pub HasTakenBack : CoreView → Ticket → CoreView → Type 0
+HasTakenBack old t new =
+    ((t.generation < last_generation) × Frees old.arms old.recycles t.cell t.generation × (new ≡ with_recycle (with_refusal old t) t))
+    ⊎ ((last_generation ≤ t.generation) × (new ≡ with_refusal old t))

@@ -2,15 +2,15 @@ ghost use Rattle.std.specs.Prelude.{◌≡◌, ◌≢◌, ◌≤◌, ◌+◌, �
 ghost use Rattle.std.specs.Vec.{vec_capacity};
 ghost use Rattle.ca_text.specs.Limits.{board_cells};
 ghost use Rattle.ca_text.specs.declared.refusal.Refusal.TheVariants.{OutOfMemory};
-ghost use Rattle.ca_board.specs.History.{IsStock, holding, refused_too};
+ghost use Rattle.ca_board.specs.History.{Has, IsStock, holding, refused_too};
 ghost use Rattle.ca_board.specs.Seats.{IsIdle, IsWaiting};
 ghost use Rattle.ca_board.specs.Views.{core_start, caller_start, with_give_up, Found, HasFoundEnded, HasFoundOpen, IsDue, IsOutside, IsOwnOpen};
-ghost use Rattle.ca_board.specs.Views.{HasArmed, HasCollected, HasFilled, HasGivenUp, HasRecycled};
+ghost use Rattle.ca_board.specs.Views.{HasArmed, HasCollected, HasFilled, HasGivenUp, HasRecycled, HasTakenBack};
 
 use crate::seats::{CallerSeat, CoreSeat};
 use crate::steps::{
-    Arms, BoardSeat, Cells, FindsOut, GivesUp, Grabs, HandsBack, Looks, Newcomer, Puts, Recycles,
-    Returns, Takes,
+    Arms, BoardSeat, Cells, FindsOut, GivesUp, Grabs, HandsBack, Looks, Meets, Newcomer, Puts,
+    Recycles, Returns, Takes, TakesBack,
 };
 use crate::ticket::{Filled, Ticket};
 use crate::word::{State, has_ended, is_past, is_waiting, word};
@@ -222,6 +222,32 @@ impl Board {
         }
         core.free.push_reserved(next);
         true
+    }
+
+    /// Takes back a ticket that was armed and not filled, whose cell was not freed since: it is never filled then, and its cell is free again, unless its
+    /// generation was the last.
+    pub fn take_back(&self, core: &mut CoreSeat, ticket: Ticket)
+        requires board { core.old.board ≡ self.now }
+        requires due { IsDue core.old ticket }
+        requires kept { ¬ (Has core.old.recycles ticket) }
+        ensures { HasTakenBack core.old ticket core.new }
+    {
+        let words = &self.cells.shared;
+        let cell = ticket.cell;
+        if ticket.generation >= LAST_GENERATION {
+            let given_up = word(ticket, State::GivenUp);
+            words.store::<TakesBack>(&mut core.seat, cell, given_up);
+            words.split_seat::<Meets>(&mut core.seat);
+            return;
+        }
+        let next = Ticket {
+            cell,
+            generation: ticket.generation + 1,
+        };
+        let freed = word(next, State::Free);
+        words.store::<TakesBack>(&mut core.seat, cell, freed);
+        words.split_seat::<Meets>(&mut core.seat);
+        core.free.push_reserved(next);
     }
 }
 

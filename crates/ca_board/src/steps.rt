@@ -11,7 +11,7 @@ use std::collections::LinkedList;
 pub struct CoreLog {
     pub arms: LinkedList<Ticket>,
     pub fills: LinkedList<(Ticket, Outcome)>,
-    /// Fills that came after a give-up.
+    /// Tickets that are not filled: the fill came after a give-up, or the core took the ticket back.
     pub refused: LinkedList<Ticket>,
     pub recycles: LinkedList<Ticket>,
     /// 0, or 1 more than the cell whose slot it holds.
@@ -30,7 +30,7 @@ pub struct CallerLog {
     pub round: u64,
 }
 
-/// What a seat knows. A core's seat has a caller's part only while the two are compared. While two callers are compared the
+/// What a seat knows. A core's seat has a caller's part only while the two are compared, or until the give-up of a ticket that it took back is split off. While two callers are compared the
 /// caller's part is what both did, and `one` and `other` are what each did.
 pub struct View {
     pub is_core: bool,
@@ -73,6 +73,15 @@ impl Play<Option<Outcome>, View> for Recycles {
     ghost use Rattle.ca_board.specs.History.{recycled};
 
     ghost then = { recycled };
+}
+
+/// The core takes back a ticket that nobody has used.
+pub(crate) struct TakesBack;
+
+impl Play<Option<Outcome>, View> for TakesBack {
+    ghost use Rattle.ca_board.specs.History.{taken_back};
+
+    ghost then = { taken_back };
 }
 
 /// The core looks at a cell, and takes its slot if it waits, under whichever ticket.

@@ -1,6 +1,6 @@
 -- The state under the lock, as requests are issued and refused.
-use Rattle.std.proofs.Common.{◌≡◌, ℕ, ◌<◌, List, [], ◌∷◌, Ok, Err, refl, sym, ap, ◌∙◌, subst, inl, ⊎_elim}
-use Rattle.std.specs.Prelude.{IsErrAnd, Option, Result, Some, None, slice_set}
+use Rattle.std.proofs.Common.{◌≡◌, ℕ, ◌<◌, List, [], ◌∷◌, Ok, Err, refl, sym, ap, ◌∙◌, subst, inl, inr}
+use Rattle.std.specs.Prelude.{IsErrAnd, Result, slice_set}
 use Rattle.std.proofs.Math.ListN.{length-set}
 use Rattle.atomic_table.specs.Seated.{TableId}
 use Rattle.ca_text.specs.declared.refusal.Refusal.{Refusal}
@@ -8,8 +8,8 @@ use Rattle.ca_text.specs.declared.refusal.Refusal.TheVariants as refusal
 use Rattle.ca_arena.specs.declared.handle.Handle.{Handle}
 use Rattle.ca_board.specs.declared.ticket.Ticket.{Ticket}
 use Rattle.ca_board.specs.History.{Has}
-use Rattle.ca_board.specs.Views.{CallerView, CoreView, HasGivenUp, IsDue, IsOutside, with_arm}
-use Rattle.ca_dbr.specs.declared.value.Outcome.{Outcome}
+use Rattle.ca_board.specs.Views.{CoreView, HasTakenBack, IsDue, with_arm}
+use Rattle.ca_board.proofs.Seated.{taken_back_board}
 use Rattle.ca_dbr.specs.Elements.{Elements, elements}
 use Rattle.ca_ids.specs.Table.{MayGive, with_held}
 use Rattle.ca_requests.specs.Calls.{new_request}
@@ -32,14 +32,14 @@ pub state-recycled : (x : Client) (v w : CoreView) (board : TableId) (ts : List 
 state-recycled x v w board ts s o =
     record { same = o.0 ∙ s.same; wide = s.wide; placed = s.placed; listed = s.listed; awaited = awaited_recycled v w ts (Waits x) o s.awaited }
 
--- a cell was armed and freed again
-pub state-refused : (x : Client) (v mid armed w : CoreView) (board : TableId) (ts : List Ticket) (t : Ticket) → IsState x v board ts → OnlyRecycled v mid → armed ≡ with_arm mid t → OnlyRecycled armed w → IsState x w board ts
-state-refused x v mid armed w board ts t s o e r = record {
-  same = r.0 ∙ ap (λ (z : CoreView). z.board) e ∙ o.0 ∙ s.same;
+-- a ticket was armed and taken back
+pub state-refused : (x : Client) (v mid armed w : CoreView) (board : TableId) (ts : List Ticket) (t : Ticket) → IsState x v board ts → OnlyRecycled v mid → armed ≡ with_arm mid t → ¬ (Has mid.arms t) → HasTakenBack armed t w → IsState x w board ts
+state-refused x v mid armed w board ts t s o e new back = record {
+  same = taken_back_board armed w t back ∙ ap (λ (z : CoreView). z.board) e ∙ o.0 ∙ s.same;
   wide = s.wide;
   placed = s.placed;
   listed = s.listed;
-  awaited = awaited_refused v mid armed w ts (Waits x) t s.awaited o e r;
+  awaited = awaited_refused v mid armed w ts (Waits x) t s.awaited o e new back;
 }
 
 reads-refused : (x : Client) (h : Handle) (a : Shape) (e : Refusal) (sent : List Sending) (y : Client) → ClientReads x h a (Err e) sent y → y ≡ x
@@ -105,16 +105,15 @@ state-issued x v mid armed board ts t asked q y s o e new due f =
           (λ k w. issued-back x y q k r table w);
     }
 
--- a give-up leaves which board the seat is of
-pub given_board : (v w : CallerView) (t : Ticket) (given : Option Outcome) → HasGivenUp v t given w → w.board ≡ v.board
-given_board v w t None g = ⊎_elim
-    (λ (e : IsOutside v t w). ap (λ (z : CallerView). z.board) e.1)
-    (λ r. ⊎_elim (λ e. ap (λ (z : CallerView). z.board) e.0) (λ e. ap (λ (z : CallerView). z.board) e.2) r)
-    g
-given_board v w t (Some o) g = ap (λ (z : CallerView). z.board) g.1
-
 -- no cell could be armed
 pub issued-none : (old : StateView) (asked : Request) (e : Refusal) (new : StateView) (r : Result (Handle × Ticket) Refusal) → IsErrAnd r (λ (f : Refusal). f ≡ e) → new.tickets ≡ old.tickets → new.core ≡ old.core → HasArmedOne old.seat (Err e) new.seat → new.own ≡ old.own
     → HasIssuedUnderLock old asked r new
 issued-none old asked e new (Ok h) is tickets core none own = absurd is
-issued-none old asked e new (Err f) is tickets core none own = (tickets, core, inl (subst (λ (x : Refusal). HasArmedOne old.seat (Err x) new.seat) (sym is) none, own))
+issued-none old asked e new (Err f) is tickets core none own = (tickets, core, own, inl (subst (λ (x : Refusal). HasArmedOne old.seat (Err x) new.seat) (sym is) none))
+
+-- the core refused, and the ticket was taken back
+pub issued-undone : (old : StateView) (asked : Request) (e : Refusal) (new : StateView) (r : Result (Handle × Ticket) Refusal) (t : Ticket) (armed : CoreView) → IsErrAnd r (λ (f : Refusal). f ≡ e) → new.tickets ≡ old.tickets → new.own ≡ old.own → HasArmedOne old.seat (Ok t) armed → HasIssued old.core asked (Err e) new.core → HasTakenBack armed t new.seat
+    → HasIssuedUnderLock old asked r new
+issued-undone old asked e new (Ok h) t armed is tickets own arms refused back = absurd is
+issued-undone old asked e new (Err f) t armed is tickets own arms refused back =
+    (tickets, issued-refused old.core asked e new.core refused, own, inr (t, armed, arms, subst (λ (x : Refusal). HasIssued old.core asked (Err x) new.core) (sym is) refused, back))

@@ -7,8 +7,8 @@ use Rattle.ca_board.specs.declared.ticket.Ticket.{Ticket}
 use Rattle.ca_board.specs.declared.ticket.Filled.{Filled}
 use Rattle.ca_board.specs.declared.ticket.Filled.TheVariants.{Stored, GivenUp}
 use Rattle.ca_board.specs.History.{ticket, Has, IsUnfilled}
-use Rattle.ca_board.specs.Views.{CoreView, IsDue, HasArmed, HasFilled, HasRecycled, with_arm, with_fill, with_refusal}
-use Rattle.ca_board.proofs.Outstanding.{due_filled}
+use Rattle.ca_board.specs.Views.{CoreView, IsDue, HasArmed, HasFilled, HasRecycled, HasTakenBack, with_arm, with_fill, with_refusal}
+use Rattle.ca_board.proofs.Outstanding.{due_filled, due_taken_back}
 use Rattle.ca_board.proofs.Stock.{has_snoc}
 use Rattle.ca_dbr.specs.declared.value.Outcome.{Outcome}
 use Rattle.std.specs.Prelude.{Result}
@@ -122,10 +122,10 @@ awaited_kept v w ts asked a k = record { each = λ q h. let e = a.each q h in (e
 pub awaited_recycled : (v w : CoreView) (ts : List Ticket) (asked : Handle → Type 0) → OnlyRecycled v w → AreAwaited v ts asked → AreAwaited w ts asked
 awaited_recycled v w ts asked o a = awaited_kept v w ts asked a (λ u d. due_recycled v w u o d)
 
--- a cell was armed and freed again, and the core refused
-pub awaited_refused : (v mid armed w : CoreView) (ts : List Ticket) (asked : Handle → Type 0) (t : Ticket) → AreAwaited v ts asked → OnlyRecycled v mid → armed ≡ with_arm mid t → OnlyRecycled armed w → AreAwaited w ts asked
-awaited_refused v mid armed w ts asked t a o e r =
-    awaited_kept v w ts asked a (λ u d. due_recycled armed w u r (due_armed mid armed t u e (due_recycled v mid u o d)))
+-- a ticket that was never armed was armed and taken back, and the core refused
+pub awaited_refused : (v mid armed w : CoreView) (ts : List Ticket) (asked : Handle → Type 0) (t : Ticket) → AreAwaited v ts asked → OnlyRecycled v mid → armed ≡ with_arm mid t → ¬ (Has mid.arms t) → HasTakenBack armed t w → AreAwaited w ts asked
+awaited_refused v mid armed w ts asked t a o e new back = awaited_kept v w ts asked a
+    (λ u d. let due = due_recycled v mid u o d in due_taken_back armed w t u back (due_armed mid armed t u e due) (λ same. new (subst (Has mid.arms) (sym same) due.0)))
 
 -- ---- a new request
 

@@ -14,8 +14,8 @@ use Rattle.ca_model.specs.Answers.{Completed, Notice}
 use Rattle.ca_model.specs.Client.{Client}
 use Rattle.ca_model.specs.Placed.{IsPlaced}
 
--- What the lock keeps: the client, the core's seat at the board, the table of tickets, by the indices of requests, and the caller's seat by which
--- tickets of refused requests are given up.
+-- What the lock keeps: the client, the core's seat at the board, the table of tickets, by the indices of requests, and the seat of the caller from
+-- which others are made.
 pub record StateView : Type 0 where
   pub core : Client
   pub seat : CoreView

@@ -1,12 +1,12 @@
 -- Statement: what the functions that are lent the state under the lock do.
-use Rattle.std.specs.Prelude.{◌≡◌, ◌⊎◌, ℕ, zero, suc, ◌<◌, List, [], ◌∷◌, Option, Some, None, Result, Ok, Err, map, slice_set}
+use Rattle.std.specs.Prelude.{◌≡◌, ◌⊎◌, ℕ, zero, suc, ◌<◌, List, [], ◌∷◌, Some, None, Result, Ok, Err, map, slice_set}
 use Rattle.ca_text.specs.Limits.{board_cells}
 use Rattle.ca_text.specs.declared.refusal.Refusal.{Refusal}
 use Rattle.ca_text.specs.declared.refusal.Refusal.TheVariants.{OutOfMemory}
 use Rattle.ca_arena.specs.declared.handle.Handle.{Handle}
 use Rattle.ca_board.specs.declared.ticket.Ticket.{Ticket}
 use Rattle.ca_board.specs.History.{InUse}
-use Rattle.ca_board.specs.Views.{CoreView, HasArmed, HasGivenUp, HasRecycled, caller_start, core_start}
+use Rattle.ca_board.specs.Views.{CoreView, HasArmed, HasRecycled, HasTakenBack, caller_start, core_start}
 use Rattle.ca_dbr.specs.declared.value.Outcome.{Outcome}
 use Rattle.ca_dbr.specs.Elements.{elements}
 use Rattle.ca_model.specs.Answers.{Closing, Notice, Sending}
@@ -57,16 +57,16 @@ HasIssued old (request.Read h data_type count) result new =
 HasIssued old (request.Put h value) result new = (sent : List Sending) × ClientPuts old h (elements value) result sent new
 
 -- A request was made: a cell was armed, the core made its call, and the ticket is at the request's index. Or it was refused: as NoCell, since each cell
--- is in use, and the core was not asked; or by the core, which it left as it was, and the ticket was given up and its cell recycled.
+-- is in use, and the core was not asked; or by the core, which it left as it was, and the ticket was taken back: its cell is free again, unless its
+-- generation was the last.
 abbrev pub HasIssuedUnderLock : StateView → Request → Result (Handle × Ticket) Refusal → StateView → Type 0
 HasIssuedUnderLock old asked (Ok r) new =
     HasArmedOne old.seat (Ok r.1) new.seat × HasIssued old.core asked (Ok r.0) new.core
     × (new.tickets ≡ slice_set old.tickets r.0.index r.1) × (new.own ≡ old.own)
 HasIssuedUnderLock old asked (Err e) new =
-    (new.tickets ≡ old.tickets) × (new.core ≡ old.core)
-    × ((HasArmedOne old.seat (Err e) new.seat × (new.own ≡ old.own))
-    ⊎ ((t : Ticket) × (armed : CoreView) × (given : Option Outcome) × HasArmedOne old.seat (Ok t) armed × HasIssued old.core asked (Err e) new.core
-    × HasGivenUp old.own t given new.own × Recycles armed t.cell new.seat))
+    (new.tickets ≡ old.tickets) × (new.core ≡ old.core) × (new.own ≡ old.own)
+    × (HasArmedOne old.seat (Err e) new.seat
+    ⊎ ((t : Ticket) × (armed : CoreView) × HasArmedOne old.seat (Ok t) armed × HasIssued old.core asked (Err e) new.core × HasTakenBack armed t new.seat))
 
 -- ---- step
 

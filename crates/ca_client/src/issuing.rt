@@ -1,4 +1,6 @@
-ghost use Rattle.std.specs.Prelude.{◌≡◌};
+ghost use Rattle.std.specs.Prelude.{◌≡◌, IfErr, IfOk};
+ghost use Rattle.ca_board.specs.History.{Has};
+ghost use Rattle.ca_board.specs.Views.{HasTakenBack, IsDue};
 ghost use Rattle.ca_client.specs.Calls.{HasArmedOne, HasIssued, HasIssuedUnderLock, RecyclesEach};
 
 use crate::ask::Request;
@@ -10,7 +12,7 @@ use ca_text::{BOARD_CELLS, Refusal};
 
 /// Arms a cell for a request, makes it, and keeps its ticket.
 ///
-/// Refused as NoCell if every cell is in use, and then as the core refuses it; then the ticket is given up and its cell recycled.
+/// Refused as NoCell if every cell is in use, and then as the core refuses it; then the ticket is taken back, and its cell is free again.
 pub fn issue_under_lock(
     state: &mut ClientState,
     request: &Request,
@@ -24,14 +26,7 @@ pub fn issue_under_lock(
         own,
     } = state;
     let ticket = arm_one(own.board(), seat)?;
-    let handle = match issue(core, request) {
-        Ok(handle) => handle,
-        Err(refusal) => {
-            own.give_up(ticket);
-            own.board().recycle(seat, ticket.cell);
-            return Err(refusal);
-        }
-    };
+    let handle = issue_or_take_back(core, own.board(), seat, ticket, request)?;
     tickets[usize::from(handle.index)] = ticket;
     Ok((handle, ticket))
 }
@@ -46,6 +41,30 @@ fn arm_one(board: &Board, seat: &mut CoreSeat) -> Result<Ticket, Refusal>
         Err(_) => {
             recycle_all(board, seat);
             board.arm(seat)
+        }
+    }
+}
+
+// Makes the core's call. Where it refuses, the ticket is taken back.
+fn issue_or_take_back(
+    core: &mut ClientCore,
+    board: &Board,
+    seat: &mut CoreSeat,
+    ticket: Ticket,
+    request: &Request,
+) -> Result<Handle, Refusal>
+    requires board { seat.old.board ≡ board.now }
+    requires due { IsDue seat.old ticket }
+    requires kept { ¬ (Has seat.old.recycles ticket) }
+    ensures issued { HasIssued core.old request.now result core.new }
+    ensures ok { IfOk result (λ h. seat.new ≡ seat.old) }
+    ensures err { IfErr result (λ e. HasTakenBack seat.old ticket seat.new) }
+{
+    match issue(core, request) {
+        Ok(handle) => Ok(handle),
+        Err(refusal) => {
+            board.take_back(seat, ticket);
+            Err(refusal)
         }
     }
 }

@@ -18,8 +18,7 @@ use std::alloc::{AllocError, Global};
 use std::marker::Model;
 use std::sync::Arc;
 
-/// What a client's lock keeps: the core and its seat at the board, the ticket of each request that waits, and the caller that gives up the ticket of a request
-/// that was refused.
+/// What a client's lock keeps: the core and its seat at the board, the ticket of each request that waits, and the caller from which others are made.
 ///
 /// Each request of the core that waits has a ticket. So the core is lent to be read, and its calls that complete no request are here.
 #[derive(Drop)]

@@ -1,6 +1,6 @@
 use Rattle.std.proofs.Common.{◌≡◌, arith, refl, sym, ap, ◌∙◌, subst, ℕ, ◌<◌, ◌+◌, ◌*◌}
 use Rattle.ca_text.specs.Limits.{board_cells}
-use Rattle.ca_board.specs.History.{IsNext, IsStock, InUse}
+use Rattle.ca_board.specs.History.{Has, IsNext, IsStock, InUse}
 use Rattle.ca_board.specs.Views.{CoreView, with_arm, IsDue}
 use Rattle.ca_board.proofs.After.{core_sound, core_seen, inside_snoc, armed_after}
 use Rattle.ca_board.proofs.Stock.{armed_stock, none_free, nothing_left, last_next, has_last}
@@ -30,4 +30,5 @@ returns c = let one : c.word-waiting.result ≡ 8 * c.in-Some.ticket.generation 
       seen ∙ ap (λ (v : CoreView). with_arm v c.in-Some.ticket) c.core.view_is,
       subst (λ (v : CoreView). IsNext v.arms v.recycles c.in-Some.ticket.cell c.in-Some.ticket.generation) c.core.view_is n.1,
       subst (λ (v : CoreView). IsDue v c.in-Some.ticket) (sym seen) (has_last _ c.in-Some.ticket, t.0.0, t.0.1),
+      subst (λ (v : CoreView). ¬ (Has v.recycles c.in-Some.ticket)) (sym seen) t.0.2,
     )
