@@ -3,7 +3,7 @@ ghost use Rattle.std.specs.Option.{option_copied_mut};
 ghost use Rattle.std.specs.Borrow.{sem};
 ghost use Rattle.ca_text.specs.Limits.{arena_slots, last_generation};
 ghost use Rattle.ca_arena.specs.Sound.{IsSound};
-ghost use Rattle.ca_arena.specs.Arena.{empty, find, live_count, free_slots, IsLive, Inserts, InsertsAt, Removes, IsFresh, IsFirstFrom, IsHandleAt, InsertsAll, InsertsEach, TellsAfter, handle_after, next_handle, walk_start, place_at};
+ghost use Rattle.ca_arena.specs.Arena.{empty, find, live_count, free_slots, IsLive, Inserts, InsertsAt, Removes, IsFresh, IsFirstFrom, IsHandleAt, Contents, InsertsAll, InsertsEach, TellsAfter, handle_after, next_handle, walk_start, place_at};
 
 use crate::blocks::Blocks;
 use crate::handle::Handle;
@@ -92,27 +92,7 @@ impl<T> Arena<T> {
         ensures { result
             ≡ (if free_slots self.now == 0 then None else Some (next_handle self.now)) }
     {
-        if self.free_slots() == 0 {
-            return None;
-        }
-        Some(self.next_handle())
-    }
-
-    fn next_handle(&self) -> Handle
-        requires { 0 < free_slots self.now }
-        ensures { result ≡ next_handle self.now }
-    {
-        if self.freed == 0 {
-            return Handle {
-                index: self.given() as u16,
-                generation: 1,
-            };
-        }
-        let index = self.first_freed;
-        Handle {
-            index: index as u16,
-            generation: self.generation(index) + 1,
-        }
+        self.handle_after(0, self.first_freed)
     }
 
     /// The handle that `insert` gives once these values are inserted under their handles. None if no index is free then.
@@ -302,8 +282,7 @@ impl<T> Arena<T> {
     pub fn insert_all(&mut self, values: Vec<(Handle, T)>) -> Result<(), Vec<(Handle, T)>>
     where
         T: Drop,
-        ensures inserts { InsertsAll self.old values result self.new }
-        ensures sound { IsSound self.new }
+        ensures { InsertsAll self.old values result self.new }
     {
         if values.is_empty() {
             return Ok(());
@@ -320,10 +299,10 @@ impl<T> Arena<T> {
         T: Drop,
         requires some { values.items ≢ [] }
         requires next { (after : Contents T) × InsertsEach self.old values.items after }
-        ensures inserts { InsertsAll self.old values result self.new }
-        ensures sound { IsSound self.new }
+        ensures { InsertsAll self.old values result self.new }
     {
-        if self.slots.make_room(values.len()).is_err() {
+        let new = values.len().saturating_sub(self.freed);
+        if self.slots.make_room(new).is_err() {
             return Err(values);
         }
         for (handle, value) in values {
@@ -333,9 +312,9 @@ impl<T> Arena<T> {
                     value,
                 });
             } else {
-                self.freed -= 1;
                 let slot = self.slots.item_mut(self.first_freed);
                 self.first_freed = slot.fill(handle.generation, value);
+                self.freed -= 1;
             }
         }
         Ok(())
