@@ -6,3 +6,5 @@ mod Slots
 pub mod Stale
 mod Stored
 mod Vacant
+mod Ahead
+mod Filling

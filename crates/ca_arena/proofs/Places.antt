@@ -1,5 +1,5 @@
 -- What stands at an index of an arena, before and after each change.
-use Rattle.std.proofs.Common.{◌≡◌, ◌≢◌, ℕ, ◌+◌, ◌-◌, ◌<◌, ◌≤◌, Bool, true, false, List, [], ◌∷◌, ◌++◌, length, set, Option, Some, None, is_some, IsSome, cond, eqb, refl, sym, ap, ◌∙◌, inl, inr, arith, reverse, length-append, length-set, lit≤}
+use Rattle.std.proofs.Common.{◌≡◌, ◌≢◌, ℕ, ◌+◌, ◌<◌, ◌≤◌, Bool, true, false, List, [], ◌∷◌, ◌++◌, length, set, Option, Some, None, is_some, IsSome, cond, eqb, refl, sym, ap, ◌∙◌, inl, inr, arith, reverse, length-append, length-set, lit≤}
 use Rattle.std.specs.List.{AllByRecursion}
 use Rattle.std.proofs.lemmas.Bool.{eqb-true, eqb-false, cases_eq, cases_lt}
 use Rattle.std.proofs.lemmas.List.{get_or-set_same, get_or-set_other, get_or_past, get_or_push, get_or_append_left, reverse-append, length_push}
@@ -240,63 +240,3 @@ module _ {T : Type 0} where
 
       is_last : (generation : ℕ) → eqb generation last_generation ≡ true → last_generation ≤ generation
       is_last generation same = let equal = eqb-true generation last_generation same in omega arith
-
-  -- ---- as before a value was inserted
-
-  -- a place with a value after the others is none of the free ones
-  IsFree-shorter : (given : List (Place T)) (place : Place T) (value : T) (k : ℕ) → place.value ≡ Some value → IsFree (given ++ place ∷ []) k → IsFree given k
-  IsFree-shorter given place value k filled free =
-      elim (cases_lt k (length given)) [
-        | inl within ↦
-            let same : place_at (given ++ place ∷ []) k ≡ place_at given k = get_or_append_left given (place ∷ []) blank k within in
-            record { within = within; vacant = rw same at free.vacant; lasting = rw same at free.lasting }
-        | inr beyond ↦
-            let last : length given ≡ k = omega (arith, free.within, length_push given place) in
-            let there : (place_at (given ++ place ∷ []) k).value ≡ place.value = ap (λ (p : Place T). p.value) (get_or_push given place blank k last) in
-            let vacant = free.vacant in
-            absurd (cc)
-      ]
-
-  IsFree-longer : (given : List (Place T)) (place : Place T) (k : ℕ) → IsFree given k → IsFree (given ++ place ∷ []) k
-  IsFree-longer given place k free =
-      let same : place_at (given ++ place ∷ []) k ≡ place_at given k = get_or_append_left given (place ∷ []) blank k free.within in
-      record {
-        within = omega (arith, free.within, length_push given place);
-        vacant = rw same free.vacant;
-        lasting = rw same free.lasting;
-      }
-
-  AreFree-shorter : (given : List (Place T)) (place : Place T) (value : T) (freed : List ℕ) → place.value ≡ Some value → AreFree (given ++ place ∷ []) freed → AreFree given freed
-  AreFree-shorter given place value [] filled free = tt
-  AreFree-shorter given place value (first ∷ rest) filled free =
-      (IsFree-shorter given place value first filled free.0, free.1, AreFree-shorter given place value rest filled free.2)
-
-  fits-shorter : (given : List (Place T)) (place : Place T) → ((k : ℕ) → (place_at (given ++ place ∷ []) k).generation ≤ last_generation) → (k : ℕ) → (place_at given k).generation ≤ last_generation
-  fits-shorter given place all k =
-      elim (cases_lt k (length given)) [
-        | inl within ↦
-            let same : place_at (given ++ place ∷ []) k ≡ place_at given k = get_or_append_left given (place ∷ []) blank k within in
-            rw same at (all k)
-        | inr past ↦
-            let none : (place_at given k).generation ≡ 0 = ap (λ (p : Place T). p.generation) (get_or_past given k blank past) in
-            rw none (lit≤ tt)
-      ]
-
-  -- the value at the index that was given first is not there
-  pub IsSound-shorter : (given : List (Place T)) (place : Place T) (value : T) (freed : List ℕ) → place.value ≡ Some value → IsSound (record { given = given ++ place ∷ []; freed = freed }) → IsSound (record { given = given; freed = freed })
-  IsSound-shorter given place value freed filled sound =
-      let longer = length_push given place in
-      let counted = sum_by_push one_if given place in
-      let one : one_if place ≡ 1 = ap (λ o. cond (is_some o) 1 0) filled in
-      record {
-        limit = omega (arith, sound.limit);
-        fits = fits-shorter given place sound.fits;
-        free = AreFree-shorter given place value freed filled sound.free;
-        listed = λ k free. sound.listed k (IsFree-longer given place k free);
-        counted = omega (arith, sound.counted);
-      }
-
-  -- the value at another index is not there, and its generation is the one before
-  pub IsSound-lowered : (given : List (Place T)) (freed : List ℕ) (index generation : ℕ) (value : T) → generation ≤ last_generation → (place_at given index).value ≡ Some value → IsSound (record { given = given; freed = freed }) → IsSound (record { given = set given index (record { generation = generation - 1; value = None }); freed = index ∷ freed })
-  IsSound-lowered given freed index generation value below found sound =
-      IsSound-vacated given freed index (generation - 1) value false (omega arith) (λ still. omega arith) (λ ended. absurd (cc)) found sound

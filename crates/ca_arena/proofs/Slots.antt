@@ -1,28 +1,20 @@
 -- What the fields of an arena stand for, before and after each change.
-use Rattle.std.proofs.Common.{◌≡◌, ◌≢◌, ℕ, zero, suc, ◌+◌, ◌-◌, ◌<◌, ◌≤◌, Bool, true, false, List, [], ◌∷◌, ◌++◌, length, map, set, slice_get, Option, Some, None, IsSome, is_some, cond, eqb, refl, sym, ap, ◌∙◌, subst, arith, length-set, take}
+use Rattle.std.proofs.Common.{◌≡◌, ◌≢◌, ℕ, zero, suc, ◌+◌, ◌<◌, Bool, true, false, List, [], ◌∷◌, ◌++◌, length, map, set, slice_get, slice_index_or, Option, Some, None, IsSome, is_some, cond, eqb, refl, sym, ap, ◌∙◌, subst, arith, length-set}
 use Rattle.std.specs.List.{AllByRecursion}
-use Rattle.std.proofs.lemmas.List.{length_push, length-map, map-set, map_push, get_or_past, get_or_push}
-use Rattle.std.proofs.lemmas.Bool.{eq-eqb, ne_eqb}
+use Rattle.std.proofs.lemmas.List.{length_push, length-map, map-set, map_push, get_or_past}
 use Rattle.std.proofs.lemmas.List.Sums.{sum_by_push}
 use Rattle.std.proofs.lemmas.Option.{slice_get_within}
 use Rattle.ca_arena.specs.declared.handle.Handle.{Handle}
 use Rattle.ca_arena.specs.declared.slot.Slot.{Slot}
 use Rattle.ca_arena.specs.declared.slot.Slot.TheVariants.{Filled, Vacant}
 use Rattle.ca_text.specs.Limits.{arena_slots, last_generation}
-use Rattle.ca_arena.specs.Arena.{Place, place_at, find, value_for, IsFresh, IsLive, blank, free_slots, next_handle, inserted, inserted_from, live_count, removed, taken_back, written}
+use Rattle.ca_arena.specs.Arena.{Place, place_at, find, value_for, IsFresh, IsLive, blank, free_slots, next_handle, inserted, inserted_from, live_count, removed, written}
 use Rattle.ca_arena.specs.Slot.{link_of, place_of}
 use Rattle.ca_arena.specs.Sound.{IsSound, IsFree}
 use Rattle.ca_arena.specs.Layout.{contents_of, freed_end, freed_from, link_read, IsLaidOut}
-use Rattle.ca_arena.proofs.Places.{one_if, value_for-some, within_from_value, live_count-set, live_value, apart_from_value, IsSound-appended, IsSound-filled, IsSound-lowered, IsSound-removed, IsSound-shorter, IsSound-written}
+use Rattle.ca_arena.proofs.Places.{one_if, value_for-some, within_from_value, live_count-set, live_value, apart_from_value, IsSound-appended, IsSound-filled, IsSound-removed, IsSound-written}
 
--- all but the last of a list
-take_push : {X : Type 0} (xs : List X) (x : X) (n : ℕ) → n ≡ length xs → take n (xs ++ x ∷ []) ≡ xs
-take_push [] x zero at = refl
-take_push [] x (suc n) at = absurd (omega arith)
-take_push (y ∷ xs) x zero at = absurd (omega arith)
-take_push (y ∷ xs) x (suc n) at = ap (λ rest. y ∷ rest) (take_push xs x n (omega arith))
-
--- what stands at an index of a list that was changed at one index, or has one more at its end
+-- what stands at an index of a list that was changed at one index
 module _ {X : Type 0} where
   get-set_same : (xs : List X) (index : ℕ) (x : X) → index < length xs → slice_get (set xs index x) index ≡ Some x
   get-set_same [] index x within = absurd (omega arith)
@@ -35,12 +27,6 @@ module _ {X : Type 0} where
   get-set_other (y ∷ xs) zero (suc k) x other = refl
   get-set_other (y ∷ xs) (suc index) zero x other = refl
   get-set_other (y ∷ xs) (suc index) (suc k) x other = get-set_other xs index k x (λ same. other (ap suc same))
-
-  get_push_other : (xs : List X) (x : X) (k : ℕ) → k ≢ length xs → slice_get (xs ++ x ∷ []) k ≡ slice_get xs k
-  get_push_other [] x zero other = absurd (other refl)
-  get_push_other [] x (suc k) other = refl
-  get_push_other (y ∷ xs) x zero other = refl
-  get_push_other (y ∷ xs) x (suc k) other = get_push_other xs x k (λ same. other (ap suc same))
 
 module _ {T : Type 0} where
   -- a place with this generation and this value
@@ -83,6 +69,18 @@ module _ {T : Type 0} where
   length-freed_from slots zero index = refl
   length-freed_from slots (suc count) index = ap suc (length-freed_from slots count (link_read (slice_get slots index)))
 
+  -- the first of them
+  pub first-named : (slots : List (Slot T)) (count first : ℕ) → 0 < length (freed_from slots count first) → first ≡ slice_index_or (freed_from slots count first) 0 0
+  first-named slots zero first some = absurd (omega (arith, some))
+  first-named slots (suc count) first some = refl
+
+  -- the slot of each names the next one
+  pub chained : (slots : List (Slot T)) (count first place : ℕ) → suc place < count → slice_index_or (freed_from slots count first) (suc place) 0 ≡ link_read (slice_get slots (slice_index_or (freed_from slots count first) place 0))
+  chained slots zero first place within = absurd (omega (arith, within))
+  chained slots (suc zero) first place within = absurd (omega (arith, within))
+  chained slots (suc (suc count)) first zero within = refl
+  chained slots (suc (suc count)) first (suc place) within = chained slots (suc count) (link_read (slice_get slots first)) place (omega (arith, within))
+
   -- a change of a slot that is none of theirs
   freed_from-set : (slots : List (Slot T)) (count first index : ℕ) (slot : Slot T) → AllByRecursion (λ other. other ≢ index) (freed_from slots count first) → freed_from (set slots index slot) count first ≡ freed_from slots count first
   freed_from-set slots zero first index slot apart = refl
@@ -91,14 +89,6 @@ module _ {T : Type 0} where
       ap (λ (o : Option (Slot T)). first ∷ freed_from (set slots index slot) count (link_read o)) same
       ∙ ap (λ (rest : List ℕ). first ∷ rest) (freed_from-set slots count (link_read (slice_get slots first)) index slot apart.1)
 
-  -- a slot after the others, which is none of theirs
-  freed_from-shorter : (slots : List (Slot T)) (slot : Slot T) (count first : ℕ) → AllByRecursion (λ other. other ≢ length slots) (freed_from (slots ++ slot ∷ []) count first) → freed_from slots count first ≡ freed_from (slots ++ slot ∷ []) count first
-  freed_from-shorter slots slot zero first apart = refl
-  freed_from-shorter slots slot (suc count) first apart =
-      let same : slice_get (slots ++ slot ∷ []) first ≡ slice_get slots first = get_push_other slots slot first apart.0 in
-      ap (λ (o : Option (Slot T)). first ∷ freed_from slots count (link_read o)) (sym same)
-      ∙ ap (λ (rest : List ℕ). first ∷ rest) (freed_from-shorter slots slot count (link_read (slice_get (slots ++ slot ∷ []) first)) apart.1)
-
   -- the same of what comes after the last of them
   freed_end-set : (slots : List (Slot T)) (count first index : ℕ) (slot : Slot T) → AllByRecursion (λ other. other ≢ index) (freed_from slots count first) → freed_end (set slots index slot) count first ≡ freed_end slots count first
   freed_end-set slots zero first index slot apart = refl
@@ -106,13 +96,6 @@ module _ {T : Type 0} where
       let same : slice_get (set slots index slot) first ≡ slice_get slots first = get-set_other slots index first slot apart.0 in
       ap (λ (o : Option (Slot T)). freed_end (set slots index slot) count (link_read o)) same
       ∙ freed_end-set slots count (link_read (slice_get slots first)) index slot apart.1
-
-  freed_end-shorter : (slots : List (Slot T)) (slot : Slot T) (count first : ℕ) → AllByRecursion (λ other. other ≢ length slots) (freed_from (slots ++ slot ∷ []) count first) → freed_end slots count first ≡ freed_end (slots ++ slot ∷ []) count first
-  freed_end-shorter slots slot zero first apart = refl
-  freed_end-shorter slots slot (suc count) first apart =
-      let same : slice_get (slots ++ slot ∷ []) first ≡ slice_get slots first = get_push_other slots slot first apart.0 in
-      ap (λ (o : Option (Slot T)). freed_end slots count (link_read o)) (sym same)
-      ∙ freed_end-shorter slots slot count (link_read (slice_get (slots ++ slot ∷ []) first)) apart.1
 
   freed_end-more : (slots : List (Slot T)) (count more first index generation : ℕ) → index < length slots → more ≡ suc count → AllByRecursion (λ other. other ≢ index) (freed_from slots count first) → freed_end (set slots index (Vacant generation first)) more index ≡ freed_end slots count first
   freed_end-more slots count more first index generation within one_more apart =
@@ -370,69 +353,4 @@ module _ {T : Type 0} where
           ended = freed_end-set slots freed first handle.index over (live_apart slots freed first retired handle.index value laid_out known.there) ∙ laid_out.ended;
         };
         contents = contents;
-      }
-
-  -- ---- as before a value was inserted
-
-  -- what taking the last slot away leaves
-  pub record Shortened (slots before : List (Slot T)) (freed first retired : ℕ) (handle : Handle) : Type 0 where
-    pub laid_out : IsLaidOut slots freed first retired
-    pub contents : contents_of slots freed first ≡ taken_back (contents_of before freed first) handle handle.index
-
-  shortens_by : (rest : List (Slot T)) (freed first retired : ℕ) (handle : Handle) (slot : Slot T) (value : T) → IsLaidOut (rest ++ slot ∷ []) freed first retired → handle.index ≡ length rest → (place_of slot).value ≡ Some value → Shortened rest (rest ++ slot ∷ []) freed first retired handle
-  shortens_by rest freed first retired handle slot value laid_out at had =
-      let slots = rest ++ slot ∷ [] in
-      let mapped : places slots ≡ places rest ++ place_of slot ∷ [] = map_push place_of rest slot in
-      let long = length-map rest place_of in
-      let longer = length_push rest slot in
-      let read : (place_at (places slots) (length rest)).value ≡ Some value =
-      ap (λ (given : List (Place T)). (place_at given (length rest)).value) mapped ∙ (ap (λ (p : Place T). p.value) (get_or_push (places rest) (place_of slot) blank (length rest) long) ∙ had) in
-      let chain : freed_from rest freed first ≡ freed_from slots freed first = freed_from-shorter rest slot freed first (live_apart slots freed first retired (length rest) value laid_out read) in
-      let sound : IsSound (record { given = places rest ++ place_of slot ∷ []; freed = freed_from slots freed first }) =
-      subst (λ (given : List (Place T)). IsSound (record { given = given; freed = freed_from slots freed first })) mapped laid_out.sound in
-      let shorter = IsSound-shorter (places rest) (place_of slot) value (freed_from slots freed first) had sound in
-      let taken : places rest ≡ take handle.index (places slots) =
-      sym (ap (take handle.index) mapped ∙ take_push (places rest) (place_of slot) handle.index (at ∙ sym long)) in
-      let after : contents_of rest freed first ≡ record { given = take handle.index (places slots); freed = freed_from slots freed first } = λ i. record { given = taken i; freed = chain i } in
-      let counted = sum_by_push one_if (places rest) (place_of slot) in
-      let same : live_count (places slots) ≡ live_count (places rest ++ place_of slot ∷ []) = ap live_count mapped in
-      let one : one_if (place_of slot) ≡ 1 = ap (λ o. cond (is_some o) 1 0) had in
-      let before = laid_out.counted in
-      record {
-        laid_out = record {
-          sound = subst (λ (indices : List ℕ). IsSound (record { given = places rest; freed = indices })) (sym chain) shorter;
-          counted = omega arith;
-          ended = freed_end-shorter rest slot freed first (live_apart slots freed first retired (length rest) value laid_out read) ∙ laid_out.ended;
-        };
-        contents = after ∙ rw (eq-eqb handle.index handle.index refl) refl;
-      }
-
-  pub shortens : (slots rest : List (Slot T)) (freed first retired : ℕ) (handle : Handle) (slot : Slot T) (value : T) → IsLaidOut slots freed first retired → slots ≡ rest ++ slot ∷ [] → handle.index ≡ length rest → (place_of slot).value ≡ Some value → Shortened rest slots freed first retired handle
-  shortens slots rest freed first retired handle slot value laid_out split at had =
-      subst (λ (all : List (Slot T)). IsLaidOut all freed first retired → Shortened rest all freed first retired handle) (sym split)
-      (λ laid. shortens_by rest freed first retired handle slot value laid at had) laid_out
-
-  -- what emptying the slot of another live handle leaves, as before it was filled
-  pub record Lowered (slots : List (Slot T)) (freed first retired more : ℕ) (handle : Handle) (n generation : ℕ) : Type 0 where
-    pub laid_out : IsLaidOut (set slots handle.index (Vacant generation first)) more handle.index retired
-    pub contents : contents_of (set slots handle.index (Vacant generation first)) more handle.index ≡ taken_back (contents_of slots freed first) handle n
-
-  pub lowers : (slots : List (Slot T)) (freed first retired more : ℕ) (handle : Handle) (slot : Slot T) (n generation : ℕ) (value : T) → IsLaidOut slots freed first retired → IsLive (contents_of slots freed first) handle → slice_get slots handle.index ≡ Some slot → (place_of slot).value ≡ Some value → generation ≡ handle.generation - 1 → handle.index ≢ n → more ≡ suc freed → Lowered slots freed first retired more handle n generation
-  lowers slots freed first retired more handle slot n generation value laid_out alive read had lower other one_more =
-      let known = read_live slots freed first handle slot value alive read had in
-      let new : Slot T = Vacant generation first in
-      let chain = freed_from-more slots freed more first handle.index generation known.within one_more (live_apart slots freed first retired handle.index value laid_out known.there) in
-      let mapped : places (set slots handle.index new) ≡ set (places slots) handle.index (empty_at generation) = map-set place_of slots handle.index new in
-      let emptied : places (set slots handle.index new) ≡ set (places slots) handle.index (empty_at (handle.generation - 1)) = mapped ∙ ap (λ (k : ℕ). set (places slots) handle.index (empty_at k)) lower in
-      let after : contents_of (set slots handle.index new) more handle.index ≡ record { given = set (places slots) handle.index (empty_at (handle.generation - 1)); freed = handle.index ∷ freed_from slots freed first } = λ i. record { given = emptied i; freed = chain i } in
-      let below : handle.generation ≤ last_generation = omega (arith, known.generation, laid_out.sound.fits handle.index) in
-      let fewer = fewer_values slots handle.index generation first value known.within known.there in
-      let before = laid_out.counted in
-      record {
-        laid_out = record {
-          sound = subst IsSound (sym after) (IsSound-lowered (places slots) (freed_from slots freed first) handle.index handle.generation value below known.there laid_out.sound);
-          counted = omega (arith, length-set slots handle.index new);
-          ended = freed_end-more slots freed more first handle.index generation known.within one_more (live_apart slots freed first retired handle.index value laid_out known.there) ∙ laid_out.ended;
-        };
-        contents = after ∙ rw (ne_eqb handle.index n other) refl;
       }

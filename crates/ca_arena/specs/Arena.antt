@@ -1,6 +1,7 @@
 -- What an arena is: a finite map from handles to values, which remembers for each index the generation given last.
-use Rattle.std.specs.Prelude.{ℕ, ◌≡◌, ◌+◌, ◌-◌, ◌<◌, ◌≤◌, ◌==◌, if◌then◌else◌, List, [], ◌∷◌, ◌++◌, length, Option, Some, None, IsSome, is_some, count_by, slice_index_or, slice_set, take, Result, Ok, Err, refl}
+use Rattle.std.specs.Prelude.{ℕ, ◌≡◌, ◌≢◌, ◌+◌, ◌-◌, ◌<◌, ◌≤◌, ◌==◌, if◌then◌else◌, List, [], ◌∷◌, ◌++◌, length, Option, Some, None, IsSome, is_some, count_by, slice_index_or, slice_set, drop, Result, Ok, Err, Vec, refl}
 use Rattle.std.specs.Coded.{Coded, code_by, coded×, coded_ℕ, coded_list, coded_option}
+use Rattle.std.specs.declared.alloc.Global.{Global}
 use Rattle.ca_text.specs.declared.refusal.Refusal.{Refusal}
 use Rattle.ca_text.specs.declared.refusal.Refusal.TheVariants.{OutOfMemory, ArenaFull, StaleHandle}
 use Rattle.ca_text.specs.Limits.{arena_slots}
@@ -99,6 +100,12 @@ module _ {T : Type 0} where
   abbrev pub inserted : Contents T → T → Contents T
   inserted a value = inserted_from a.given a.freed value
 
+  -- the handle that comes after n others
+  abbrev pub handle_after : Contents T → ℕ → Handle
+  handle_after a n =
+      let index = next_from (drop n a.freed) (length a.given + (n - length a.freed)) in
+      record { index = index; generation = last_at a index + 1 }
+
   -- the contents with another value under a handle that has one
   abbrev pub written : Contents T → Handle → T → Contents T
   written a handle value =
@@ -111,14 +118,6 @@ module _ {T : Type 0} where
     given = slice_set a.given handle.index (record { generation = handle.generation; value = None });
     freed = if handle.generation == last_generation then a.freed else handle.index ∷ a.freed;
   }
-
-  -- the contents as before this handle was given, which has a value, when n indices had been given: the last index is not given, another
-  -- is free, at the generation before
-  abbrev pub taken_back : Contents T → Handle → ℕ → Contents T
-  taken_back a handle n =
-      if handle.index == n
-      then record { given = take n a.given; freed = a.freed }
-      else record { given = slice_set a.given handle.index (record { generation = handle.generation - 1; value = None }); freed = handle.index ∷ a.freed }
 
   -- the handle was never given: its index has no value, and had a lesser generation last
   pub record IsFresh (a : Contents T) (handle : Handle) : Type 0 where
@@ -137,6 +136,21 @@ module _ {T : Type 0} where
   abbrev pub InsertsAt : Contents T → Handle → T → Result (Unit {0}) T → Contents T → Type 0
   InsertsAt old handle value (Ok _) new = Inserts old value (Ok handle) new
   InsertsAt old handle value (Err back) new = (back ≡ value) × (new ≡ old)
+
+  -- From old, these values were inserted one after another, each under its handle, and that left new.
+  abbrev pub InsertsEach : Contents T → List (Handle × T) → Contents T → Type 0
+  InsertsEach old [] new = new ≡ old
+  InsertsEach old (e ∷ es) new = (0 < free_slots old) × (e.0 ≡ next_handle old) × InsertsEach (inserted old e.1) es new
+
+  -- what is told of the handle that comes after these
+  abbrev pub TellsAfter : Contents T → List (Handle × T) → Result (Option Handle) Refusal → Type 0
+  TellsAfter a es (Ok o) = (b : Contents T) × InsertsEach a es b × (o ≡ (if free_slots b == 0 then None else Some (next_handle b)))
+  TellsAfter a es (Err _) = es ≢ []
+
+  -- From old, these values were inserted, each under its handle, with this answer, and left new: all, or none.
+  abbrev pub InsertsAll : Contents T → Vec (Handle × T) Global → Result (Unit {0}) (Vec (Handle × T) Global) → Contents T → Type 0
+  InsertsAll old values (Ok _) new = InsertsEach old values.items new
+  InsertsAll old values (Err back) new = (values.items ≢ []) × (back ≡ values) × (new ≡ old)
 
   -- From old, the value of this handle was removed, with this answer, and left new.
   abbrev pub Removes : Contents T → Handle → Result T Refusal → Contents T → Type 0

@@ -1,9 +1,9 @@
-ghost use Rattle.std.specs.Prelude.{◌≡◌, ◌+◌, ◌-◌, ◌<◌, ◌≤◌, ◌==◌, ◌↔◌, ℕ, IsTrue, IfOk, OnOk, Some, None, if◌then◌else◌, length, option_copied, is_some, []};
+ghost use Rattle.std.specs.Prelude.{◌≡◌, ◌≢◌, ◌+◌, ◌-◌, ◌<◌, ◌≤◌, ◌==◌, ◌↔◌, ℕ, IsTrue, IfOk, OnOk, Some, None, if◌then◌else◌, length, nat_lt, option_copied, is_some, slice_index_or, []};
 ghost use Rattle.std.specs.Option.{option_copied_mut};
 ghost use Rattle.std.specs.Borrow.{sem};
 ghost use Rattle.ca_text.specs.Limits.{arena_slots, last_generation};
 ghost use Rattle.ca_arena.specs.Sound.{IsSound};
-ghost use Rattle.ca_arena.specs.Arena.{empty, find, live_count, free_slots, IsLive, Inserts, InsertsAt, Removes, IsFresh, IsFirstFrom, IsHandleAt, next_handle, taken_back, walk_start, place_at};
+ghost use Rattle.ca_arena.specs.Arena.{empty, find, live_count, free_slots, IsLive, Inserts, InsertsAt, Removes, IsFresh, IsFirstFrom, IsHandleAt, Contents, InsertsAll, InsertsEach, TellsAfter, handle_after, next_handle, walk_start, place_at};
 
 use crate::blocks::Blocks;
 use crate::handle::Handle;
@@ -79,8 +79,8 @@ impl<T> Arena<T> {
         self.freed + (ARENA_SLOTS - self.given())
     }
 
-    // How many indices were given.
-    fn given(&self) -> usize
+    /// How many indices were given.
+    pub fn given(&self) -> usize
         ensures count { result ≡ length self.now.given }
         ensures few { result ≤ arena_slots }
     {
@@ -92,26 +92,59 @@ impl<T> Arena<T> {
         ensures { result
             ≡ (if free_slots self.now == 0 then None else Some (next_handle self.now)) }
     {
-        if self.free_slots() == 0 {
-            return None;
-        }
-        Some(self.next_handle())
+        self.handle_after(0, self.first_freed)
     }
 
-    fn next_handle(&self) -> Handle
-        requires { 0 < free_slots self.now }
-        ensures { result ≡ next_handle self.now }
+    /// The handle that `insert` gives once these values are inserted under their handles. None if no index is free then.
+    ///
+    /// It is refused where these handles are not those that come next.
+    pub fn vacant_after(&self, ahead: &[(Handle, T)]) -> Result<Option<Handle>, Refusal>
+        ensures { TellsAfter self.now ahead.now result }
     {
-        if self.freed == 0 {
-            return Handle {
-                index: self.given() as u16,
-                generation: 1,
+        let mut index = self.first_freed;
+        for place in 0..ahead.len() {
+            let Some(next) = self.handle_after(place, index) else {
+                return Err(Refusal::StaleHandle);
             };
+            if next != ahead[place].0 {
+                return Err(Refusal::StaleHandle);
+            }
+            index = self.freed_before(index);
         }
-        let index = self.first_freed;
-        Handle {
-            index: index as u16,
-            generation: self.generation(index) + 1,
+        Ok(self.handle_after(ahead.len(), index))
+    }
+
+    // The handle that comes after so many others. None if no index is free then. Where one that was given before is, it is this one.
+    fn handle_after(&self, count: usize, index: usize) -> Option<Handle>
+        requires { count < length self.now.freed → index ≡ slice_index_or self.now.freed count 0 }
+        ensures { result
+            ≡ (if nat_lt count (free_slots self.now) then Some (handle_after self.now count) else None) }
+    {
+        if count < self.freed {
+            return Some(Handle {
+                index: index as u16,
+                generation: self.generation(index) + 1,
+            });
+        }
+        let unused = count - self.freed;
+        if unused >= ARENA_SLOTS - self.given() {
+            return None;
+        }
+        Some(Handle {
+            index: (self.given() + unused) as u16,
+            generation: 1,
+        })
+    }
+
+    // The index that was freed before this one, if both are free.
+    fn freed_before(&self, index: usize) -> usize
+        ensures { (place : ℕ) → place + 1 < length self.now.freed
+            → index ≡ slice_index_or self.now.freed place 0
+            → result ≡ slice_index_or self.now.freed (place + 1) 0 }
+    {
+        match self.slots.get(index) {
+            Some(slot) => slot.next(),
+            None => 0,
         }
     }
 
@@ -242,6 +275,51 @@ impl<T> Arena<T> {
         }
     }
 
+    /// Puts these values under their handles, which `vacant_after` told, one after another: all, or none.
+    ///
+    /// They are refused, and handed back, where these handles are not those that come next, and where the room for them is missing. No
+    /// values are never refused.
+    pub fn insert_all(&mut self, values: Vec<(Handle, T)>) -> Result<(), Vec<(Handle, T)>>
+    where
+        T: Drop,
+        ensures { InsertsAll self.old values result self.new }
+    {
+        if values.is_empty() {
+            return Ok(());
+        }
+        if self.vacant_after(&values).is_err() {
+            return Err(values);
+        }
+        self.put_all(values)
+    }
+
+    // Puts these values under their handles, which are those that come next. It makes all room before it changes anything.
+    fn put_all(&mut self, values: Vec<(Handle, T)>) -> Result<(), Vec<(Handle, T)>>
+    where
+        T: Drop,
+        requires some { values.items ≢ [] }
+        requires next { (after : Contents T) × InsertsEach self.old values.items after }
+        ensures { InsertsAll self.old values result self.new }
+    {
+        let new = values.len().saturating_sub(self.freed);
+        if self.slots.make_room(new).is_err() {
+            return Err(values);
+        }
+        for (handle, value) in values {
+            if self.freed == 0 {
+                self.slots.push(Slot::Filled {
+                    generation: handle.generation,
+                    value,
+                });
+            } else {
+                let slot = self.slots.item_mut(self.first_freed);
+                self.first_freed = slot.fill(handle.generation, value);
+                self.freed -= 1;
+            }
+        }
+        Ok(())
+    }
+
     // `insert` at the first index that was never given. It makes all room before it changes anything.
     //
     // Inlined, it would make `insert` save registers also where an index is free again.
@@ -256,7 +334,7 @@ impl<T> Arena<T> {
         if index == ARENA_SLOTS {
             return Err((value, Refusal::ArenaFull));
         }
-        if self.slots.make_room().is_err() {
+        if self.slots.make_room(1).is_err() {
             return Err((value, Refusal::OutOfMemory));
         }
         self.slots.push(Slot::Filled {
@@ -288,40 +366,6 @@ impl<T> Arena<T> {
         self.freed += 1;
         self.first_freed = index;
         Ok(value)
-    }
-
-    /// Takes the value of this handle out as if it had not been inserted, when `given` indices had been given: the handle may be
-    /// given again. No memory is asked for.
-    pub fn take_back(&mut self, handle: Handle, given: usize) -> T
-        requires live { IsLive self.old handle }
-        requires last { handle.index ≡ given → given + 1 ≡ length self.old.given }
-        ensures value { find self.old handle ≡ Some result }
-        ensures after { self.new ≡ taken_back self.old handle given }
-        ensures sound { IsSound self.new }
-    {
-        let index = usize::from(handle.index);
-        if index == given {
-            return self.take_last(handle);
-        }
-        let slot = self.slots.item_mut(index);
-        let value = slot.vacate(handle.generation.saturating_sub(1), self.first_freed);
-        self.freed += 1;
-        self.first_freed = index;
-        value
-    }
-
-    // Takes the value at the last index out, as if that index had not been given.
-    fn take_last(&mut self, handle: Handle) -> T
-        requires live { IsLive self.old handle }
-        requires last { handle.index + 1 ≡ length self.old.given }
-        ensures value { find self.old handle ≡ Some result }
-        ensures after { self.new ≡ taken_back self.old handle handle.index }
-        ensures sound { IsSound self.new }
-    {
-        match self.slots.pop() {
-            Slot::Filled { value, .. } => value,
-            Slot::Vacant { .. } => unreachable!(),
-        }
     }
 
     fn is_live(&self, handle: Handle) -> bool

@@ -1,7 +1,8 @@
 //! Items by index, in blocks that never move.
-ghost use Rattle.std.specs.Prelude.{◌≡◌, ◌<◌, ◌≤◌, [], Some, OnOk, length, option_copied, slice_get};
+ghost use Rattle.std.specs.Prelude.{◌≡◌, ◌+◌, ◌<◌, ◌≤◌, [], Some, OnOk, length, option_copied, slice_get};
 ghost use Rattle.std.specs.Borrow.{sem};
 ghost use Rattle.ca_text.specs.Limits.{arena_slots};
+ghost use Rattle.ca_arena.specs.Block.{block_slots};
 ghost use Rattle.ca_arena.specs.Stored.{nothing, pushed};
 
 use crate::block::{BLOCK_SLOTS, Block};
@@ -92,15 +93,24 @@ impl<T> Blocks<T> {
         self.blocks[index / BLOCK_SLOTS].take_out(index % BLOCK_SLOTS)
     }
 
-    // Makes a block where each place is taken. It makes all room before it changes anything.
-    pub(crate) fn make_room(&mut self) -> Result<(), AllocError>
+    // Makes blocks until there is room for so many more items. It changes no item.
+    pub(crate) fn make_room(&mut self, more: usize) -> Result<(), AllocError>
+        requires { length self.old.items + more ≤ arena_slots }
         ensures items { self.new.items ≡ self.old.items }
-        ensures ok { OnOk result (length self.new.items < self.new.room) }
+        ensures ok { OnOk result (length self.new.items + more ≤ self.new.room) }
     {
-        let full = self.len / BLOCK_SLOTS;
-        if full < self.blocks.len() {
-            return Ok(());
+        let needed = (self.len + more).div_ceil(BLOCK_SLOTS);
+        for _block in self.blocks.len()..needed {
+            self.add_block()?;
         }
+        Ok(())
+    }
+
+    // Makes one more block. It makes all room before it changes anything.
+    fn add_block(&mut self) -> Result<(), AllocError>
+        ensures items { self.new.items ≡ self.old.items }
+        ensures ok { OnOk result (self.new.room ≡ self.old.room + block_slots) }
+    {
         if !may_hold::<T>(BLOCK_SLOTS) {
             return Err(AllocError);
         }

@@ -35,6 +35,16 @@ impl<T> Slot<T> {
         matches!(self, Slot::Filled { .. })
     }
 
+    // The index that was freed before, if there is no value.
+    pub(crate) fn next(&self) -> usize
+        ensures { result ≡ link_of self.now }
+    {
+        match self {
+            Slot::Vacant { next, .. } => *next,
+            Slot::Filled { .. } => 0,
+        }
+    }
+
     // The value for a handle of this generation.
     pub(crate) fn value_for(&self, wanted: u32) -> Option<&T>
         ensures { option_copied result ≡ value_for wanted (place_of self.now) }

@@ -60,7 +60,7 @@ impl ClientCore {
             ≡ found_sent self.now from reply.now) }
         ensures some { OnErr result (found_sent self.now from reply.now ≢ []) }
     {
-        let found = creation_by(self.alloc, &self.channels, &self.circuits, from, reply)?;
+        let found = creation_by(self.alloc, &self.channels, &self.circuits, &[], from, reply)?;
         let Some(creation) = found else {
             return Ok(Vec::new(self.alloc));
         };

@@ -1,8 +1,8 @@
 -- Working: parts of what a search reply does. No clause of a caller needs it.
-use Rattle.std.specs.Prelude.{ℕ, ◌≡◌, ◌++◌, ◌-◌, ◌==◌, ◌&&◌, Bool, false, List, [], ◌∷◌, Option, None, Some, Result, Ok, Err, find, if◌then◌else◌, is_some, length, option_and_then, option_map, take, ◌≢◌, ◌⊎◌}
+use Rattle.std.specs.Prelude.{ℕ, ◌≡◌, ◌++◌, ◌-◌, ◌==◌, ◌&&◌, Bool, false, List, [], ◌∷◌, Option, None, Some, Result, Ok, Err, find, if◌then◌else◌, is_some, length, nat_lt, option_and_then, option_map, take, ◌≢◌, ◌⊎◌}
 use Rattle.std.specs.declared.alloc.AllocError.{AllocError}
 use Rattle.ca_arena.specs.declared.handle.Handle.{Handle}
-use Rattle.ca_ids.specs.Table.{IsFull, MayGive, Table, by_wire, held, taken_back, with_changed, with_held}
+use Rattle.ca_ids.specs.Table.{IsFull, MayGive, Table, by_wire, held, with_all_held, with_changed}
 use Rattle.ca_ids.specs.Wire.{wire_of}
 use Rattle.ca_search.specs.Searcher.{with_one}
 use Rattle.ca_search.specs.Searches.{paused}
@@ -35,6 +35,14 @@ circuit_in a priority t = option_map as_found (find (goes_there a priority) (hel
 abbrev pub goes_to : Address → ℕ → Option (Handle × ClientCircuit) → Option (Handle × Bool)
 goes_to a priority o = option_and_then (λ (e : Handle × ClientCircuit). if goes_there a priority e then Some (as_found e) else None) o
 
+-- of the circuit that was found and another one the first by index, if that goes there
+abbrev pub first_of : Option (Handle × Bool) → Handle × Bool → Option (Handle × Bool)
+first_of None other = Some other
+first_of (Some found) other = if nat_lt found.0.index other.0.index then Some found else Some other
+
+abbrev pub first_to : Address → ℕ → Option (Handle × Bool) → Handle × ClientCircuit → Option (Handle × Bool)
+first_to a priority found e = if goes_there a priority e then first_of found (as_found e) else found
+
 -- the channel of this CID, if it is searched for
 abbrev pub searched_in : ℕ → Table Channel → Option (Handle × Channel)
 searched_in cid t =
@@ -53,6 +61,17 @@ tables_of x = record { channels = x.channels; circuits = x.circuits; order = x.o
 abbrev pub with_tables : Tables → Client → Client
 with_tables t x = record x { channels = t.channels; circuits = t.circuits; order = t.order }
 
+-- the same while messages are received: some circuits are still to be opened, each with the handle that it will have
+pub record Halfway : Type 0 where
+  pub channels : Table Channel
+  pub circuits : Table ClientCircuit
+  pub opening : List (Handle × ClientCircuit)
+  pub order : List Handle
+
+-- once they are opened
+abbrev pub opened : Halfway → Tables
+opened t = record { channels = t.channels; circuits = with_all_held t.opening t.circuits; order = t.order }
+
 -- the channel is there now
 abbrev pub stood : Standing → Handle → Table Channel → Table Channel
 stood s h t = with_changed (λ (here : Channel). record here { standing = s }) h t
@@ -62,26 +81,27 @@ abbrev pub paused_for : Option Found → Client → Client
 paused_for None x = x
 paused_for (Some f) x = record x { searches = with_one paused (wire_of f.channel) x.searches }
 
--- the circuits and their order as before a channel was found on one
+-- the circuits, those to be opened and their order as before a channel was found on one
 abbrev pub circuits_undone : How → Handle → Table ClientCircuit → Table ClientCircuit
 circuits_undone how.Waits c t = t
 circuits_undone (how.Created n) c t = with_changed (cut_in n) c t
-circuits_undone (how.Wanted n) c t = taken_back c n t
+circuits_undone how.Wanted c t = t
 
-abbrev pub order_undone : How → List Handle → List Handle
-order_undone how.Waits order = order
-order_undone (how.Created n) order = order
-order_undone (how.Wanted n) order = take (length order - 1) order
+abbrev pub last_undone : {T : Type 0} → How → List T → List T
+last_undone how.Waits ts = ts
+last_undone (how.Created n) ts = ts
+last_undone how.Wanted ts = take (length ts - 1) ts
 
 -- the tables as before
-abbrev pub found_undone : Found → Tables → Tables
+abbrev pub found_undone : Found → Halfway → Halfway
 found_undone f t = record {
   channels = stood Searching f.channel t.channels;
   circuits = circuits_undone f.how f.circuit t.circuits;
-  order = order_undone f.how t.order;
+  opening = last_undone f.how t.opening;
+  order = last_undone f.how t.order;
 }
 
-abbrev pub undone : Option Found → Tables → Tables
+abbrev pub undone : Option Found → Halfway → Halfway
 undone None t = t
 undone (Some f) t = found_undone f t
 
@@ -91,23 +111,35 @@ HasFound old from m found new =
     (x : Client) → tables_of x ≡ old
     → (e : Effect) × Finds x from m e × (e.notices ≡ []) × (e.core ≡ paused_for found (with_tables new x))
 
--- It had, and can be undone; or there was no memory for it, which changed nothing.
+-- For such a reply memory is asked for.
+abbrev pub TakesSome : Tables → Address → Fields → Type 0
+TakesSome old from m = (x : Client) → tables_of x ≡ old → (e : Effect) × Finds x from m e × DoesSome x e
+
+-- It had its effect; or there was no memory for it, which changed nothing.
 abbrev pub FindsIn : Tables → Address → Fields → Result (Option Found) AllocError → Tables → Type 0
-FindsIn old from m (Ok found) new = HasFound old from m found new × (undone found new ≡ old)
-FindsIn old from m (Err _) new =
-    (new ≡ old) × ((x : Client) → tables_of x ≡ old → (e : Effect) × Finds x from m e × DoesSome x e)
+FindsIn old from m (Ok found) new = HasFound old from m found new
+FindsIn old from m (Err _) new = (new ≡ old) × TakesSome old from m
+
+-- It had once the circuits are opened, and can be undone; or there was no memory for it, which changed nothing.
+abbrev pub FindsOne : Halfway → Address → Fields → Result (Option Found) AllocError → Halfway → Type 0
+FindsOne old from m (Ok found) new =
+    HasFound (opened old) from m found (opened new)
+    × (undone found new ≡ old)
+    × ((new.opening ≡ old.opening) ⊎ (new.order ≢ old.order))
+FindsOne old from m (Err _) new = (new ≡ old) × (old.opening ≡ [] → TakesSome (opened old) from m)
 
 -- A channel waits for a new circuit; or no more can be had; or there was no memory for one.
-abbrev pub FindsNewIn : Tables → Address → ℕ → Handle → Result (Option Found) AllocError → Tables → Type 0
-FindsNewIn old a priority h (Ok (Some f)) new =
-    MayGive old.circuits f.circuit × (f.channel ≡ h) × (f.how ≡ how.Wanted (length old.circuits))
+abbrev pub WantsNew : Halfway → Address → ℕ → Handle → Result (Option Found) AllocError → Halfway → Type 0
+WantsNew old a priority h (Ok (Some f)) new =
+    MayGive (opened old).circuits f.circuit × (f.channel ≡ h) × (f.how ≡ how.Wanted)
     × (new ≡ record {
       channels = stood (On f.circuit Connecting) h old.channels;
-      circuits = with_held f.circuit (new_circuit a priority false) old.circuits;
+      circuits = old.circuits;
+      opening = old.opening ++ (f.circuit, new_circuit a priority false) ∷ [];
       order = old.order ++ f.circuit ∷ [];
     })
-FindsNewIn old a priority h (Ok None) new = IsFull old.circuits × (new ≡ old)
-FindsNewIn old a priority h (Err _) new = (c : Handle) × MayGive old.circuits c × (new ≡ old)
+WantsNew old a priority h (Ok None) new = IsFull (opened old).circuits × (new ≡ old)
+WantsNew old a priority h (Err _) new = (new ≡ old) × (old.opening ≡ [] → (c : Handle) × MayGive (opened old).circuits c)
 
 -- A channel is created on a circuit by this message; or there was no memory for it.
 abbrev pub CreatesIn : Table Channel → Table ClientCircuit → (c h : Handle) → Fields → Result (Option Found) AllocError → Table Channel → Table ClientCircuit → Type 0

@@ -10,6 +10,7 @@ pub mod Closings
 pub mod First
 pub mod Listed
 pub mod OnCircuits
+pub mod Opening
 pub mod Receiving
 pub mod Marks
 pub mod Ahead

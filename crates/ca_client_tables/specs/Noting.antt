@@ -12,7 +12,7 @@ use Rattle.ca_model.specs.ClientEnds.{ReceivesAll}
 use Rattle.ca_model.specs.Ends.{Address}
 use Rattle.ca_model.specs.Hears.{Effect}
 use Rattle.ca_client_tables.specs.Foretelling.{creation_by}
-use Rattle.ca_client_tables.specs.Receiving.{Parts, ReceivesIn, all_settled, parts_of, with_parts}
+use Rattle.ca_client_tables.specs.Receiving.{HalfParts, Parts, ReceivesIn, all_settled, opened_parts, parts_of, with_parts}
 use Rattle.ca_client_tables.specs.declared.foretelling.Creation.{Creation}
 use Rattle.ca_client_tables.specs.declared.noting.Noted.{Noted}
 use Rattle.ca_client_tables.specs.declared.receiving.Received.{Received}
@@ -26,8 +26,8 @@ abbrev pub told_by : Table Channel → Table ClientCircuit → Address → Field
 told_by channels circuits from m = if m.command == command_number command.Search then creation_by channels circuits from m else None
 
 -- A message was received, and its CREATE_CHAN is behind those before; or there was no memory for it, and nothing is changed.
-abbrev pub NotesOne : Parts → Address → Fields → List Creation → Result Received AllocError → List Creation → Parts → Type 0
-NotesOne old from m cs (Ok d) cs' new = ReceivesIn old from m (Ok d) new × (cs' ≡ cs ++ option_to_list (told_by old.channels old.circuits from m))
+abbrev pub NotesOne : HalfParts → Address → Fields → List Creation → Result Received AllocError → List Creation → HalfParts → Type 0
+NotesOne old from m cs (Ok d) cs' new = ReceivesIn old from m (Ok d) new × (cs' ≡ cs ++ option_to_list (told_by old.channels (opened_parts old).circuits from m))
 NotesOne old from m cs (Err _) cs' new = (new ≡ old) × (cs' ≡ cs)
 
 -- These messages had their effects, one after another, and sent these; the searches are still to follow.

@@ -6,7 +6,7 @@ use Rattle.std.specs.declared.alloc.AllocError.{AllocError}
 use Rattle.std.specs.declared.alloc.Global.{Global}
 use Rattle.ca_arena.specs.declared.handle.Handle.{Handle}
 use Rattle.ca_beacon.specs.Table.{Servers, anomaly, noted, restored, server}
-use Rattle.ca_ids.specs.Table.{Table}
+use Rattle.ca_ids.specs.Table.{Table, with_all_held}
 use Rattle.ca_ids.specs.Wire.{wire_of}
 use Rattle.ca_search.specs.Searcher.{with_all, with_one}
 use Rattle.ca_search.specs.Searches as search
@@ -15,7 +15,7 @@ use Rattle.ca_model.specs.Client.{Channel, Client, ClientCircuit}
 use Rattle.ca_model.specs.ClientEnds.{Receives, ReceivesAll, beacon_server}
 use Rattle.ca_model.specs.Ends.{Address}
 use Rattle.ca_model.specs.Hears.{Effect}
-use Rattle.ca_client_tables.specs.Finding.{Tables, found_undone}
+use Rattle.ca_client_tables.specs.Finding.{Halfway, Tables, found_undone}
 use Rattle.ca_client_tables.specs.declared.beacons.Beacon.{Beacon}
 use Rattle.ca_client_tables.specs.declared.receiving.Received.{Received}
 use Rattle.ca_client_tables.specs.declared.receiving.Received.TheVariants as received
@@ -66,21 +66,37 @@ parts_of x = record { channels = x.channels; circuits = x.circuits; order = x.or
 abbrev pub with_parts : Parts → Client → Client
 with_parts p x = record x { channels = p.channels; circuits = p.circuits; order = p.order; beacons = p.beacons }
 
-abbrev pub tables_in : Parts → Tables
-tables_in p = record { channels = p.channels; circuits = p.circuits; order = p.order }
+-- the same while messages are received: some circuits are still to be opened
+pub record HalfParts : Type 0 where
+  pub channels : Table Channel
+  pub circuits : Table ClientCircuit
+  pub opening : List (Handle × ClientCircuit)
+  pub order : List Handle
+  pub beacons : Servers
+
+-- once they are opened
+abbrev pub opened_parts : HalfParts → Parts
+opened_parts p = record { channels = p.channels; circuits = with_all_held p.opening p.circuits; order = p.order; beacons = p.beacons }
+
+-- without them
+abbrev pub unopened_parts : HalfParts → Parts
+unopened_parts p = record { channels = p.channels; circuits = p.circuits; order = p.order; beacons = p.beacons }
+
+abbrev pub tables_in : HalfParts → Halfway
+tables_in p = record { channels = p.channels; circuits = p.circuits; opening = p.opening; order = p.order }
 
 -- these parts with other tables
-abbrev pub in_tables : Tables → Parts → Parts
-in_tables t p = record { channels = t.channels; circuits = t.circuits; order = t.order; beacons = p.beacons }
+abbrev pub in_tables : Halfway → HalfParts → HalfParts
+in_tables t p = record { channels = t.channels; circuits = t.circuits; opening = t.opening; order = t.order; beacons = p.beacons }
 
 -- the parts as before a message was received
-abbrev pub received_undone : Received → Parts → Parts
+abbrev pub received_undone : Received → HalfParts → HalfParts
 received_undone received.Nothing p = p
 received_undone (received.Found f) p = in_tables (found_undone f (tables_in p)) p
 received_undone (received.Beacon b) p = record p { beacons = forgotten b p.beacons }
 
 -- as before several were, the last of which is undone first
-abbrev pub all_undone : List Received → Parts → Parts
+abbrev pub all_undone : List Received → HalfParts → HalfParts
 all_undone [] p = p
 all_undone (d ∷ ds) p = received_undone d (all_undone ds p)
 
@@ -112,10 +128,15 @@ HasReceived old from m d new =
     (x : Client) → parts_of x ≡ old
     → (e : Effect) × Receives from x m e × (e.notices ≡ []) × (e.core ≡ settled d (with_parts new x))
 
--- It had, and can be undone; or there was no memory for it, which changed nothing.
-abbrev pub ReceivesIn : Parts → Address → Fields → Result Received AllocError → Parts → Type 0
-ReceivesIn old from m (Ok d) new = HasReceived old from m d new × (received_undone d new ≡ old)
+-- It had once the circuits are opened, and can be undone; or there was no memory for it, which changed nothing.
+abbrev pub ReceivesIn : HalfParts → Address → Fields → Result Received AllocError → HalfParts → Type 0
+ReceivesIn old from m (Ok d) new = HasReceived (opened_parts old) from m d (opened_parts new) × (received_undone d new ≡ old)
 ReceivesIn old from m (Err _) new = new ≡ old
+
+-- The circuits are opened; or there was no memory for them, and all that was received is undone.
+abbrev pub OpensOrUndoes : HalfParts → Vec Received Global → Result (Vec Received Global) AllocError → Parts → Type 0
+OpensOrUndoes old done (Ok ds) new = (ds ≡ done) × (new ≡ opened_parts old)
+OpensOrUndoes old done (Err _) new = (old.opening ≢ []) × (new ≡ unopened_parts (all_undone done.items old))
 
 -- These messages had their effects, one after another, but that the searches are still to follow.
 abbrev pub HaveReceived : Parts → Address → List Fields → List Received → Parts → Type 0

@@ -1,13 +1,14 @@
 //! What the reply to a SEARCH does to the tables of a client.
 ghost use Rattle.std.specs.Prelude.{◌≡◌, ◌<◌, ◌≤◌, is_some, length, option_map};
 ghost use Rattle.ca_text.specs.Limits.{priority_limit};
-ghost use Rattle.ca_ids.specs.Table.{held_at};
+ghost use Rattle.ca_ids.specs.Table.{held_at, with_all_held};
 ghost use Rattle.ca_ids.specs.Wire.{wire_of};
 ghost use Rattle.ca_arena.specs.Arena.{place_at};
 ghost use Rattle.ca_search.specs.Searcher.{with_one};
 ghost use Rattle.ca_search.specs.Searches.{paused};
 ghost use Rattle.ca_model.specs.Hears.{found_at, is_searched};
-ghost use Rattle.ca_client_tables.specs.Finding.{CreatesIn, FindsIn, FindsNewIn, circuit_in, goes_to, searched_in};
+ghost use Rattle.ca_client_tables.specs.Finding.{CreatesIn, FindsIn, FindsOne, WantsNew, circuit_in, first_to, goes_to, searched_in};
+ghost use Rattle.ca_client_tables.specs.Opening.{AreOpening};
 
 use crate::beginning::is_same;
 use crate::channel::{Channel, Phase, Standing};
@@ -15,6 +16,7 @@ use crate::channels::{Channels, set_standing};
 use crate::circuit::Circuit;
 use crate::ends::Address;
 use crate::queue::{queue_on, waiting_on};
+use crate::undoing::lose;
 use ca_arena::Handle;
 use ca_ids::{HeldTable, WireId};
 use ca_search::Place;
@@ -43,8 +45,8 @@ pub enum How {
     Waits,
     /// Its CREATE_CHAN waits there, after this many bytes.
     Created(usize),
-    /// The circuit is wanted from now on, and had no place among this many.
-    Wanted(usize),
+    /// The circuit is wanted from now on.
+    Wanted,
 }
 
 /// A reply to a SEARCH came from this address: a channel that is searched for is put on the circuit to its server, and its searches are
@@ -64,13 +66,56 @@ pub fn find(
         result
         (record { channels = channels.new; circuits = circuits.new; order = order.new.items }) }
 {
+    let mut opening = Vec::new(alloc);
+    let found = find_one(
+        alloc,
+        channels,
+        circuits,
+        &mut opening,
+        order,
+        from,
+        message,
+    )?;
+    match circuits.open_all(opening) {
+        Ok(()) => Ok(found),
+        Err(mut opening) => {
+            if let Some(found) = found {
+                lose(channels, circuits, &mut opening, order, found);
+            }
+            Err(AllocError)
+        }
+    }
+}
+
+// The same, but that a circuit that is wanted from now on is still to be opened, under the handle that it will have. Without memory nothing
+// changes.
+pub(crate) fn find_one(
+    alloc: Global,
+    channels: &mut Channels,
+    circuits: &mut HeldTable<Circuit>,
+    opening: &mut Vec<(Handle, Circuit)>,
+    order: &mut Vec<Handle>,
+    from: Address,
+    message: &Message,
+) -> Result<Option<Found>, AllocError>
+    requires { AreOpening opening.old.items circuits.old }
+    ensures finds { FindsOne
+        (record { channels = channels.old; circuits = circuits.old; opening = opening.old.items; order = order.old.items })
+        from
+        message.now
+        result
+        (record { channels = channels.new; circuits = circuits.new; opening = opening.new.items; order = order.new.items }) }
+    ensures opening { AreOpening opening.new.items circuits.new }
+{
     let Some((channel, found)) = searched_by(channels, message.p2()) else {
         return Ok(None);
     };
     let priority = found.priority();
     let address = found_at(from, message);
-    match circuit_to(circuits, address, priority) {
-        None => find_new(channels, circuits, order, address, priority, channel),
+    match circuit_to(circuits, opening, address, priority) {
+        None => want_new(
+            channels, circuits, opening, order, address, priority, channel,
+        ),
         Some((circuit, connected)) => {
             if !connected {
                 set_standing(channels, channel, Standing::On(circuit, Phase::Connecting));
@@ -97,47 +142,49 @@ pub(crate) fn searched_by(channels: &Channels, cid: u32) -> Option<(Handle, &Cha
     }
 }
 
-// The channel waits for a new circuit, after the others. If no more circuits can be had, nothing happens; nor without memory.
-fn find_new(
+// The channel waits for a new circuit, after the others, which is still to be opened. If no more circuits can be had, nothing happens; nor without
+// memory.
+fn want_new(
     channels: &mut Channels,
-    circuits: &mut HeldTable<Circuit>,
+    circuits: &HeldTable<Circuit>,
+    opening: &mut Vec<(Handle, Circuit)>,
     order: &mut Vec<Handle>,
     address: Address,
     priority: u16,
     channel: Handle,
 ) -> Result<Option<Found>, AllocError>
     requires { priority ≤ priority_limit }
-    ensures { FindsNewIn
-        (record { channels = channels.old; circuits = circuits.old; order = order.old.items })
+    ensures { WantsNew
+        (record { channels = channels.old; circuits = circuits.now; opening = opening.old.items; order = order.old.items })
         address
         priority
         channel
         result
-        (record { channels = channels.new; circuits = circuits.new; order = order.new.items }) }
+        (record { channels = channels.new; circuits = circuits.now; opening = opening.new.items; order = order.new.items }) }
 {
-    let Some(vacant) = circuits.vacant() else {
+    let Ok(vacant) = circuits.vacant_after(opening) else {
+        return Err(AllocError);
+    };
+    let Some(circuit) = vacant else {
         return Ok(None);
     };
+    opening.reserve(1)?;
     order.reserve(1)?;
-    let places = circuits.places();
     let wanted = Circuit {
         address,
         priority,
         is_name: false,
         connection: None,
     };
-    match circuits.open_at(vacant, wanted) {
-        Ok(()) => {
-            order.push_reserved(vacant);
-            set_standing(channels, channel, Standing::On(vacant, Phase::Connecting));
-            Ok(Some(Found {
-                channel,
-                circuit: vacant,
-                how: How::Wanted(places),
-            }))
-        }
-        Err(_) => Err(AllocError),
-    }
+    opening.push_reserved((circuit, wanted));
+    order.push_reserved(circuit);
+    set_standing(channels, channel, Standing::On(circuit, Phase::Connecting));
+    let how = How::Wanted;
+    Ok(Some(Found {
+        channel,
+        circuit,
+        how,
+    }))
 }
 
 // The channel is created on this circuit, by this message. Without memory nothing happens.
@@ -200,8 +247,44 @@ pub(crate) fn found_at(from: Address, message: &Message) -> Address
     }
 }
 
-// The circuit to this address, under this priority, and whether it is connected.
+// The circuit to this address, under this priority, and whether it is connected, once those that are to be opened are.
 pub(crate) fn circuit_to(
+    circuits: &HeldTable<Circuit>,
+    opening: &[(Handle, Circuit)],
+    address: Address,
+    priority: u16,
+) -> Option<(Handle, bool)>
+    requires { AreOpening opening.now circuits.now }
+    ensures { result ≡ circuit_in address priority (with_all_held opening.now circuits.now) }
+{
+    let mut found = circuit_in_table(circuits, address, priority);
+    for place in 0..opening.len() {
+        found = first_to(address, priority, found, &opening[place]);
+    }
+    found
+}
+
+// Of the circuit that was found and one that is to be opened, the first by index that goes there.
+fn first_to(
+    address: Address,
+    priority: u16,
+    found: Option<(Handle, bool)>,
+    opening: &(Handle, Circuit),
+) -> Option<(Handle, bool)>
+    ensures { result ≡ first_to address priority found opening.now }
+{
+    let (handle, circuit) = opening;
+    if !(is_same(circuit.address, address) && circuit.priority == priority) {
+        return found;
+    }
+    match found {
+        Some((first, connected)) if first.index < handle.index => Some((first, connected)),
+        _ => Some((*handle, circuit.connection.is_some())),
+    }
+}
+
+// The circuit to this address, under this priority, in the table, and whether it is connected.
+fn circuit_in_table(
     circuits: &HeldTable<Circuit>,
     address: Address,
     priority: u16,

@@ -1,6 +1,8 @@
 //! What comes first on a circuit, and what a reply to a SEARCH makes a client send, told before it is taken.
 ghost use Rattle.std.specs.Prelude.{◌≡◌, ◌≢◌, [], IfOk, None, OnErr};
+ghost use Rattle.ca_ids.specs.Table.{with_all_held};
 ghost use Rattle.ca_client_tables.specs.Foretelling.{HeadsFirst, HeadsIn, creation_by};
+ghost use Rattle.ca_client_tables.specs.Opening.{AreOpening};
 
 use crate::channels::Channels;
 use crate::circuit::{Circuit, Connection};
@@ -23,22 +25,25 @@ pub struct Creation {
 }
 
 /// The CREATE_CHAN that a reply to a SEARCH, which came from this address, makes a client send: that of the channel that was found, if the
-/// circuit to its server is connected. Only a CREATE_CHAN takes memory.
+/// circuit to its server is connected, once those that are to be opened are. Only a CREATE_CHAN takes memory.
 pub fn creation_by(
     alloc: Global,
     channels: &Channels,
     circuits: &HeldTable<Circuit>,
+    opening: &[(Handle, Circuit)],
     from: Address,
     reply: &Message,
 ) -> Result<Option<Creation>, AllocError>
-    ensures ok { IfOk result (λ o. o ≡ creation_by channels.now circuits.now from reply.now) }
-    ensures some { OnErr result (creation_by channels.now circuits.now from reply.now ≢ None) }
+    requires { AreOpening opening.now circuits.now }
+    ensures ok { IfOk result (λ o. o
+        ≡ creation_by channels.now (with_all_held opening.now circuits.now) from reply.now) }
+    ensures some { OnErr result (creation_by channels.now (with_all_held opening.now circuits.now) from reply.now ≢ None) }
 {
     let Some((channel, found)) = searched_by(channels, reply.p2()) else {
         return Ok(None);
     };
     let address = found_at(from, reply);
-    let Some((circuit, connected)) = circuit_to(circuits, address, found.priority()) else {
+    let Some((circuit, connected)) = circuit_to(circuits, opening, address, found.priority()) else {
         return Ok(None);
     };
     if !connected {

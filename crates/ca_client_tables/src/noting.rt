@@ -1,13 +1,15 @@
 //! The messages of a datagram are received, and the CREATE_CHANs that they make a client send are noted.
 ghost use Rattle.std.specs.Prelude.{◌≡◌, ◌+◌, ◌≤◌, IfOk, vec_capacity, vec_len};
+ghost use Rattle.ca_ids.specs.Table.{with_all_held};
 ghost use Rattle.ca_client_tables.specs.Noting.{NotesAll, NotesOne, told_by};
+ghost use Rattle.ca_client_tables.specs.Opening.{AreOpening};
 
 use crate::channels::Channels;
 use crate::circuit::Circuit;
 use crate::ends::Address;
 use crate::foretelling::{Creation, creation_by};
 use crate::receiving::{Received, receive};
-use crate::undoing::undo_all;
+use crate::undoing::{open_or_undo, undo_all};
 use ca_arena::Handle;
 use ca_beacon::BeaconTable;
 use ca_ids::HeldTable;
@@ -54,20 +56,30 @@ pub fn receive_all_noting(
 {
     let mut done = Vec::new(alloc);
     let mut sent = Vec::new(alloc);
+    let mut opening = Vec::new(alloc);
     done.reserve(messages.len())?;
     sent.reserve(messages.len())?;
     for index in 0..messages.len() {
         let message = &messages[index];
         match receive_noting(
-            alloc, channels, circuits, order, beacons, from, message, &mut sent,
+            alloc,
+            channels,
+            circuits,
+            &mut opening,
+            order,
+            beacons,
+            from,
+            message,
+            &mut sent,
         ) {
             Ok(received) => done.push_reserved(received),
             Err(_) => {
-                undo_all(channels, circuits, order, beacons, done);
+                undo_all(channels, circuits, &mut opening, order, beacons, done);
                 return Err(AllocError);
             }
         }
     }
+    let done = open_or_undo(channels, circuits, opening, order, beacons, done)?;
     Ok(Noted { done, sent })
 }
 
@@ -77,17 +89,20 @@ fn receive_noting(
     alloc: Global,
     channels: &mut Channels,
     circuits: &mut HeldTable<Circuit>,
+    opening: &mut Vec<(Handle, Circuit)>,
     order: &mut Vec<Handle>,
     beacons: &mut BeaconTable,
     from: Address,
     message: &Message,
     sent: &mut Vec<Creation>,
 ) -> Result<Received, AllocError>
-    requires { vec_len sent.old + 1 ≤ vec_capacity sent.old }
+    requires room { vec_len sent.old + 1 ≤ vec_capacity sent.old }
+    requires opening { AreOpening opening.old.items circuits.old }
     ensures notes { NotesOne
         (record {
           channels = channels.old;
           circuits = circuits.old;
+          opening = opening.old.items;
           order = order.old.items;
           beacons = beacons.old;
         })
@@ -99,13 +114,17 @@ fn receive_noting(
         (record {
           channels = channels.new;
           circuits = circuits.new;
+          opening = opening.new.items;
           order = order.new.items;
           beacons = beacons.new;
         }) }
+    ensures opening { AreOpening opening.new.items circuits.new }
     ensures capacity { vec_capacity sent.new ≡ vec_capacity sent.old }
 {
-    let creation = sent_by(alloc, channels, circuits, from, message)?;
-    let received = receive(alloc, channels, circuits, order, beacons, from, message)?;
+    let creation = sent_by(alloc, channels, circuits, opening, from, message)?;
+    let received = receive(
+        alloc, channels, circuits, opening, order, beacons, from, message,
+    )?;
     if let Some(creation) = creation {
         sent.push_reserved(creation);
     }
@@ -117,13 +136,16 @@ fn sent_by(
     alloc: Global,
     channels: &Channels,
     circuits: &HeldTable<Circuit>,
+    opening: &[(Handle, Circuit)],
     from: Address,
     message: &Message,
 ) -> Result<Option<Creation>, AllocError>
-    ensures { IfOk result (λ o. o ≡ told_by channels.now circuits.now from message.now) }
+    requires { AreOpening opening.now circuits.now }
+    ensures { IfOk result (λ o. o
+        ≡ told_by channels.now (with_all_held opening.now circuits.now) from message.now) }
 {
     if message.command() == Command::Search.number() {
-        return creation_by(alloc, channels, circuits, from, message);
+        return creation_by(alloc, channels, circuits, opening, from, message);
     }
     Ok(None)
 }

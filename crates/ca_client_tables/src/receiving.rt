@@ -1,14 +1,15 @@
 //! What the messages of a datagram do to the tables of a client.
 ghost use Rattle.std.specs.Prelude.{◌≡◌, ℕ};
 ghost use Rattle.ca_text.specs.declared.command.Command.TheVariants as command;
+ghost use Rattle.ca_client_tables.specs.Opening.{AreOpening};
 ghost use Rattle.ca_client_tables.specs.Receiving.{HearsIn, ReceivesAllIn, ReceivesIn, all_settled_in, boosted_if, settled_in};
 
 use crate::beacons::{Beacon, beacon_port, hear_beacon};
 use crate::channels::Channels;
 use crate::circuit::Circuit;
 use crate::ends::Address;
-use crate::finding::{Found, find, pause_found};
-use crate::undoing::undo_all;
+use crate::finding::{Found, find_one, pause_found};
+use crate::undoing::{open_or_undo, undo_all};
 use ca_arena::Handle;
 use ca_beacon::BeaconTable;
 use ca_ids::HeldTable;
@@ -58,18 +59,28 @@ pub fn receive_all(
         }) }
 {
     let mut done = Vec::new(alloc);
+    let mut opening = Vec::new(alloc);
     done.reserve(messages.len())?;
     for index in 0..messages.len() {
         let message = &messages[index];
-        match receive(alloc, channels, circuits, order, beacons, from, message) {
+        match receive(
+            alloc,
+            channels,
+            circuits,
+            &mut opening,
+            order,
+            beacons,
+            from,
+            message,
+        ) {
             Ok(received) => done.push_reserved(received),
             Err(_) => {
-                undo_all(channels, circuits, order, beacons, done);
+                undo_all(channels, circuits, &mut opening, order, beacons, done);
                 return Err(AllocError);
             }
         }
     }
-    Ok(done)
+    open_or_undo(channels, circuits, opening, order, beacons, done)
 }
 
 // A message of a datagram from this address was received; the searches are still to follow. Without memory nothing changes.
@@ -77,15 +88,18 @@ pub(crate) fn receive(
     alloc: Global,
     channels: &mut Channels,
     circuits: &mut HeldTable<Circuit>,
+    opening: &mut Vec<(Handle, Circuit)>,
     order: &mut Vec<Handle>,
     beacons: &mut BeaconTable,
     from: Address,
     message: &Message,
 ) -> Result<Received, AllocError>
-    ensures { ReceivesIn
+    requires { AreOpening opening.old.items circuits.old }
+    ensures receives { ReceivesIn
         (record {
           channels = channels.old;
           circuits = circuits.old;
+          opening = opening.old.items;
           order = order.old.items;
           beacons = beacons.old;
         })
@@ -95,13 +109,15 @@ pub(crate) fn receive(
         (record {
           channels = channels.new;
           circuits = circuits.new;
+          opening = opening.new.items;
           order = order.new.items;
           beacons = beacons.new;
         }) }
+    ensures opening { AreOpening opening.new.items circuits.new }
 {
     let command = message.command();
     if command == Command::Search.number() {
-        return match find(alloc, channels, circuits, order, from, message) {
+        return match find_one(alloc, channels, circuits, opening, order, from, message) {
             Ok(Some(found)) => Ok(Received::Found(found)),
             Ok(None) => Ok(Received::Nothing),
             Err(refused) => Err(refused),

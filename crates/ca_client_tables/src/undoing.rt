@@ -3,7 +3,7 @@ ghost use Rattle.std.specs.Prelude.{◌≡◌};
 ghost use Rattle.ca_ids.specs.Table.{with_changed};
 ghost use Rattle.ca_client_tables.specs.Ends.{cut_in};
 ghost use Rattle.ca_client_tables.specs.Finding.{found_undone};
-ghost use Rattle.ca_client_tables.specs.Receiving.{all_undone, received_undone};
+ghost use Rattle.ca_client_tables.specs.Receiving.{OpensOrUndoes, all_undone, received_undone};
 
 use crate::beacons::forget_beacon;
 use crate::channels::Channels;
@@ -14,11 +14,48 @@ use crate::receiving::Received;
 use ca_arena::Handle;
 use ca_beacon::BeaconTable;
 use ca_ids::HeldTable;
+use std::alloc::AllocError;
+
+// The circuits that are to be opened are. Without memory what was received is undone, the last message first.
+pub(crate) fn open_or_undo(
+    channels: &mut Channels,
+    circuits: &mut HeldTable<Circuit>,
+    opening: Vec<(Handle, Circuit)>,
+    order: &mut Vec<Handle>,
+    beacons: &mut BeaconTable,
+    done: Vec<Received>,
+) -> Result<Vec<Received>, AllocError>
+    ensures { OpensOrUndoes
+        (record {
+          channels = channels.old;
+          circuits = circuits.old;
+          opening = opening.items;
+          order = order.old.items;
+          beacons = beacons.old;
+        })
+        done
+        result
+        (record {
+          channels = channels.new;
+          circuits = circuits.new;
+          order = order.new.items;
+          beacons = beacons.new;
+        }) }
+{
+    match circuits.open_all(opening) {
+        Ok(()) => Ok(done),
+        Err(mut opening) => {
+            undo_all(channels, circuits, &mut opening, order, beacons, done);
+            Err(AllocError)
+        }
+    }
+}
 
 // These are undone, the last one first.
 pub(crate) fn undo_all(
     channels: &mut Channels,
     circuits: &mut HeldTable<Circuit>,
+    opening: &mut Vec<(Handle, Circuit)>,
     order: &mut Vec<Handle>,
     beacons: &mut BeaconTable,
     mut done: Vec<Received>,
@@ -26,17 +63,19 @@ pub(crate) fn undo_all(
     ensures { (record {
       channels = channels.new;
       circuits = circuits.new;
+      opening = opening.new.items;
       order = order.new.items;
       beacons = beacons.new;
     }) ≡ all_undone done.items (record {
       channels = channels.old;
       circuits = circuits.old;
+      opening = opening.old.items;
       order = order.old.items;
       beacons = beacons.old;
     }) }
 {
     while let Some(received) = done.pop() {
-        undo(channels, circuits, order, beacons, received);
+        undo(channels, circuits, opening, order, beacons, received);
     }
 }
 
@@ -44,6 +83,7 @@ pub(crate) fn undo_all(
 fn undo(
     channels: &mut Channels,
     circuits: &mut HeldTable<Circuit>,
+    opening: &mut Vec<(Handle, Circuit)>,
     order: &mut Vec<Handle>,
     beacons: &mut BeaconTable,
     received: Received,
@@ -51,36 +91,41 @@ fn undo(
     ensures { (record {
       channels = channels.new;
       circuits = circuits.new;
+      opening = opening.new.items;
       order = order.new.items;
       beacons = beacons.new;
     }) ≡ received_undone received (record {
       channels = channels.old;
       circuits = circuits.old;
+      opening = opening.old.items;
       order = order.old.items;
       beacons = beacons.old;
     }) }
 {
     match received {
         Received::Nothing => {}
-        Received::Found(found) => lose(channels, circuits, order, found),
+        Received::Found(found) => lose(channels, circuits, opening, order, found),
         Received::Beacon(beacon) => forget_beacon(beacons, beacon),
     }
 }
 
 // A channel was not found: it is searched for, and the circuit is as it was.
-fn lose(
+pub(crate) fn lose(
     channels: &mut Channels,
     circuits: &mut HeldTable<Circuit>,
+    opening: &mut Vec<(Handle, Circuit)>,
     order: &mut Vec<Handle>,
     found: Found,
 )
     ensures { (record {
       channels = channels.new;
       circuits = circuits.new;
+      opening = opening.new.items;
       order = order.new.items;
     }) ≡ found_undone found (record {
       channels = channels.old;
       circuits = circuits.old;
+      opening = opening.old.items;
       order = order.old.items;
     }) }
 {
@@ -88,8 +133,8 @@ fn lose(
     match found.how {
         How::Waits => {}
         How::Created(waiting) => cut_on(circuits, found.circuit, waiting),
-        How::Wanted(places) => {
-            let _ = circuits.take_back(found.circuit, places);
+        How::Wanted => {
+            let _ = opening.pop();
             let _ = order.pop();
         }
     }

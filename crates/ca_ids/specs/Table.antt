@@ -1,5 +1,5 @@
 -- Vocabulary: a table of wire ids by index, as whoever gives the ids sees it (section "Message Identifiers").
-use Rattle.std.specs.Prelude.{ℕ, ◌≡◌, ◌<◌, ◌≤◌, ◌+◌, ◌-◌, ◌==◌, ◌&&◌, Bool, true, List, [], ◌∷◌, ◌++◌, Option, Some, None, find, if◌then◌else◌, is_some, length, map, nat_le, nat_lt, not, option_map, option_to_list, slice_set, take}
+use Rattle.std.specs.Prelude.{ℕ, ◌≡◌, ◌<◌, ◌≤◌, ◌+◌, ◌==◌, ◌&&◌, Bool, true, List, [], ◌∷◌, ◌++◌, Option, Some, None, find, if◌then◌else◌, is_some, length, map, nat_le, nat_lt, not, option_map, option_to_list, slice_set}
 use Rattle.std.specs.List.{list_any}
 use Rattle.ca_text.specs.Limits.{arena_slots, last_generation}
 use Rattle.ca_arena.specs.declared.handle.Handle.{Handle}
@@ -59,6 +59,16 @@ module _ {T : Type 0} where
   abbrev pub with_held : Handle → T → Table T → Table T
   with_held h v t = let p : Place T = record { generation = h.generation; value = Some v } in if h.index == length t then t ++ p ∷ [] else slice_set t h.index p
 
+  -- the table in which these hold the ids of their handles
+  abbrev pub with_all_held : List (Handle × T) → Table T → Table T
+  with_all_held [] t = t
+  with_all_held (e ∷ es) t = with_all_held es (with_held e.0 e.1 t)
+
+  -- each of these handles may be given, once those before it are
+  abbrev pub MayGiveAll : Table T → List (Handle × T) → Type 0
+  MayGiveAll t [] = Unit {0}
+  MayGiveAll t (e ∷ es) = MayGive t e.0 × MayGiveAll (with_held e.0 e.1 t) es
+
   -- the table with what holds the id of this handle changed; a stale handle changes nothing
   abbrev pub with_changed : (T → T) → Handle → Table T → Table T
   with_changed f h t = if is_some (under t h) then slice_set t h.index (record { generation = h.generation; value = option_map f (under t h) }) else t
@@ -66,16 +76,6 @@ module _ {T : Type 0} where
   -- the table in which the id of this handle is free; a stale handle changes nothing
   abbrev pub with_freed : Handle → Table T → Table T
   with_freed h t = if is_some (under t h) then slice_set t h.index (record { generation = h.generation; value = None }) else t
-
-  -- The table as before this handle was given, when it had n indices: an index that was given first is not given, and another has the
-  -- generation before. A stale handle changes nothing, nor does an index that was given first and is not the last.
-  abbrev pub taken_back : Handle → ℕ → Table T → Table T
-  taken_back h n t =
-      if is_some (under t h)
-      then if h.index == n
-      then if n + 1 == length t then take n t else t
-      else slice_set t h.index (record { generation = h.generation - 1; value = None })
-      else t
 
   -- the table with all that holds an id changed
   abbrev pub with_all : (T → T) → Table T → Table T

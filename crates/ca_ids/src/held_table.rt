@@ -3,8 +3,8 @@ ghost use Rattle.std.specs.Option.{option_copied_mut};
 ghost use Rattle.std.specs.Borrow.{sem};
 ghost use Rattle.ca_text.specs.Limits.{arena_slots};
 ghost use Rattle.ca_arena.specs.Arena.{place_at};
-ghost use Rattle.ca_ids.specs.Table.{by_wire, held_at, is_full, taken_back, under, with_freed};
-ghost use Rattle.ca_ids.specs.Holding.{Fills, Gives, IsVacant};
+ghost use Rattle.ca_ids.specs.Table.{by_wire, held_at, is_full, under, with_freed};
+ghost use Rattle.ca_ids.specs.Holding.{Fills, FillsAll, Gives, IsVacant, IsVacantAfter};
 
 use crate::wire_id::WireId;
 use ca_arena::{Arena, Handle};
@@ -18,8 +18,6 @@ use std::marker::Model;
 #[derive(Drop)]
 pub struct HeldTable<T> {
     entries: Arena<T>,
-    // How many indices were given.
-    places: usize,
 }
 
 impl<T> Model for HeldTable<T> {
@@ -31,11 +29,11 @@ impl<T> Model for HeldTable<T> {
 
     ghost coded = { coded_list (place_code T.code) };
 
-    ghost use Rattle.ca_ids.specs.Holding.{IsCounted};
+    ghost use Rattle.ca_arena.specs.Sound.{IsSound};
 
     ghost view = { λ t. t.entries.given };
 
-    ghost invariant = { λ t. IsCounted t.entries t.places };
+    ghost invariant = { λ t. IsSound t.entries };
 }
 
 impl<T> HeldTable<T> {
@@ -47,7 +45,6 @@ impl<T> HeldTable<T> {
     {
         HeldTable {
             entries: Arena::new(alloc),
-            places: 0,
         }
     }
 
@@ -55,7 +52,7 @@ impl<T> HeldTable<T> {
     pub fn places(&self) -> usize
         ensures { result ≡ length self.now }
     {
-        self.places
+        self.entries.given()
     }
 
     /// A law: no more indices were given than wire ids have.
@@ -93,13 +90,7 @@ impl<T> HeldTable<T> {
     pub fn open(&mut self, value: T) -> Result<Handle, (T, Refusal)>
         ensures { Gives self.old value result self.new }
     {
-        match self.entries.insert(value) {
-            Ok(handle) => {
-                self.places = self.places.max(usize::from(handle.index) + 1);
-                Ok(handle)
-            }
-            Err(refused) => Err(refused),
-        }
+        self.entries.insert(value)
     }
 
     /// The handle that is given next. None if no id may be given.
@@ -116,13 +107,27 @@ impl<T> HeldTable<T> {
     pub fn open_at(&mut self, vacant: Handle, value: T) -> Result<(), T>
         ensures { Fills self.old vacant value result self.new }
     {
-        match self.entries.insert_at(vacant, value) {
-            Ok(()) => {
-                self.places = self.places.max(usize::from(vacant.index) + 1);
-                Ok(())
-            }
-            Err(value) => Err(value),
-        }
+        self.entries.insert_at(vacant, value)
+    }
+
+    /// The handle that is given once these values are put under their handles. None if no id may be given then.
+    ///
+    /// It is refused where these handles are not those to be given next.
+    pub fn vacant_after(&self, ahead: &[(Handle, T)]) -> Result<Option<Handle>, Refusal>
+        ensures { IsVacantAfter self.now ahead.now result }
+    {
+        self.entries.vacant_after(ahead)
+    }
+
+    /// Puts these values under their handles, which `vacant_after` told, one after another: all, or none.
+    ///
+    /// They are handed back if there is no memory for them, or if other handles are those to be given next; no values never are.
+    pub fn open_all(&mut self, values: Vec<(Handle, T)>) -> Result<(), Vec<(Handle, T)>>
+    where
+        T: Drop,
+        ensures { FillsAll self.old values result self.new }
+    {
+        self.entries.insert_all(values)
     }
 
     /// The value that holds the wire id of this handle, unless that is stale.
@@ -179,24 +184,5 @@ impl<T> HeldTable<T> {
         ensures after { self.new ≡ with_freed handle self.old }
     {
         self.entries.remove(handle).ok()
-    }
-
-    /// Takes the value of this handle out as if it had not been given: it may be given again. The table had `places` indices before,
-    /// and nothing happens to an index that was given first if that is not the last one.
-    ///
-    /// No memory is asked for.
-    pub fn take_back(&mut self, handle: Handle, places: usize) -> Option<T>
-        ensures { self.new ≡ taken_back handle places self.old }
-    {
-        if self.by_handle(handle).is_none() {
-            return None;
-        }
-        if usize::from(handle.index) == places {
-            if places + 1 != self.places {
-                return None;
-            }
-            self.places = places;
-        }
-        Some(self.entries.take_back(handle, places))
     }
 }

@@ -1,29 +1,18 @@
-use Rattle.std.proofs.Common.{◌≡◌, ◌∙◌, ◌∷◌, [], ◌++◌, ap, length, arith}
-use Rattle.std.proofs.lemmas.List.{length_push}
-use Rattle.ca_arena.specs.StoredLayout.{all_items}
-use Rattle.ca_arena.proofs.Stored.{Leaves, grows, length-all, within_room}
-use Rattle.ca_arena.proofs.blocks.Blocks.make_room.Given.{Over}
+use Rattle.std.proofs.Common.{◌≡◌, ◌∙◌, ◌+◌, ap, arith, length, sym}
+use Rattle.std.proofs.lemmas.Grind.{div_ceil_times}
+use Rattle.ca_arena.specs.Block.{block_slots}
+use Rattle.ca_arena.specs.Stored.{Stored}
+use Rattle.ca_arena.proofs.Stored.{length-all}
 use Rattle.ca_arena.proofs.blocks.Blocks.make_room.Goals as goal
 
-pub returns-then-full-len-clause-ok : goal.returns-then-full-len-clause-ok
-returns-then-full-len-clause-ok g c =
-    let blocks = c.self.inside.blocks in
-    rw (← c.self.view_is) (omega (arith, c.if-full-len.true, c.len.ensures, blocks.ok.0, length-all c.self.inside.len blocks.items c.self.invariant))
-
-more : (g : Over) (c : goal.After-push_reserved g) → c.push_reserved.new.self.items ≡ c.self.inside.blocks.items ++ c.in_ok-block.block ∷ []
-more g c = c.push_reserved.ensures.items ∙ ap (λ blocks. blocks ++ c.in_ok-block.block ∷ []) c.reserve.ensures.items
-
-grown : (g : Over) (c : goal.After-push_reserved g) → Leaves (c.self.inside.blocks.items ++ c.in_ok-block.block ∷ []) c.self.inside.len (all_items c.self.inside.blocks.items)
-grown g c = grows c.self.inside.len c.self.inside.blocks.items c.in_ok-block.block c.self.invariant c.in_ok-block.ensures.0
-
-pub invariant_of-self-2 : goal.invariant_of-self-2
-invariant_of-self-2 g c = rw (more g c) (grown g c).filled
-
-pub returns-clause-items : goal.returns-clause-items
-returns-clause-items g c = rw (more g c, ← c.self.view_is) (grown g c).items
+pub overflow_add-self-inside : goal.overflow_add-self-inside
+overflow_add-self-inside g c =
+    let few = rw (← c.self.view_is) at c.requires in
+    omega (arith, few, length-all c.self.inside.len c.self.inside.blocks.items c.self.invariant)
 
 pub returns-clause-ok : goal.returns-clause-ok
 returns-clause-ok g c =
-    let blocks = c.self.inside.blocks.items in
     let len = c.self.inside.len in
-    rw (more g c) (omega (arith, ap length (grown g c).items, length-all len blocks c.self.invariant, length_push blocks c.in_ok-block.block, within_room len blocks c.self.invariant))
+    let up = div_ceil_times (len + c.args.more) block_slots (omega arith) in
+    let long : length c.args.self.now.items ≡ len = ap (λ (s : Stored g.row.T.Denot). length s.items) (sym c.self.view_is) ∙ length-all len c.self.inside.blocks.items c.self.invariant in
+    omega (arith, up.0, c.div_ceil-needed.ensures, c.loop-block-test.false, c.loop-block.invariant.1, ap length c.loop-block.invariant.0, long)
