@@ -1,21 +1,23 @@
 -- A table of wire ids by index, as the contents of an arena.
-use Rattle.std.proofs.Common.{◌≡◌, ◌≢◌, ℕ, ◌+◌, ◌-◌, ◌%◌, ◌<◌, ◌≤◌, ◌==◌, ◌&&◌, Bool, true, false, not, leb, List, [], ◌∷◌, ◌++◌, length, Option, Some, None, is_some, find, if◌then◌else◌, option_map, option_to_list, Result, Ok, Err, refl, sym, ap, ◌∙◌, subst, inl, inr, arith, zero, suc, lit≤, max, slice_set, length-set}
+use Rattle.std.proofs.Common.{◌≡◌, ◌≢◌, ℕ, ◌+◌, ◌-◌, ◌%◌, ◌<◌, ◌≤◌, ◌==◌, ◌&&◌, Bool, true, false, not, leb, List, [], ◌∷◌, ◌++◌, length, Option, Some, None, is_some, find, if◌then◌else◌, option_map, option_to_list, Result, Ok, Err, refl, sym, ap, ◌∙◌, subst, inl, inr, arith, zero, suc, lit≤}
 use Rattle.std.proofs.lemmas.Bool.{cases_lt, eq-eqb, eqb-false, ne_eqb, le-leb, lt-leb, le-ltb, lt-ltb}
-use Rattle.std.proofs.lemmas.List.{get_or_past, length_push}
+use Rattle.std.proofs.lemmas.List.{get_or_past}
 use Rattle.std.proofs.lemmas.List.Elements.{All-from_get_or}
 use Rattle.std.proofs.lemmas.List.Folds.{list_any_at, list_any_none}
-use Rattle.std.specs.Prelude.{nat_lt}
+use Rattle.std.specs.Prelude.{Vec, nat_lt}
+use Rattle.std.specs.declared.alloc.Global.{Global}
 use Rattle.ca_text.specs.declared.refusal.Refusal.{Refusal}
 use Rattle.ca_text.specs.declared.refusal.Refusal.TheVariants as refusal
 use Rattle.ca_text.specs.Limits.{arena_slots, last_generation}
 use Rattle.ca_arena.specs.declared.handle.Handle.{Handle}
-use Rattle.ca_arena.specs.Arena.{Contents, Inserts, IsHandleAt, Place, Removes, blank, free_slots, inserted_from, next_handle, place_at, removed, written}
+use Rattle.ca_arena.specs.Arena.{Contents, Inserts, InsertsAll, InsertsAt, InsertsEach, IsHandleAt, Place, Removes, TellsAfter, blank, free_slots, inserted, inserted_from, next_handle, place_at, removed, written}
 use Rattle.ca_arena.specs.Arena as arena
 use Rattle.ca_arena.specs.Sound.{IsFree, IsListed, IsSound}
 use Rattle.ca_arena.proofs.Places.{IsSound-removed, live_value, value_for-some}
+use Rattle.ca_arena.proofs.Runs.{IsSound-inserted}
 use Rattle.ca_ids.specs.Wire.{wire_of}
-use Rattle.ca_ids.specs.Table.{MayGive, Table, by_wire, has_free, held_at, held_from, is_full, with_changed, with_held}
-use Rattle.ca_ids.specs.Holding.{Gives, IsVacant}
+use Rattle.ca_ids.specs.Table.{MayGive, MayGiveAll, Table, by_wire, has_free, held_at, held_from, is_full, with_all_held, with_changed, with_held}
+use Rattle.ca_ids.specs.Holding.{Fills, FillsAll, Gives, IsVacant, IsVacantAfter}
 use Rattle.ca_ids.proofs.Wires.{wire_of-index}
 
 -- ---- full or not
@@ -139,6 +141,39 @@ module _ {T : Type 0} where
   )
   gives a b value (Err _) sound h = absurd h
 
+  pub fills : (a b : Contents T) (h : Handle) (value : T) (r : Result (Unit {0}) T) → IsSound a → InsertsAt a h value r b → Fills a.given h value r b.given
+  fills a b h value (Ok e) sound did = gives a b value (Ok h) sound did
+  fills a b h value (Err back) sound did = (did.0, ap (λ (c : Contents T). c.given) did.1)
+
+  pub sound-at : (a b : Contents T) (h : Handle) (value : T) (r : Result (Unit {0}) T) → IsSound a → InsertsAt a h value r b → IsSound b
+  sound-at a b h value (Ok e) sound did = subst IsSound (sym did.2) (IsSound-inserted a value did.0 sound)
+  sound-at a b h value (Err back) sound did = subst IsSound (sym did.1) sound
+
+  -- ---- several are given
+
+  each : (a : Contents T) (es : List (Handle × T)) (b : Contents T) → IsSound a → InsertsEach a es b → MayGiveAll a.given es × (b.given ≡ with_all_held es a.given) × IsSound b
+  each a [] b sound did = (tt, ap (λ (c : Contents T). c.given) did, subst IsSound (sym did) sound)
+  each a (e ∷ es) b sound did =
+      let next = given_next a.given a.freed e.1 sound did.0 in
+      let held : (inserted a e.1).given ≡ with_held e.0 e.1 a.given = next.1 ∙ ap (λ (k : Handle). with_held k e.1 a.given) (sym did.1) in
+      let rest = each (inserted a e.1) es b (IsSound-inserted a e.1 did.0 sound) did.2 in
+      ((subst (MayGive a.given) (sym did.1) next.0, subst (λ (t : Table T). MayGiveAll t es) held rest.0), rest.1 ∙ ap (with_all_held es) held, rest.2)
+
+  -- what is told of the handle that comes after these
+  pub told-after : (a : Contents T) (es : List (Handle × T)) (r : Result (Option Handle) Refusal) → IsSound a → TellsAfter a es r → IsVacantAfter a.given es r
+  told-after a es (Ok o) sound tells =
+      let all = each a es tells.0 sound tells.1 in
+      (all.0, subst (λ (t : Table T). IsVacant t o) all.1 (vacant-next tells.0 o all.2 tells.2))
+  told-after a es (Err e) sound tells = tells
+
+  pub fills-all : (a b : Contents T) (values : Vec (Handle × T) Global) (r : Result (Unit {0}) (Vec (Handle × T) Global)) → IsSound a → InsertsAll a values r b → FillsAll a.given values r b.given
+  fills-all a b values (Ok e) sound did = let all = each a values.items b sound did in (all.0, all.1)
+  fills-all a b values (Err back) sound did = (did.0, did.1, ap (λ (c : Contents T). c.given) did.2)
+
+  pub sound-all : (a b : Contents T) (values : Vec (Handle × T) Global) (r : Result (Unit {0}) (Vec (Handle × T) Global)) → IsSound a → InsertsAll a values r b → IsSound b
+  sound-all a b values (Ok e) sound did = (each a values.items b sound did).2
+  sound-all a b values (Err back) sound did = subst IsSound (sym did.2) sound
+
   -- ---- what has a wire id
 
   -- the value of a place under its handle, if that has this wire id
@@ -228,28 +263,6 @@ module _ {T : Type 0} where
 
   pub changed-written : (a : Contents T) (h : Handle) (old new : T) → arena.find a h ≡ Some old → (written a h new).given ≡ with_changed (λ (v : T). new) h a.given
   changed-written a h old new found = rw found refl
-
-  -- ---- how many indices were given
-
-  pub counted-opened : (a b : Contents T) (value : T) (h : Handle) (places : ℕ) → IsSound a → Inserts a value (Ok h) b → places ≡ length a.given → max places (h.index + 1) ≡ length b.given
-  counted-opened a b value h places sound did counted = by_list a.given a.freed sound (did.1) did.2 counted
-    where
-      by_list : (given : List (Place T)) (freed : List ℕ) → IsSound (record { given = given; freed = freed }) → h ≡ next_handle (record { given = given; freed = freed }) → b ≡ inserted_from given freed value → places ≡ length given → max places (h.index + 1) ≡ length b.given
-      by_list given [] sound is left counted =
-          let index : h.index ≡ length given = ap (λ (k : Handle). k.index) is in
-          let long : length b.given ≡ length (given ++ record { generation = 1; value = Some value } ∷ []) = ap (λ (c : Contents T). length c.given) left in
-          omega (arith, length_push given (record { generation = 1; value = Some value }))
-      by_list given (i ∷ rest) sound is left counted =
-          let index : h.index ≡ i = ap (λ (k : Handle). k.index) is in
-          let within : i < length given = sound.free.0.within in
-          let long : length b.given ≡ length (slice_set given i (record { generation = (place_at given i).generation + 1; value = Some value })) = ap (λ (c : Contents T). length c.given) left in
-          omega (arith, length-set given i (record { generation = (place_at given i).generation + 1; value = Some value }))
-
-  pub counted-freed : (a b : Contents T) (h : Handle) (r : Result T Refusal) → Removes a h r b → length b.given ≡ length a.given
-  counted-freed a b h (Ok value) did =
-      ap (λ (c : Contents T). length c.given) did.1 ∙ length-set a.given h.index (record { generation = h.generation; value = None })
-  counted-freed a b h (Err refusal.StaleHandle) did = ap (λ (c : Contents T). length c.given) did.1
-  counted-freed a b h (Err _) did = absurd did
 
   -- ---- what holds an id at an index
 

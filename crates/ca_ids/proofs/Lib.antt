@@ -2,4 +2,3 @@ pub mod Wires
 mod Walks
 pub mod Changes
 pub mod Holding
-pub mod Taken

@@ -1,14 +1,12 @@
-use Rattle.std.proofs.Common.{◌∙◌, ap, ℕ, ◌+◌, max, Ok}
-use Rattle.ca_ids.proofs.Holding.{counted-opened, gives}
+use Rattle.std.proofs.Common.{subst}
+use Rattle.ca_ids.specs.Table.{Table}
+use Rattle.ca_ids.specs.Holding.{Fills}
+use Rattle.ca_ids.proofs.Holding.{fills, sound-at}
 use Rattle.ca_ids.proofs.held_table.HeldTable.open_at.Goals as goal
 
-pub returns-in-Ok : goal.returns-in-Ok
-returns-in-Ok g c =
-    rw (← c.self.view_is) (gives c.self.inside.entries c.insert_at.new.self c.args.value (Ok c.args.vacant) c.self.invariant.sound c.in-Ok.ensures.inserts)
-
 pub invariant_of-self : goal.invariant_of-self
-invariant_of-self g c = record {
-  sound = c.in-Ok.ensures.sound;
-  counted = c.max-self-inside.ensures ∙ ap (λ (n : ℕ). max c.self.inside.places (n + 1)) c.from.ensures
-      ∙ counted-opened c.self.inside.entries c.insert_at.new.self c.args.value c.args.vacant c.self.inside.places c.self.invariant.sound c.in-Ok.ensures.inserts c.self.invariant.counted;
-}
+invariant_of-self g c = sound-at c.self.inside.entries c.insert_at.new.self c.args.vacant c.args.value c.insert_at.result c.self.invariant c.insert_at.ensures.inserts
+
+pub returns : goal.returns
+returns g c =
+    subst (λ (t : Table g.row.T.Denot). Fills t c.args.vacant c.args.value c.insert_at.result c.insert_at.new.self.given) c.self.view_is (fills c.self.inside.entries c.insert_at.new.self c.args.vacant c.args.value c.insert_at.result c.self.invariant c.insert_at.ensures.inserts)

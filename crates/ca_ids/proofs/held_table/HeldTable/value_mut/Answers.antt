@@ -1,9 +1,5 @@
-use Rattle.std.proofs.Common.{sym, ◌∙◌, length-set}
 use Rattle.ca_arena.proofs.Places.{IsSound-written}
 use Rattle.ca_ids.proofs.held_table.HeldTable.value_mut.Goals as goal
 
 pub invariant_of-self-lent : goal.invariant_of-self-lent
-invariant_of-self-lent g c = λ w. record {
-  sound = IsSound-written c.self.inside.entries c.args.handle w (rw (← c.self.view_is) at c.requires) c.self.invariant.sound;
-  counted = c.self.invariant.counted ∙ sym (length-set c.self.inside.entries.given c.args.handle.index _);
-}
+invariant_of-self-lent g c = λ w. IsSound-written c.self.inside.entries c.args.handle w (rw (← c.self.view_is) at c.requires) c.self.invariant
