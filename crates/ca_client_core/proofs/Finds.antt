@@ -13,7 +13,7 @@ use Rattle.ca_client_tables.specs.declared.finding.Found.{Found}
 
 pub heard-found : (x : Client) (from : Address) (m : Fields) (o : Option Found) (t : Tables) (new : Client) → FindsIn (tables_of x) from m (Ok o) t → new ≡ paused_for o (with_tables t x) → FindsOr x from m (Ok tt) new
 heard-found x from m o t new did is =
-    let r = did.0 x refl in
+    let r = did x refl in
     (r.0, r.1, r.2, is ∙ sym r.3)
 
 pub heard-out : (x : Client) (from : Address) (m : Fields) (e : AllocError) (r : Result (Unit {0}) AllocError) (t : Tables) (new : Client) → FindsIn (tables_of x) from m (Err e) t → IsErr r → new ≡ with_tables t x → FindsOr x from m r new

@@ -17,4 +17,5 @@ pub mod Dues
 pub mod Foretold
 pub mod Noticed
 pub mod OnLists
+mod Opened
 pub mod ByCircuit

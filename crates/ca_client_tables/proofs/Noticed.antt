@@ -1,6 +1,8 @@
 -- What the messages of a datagram send is noted as they are received.
-use Rattle.std.proofs.Common.{◌≡◌, ◌∙◌, ℕ, suc, ◌+◌, ◌<◌, ◌≤◌, ◌==◌, inl, inr, List, [], ◌∷◌, ◌++◌, Option, Some, None, Ok, append-nil, append_assoc, ap, arith, drop, get_or, if◌then◌else◌, length, refl, subst, sym}
-use Rattle.std.specs.Prelude.{is_some, map, option_map, option_to_list}
+use Rattle.std.proofs.Common.{◌≡◌, ◌≢◌, ◌∙◌, Err, ℕ, suc, ◌+◌, ◌<◌, ◌≤◌, ◌==◌, inl, inr, List, [], ◌∷◌, ◌++◌, Option, Some, None, Ok, append-nil, append_assoc, ap, arith, drop, get_or, if◌then◌else◌, length, refl, subst, sym}
+use Rattle.std.specs.declared.alloc.AllocError.{AllocError}
+use Rattle.std.specs.declared.alloc.Global.{Global}
+use Rattle.std.specs.Prelude.{IsErr, Result, Vec, false, is_some, map, option_map, option_to_list, true}
 use Rattle.std.proofs.Math.Numerals.{add-one}
 use Rattle.std.proofs.Math.Seq.{drop-cons}
 use Rattle.std.proofs.lemmas.Bool.{cases_eq, ne_eqb}
@@ -17,11 +19,13 @@ use Rattle.ca_model.specs.Ends.{Address}
 use Rattle.ca_model.specs.Hears.{Effect, FindsAt, PutsOn, becomes, found_at, put_on, searched_by}
 use Rattle.ca_client_tables.specs.Finding.{as_found}
 use Rattle.ca_client_tables.specs.Foretelling.{creation_at, creation_by, creation_on}
-use Rattle.ca_client_tables.specs.Noting.{HaveSent, NotesOne, as_sent, told_by}
-use Rattle.ca_client_tables.specs.Receiving.{HasReceived, Parts, all_settled, all_undone, parts_of, with_parts}
+use Rattle.ca_client_tables.specs.Noting.{HaveSent, NotesAll, NotesOne, as_sent, told_by}
+use Rattle.ca_client_tables.specs.Receiving.{HalfParts, HasReceived, OpensOrUndoes, Parts, all_settled, all_undone, opened_parts, parts_of, unopened_parts, with_parts}
+use Rattle.ca_client_tables.specs.Opening.{AreOpening}
 use Rattle.ca_client_tables.specs.declared.foretelling.Creation.{Creation}
+use Rattle.ca_client_tables.specs.declared.noting.Noted.{Noted}
 use Rattle.ca_client_tables.specs.declared.receiving.Received.{Received}
-use Rattle.ca_client_tables.proofs.Arrivals.{undone-last}
+use Rattle.ca_client_tables.proofs.Arrivals.{begun, some-of, undone-last}
 
 -- ---- what a message sends
 
@@ -65,13 +69,15 @@ module _ (x : Client) where
 -- ---- one after another
 
 -- how far a datagram is received, and what is noted
-pub record SoNoted (first now : Parts) (from : Address) (ms : List Fields) (i : ℕ) (done : List Received) (told : List Creation) : Type 0 where
-  pub goes : (ds : List Received) (cs : List Creation) (final : Parts) → HaveSent now from (drop i ms) ds cs final → HaveSent first from ms (done ++ ds) (told ++ cs) final
+pub record SoNoted (first now : HalfParts) (from : Address) (ms : List Fields) (i : ℕ) (done : List Received) (told : List Creation) : Type 0 where
+  pub goes : (ds : List Received) (cs : List Creation) (final : Parts) → HaveSent (opened_parts now) from (drop i ms) ds cs final → HaveSent (opened_parts first) from ms (done ++ ds) (told ++ cs) final
   pub back : all_undone done now ≡ first
   pub few : length told ≤ i
+  pub some : now.opening ≢ first.opening → ms ≢ []
+  pub opening : AreOpening now.opening now.circuits
 
-pub so-noted-none : (first : Parts) (from : Address) (ms : List Fields) → SoNoted first first from ms 0 [] []
-so-noted-none first from ms = record { goes = λ ds cs final have. have; back = refl; few = omega arith }
+pub so-noted-none : (first : HalfParts) (from : Address) (ms : List Fields) → AreOpening first.opening first.circuits → SoNoted first first from ms 0 [] []
+so-noted-none first from ms opening = record { goes = λ ds cs final have. have; back = refl; few = omega arith; some = λ other. absurd (other refl); opening = opening }
 
 -- what is left at this place: its message, and the rest
 left-from : (ms : List Fields) (i : ℕ) (m : Fields) → i < length ms → m ≡ get_or ms i m → drop i ms ≡ m ∷ drop (i + 1) ms
@@ -98,33 +104,48 @@ one-at-most : (o : Option Creation) → length (option_to_list o) ≤ 1
 one-at-most None = omega arith
 one-at-most (Some c) = omega arith
 
-pub so-noted-more : (first now next : Parts) (from : Address) (ms : List Fields) (i : ℕ) (m : Fields) (done : List Received) (d : Received) (told told' : List Creation) → i < length ms → m ≡ get_or ms i m → NotesOne now from m told (Ok d) told' next → SoNoted first now from ms i done told
+pub so-noted-more : (first now next : HalfParts) (from : Address) (ms : List Fields) (i : ℕ) (m : Fields) (done : List Received) (d : Received) (told told' : List Creation) → i < length ms → m ≡ get_or ms i m → NotesOne now from m told (Ok d) told' next → AreOpening next.opening next.circuits → SoNoted first now from ms i done told
     → SoNoted first next from ms (i + 1) (done ++ d ∷ []) told'
-so-noted-more first now next from ms i m done d told told' within is did far =
+so-noted-more first now next from ms i m done d told told' within is did opening far =
     subst (λ (z : List Creation). SoNoted first next from ms (i + 1) (done ++ d ∷ []) z) (sym did.1)
     (record {
       goes = λ ds cs final have.
-          subst (λ (es : List Creation). HaveSent first from ms ((done ++ d ∷ []) ++ ds) es final) (sym (append_assoc told here cs))
-          (subst (λ (es : List Received). HaveSent first from ms es (told ++ (here ++ cs)) final) (sym (append_assoc done (d ∷ []) ds))
+          subst (λ (es : List Creation). HaveSent (opened_parts first) from ms ((done ++ d ∷ []) ++ ds) es final) (sym (append_assoc told here cs))
+          (subst (λ (es : List Received). HaveSent (opened_parts first) from ms es (told ++ (here ++ cs)) final) (sym (append_assoc done (d ∷ []) ds))
           (far.goes (d ∷ ds) (here ++ cs) final
-          (subst (λ (ns : List Fields). HaveSent now from ns (d ∷ ds) (here ++ cs) final) (sym (left-from ms i m within is))
-          (noted-more now next final from m (drop (i + 1) ms) d ds cs did.0.0 have))));
+          (subst (λ (ns : List Fields). HaveSent (opened_parts now) from ns (d ∷ ds) (here ++ cs) final) (sym (left-from ms i m within is))
+          (noted-more (opened_parts now) (opened_parts next) final from m (drop (i + 1) ms) d ds cs did.0.0 have))));
       back = undone-last done d next ∙ ap (all_undone done) did.0.1 ∙ far.back;
       few =
           (let all = length-append told here in
-          let one = one-at-most (told_by now.channels now.circuits from m) in
+          let one = one-at-most (told_by now.channels (opened_parts now).circuits from m) in
           omega (arith, all, one, far.few));
+      some = λ other. some-of ms i within;
+      opening = opening;
     })
   where
     here : List Creation
-    here = option_to_list (told_by now.channels now.circuits from m)
+    here = option_to_list (told_by now.channels (opened_parts now).circuits from m)
 
 sent-none : (p : Parts) (from : Address) → HaveSent p from [] [] [] p
 sent-none p from = λ x at. (becomes x, refl, refl, refl, ap (λ (q : Parts). with_parts q x) at)
 
 -- all were
-pub so-noted-all : (first now : Parts) (from : Address) (ms : List Fields) (i : ℕ) (done : List Received) (told : List Creation) → drop i ms ≡ [] → SoNoted first now from ms i done told → HaveSent first from ms done told now
+so-noted-all : (first now : HalfParts) (from : Address) (ms : List Fields) (i : ℕ) (done : List Received) (told : List Creation) → drop i ms ≡ [] → SoNoted first now from ms i done told → HaveSent (opened_parts first) from ms done told (opened_parts now)
 so-noted-all first now from ms i done told none far =
-    subst (λ (es : List Creation). HaveSent first from ms done es now) (append-nil told)
-    (subst (λ (es : List Received). HaveSent first from ms es (told ++ []) now) (append-nil done)
-    (far.goes [] [] now (subst (λ (ns : List Fields). HaveSent now from ns [] [] now) (sym none) (sent-none now from))))
+    subst (λ (es : List Creation). HaveSent (opened_parts first) from ms done es (opened_parts now)) (append-nil told)
+    (subst (λ (es : List Received). HaveSent (opened_parts first) from ms es (told ++ []) (opened_parts now)) (append-nil done)
+    (far.goes [] [] (opened_parts now) (subst (λ (ns : List Fields). HaveSent (opened_parts now) from ns [] [] (opened_parts now)) (sym none) (sent-none (opened_parts now) from))))
+
+-- and their circuits are opened
+pub so-noted-opens : (first : Parts) (now : HalfParts) (from : Address) (ms : List Fields) (i : ℕ) (done ds : Vec Received Global) (told : List Creation) (new : Parts) → drop i ms ≡ [] → SoNoted (begun first) now from ms i done.items told → OpensOrUndoes now done (Ok ds) new → HaveSent first from ms ds.items told new
+so-noted-opens first now from ms i done ds told new none far did =
+    subst (λ (es : List Received). HaveSent first from ms es told new) (sym (ap (λ (v : Vec Received Global). v.items) did.0))
+    (subst (HaveSent first from ms done.items told) (sym did.1) (so-noted-all (begun first) now from ms i done.items told none far))
+
+-- or not
+pub so-noted-refused : (first : Parts) (now : HalfParts) (from : Address) (ms : List Fields) (i : ℕ) (done : Vec Received Global) (e : AllocError) (told : List Creation) (new : Parts) (r : Result Noted AllocError) → IsErr r → SoNoted (begun first) now from ms i done.items told → OpensOrUndoes now done (Err e) new → NotesAll first from ms r new
+so-noted-refused first now from ms i done e told new (Ok n) err far did =
+    let bad : false ≡ true = err in
+    absurd cc
+so-noted-refused first now from ms i done e told new (Err f) err far did = (far.some did.0, did.1 ∙ ap unopened_parts far.back)

@@ -27,7 +27,7 @@ from-here a p i t within =
     ap (held_from i) (drop-cons t i blank within)
     ∙ ap (λ (n : ℕ). option_to_list (held_at i (place_at t i)) ++ held_from (i + 1) (drop n t)) (sym (add-one i))
 
-this-first : (a : Address) (p : ℕ) (o : Option (Handle × ClientCircuit)) (rest : List (Handle × ClientCircuit)) (r : Handle × Bool) → goes_to a p o ≡ Some r → option_map as_found (find (goes_there a p) (option_to_list o ++ rest)) ≡ Some r
+pub this-first : (a : Address) (p : ℕ) (o : Option (Handle × ClientCircuit)) (rest : List (Handle × ClientCircuit)) (r : Handle × Bool) → goes_to a p o ≡ Some r → option_map as_found (find (goes_there a p) (option_to_list o ++ rest)) ≡ Some r
 this-first a p None rest r is = absurd cc
 this-first a p (Some e) rest r is =
     elim (true_or_false (goes_there a p e)) [
@@ -40,7 +40,7 @@ this-first a p (Some e) rest r is =
           absurd cc
     ]
 
-not-this : (a : Address) (p : ℕ) (o : Option (Handle × ClientCircuit)) (rest : List (Handle × ClientCircuit)) → goes_to a p o ≡ None → option_map as_found (find (goes_there a p) (option_to_list o ++ rest)) ≡ option_map as_found (find (goes_there a p) rest)
+pub not-this : (a : Address) (p : ℕ) (o : Option (Handle × ClientCircuit)) (rest : List (Handle × ClientCircuit)) → goes_to a p o ≡ None → option_map as_found (find (goes_there a p) (option_to_list o ++ rest)) ≡ option_map as_found (find (goes_there a p) rest)
 not-this a p None rest is = refl
 not-this a p (Some e) rest is =
     elim (true_or_false (goes_there a p e)) [
@@ -107,7 +107,7 @@ finds-waiting x from m h here c new is to left =
     (e, found-one x from m h here e (Some (c, parts.0)) is parts.1 (sym (put-waiting c parts.0.connection h here x parts.2)), refl, left)
 
 -- a list with one more element is another
-one-longer : {X : Type 0} (xs : List X) (x : X) → xs ++ x ∷ [] ≢ xs
+pub one-longer : {X : Type 0} (xs : List X) (x : X) → xs ++ x ∷ [] ≢ xs
 one-longer xs x = λ same. (let longer : length (xs ++ x ∷ []) ≡ length xs = ap length same in absurd (omega (arith, longer, length-append xs (x ∷ []))))
 
 pub finds-new : (x : Client) (from : Address) (m : Fields) (h : Handle) (here : Channel) (c : Handle) (new : Client) → Some (h, here) ≡ searched_by m.p2 x → None ≡ circuit_in (found_at from m) here.priority x.circuits → MayGive x.circuits c → new ≡ found_on c Connecting h (with_circuit c (new_circuit (found_at from m) here.priority false) x) → (e : Effect) × Finds x from m e × (e.notices ≡ []) × (new ≡ e.core)

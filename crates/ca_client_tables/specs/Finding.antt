@@ -105,6 +105,10 @@ abbrev pub undone : Option Found → Halfway → Halfway
 undone None t = t
 undone (Some f) t = found_undone f t
 
+-- without what is still to be opened
+abbrev pub unopened : Halfway → Tables
+unopened t = record { channels = t.channels; circuits = t.circuits; order = t.order }
+
 -- A search reply that came from this address had its effect, but that this channel is searched for still.
 abbrev pub HasFound : Tables → Address → Fields → Option Found → Tables → Type 0
 HasFound old from m found new =

@@ -7,7 +7,7 @@ ghost use Rattle.ca_arena.specs.Arena.{place_at};
 ghost use Rattle.ca_search.specs.Searcher.{with_one};
 ghost use Rattle.ca_search.specs.Searches.{paused};
 ghost use Rattle.ca_model.specs.Hears.{found_at, is_searched};
-ghost use Rattle.ca_client_tables.specs.Finding.{CreatesIn, FindsIn, FindsOne, WantsNew, circuit_in, first_to, goes_to, searched_in};
+ghost use Rattle.ca_client_tables.specs.Finding.{CreatesIn, FindsIn, FindsOne, WantsNew, circuit_in, first_to, goes_to, searched_in, undone, unopened};
 ghost use Rattle.ca_client_tables.specs.Opening.{AreOpening};
 
 use crate::beginning::is_same;
@@ -78,16 +78,38 @@ pub fn find(
     )?;
     match circuits.open_all(opening) {
         Ok(()) => Ok(found),
-        Err(mut opening) => {
-            if let Some(found) = found {
-                lose(channels, circuits, &mut opening, order, found);
-            }
+        Err(opening) => {
+            lose_found(channels, circuits, opening, order, found);
             Err(AllocError)
         }
     }
 }
 
-// The same, but that a circuit that is wanted from now on is still to be opened, under the handle that it will have. Without memory nothing
+// What was found is not, and nothing is to be opened.
+fn lose_found(
+    channels: &mut Channels,
+    circuits: &mut HeldTable<Circuit>,
+    mut opening: Vec<(Handle, Circuit)>,
+    order: &mut Vec<Handle>,
+    found: Option<Found>,
+)
+    ensures { (record {
+      channels = channels.new;
+      circuits = circuits.new;
+      order = order.new.items;
+    }) ≡ unopened (undone found (record {
+      channels = channels.old;
+      circuits = circuits.old;
+      opening = opening.items;
+      order = order.old.items;
+    })) }
+{
+    if let Some(found) = found {
+        lose(channels, circuits, &mut opening, order, found);
+    }
+}
+
+// As by `find`, but that a circuit that is wanted from now on is still to be opened, under the handle that it will have. Without memory nothing
 // changes.
 pub(crate) fn find_one(
     alloc: Global,

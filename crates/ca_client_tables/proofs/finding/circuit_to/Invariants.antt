@@ -1,9 +1,7 @@
-use Rattle.std.proofs.Common.{◌≡◌, drop, option_map}
-use Rattle.std.specs.Prelude.{find}
-use Rattle.ca_ids.specs.Table.{held_from}
-use Rattle.ca_client_tables.specs.Finding.{as_found, circuit_in, goes_there}
+use Rattle.std.proofs.Common.{◌≡◌, take}
+use Rattle.ca_ids.specs.Table.{with_all_held}
+use Rattle.ca_client_tables.specs.Finding.{circuit_in}
 use Rattle.ca_client_tables.proofs.finding.circuit_to.Given as goal
 
-abbrev pub invariant-loop-index : goal.invariant-loop-index
-invariant-loop-index l =
-    circuit_in l.address l.priority l.circuits ≡ option_map as_found (find (goes_there l.address l.priority) (held_from l.index (drop l.index l.circuits)))
+abbrev pub invariant-loop-place : goal.invariant-loop-place
+invariant-loop-place l = l.found ≡ circuit_in l.address l.priority (with_all_held (take l.place l.opening) l.circuits)

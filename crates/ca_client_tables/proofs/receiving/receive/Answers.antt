@@ -1,30 +1,46 @@
 use Rattle.std.proofs.Common.{None, Ok, Option, Some, rules, subst}
-use Rattle.ca_client_tables.specs.Finding.{FindsIn, Tables}
-use Rattle.ca_client_tables.specs.Receiving.{Parts, tables_in}
+use Rattle.ca_client_tables.specs.Finding.{FindsOne, Halfway}
+use Rattle.ca_client_tables.specs.Receiving.{HalfParts, tables_in}
 use Rattle.ca_client_tables.specs.declared.finding.Found.{Found}
 use Rattle.ca_client_tables.proofs.Arrivals.{beacon-received, reply-received, skipped}
 use Rattle.ca_client_tables.proofs.receiving.receive.Goals as goal
 
 pub returns-in-Ok-Some : goal.returns-in-Ok-Some
 returns-in-Ok-Some c =
-    let old : Parts = record { channels = c.args.channels.now; circuits = c.args.circuits.now; order = c.args.order.now.items; beacons = c.args.beacons.now } in
-    let t : Tables = record { channels = c.find.new.channels; circuits = c.find.new.circuits; order = c.find.new.order.items } in
-    reply-received old c.args.from c.args.message.now (Some c.in-Ok-Some.found) t (search rules)
-    (subst (λ (o : Option Found). FindsIn (tables_in old) c.args.from c.args.message.now (Ok o) t) c.in-Ok-Some.field-0-is c.in-Ok-Some.ensures)
+    let old : HalfParts = record { channels = c.args.channels.now; circuits = c.args.circuits.now; opening = c.args.opening.now.items; order = c.args.order.now.items; beacons = c.args.beacons.now } in
+    let t : Halfway = record { channels = c.find_one.new.channels; circuits = c.find_one.new.circuits; opening = c.find_one.new.opening.items; order = c.find_one.new.order.items } in
+    record {
+      receives =
+          reply-received old c.args.from c.args.message.now (Some c.in-Ok-Some.found) t (search rules)
+          (subst (λ (o : Option Found). FindsOne (tables_in old) c.args.from c.args.message.now (Ok o) t) c.in-Ok-Some.field-0-is c.in-Ok-Some.ensures.finds);
+      opening = c.in-Ok-Some.ensures.opening;
+    }
 
 pub returns-in-Ok-None : goal.returns-in-Ok-None
 returns-in-Ok-None c =
-    let old : Parts = record { channels = c.args.channels.now; circuits = c.args.circuits.now; order = c.args.order.now.items; beacons = c.args.beacons.now } in
-    let t : Tables = record { channels = c.find.new.channels; circuits = c.find.new.circuits; order = c.find.new.order.items } in
-    reply-received old c.args.from c.args.message.now None t (search rules)
-    (subst (λ (o : Option Found). FindsIn (tables_in old) c.args.from c.args.message.now (Ok o) t) c.in-Ok-None.field-0-is c.in-Ok-None.ensures)
+    let old : HalfParts = record { channels = c.args.channels.now; circuits = c.args.circuits.now; opening = c.args.opening.now.items; order = c.args.order.now.items; beacons = c.args.beacons.now } in
+    let t : Halfway = record { channels = c.find_one.new.channels; circuits = c.find_one.new.circuits; opening = c.find_one.new.opening.items; order = c.find_one.new.order.items } in
+    record {
+      receives =
+          reply-received old c.args.from c.args.message.now None t (search rules)
+          (subst (λ (o : Option Found). FindsOne (tables_in old) c.args.from c.args.message.now (Ok o) t) c.in-Ok-None.field-0-is c.in-Ok-None.ensures.finds);
+      opening = c.in-Ok-None.ensures.opening;
+    }
 
 pub returns-then-command-number-2 : goal.returns-then-command-number-2
 returns-then-command-number-2 c =
-    let old : Parts = record { channels = c.args.channels.now; circuits = c.args.circuits.now; order = c.args.order.now.items; beacons = c.args.beacons.now } in
-    beacon-received old c.args.from c.args.message.now c.receive_beacon.result c.receive_beacon.new.beacons (search rules) c.receive_beacon.ensures
+    let old : HalfParts = record { channels = c.args.channels.now; circuits = c.args.circuits.now; opening = c.args.opening.now.items; order = c.args.order.now.items; beacons = c.args.beacons.now } in
+    record {
+      receives =
+          beacon-received old c.args.from c.args.message.now c.receive_beacon.result c.receive_beacon.new.beacons (search rules) c.receive_beacon.ensures;
+      opening = c.requires;
+    }
 
 pub returns : goal.returns
 returns c =
-    let old : Parts = record { channels = c.args.channels.now; circuits = c.args.circuits.now; order = c.args.order.now.items; beacons = c.args.beacons.now } in
-    skipped old c.args.from c.args.message.now (search rules) (λ is port. search rules)
+    let old : HalfParts = record { channels = c.args.channels.now; circuits = c.args.circuits.now; opening = c.args.opening.now.items; order = c.args.order.now.items; beacons = c.args.beacons.now } in
+    record {
+      receives =
+          skipped old c.args.from c.args.message.now (search rules) (λ is port. search rules);
+      opening = c.requires;
+    }

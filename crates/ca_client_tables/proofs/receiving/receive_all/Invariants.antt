@@ -1,11 +1,11 @@
 use Rattle.std.proofs.Common.{◌≡◌, ◌≤◌, length, vec_len}
 use Rattle.std.specs.Vec.{vec_capacity}
-use Rattle.ca_client_tables.specs.Receiving.{Parts}
-use Rattle.ca_client_tables.proofs.Arrivals.{SoFar}
+use Rattle.ca_client_tables.specs.Receiving.{HalfParts, Parts}
+use Rattle.ca_client_tables.proofs.Arrivals.{SoFar, begun}
 use Rattle.ca_client_tables.proofs.receiving.receive_all.Given as goal
 
 abbrev pub invariant-loop-index : goal.invariant-loop-index
 invariant-loop-index l =
     let first : Parts = record { channels = l.initial.channels; circuits = l.initial.circuits; order = l.initial.order.items; beacons = l.initial.beacons } in
-    let now : Parts = record { channels = l.channels; circuits = l.circuits; order = l.order.items; beacons = l.beacons } in
-    SoFar first now l.from l.messages l.index l.done.items × (vec_len l.done ≡ l.index) × (length l.messages ≤ vec_capacity l.done)
+    let now : HalfParts = record { channels = l.channels; circuits = l.circuits; opening = l.opening.items; order = l.order.items; beacons = l.beacons } in
+    SoFar (begun first) now l.from l.messages l.index l.done.items × (vec_len l.done ≡ l.index) × (length l.messages ≤ vec_capacity l.done)
