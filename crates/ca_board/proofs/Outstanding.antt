@@ -9,7 +9,7 @@ use Rattle.ca_board.specs.declared.ticket.Filled.{Filled}
 use Rattle.ca_board.specs.declared.ticket.Filled.TheVariants.{Stored, GivenUp}
 use Rattle.std.specs.Prelude.{Bool, true, false, IsTrue, IsFalse}
 use Rattle.ca_board.specs.History.{ticket, Frees, Has, Entry}
-use Rattle.ca_board.specs.Views.{CoreView, IsDue, HasFilled, HasTakenBack, with_arm, with_recycle, with_refusal}
+use Rattle.ca_board.specs.Views.{CoreView, IsDue, HasFilled, HasTakenBack, with_arm, with_recycle}
 use Rattle.ca_board.specs.Outstanding.{AreDue}
 use Rattle.ca_board.proofs.Stock.{has_snoc, at_snoc_index}
 

@@ -1,5 +1,5 @@
 -- The core takes back a ticket that nobody has used.
-use Rattle.std.proofs.Common.{◌≡◌, ◌≢◌, ◌⊎◌, ℕ, ◌+◌, ◌*◌, ◌<◌, ◌≤◌, List, [], ◌∷◌, ◌++◌, length, set, get_or, inl, inr, refl, sym, ap, ◌∙◌, subst, ⊎_elim, arith, length-set, get_or-set_other, get_or-set_same, None}
+use Rattle.std.proofs.Common.{◌≡◌, ◌⊎◌, ℕ, ◌+◌, ◌*◌, ◌<◌, ◌≤◌, List, [], ◌∷◌, ◌++◌, length, set, get_or, inl, inr, refl, sym, ap, ◌∙◌, subst, ⊎_elim, arith, length-set, get_or-set_other, get_or-set_same, None}
 use mathlib.Core.Logic.{dite}
 use mathlib.Core.Option.{some, some-ne-none}
 use mathlib.Core.Option as maybe
@@ -11,7 +11,7 @@ use Rattle.ca_board.proofs.Stock.{at_inside, has_snoc, has_last}
 use Rattle.ca_board.specs.declared.ticket.Ticket.{Ticket}
 use Rattle.ca_board.specs.declared.steps.CoreLog.{CoreLog}
 use Rattle.ca_board.specs.declared.steps.View.{View}
-use Rattle.ca_board.specs.History.{ticket, Has, Entry, Table, Sat, core_log, no_caller, core_view, CellOk, GiveOk, IsGivenUp, IsUnfilled, SeatOk, KeptAt, Kept, WaitOk, Frees, back_too, core_part, taken_back}
+use Rattle.ca_board.specs.History.{ticket, Has, Entry, Table, Sat, core_log, no_caller, core_view, CellOk, GiveOk, IsGivenUp, IsUnfilled, SeatOk, KeptAt, Kept, Frees, back_too, core_part, taken_back}
 use Rattle.ca_board.proofs.Rule.{Takers, grows, others_know, seats_stay, More, given_stays, wait_stays, no_takes, no_tickets, found, core_sat}
 use Rattle.ca_board.proofs.Meeting.{met_view}
 

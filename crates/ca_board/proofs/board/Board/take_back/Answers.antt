@@ -1,4 +1,4 @@
-use Rattle.std.proofs.Common.{◌≡◌, arith, inl, inr, sym, ap, ◌∙◌, subst, ℕ, ◌+◌, ◌*◌, [], ◌∷◌, length-append}
+use Rattle.std.proofs.Common.{◌≡◌, arith, inl, sym, ap, ◌∙◌, subst, ◌+◌, ◌*◌, [], ◌∷◌, length-append}
 use Rattle.ca_board.specs.History.{ticket, Has, IsStock, Frees, Sat}
 use Rattle.ca_board.specs.Views.{CoreView, IsDue, with_recycle, with_refusal}
 use Rattle.ca_board.proofs.After.{core_sound, core_seen}
