@@ -24,7 +24,8 @@ use std::alloc::{AllocError, Global};
 pub extern "C" fn cvz_server_new(alloc: Global, server: &mut CvzServer, port: u16, now: u64) -> i32
     ensures { Begins port now result server.old.value server.new.value }
 {
-    match begun(alloc, port, now, &Records::new(alloc), Vec::new(alloc)) {
+    let records = Records::new(alloc);
+    match begun(alloc, port, now, &records, Vec::new(alloc)) {
         Ok(object) => {
             server.put(alloc, object);
             0
