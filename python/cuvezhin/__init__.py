@@ -1,0 +1,13 @@
+"""EPICS Channel Access for asyncio: a server whose records are objects, and a client.
+
+All of the protocol is the library's, libcuvezhin, whose calls are proved; this package has the sockets, the timers and the objects. It needs the
+standard library alone. docs/PYTHON.md begins with ten lines of each."""
+from .client import Client, Info, Monitor
+from .errors import Error, LibraryMissing, Lost, Refused, ServerRefused, TimedOut, Unreadable
+from .server import Put, Record, Server
+from .values import Mask, Reading, Type, Value
+
+__all__ = [
+    "Client", "Error", "Info", "LibraryMissing", "Lost", "Mask", "Monitor", "Put", "Reading", "Record", "Refused", "Server", "ServerRefused", "TimedOut",
+    "Type", "Unreadable", "Value",
+]

@@ -1,0 +1,616 @@
+"""A server on asyncio: sockets and timers round the library's server. Everything here runs in the loop's thread."""
+import asyncio
+import ctypes
+import inspect
+import os
+import time
+from collections import Counter, deque
+from collections.abc import Awaitable, Callable, Iterable, Sequence
+from types import TracebackType
+from typing import Any, NamedTuple, Optional, Union
+
+from . import _library as lib
+from . import addresses
+from .errors import Error, Refused
+from .values import EPOCH, Mask, Reading, Type, Value, elements, kind_of, reading, stamped
+
+# A circuit takes so many subscriptions: those by which the server hears of its own records are on more than one.
+EACH, PRIORITIES = 288, 100
+PRIORITIES_ARE_FULL = 25
+# Milliseconds between the first two beacons, and between later ones at most.
+FIRST_BEACON, LONGEST_BEACON = 20, 15_000
+EVERY_CHANGE = 15
+
+
+class Put(NamedTuple):
+    """What a client wrote."""
+    record: "Record"
+    value: Value
+    #: The value before.
+    old: Value
+    #: The client's address, as "HOST:PORT", and the user that it says it is; None if the library does not tell.
+    host: Optional[str]
+    user: Optional[str]
+    #: When it was applied, in seconds since 1970.
+    time: float
+
+
+OnPut = Callable[[Put], Union[None, Awaitable[None]]]
+
+
+class Record:
+    """A record: a value that clients read, write and monitor.
+
+    name     1 to 60 bytes
+    value    an int (LONG), a float (DOUBLE), a str (STRING), or a sequence or a buffer of such
+    type     its type, if not that of the value
+    count    the greatest count of elements, if not the count of the value
+    on_put   is called with a Put after each put of a client. If it is a coroutine function the record is slow: a put with notification is answered
+             when the coroutine is done, and the next such put is applied then. What it raises goes to the loop's exception handler
+    slow     says whether it is slow, if `on_put` does not
+
+    Raises ValueError if the value is of no type, or not of this one.
+    """
+
+    def __init__(self, name: str, value: Any, *, type: Optional[Type] = None, count: Optional[int] = None, on_put: Optional[OnPut] = None,
+                 slow: Optional[bool] = None) -> None:
+        self.name = name
+        self.type = kind_of(value) if type is None else Type(type)
+        self.on_put = on_put
+        self.slow = _is_coroutine(on_put) if slow is None else slow
+        many, image = elements(self.type, value)
+        self.count = many if count is None else count
+        if not 0 < many <= self.count:
+            raise ValueError(f"{name}: {many} elements, of {self.count} at most")
+        self._server: Optional[Server] = None
+        self._take(many, stamped(self.type, image, 0, 0, *_now()))
+        # The circuit on which the server hears of it, those that subscribed to it, and puts that wait for its callback.
+        self._inside = 0
+        self._peers: Counter[_Peer] = Counter()
+        self._puts: deque[_Waiting] = deque()
+        self._task: Optional[asyncio.Task[None]] = None
+
+    @property
+    def value(self) -> Value:
+        """The value now, whoever wrote it."""
+        return self.reading.value
+
+    def set(self, value: Any, *, status: int = 0, severity: int = 0, stamp: Optional[float] = None, mask: Optional[int] = None) -> None:
+        """As `post`, and does not wait until the updates are on their way."""
+        count, image = elements(self.type, value)
+        if not 0 < count <= self.count:
+            raise ValueError(f"{self.name}: {count} elements, of {self.count} at most")
+        seconds, nanoseconds = _now() if stamp is None else (int(stamp), int(stamp % 1 * 1e9))
+        if mask is None:
+            is_new = (status, severity) != (self.reading.status, self.reading.severity)
+            mask = Mask.VALUE | Mask.LOG | (Mask.ALARM if is_new else 0)
+        full = stamped(self.type, image, status, severity, seconds, nanoseconds)
+        if self._server:
+            self._server._post(self, mask, count, full)
+        self._take(count, full)
+
+    async def post(self, value: Any, *, status: int = 0, severity: int = 0, stamp: Optional[float] = None, mask: Optional[int] = None) -> None:
+        """The record has this value from now on, and its subscribers are told.
+
+        status, severity   of its alarm (severity 0 none, 1 minor, 2 major, 3 invalid)
+        stamp              its time in seconds since 1970; now by default
+        mask               which subscriptions are told; VALUE and LOG by default, and ALARM if the alarm changed
+
+        Raises ValueError if the value is not of the record's type or has too many elements."""
+        self.set(value, status=status, severity=severity, stamp=stamp, mask=mask)
+        await asyncio.sleep(0)
+
+    def _take(self, count: int, image: bytes) -> None:
+        self.reading = reading(self.name, self.type, count, image, self.count == 1)
+
+
+class _Waiting(NamedTuple):
+    """A put that waits for the record's callback, whether its answer waits for that too, and whose it is, if that is known."""
+    put: Put
+    is_busy: bool
+    peer: "Optional[_Peer]"
+
+
+class _Peer(asyncio.Protocol):
+    """A circuit and its socket."""
+
+    def __init__(self, server: "Server") -> None:
+        self.server = server
+        self.handle = 0
+        self.host = ""
+        self.is_paused = self.is_full = self.is_over = False
+        self.records: dict[int, Record] = {}
+        self.subscribed: dict[int, set[int]] = {}
+        # The circuits on which the server hears of this client's records.
+        self.inside: set[int] = set()
+
+    def connection_made(self, transport: asyncio.BaseTransport) -> None:
+        assert isinstance(transport, asyncio.Transport)
+        self.transport = transport
+        host, port = transport.get_extra_info("peername")[:2]
+        self.host = f"{host}:{port}"
+        self.server._accept(self)
+
+    def data_received(self, data: bytes) -> None:
+        if not self.is_over:
+            self.server._came(self, data)
+
+    def pause_writing(self) -> None:
+        self.is_paused = True
+
+    def resume_writing(self) -> None:
+        self.is_paused = False
+        if self.is_over:
+            return
+        self.server._flush(self)
+        if self.is_full and not self.is_paused:
+            self.is_full = False
+            self.transport.resume_reading()
+            self.server._serve(self)
+
+    def connection_lost(self, exc: Optional[Exception]) -> None:
+        self.server._lost(self)
+
+
+class _Searches(asyncio.DatagramProtocol):
+    def __init__(self, server: "Server") -> None:
+        self.server = server
+
+    def datagram_received(self, data: bytes, addr: Any) -> None:
+        self.server._search(data, addr)
+
+    def error_received(self, exc: Exception) -> None:
+        """An answer or a beacon that reached nobody is not missed."""
+
+
+class Server:
+    """A server of Channel Access.
+
+        async with Server([Record("TEMP", 21.0)]) as server:
+            await server.serve_forever()
+
+    records   what it serves; `add` and `remove` change that
+    host      the address at which it listens; by default EPICS_CAS_INTF_ADDR_LIST, or all of this host
+    port      the port for circuits (TCP) and searches (UDP); by default EPICS_CAS_SERVER_PORT, EPICS_CA_SERVER_PORT, or 5064. 0 has the system choose
+    beacons   where beacons go; by default to this host's repeater, and to EPICS_CAS_BEACON_ADDR_LIST
+    on_put    is called with a Put after each put of a client to any record, before the record's own callback
+
+    `port` and `host` say where it listens once it was entered. Entering raises OSError if that place is taken, and Refused if a record is refused:
+    RecordExists, NameLength, or BadCount for over 262,144 elements. It serves 28,800 records at most, since that many it can hear of.
+    """
+
+    def __init__(self, records: Iterable[Record] = (), *, host: Optional[str] = None, port: Optional[int] = None,
+                 beacons: Optional[Sequence[addresses.Place]] = None, on_put: Optional[Callable[[Put], None]] = None) -> None:
+        listens, at = addresses.served(os.environ)
+        self.host = listens if host is None else host
+        self.port = at if port is None else port
+        self.on_put = on_put
+        self._beacons = addresses.beacons(os.environ) if beacons is None else [addresses.address(it, addresses.REPEATER_PORT) for it in beacons]
+        self._given = list(records)
+        self._records: dict[str, Record] = {}
+        self._peers: dict[int, _Peer] = {}
+        # Those whose put waited behind another, and how many such puts wait for their callback.
+        self._queued: set[_Peer] = set()
+        self._orphans = 0
+        self._dirty: dict[_Peer, None] = {}
+        self._is_open = False
+
+    # ---- its life
+
+    async def __aenter__(self) -> "Server":
+        loop = self._loop = asyncio.get_running_loop()
+        self._stopped: asyncio.Future[None] = loop.create_future()
+        await self._listen()
+        self._core = lib.End(lib.SERVER, "server")
+        self._did = lib.Step()
+        self._began = loop.time()
+        self._stamp = (0, 0)
+        lib.checked(self._core.call_new(self._core.at, self.port, 0))
+        self._inside = _Inside(self._core, self.port)
+        self._is_open = True
+        try:
+            for record in self._given:
+                self._add(record)
+            self._inside.settle()
+        except Error:
+            await self.close()
+            raise
+        self._wait = FIRST_BEACON
+        self._timer: Optional[asyncio.TimerHandle] = None
+        self._beacon()
+        await self._server.start_serving()
+        return self
+
+    async def _listen(self) -> None:
+        """Binds both sockets; if the system chooses the port, one that is free for both."""
+        for left in reversed(range(1 if self.port else 20)):
+            self._server = await self._loop.create_server(lambda: _Peer(self), self.host, self.port, start_serving=False)
+            port = self._server.sockets[0].getsockname()[1]
+            try:
+                self._datagrams, _ = await self._loop.create_datagram_endpoint(lambda: _Searches(self), (self.host, port), allow_broadcast=True)
+                self.port = port
+                return
+            except OSError:
+                self._server.close()
+                if not left:
+                    raise
+
+    async def __aexit__(self, kind: Optional[type[BaseException]], error: Optional[BaseException], trace: Optional[TracebackType]) -> None:
+        await self.close()
+
+    async def close(self) -> None:
+        """Closes all sockets. Callbacks that run are cancelled."""
+        if not self._is_open:
+            return
+        self._is_open = False
+        self._server.close()
+        self._datagrams.close()
+        if getattr(self, "_timer", None):
+            self._timer.cancel()
+        for peer in list(self._peers.values()):
+            peer.is_over = True
+            peer.transport.close()
+        tasks = [it._task for it in self._records.values() if it._task]
+        for task in tasks:
+            task.cancel()
+        await asyncio.gather(*tasks, return_exceptions=True)
+        await asyncio.sleep(0)
+        for record in self._records.values():
+            record._server = None
+        self._inside.free()
+        self._core.free()
+        if not self._stopped.done():
+            self._stopped.set_result(None)
+
+    async def serve_forever(self) -> None:
+        """Waits until the server is closed."""
+        await asyncio.shield(self._stopped)
+
+    # ---- records
+
+    def __getitem__(self, name: str) -> Record:
+        return self._records[name]
+
+    def add(self, record: Record) -> None:
+        """Serves one more record. Raises Refused: RecordExists, NameLength or BadCount."""
+        self._add(record)
+        self._inside.settle()
+
+    def remove(self, record: Record) -> None:
+        """Serves the record no more: its channels are told, and its puts that wait are never applied. Raises Refused (UnknownRecord)."""
+        name = record.name.encode()
+        lib.checked(self._core.call_remove(self._core.at, name, len(name)), record.name)
+        del self._records[record.name]
+        self._inside.forget(record)
+        record._server = None
+        record._peers.clear()
+        for peer in self._peers.values():
+            self._flush_soon(peer)
+
+    def _add(self, record: Record) -> None:
+        if record._server:
+            raise ValueError(f"{record.name} is served already")
+        core, name, value = self._core, record.name.encode("utf-8", "surrogateescape"), record.reading
+        many, image = elements(record.type, value.value)
+        lib.checked(core.call_add(core.at, name, len(name), record.count, record.slow, record.type, many, image, len(image)), record.name)
+        full = stamped(record.type, image, value.status, value.severity, value.seconds, value.nanoseconds)
+        core.call_post(core.at, name, len(name), EVERY_CHANGE, lib.TIME + record.type, many, full, len(full))
+        self._records[record.name] = record
+        record._server = self
+        self._inside.watch(record)
+
+    def _post(self, record: Record, mask: int, count: int, image: bytes) -> None:
+        core, name = self._core, record.name.encode("utf-8", "surrogateescape")
+        lib.checked(core.call_post(core.at, name, len(name), mask, lib.TIME + record.type, count, image, len(image)), record.name)
+        # The server hears of it as well: that is no put.
+        self._inside.hear((record._inside,))
+        self._tell(record)
+
+    def _tell(self, record: Record) -> None:
+        for peer in record._peers:
+            self._flush_soon(peer)
+
+    # ---- puts
+
+    def _wrote(self, peer: _Peer, did: lib.Step) -> None:
+        """A message of this circuit wrote a record."""
+        for record, found in self._inside.hear(peer.inside):
+            self._heard(record, found, peer, did.effect == lib.BUSIED)
+
+    def _heard(self, record: Record, found: Reading, peer: Optional[_Peer], is_busy: bool) -> None:
+        put = Put(record, found.value, record.value, peer and peer.host, None, found.time)
+        record.reading = found
+        self._tell(record)
+        if self.on_put:
+            self._called(self.on_put, put)
+        if record.slow:
+            record._puts.append(_Waiting(put, is_busy, peer))
+            if not record._task:
+                record._task = self._loop.create_task(self._process(record))
+        elif record.on_put:
+            answer = self._called(record.on_put, put)
+            if inspect.isawaitable(answer):
+                asyncio.ensure_future(answer)
+
+    def _called(self, call: Callable[[Put], Any], put: Put) -> Any:
+        try:
+            return call(put)
+        except Exception as error:
+            self._complain(put.record, error)
+            return None
+
+    def _complain(self, record: Record, error: Exception) -> None:
+        self._loop.call_exception_handler({"message": f"the callback of {record.name} failed", "exception": error})
+
+    async def _process(self, record: Record) -> None:
+        """Runs the callback for each put to a slow record, one after another."""
+        while record._puts:
+            waiting = record._puts.popleft()
+            try:
+                answer = record.on_put(waiting.put) if record.on_put else None
+                if inspect.isawaitable(answer):
+                    await answer
+            except Exception as error:
+                self._complain(record, error)
+            if waiting.is_busy and record._server is self:
+                self._finish(record, waiting.peer)
+        record._task = None
+
+    def _finish(self, record: Record, peer: Optional[_Peer]) -> None:
+        """The put that makes the record busy is done; the next one that waits is applied by that."""
+        core, name = self._core, record.name.encode("utf-8", "surrogateescape")
+        before = core.call_applied(core.at)
+        if core.call_finish(core.at, name, len(name)) < 0:
+            return
+        if peer:
+            self._flush_soon(peer)
+        else:
+            self._orphans -= 1
+            for queued in self._queued:
+                self._flush_soon(queued)
+        if core.call_applied(core.at) != before:
+            for heard, found in self._inside.hear((record._inside,)):
+                self._orphans += 1
+                self._heard(heard, found, None, True)
+        elif not self._orphans and not core.call_waiting(core.at):
+            self._queued.clear()
+
+    # ---- circuits
+
+    def _accept(self, peer: _Peer) -> None:
+        if not self._is_open:
+            peer.is_over = True
+            peer.transport.abort()
+            return
+        try:
+            peer.handle = self._core.handle("", self._core.call_accept)
+        except Refused:
+            peer.is_over = True
+            peer.transport.abort()
+            return
+        self._peers[peer.handle] = peer
+        self._flush(peer)
+
+    def _came(self, peer: _Peer, data: bytes) -> None:
+        if self._core.call_give(self._core.at, peer.handle, data, len(data)) < 0:
+            self._core.call_cut(self._core.at, peer.handle)
+        self._serve(peer)
+
+    def _serve(self, peer: _Peer) -> None:
+        """Handles what came, message by message."""
+        core, did, handle = self._core, self._did, peer.handle
+        self._stamp = max(self._stamp, _now())
+        core.call_stamp(core.at, self._stamp[0] - EPOCH, self._stamp[1])
+        while True:
+            answer = core.call_step(core.at, handle, did)
+            if answer == lib.HANDLED:
+                if did.effect:
+                    self._follow(peer, did)
+            elif answer == lib.NEEDS_BYTES:
+                self._flush(peer)
+                return
+            elif answer == lib.OUTPUT_FULL:
+                self._flush(peer)
+                if peer.is_paused:
+                    peer.is_full = True
+                    peer.transport.pause_reading()
+                    return
+            else:
+                self._end(peer, core.left())
+                return
+
+    def _follow(self, peer: _Peer, did: lib.Step) -> None:
+        """What a message did, beside its replies."""
+        effect, sid = did.effect, did.sid
+        if effect in (lib.WROTE, lib.BUSIED):
+            self._wrote(peer, did)
+        elif effect == lib.QUEUED:
+            self._queued.add(peer)
+        elif effect == lib.CREATED:
+            name = self._core.taken(self._core.call_name, peer.handle, sid).decode("utf-8", "surrogateescape")
+            record = self._records.get(name)
+            if record:
+                peer.records[sid] = record
+                peer.inside.add(record._inside)
+        elif effect == lib.SUBSCRIBED:
+            peer.subscribed.setdefault(sid, set()).add(did.subscription)
+            if sid in peer.records:
+                peer.records[sid]._peers[peer] += 1
+        elif effect == lib.CANCELLED:
+            if did.subscription in peer.subscribed.get(sid, ()):
+                peer.subscribed[sid].remove(did.subscription)
+                self._unsubscribe(peer, sid, 1)
+        elif effect == lib.CLEARED:
+            self._unsubscribe(peer, sid, len(peer.subscribed.pop(sid, ())))
+            peer.records.pop(sid, None)
+
+    def _unsubscribe(self, peer: _Peer, sid: int, many: int) -> None:
+        record = peer.records.get(sid)
+        if record and many:
+            record._peers[peer] -= many
+            if record._peers[peer] <= 0:
+                del record._peers[peer]
+
+    def _flush_soon(self, peer: _Peer) -> None:
+        if not self._dirty:
+            self._loop.call_soon(self._flush_dirty)
+        self._dirty[peer] = None
+
+    def _flush_dirty(self) -> None:
+        dirty, self._dirty = self._dirty, {}
+        for peer in dirty:
+            self._flush(peer)
+
+    def _flush(self, peer: _Peer) -> None:
+        """Sends what waits, updates too, as far as the socket takes it."""
+        core = self._core
+        while not peer.is_paused and not peer.is_over:
+            core.call_pump(core.at, peer.handle)
+            data = core.output(peer.handle)
+            if not data:
+                return
+            peer.transport.write(data)
+
+    def _lost(self, peer: _Peer) -> None:
+        if not peer.is_over:
+            self._core.call_cut(self._core.at, peer.handle)
+            self._core.call_step(self._core.at, peer.handle, self._did)
+            self._end(peer, b"")
+
+    def _end(self, peer: _Peer, left: bytes) -> None:
+        """The library has ended the circuit."""
+        peer.is_over = True
+        del self._peers[peer.handle]
+        self._queued.discard(peer)
+        for record in peer.records.values():
+            record._peers.pop(peer, None)
+        if left:
+            peer.transport.write(left)
+        peer.transport.close()
+
+    # ---- datagrams
+
+    def _search(self, data: bytes, peer: Any) -> None:
+        if self._is_open and self._core.call_datagram(self._core.at, data, len(data)) >= 0:
+            while (answer := self._core.taken(self._core.call_answer)):
+                self._datagrams.sendto(answer, peer)
+
+    def _beacon(self) -> None:
+        now = int((self._loop.time() - self._began) * 1000)
+        beacon = self._core.taken(self._core.call_beacon, now)
+        if beacon:
+            for place in self._beacons:
+                self._datagrams.sendto(beacon, place)
+            self._timer = self._loop.call_later(self._wait / 1000 + 0.002, self._beacon)
+            self._wait = min(2 * self._wait, LONGEST_BEACON)
+        else:
+            self._timer = self._loop.call_later(0.002, self._beacon)
+
+
+class _Inside:
+    """How a server hears which record was written, and its value: as one of its own clients, on circuits without sockets."""
+
+    def __init__(self, server: lib.End, port: int) -> None:
+        self._server, self._port = server, port
+        self._core = lib.End(lib.CLIENT, "client")
+        self._did, self._notice, self._cause, self._size = lib.Step(), lib.Notice(), ctypes.c_uint32(), ctypes.c_size_t()
+        self._to, self._wanted = lib.Address(), lib.Wanted()
+        self._here = lib.Address(addresses.number("127.0.0.1"), port)
+        places = (lib.Address * 1)(self._here)
+        lib.checked(self._core.call_new(self._core.at, b"server", 6, b"localhost", 9, places, 1, places, 0, 0))
+        self._circuits: dict[int, int] = {}
+        self._at_priority = [0] * PRIORITIES
+        self._channels: dict[int, Record] = {}
+        self._subscriptions: dict[int, Record] = {}
+        self._of: dict[Record, tuple[int, int]] = {}
+
+    def watch(self, record: Record) -> None:
+        """Hears of this record, once `settle` was called."""
+        priority = next((it for it, many in enumerate(self._at_priority) if many < EACH), None)
+        if priority is None:
+            raise Refused(PRIORITIES_ARE_FULL, record.name)
+        name = record.name.encode("utf-8", "surrogateescape")
+        handle = self._core.handle(record.name, self._core.call_open, name, len(name), priority, 0)
+        self._channels[handle] = record
+        self._of[record] = handle, priority
+        self._at_priority[priority] += 1
+
+    def forget(self, record: Record) -> None:
+        handle, priority = self._of.pop(record)
+        self._core.call_clear(self._core.at, handle)
+        self._channels.pop(handle)
+        self._at_priority[priority] -= 1
+        self.hear([record._inside])
+
+    def settle(self) -> None:
+        """Finds and subscribes to the records that it does not hear of yet."""
+        core, server = self._core, self._server
+        core.call_tick(core.at, 0)
+        while (search := core.taken(core.call_search, self._to)):
+            server.call_datagram(server.at, search, len(search))
+            while (answer := server.taken(server.call_answer)):
+                core.call_datagram(core.at, 0, self._here, answer, len(answer))
+        while core.call_wanted(core.at, 0, self._wanted) == 1:
+            circuit = self._wanted.circuit
+            self._circuits[circuit] = server.handle("", server.call_accept)
+            core.call_connected(core.at, circuit, self._cause)
+        self.hear(self._circuits)
+
+    def hear(self, circuits: Iterable[int]) -> list[tuple[Record, Reading]]:
+        """Which records changed since this was asked last, of those on these circuits."""
+        return [it for circuit in circuits for it in self._exchange(circuit)]
+
+    def _exchange(self, circuit: int) -> list[tuple[Record, Reading]]:
+        """Moves what waits on a circuit to the server and back, until nothing waits."""
+        core, server, its = self._core, self._server, self._circuits[circuit]
+        found = self._brought(circuit)
+        while (data := core.output(circuit)):
+            server.call_give(server.at, its, data, len(data))
+            while server.call_step(server.at, its, self._did) == lib.HANDLED:
+                pass
+            found += self._brought(circuit)
+        return found
+
+    def _brought(self, circuit: int) -> list[tuple[Record, Reading]]:
+        core, server, its, found = self._core, self._server, self._circuits[circuit], []
+        while True:
+            server.call_pump(server.at, its)
+            data = server.output(its)
+            if not data:
+                return found
+            core.call_give(core.at, circuit, data, len(data), False)
+            while core.call_step(core.at, circuit, self._cause) == lib.HANDLED:
+                found += self._noticed(circuit)
+
+    def _noticed(self, circuit: int) -> list[tuple[Record, Reading]]:
+        core, notice, found = self._core, self._notice, []
+        while core.call_next(core.at, notice) == 1:
+            if notice.kind == lib.NOTICE_LIVE:
+                record = self._channels[notice.of]
+                record._inside = circuit
+                handle = core.handle(record.name, core.call_subscribe, notice.of, lib.TIME + record.type, 0, EVERY_CHANGE)
+                self._subscriptions[handle] = record
+            elif notice.kind == lib.NOTICE_UPDATE and notice.outcome == lib.VALUE:
+                found.append((self._subscriptions[notice.of], self._value(notice)))
+        return found
+
+    def _value(self, notice: lib.Notice) -> Reading:
+        core, size = self._core, self._size
+        record = self._subscriptions[notice.of]
+        lib.checked(core.call_value(core.at, lib.TIME + notice.type, core.room, len(core.room), size))
+        if size.value > len(core.room):
+            core.room = ctypes.create_string_buffer(size.value)
+            lib.checked(core.call_value(core.at, lib.TIME + notice.type, core.room, len(core.room), size))
+        return reading(record.name, notice.type, notice.count, ctypes.string_at(core.room, size.value), record.count == 1)
+
+    def free(self) -> None:
+        self._core.free()
+
+
+def _now() -> tuple[int, int]:
+    """The time in seconds since 1970, and nanoseconds."""
+    return divmod(time.time_ns(), 1_000_000_000)
+
+
+def _is_coroutine(call: Any) -> bool:
+    return inspect.iscoroutinefunction(call) or inspect.iscoroutinefunction(getattr(call, "__call__", None))
