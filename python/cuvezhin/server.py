@@ -12,7 +12,7 @@ from typing import Any, NamedTuple, Optional, Union
 from . import _library as lib
 from . import addresses
 from .errors import Error, Refused
-from .values import EPOCH, Mask, Reading, Type, Value, elements, kind_of, reading, stamped
+from .values import EPOCH, Mask, Reading, Type, Value, elements, kind_of, plain, reading, stamped
 
 # A circuit takes so many subscriptions: those by which the server hears of its own records are on more than one.
 EACH, PRIORITIES = 288, 100
@@ -69,6 +69,9 @@ class Record:
         self._peers: Counter[_Peer] = Counter()
         self._puts: deque[_Waiting] = deque()
         self._task: Optional[asyncio.Task[None]] = None
+
+    def __repr__(self) -> str:
+        return f"Record({self.name!r}, {plain(self.value)!r})"
 
     @property
     def value(self) -> Value:
@@ -369,9 +372,10 @@ class Server:
             for queued in self._queued:
                 self._flush_soon(queued)
         if core.call_applied(core.at) != before:
+            whose = next(iter(self._queued)) if len(self._queued) == 1 else None
             for heard, found in self._inside.hear((record._inside,)):
-                self._orphans += 1
-                self._heard(heard, found, None, True)
+                self._orphans += whose is None
+                self._heard(heard, found, whose, True)
         elif not self._orphans and not core.call_waiting(core.at):
             self._queued.clear()
 
