@@ -69,6 +69,9 @@ SERVER: dict[str, tuple[Any, ...]] = {
     "waiting": (c_uint64,),
 }
 
+# Calls that came later than the others: a library may lack them.
+LATER: dict[str, tuple[Any, ...]] = {"load": (c_int32, c_uint16, c_uint64, *BYTES)}
+
 CLIENT: dict[str, tuple[Any, ...]] = {
     "new": (c_int32, *BYTES, *BYTES, POINTER(Address), c_size_t, POINTER(Address), c_size_t, c_uint64),
     "free": (None,),
@@ -128,6 +131,11 @@ def load() -> ctypes.PyDLL:
         for name, (result, *arguments) in calls.items():
             call = getattr(library, f"cvz_{end}_{name}")
             call.restype, call.argtypes = result, [POINTER(Object), *arguments]
+    for name, (result, *arguments) in LATER.items():
+        if hasattr(library, f"cvz_server_{name}"):
+            call = getattr(library, f"cvz_server_{name}")
+            call.restype, call.argtypes = result, [POINTER(Object), *arguments]
+            SERVER[name] = (result, *arguments)
     return library
 
 

@@ -17,6 +17,7 @@ from .values import Value, plain
 
 EXAMPLE = """a file of records, in TOML (or the same in JSON):
 
+  rules = ["operator * * rw", "* * * r"]     USER HOST RECORD RIGHTS, the first that fits; without rules all may read and write
   [records.TEMP]
   value = 21.5              a number, a text, or a list of such
   [records."LAB:WAVE"]
@@ -173,15 +174,15 @@ async def monitor(words: argparse.Namespace) -> int:
     return await each(words, words.names, one)
 
 
-def records_of(path: str) -> list[Record]:
-    """The records of a file. Raises ValueError if it is none."""
+def records_of(path: str) -> tuple[list[Record], list[str]]:
+    """The records and the rules of a file. Raises ValueError if it is none."""
     with open(path, "rb") as it:
         read = it.read()
     given = json.loads(read) if path.endswith(".json") else tomllib.loads(read.decode())
-    extra = set(given) - {"records"}
-    if extra or not isinstance(given.get("records"), dict):
-        raise ValueError(f"{path}: it has {', '.join(sorted(extra)) or 'no records'}: there are records alone, by their names")
-    return [record_of(path, name, row) for name, row in given["records"].items()]
+    extra, rules = set(given) - {"records", "rules"}, given.get("rules", [])
+    if extra or not isinstance(given.get("records"), dict) or not isinstance(rules, list):
+        raise ValueError(f"{path}: it has {', '.join(sorted(extra)) or 'no records'}: there are records, by their names, and rules, a list")
+    return [record_of(path, name, row) for name, row in given["records"].items()], rules
 
 
 def record_of(path: str, name: str, row: Any) -> Record:
@@ -212,7 +213,8 @@ async def serve(words: argparse.Namespace) -> int:
     with contextlib.ExitStack() as files:
         log = files.enter_context(open(words.log, "a", encoding="utf-8")) if words.log else None
         on_put = (lambda it: logged(it, log)) if log else None
-        async with Server(records_of(words.file), host=host, port=port, on_put=on_put) as server:
+        records, rules = records_of(words.file)
+        async with Server(records, host=host, port=port, on_put=on_put, rules=rules) as server:
             loop, ended = asyncio.get_running_loop(), asyncio.Event()
             for number in (signal.SIGINT, signal.SIGTERM):
                 loop.add_signal_handler(number, ended.set)

@@ -3,6 +3,7 @@ import asyncio
 import ctypes
 import inspect
 import os
+import secrets
 import time
 from collections import Counter, deque
 from collections.abc import Awaitable, Callable, Iterable, Sequence
@@ -11,7 +12,7 @@ from typing import Any, NamedTuple, Optional, Union
 
 from . import _library as lib
 from . import addresses
-from .errors import Error, Refused
+from .errors import Error, LibraryMissing, Refused
 from .values import EPOCH, Mask, Reading, Type, Value, elements, kind_of, plain, reading, stamped
 
 # A circuit takes so many subscriptions: those by which the server hears of its own records are on more than one.
@@ -177,17 +178,20 @@ class Server:
     port      the port for circuits (TCP) and searches (UDP); by default EPICS_CAS_SERVER_PORT, EPICS_CA_SERVER_PORT, or 5064. 0 has the system choose
     beacons   where beacons go; by default to this host's repeater, and to EPICS_CAS_BEACON_ADDR_LIST
     on_put    is called with a Put after each put of a client to any record, before the record's own callback
+    rules     of access, "USER HOST RECORD RIGHTS" each, with rw, r, w or - as rights and * for any: the first that fits decides, and what fits none
+              may be read and written. User and host are what a client says of itself. They need a library of interface 1.1
 
     `port` and `host` say where it listens once it was entered. Entering raises OSError if that place is taken, and Refused if a record is refused:
     RecordExists, NameLength, or BadCount for over 262,144 elements. It serves 28,800 records at most, since that many it can hear of.
     """
 
     def __init__(self, records: Iterable[Record] = (), *, host: Optional[str] = None, port: Optional[int] = None,
-                 beacons: Optional[Sequence[addresses.Place]] = None, on_put: Optional[Callable[[Put], None]] = None) -> None:
+                 beacons: Optional[Sequence[addresses.Place]] = None, on_put: Optional[Callable[[Put], None]] = None, rules: Sequence[str] = ()) -> None:
         listens, at = addresses.served(os.environ)
         self.host = listens if host is None else host
         self.port = at if port is None else port
         self.on_put = on_put
+        self._rules = list(rules)
         self._beacons = addresses.beacons(os.environ) if beacons is None else [addresses.address(it, addresses.REPEATER_PORT) for it in beacons]
         self._given = list(records)
         self._records: dict[str, Record] = {}
@@ -208,10 +212,9 @@ class Server:
         self._did = lib.Step()
         self._began = loop.time()
         self._stamp = (0, 0)
-        lib.checked(self._core.call_new(self._core.at, self.port, 0))
-        self._inside = _Inside(self._core, self.port)
         self._is_open = True
         try:
+            self._inside = self._make()
             for record in self._given:
                 self._add(record)
             self._inside.settle()
@@ -223,6 +226,18 @@ class Server:
         self._beacon()
         await self._server.start_serving()
         return self
+
+    def _make(self) -> "_Inside":
+        """Makes the library's server, and the client by which it hears of its records, whom no rule binds."""
+        core, user = self._core, secrets.token_hex(16)
+        if self._rules:
+            if "load" not in lib.SERVER:
+                raise LibraryMissing("the library has no rules of access: they came with interface 1.1")
+            text = "".join(f"rule {it}\n" for it in [f"{user} localhost * rw", *self._rules]).encode()
+            lib.checked(core.call_load(core.at, self.port, 0, text, len(text)), "rules")
+        else:
+            lib.checked(core.call_new(core.at, self.port, 0))
+        return _Inside(core, self.port, user)
 
     async def _listen(self) -> None:
         """Binds both sockets; if the system chooses the port, one that is free for both."""
@@ -260,7 +275,8 @@ class Server:
         await asyncio.sleep(0)
         for record in self._records.values():
             record._server = None
-        self._inside.free()
+        if hasattr(self, "_inside"):
+            self._inside.free()
         self._core.free()
         if not self._stopped.done():
             self._stopped.set_result(None)
@@ -514,14 +530,14 @@ class Server:
 class _Inside:
     """How a server hears which record was written, and its value: as one of its own clients, on circuits without sockets."""
 
-    def __init__(self, server: lib.End, port: int) -> None:
-        self._server, self._port = server, port
+    def __init__(self, server: lib.End, port: int, user: str) -> None:
+        self._server = server
         self._core = lib.End(lib.CLIENT, "client")
         self._did, self._notice, self._cause, self._size = lib.Step(), lib.Notice(), ctypes.c_uint32(), ctypes.c_size_t()
         self._to, self._wanted = lib.Address(), lib.Wanted()
         self._here = lib.Address(addresses.number("127.0.0.1"), port)
         places = (lib.Address * 1)(self._here)
-        lib.checked(self._core.call_new(self._core.at, b"server", 6, b"localhost", 9, places, 1, places, 0, 0))
+        lib.checked(self._core.call_new(self._core.at, user.encode(), len(user), b"localhost", 9, places, 1, places, 0, 0))
         self._circuits: dict[int, int] = {}
         self._at_priority = [0] * PRIORITIES
         self._channels: dict[int, Record] = {}

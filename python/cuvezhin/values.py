@@ -74,6 +74,11 @@ def text_of(image: bytes) -> str:
     return image.split(b"\0", 1)[0].decode("utf-8", "surrogateescape")
 
 
+def is_number(value: Any) -> bool:
+    """Whether it is one number, NumPy's too, and no array, which may have the same methods."""
+    return isinstance(value, (int, float)) or not hasattr(value, "__len__") and (hasattr(value, "__index__") or hasattr(value, "__float__"))
+
+
 def number_of(kind: Type, value: Any) -> Any:
     """A number as struct and array take it for a type."""
     if kind in (Type.FLOAT, Type.DOUBLE):
@@ -107,7 +112,7 @@ def elements(kind: Type, value: Any) -> tuple[int, bytes]:
             return len(texts), b"".join(text_bytes(it).ljust(TEXT, b"\0") for it in texts)
         if isinstance(value, str):
             raise ValueError(f"{value!r} is no number")
-        if hasattr(value, "__index__") or hasattr(value, "__float__") and not hasattr(value, "__len__"):
+        if is_number(value):
             return 1, struct.pack(">" + FORMATS[kind], number_of(kind, value))
         found = numbers(kind, value)
     except (struct.error, OverflowError, TypeError) as error:
@@ -148,8 +153,8 @@ def kind_of(value: Any) -> Type:
         return Type.STRING
     if isinstance(value, float):
         return Type.DOUBLE
-    if hasattr(value, "__index__"):
-        return Type.LONG
+    if is_number(value):
+        return Type.LONG if hasattr(value, "__index__") else Type.DOUBLE
     try:
         form = memoryview(value).format.lstrip("@")
         return next((kind for kind, its in FORMATS.items() if its == form), Type.LONG if form in "bBhHiIlLqQ" else Type.DOUBLE)
