@@ -111,6 +111,8 @@ class _Feed:
         self.waiter: Optional[asyncio.Future[None]] = None
 
     def add(self, update: Reading) -> None:
+        if self.error:
+            return
         if len(self.updates) >= self.limit:
             self.updates.pop()
         self.updates.append(update)
@@ -503,7 +505,7 @@ class Client:
         for waiter in waiters:
             if not waiter.done():
                 waiter.set_result(None)
-        if channel.feed:
+        if channel.feed and not channel.feed.error:
             self._subscribe(channel)
 
     def _gone(self, channel: _Channel) -> None:
