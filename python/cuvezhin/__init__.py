@@ -2,9 +2,11 @@
 
 All of the protocol is the library's, libcuvezhin, whose calls are proved; this package has the sockets, the timers and the objects. It needs the
 standard library alone. docs/PYTHON.md begins with ten lines of each."""
-from .client import Client, Info, Monitor
+from .client import Client, Info
 from .errors import Error, LibraryMissing, Lost, Refused, ServerRefused, TimedOut, Unreadable
-from .server import Put, Record, Server
+from .monitor import Monitor
+from .record import Put, Record
+from .server import Server
 from .values import Mask, Reading, Type, Value
 
 __all__ = [

@@ -148,8 +148,7 @@ class End:
     def __init__(self, calls: dict[str, tuple[Any, ...]], end: str) -> None:
         self.at = Object()
         self.room = ctypes.create_string_buffer(1 << 16)
-        self.number = c_uint64()
-        self._end = end
+        self.number, self.size = c_uint64(), c_size_t()
         for name in calls:
             setattr(self, f"call_{name}", getattr(library, f"cvz_{end}_{name}"))
 
@@ -177,6 +176,14 @@ class End:
     def left(self) -> bytes:
         """All that is left of the circuit that was closed last."""
         return b"".join(iter(lambda: self.taken(self.call_left), b""))
+
+    def image(self, kind: int) -> bytes:
+        """The image of the value that the last notice brought, of a type from 0 to 6, with its alarm and time stamp."""
+        checked(self.call_value(self.at, TIME + kind, self.room, len(self.room), self.size))
+        if self.size.value > len(self.room):
+            self.room = ctypes.create_string_buffer(self.size.value)
+            checked(self.call_value(self.at, TIME + kind, self.room, len(self.room), self.size))
+        return ctypes.string_at(self.room, self.size.value)
 
     def free(self) -> None:
         self.call_free(self.at)

@@ -1,24 +1,22 @@
 """A client on asyncio: sockets and timers round the library's client. Everything here runs in the loop's thread."""
 import asyncio
-import ctypes
 import logging
 import os
 import socket
-from collections import deque
-from collections.abc import AsyncIterator, Callable, Iterable, Sequence
+from collections.abc import Callable, Iterable, Sequence
 from types import TracebackType
 from typing import Any, NamedTuple, Optional, Union
 
 from . import _library as lib
 from . import addresses
+from ._spread import Spread
 from .errors import Error, Lost, Refused, ServerRefused, TimedOut, Unreadable
+from .monitor import Feed, Monitor
 from .values import Mask, Reading, Type, Value, elements, reading
 
 log = logging.getLogger("cuvezhin")
 
-# A circuit of a server takes so many subscriptions, and a client has one circuit to a server for each of so many priorities.
-EACH, PRIORITIES = 288, 100
-OUTPUT_IS_FULL, PRIORITIES_ARE_FULL = 26, 25
+OUTPUT_IS_FULL = 26
 # Milliseconds: between the first two searches of a channel, between later ones at most, until an ECHO, and until a silent circuit ends.
 FIRST_WAIT, LONGEST_WAIT, ECHO, SILENCE = 32, 300_000, 30_000, 35_000
 # Seconds. A timer that fires later than this finds a process that stood still, and what it slept is no silence of a server.
@@ -55,7 +53,7 @@ class _Channel:
         self.is_live = False
         self.type, self.greatest, self.rights = Type.STRING, 0, 0
         self.waiters: list[asyncio.Future[None]] = []
-        self.feed: Optional[_Feed] = None
+        self.feed: Optional[Feed] = None
 
 
 class _Circuit(asyncio.Protocol):
@@ -100,85 +98,6 @@ class _Datagrams(asyncio.DatagramProtocol):
         """A search that reached nobody is made again."""
 
 
-class _Feed:
-    """A subscription, over as many circuits as come and go, and its updates that wait."""
-
-    def __init__(self, channel: _Channel, kind: Optional[Type], count: int, mask: int, follow: bool, limit: int) -> None:
-        self.channel, self.kind, self.count, self.mask, self.follow, self.limit = channel, kind, count, mask, follow, limit
-        self.subscription: Optional[int] = None
-        self.updates: deque[Reading] = deque()
-        self.error: Optional[Error] = None
-        self.waiter: Optional[asyncio.Future[None]] = None
-
-    def add(self, update: Reading) -> None:
-        if self.error:
-            return
-        if len(self.updates) >= self.limit:
-            self.updates.pop()
-        self.updates.append(update)
-        self.wake()
-
-    def fail(self, error: Error) -> None:
-        self.error = self.error or error
-        self.wake()
-
-    def wake(self) -> None:
-        if self.waiter and not self.waiter.done():
-            self.waiter.set_result(None)
-
-
-class Monitor(AsyncIterator[Reading]):
-    """The updates of a channel, in order: `async for update in monitor`. It ends with `close`, with its last reference, or as it raises.
-
-    If more than `limit` updates wait, the newest takes the place of the one before it, so the newest of all is never left out."""
-
-    def __init__(self, client: "Client", feed: _Feed, timeout: Optional[float]) -> None:
-        self._client, self._feed, self._timeout = client, feed, timeout
-        self._is_closed = False
-
-    @property
-    def connected(self) -> bool:
-        """Whether the channel is there now."""
-        return self._feed.channel.is_live
-
-    def __aiter__(self) -> "Monitor":
-        return self
-
-    async def __anext__(self) -> Reading:
-        feed = self._feed
-        if not feed.updates and not feed.error and not self._is_closed:
-            feed.waiter = asyncio.get_running_loop().create_future()
-            try:
-                async with asyncio.timeout(self._timeout):
-                    await feed.waiter
-            except TimeoutError:
-                raise TimedOut(feed.channel.name, self._timeout or 0, feed.channel.is_live) from None
-            finally:
-                feed.waiter = None
-        if feed.updates:
-            return feed.updates.popleft()
-        if feed.error:
-            self.close()
-            raise feed.error
-        raise StopAsyncIteration
-
-    def close(self) -> None:
-        """Ends the subscription. What waits can be taken still; the iteration ends then."""
-        if not self._is_closed:
-            self._is_closed = True
-            self._client._unfeed(self._feed)
-            self._feed.wake()
-
-    async def __aenter__(self) -> "Monitor":
-        return self
-
-    async def __aexit__(self, *_: Any) -> None:
-        self.close()
-
-    def __del__(self) -> None:
-        self.close()
-
-
 class Client:
     """A client of Channel Access.
 
@@ -211,8 +130,8 @@ class Client:
         self._channels: dict[int, _Channel] = {}
         self._circuits: dict[int, _Circuit] = {}
         self._requests: dict[int, tuple[asyncio.Future[Optional[Reading]], _Channel]] = {}
-        self._feeds: dict[int, _Feed] = {}
-        self._at_priority = [0] * PRIORITIES
+        self._feeds: dict[int, Feed] = {}
+        self._spread = Spread()
         self._rests: dict[int, float] = {}
 
     # ---- its life
@@ -221,7 +140,7 @@ class Client:
         loop = self._loop = asyncio.get_running_loop()
         servers, names = await loop.run_in_executor(None, self._found)
         self._core = lib.End(lib.CLIENT, "client")
-        self._notice, self._size, self._cause = lib.Notice(), ctypes.c_size_t(), ctypes.c_uint32()
+        self._notice, self._cause = lib.Notice(), lib.c_uint32()
         self._wanted, self._from, self._state = lib.Wanted(), lib.Address(), lib.ChannelState()
         self._began, self._missed, self._due = loop.time(), 0.0, float("inf")
         # The moment of the last tick. The library counts bytes that come as heard then.
@@ -329,7 +248,7 @@ class Client:
         if limit < 1:
             raise ValueError("a monitor has room for one update at least")
         channel = next((it for it in self._names.get(name, []) if not it.feed), None) or self._open_channel(name)
-        channel.feed = _Feed(channel, type, count, mask, follow, limit)
+        channel.feed = Feed(channel, type, count, mask, follow, limit)
         if channel.is_live:
             self._subscribe(channel)
         return Monitor(self, channel.feed, timeout)
@@ -355,14 +274,14 @@ class Client:
     def _open_channel(self, name: str) -> _Channel:
         if not self._is_open:
             raise RuntimeError("the client is not open")
-        priority = next((it for it, many in enumerate(self._at_priority) if many < EACH), None)
-        if priority is None:
-            raise Refused(PRIORITIES_ARE_FULL, name)
-        its = name.encode("utf-8", "surrogateescape")
-        handle = self._core.handle(name, self._core.call_open, its, len(its), priority, self._now())
+        its, priority = name.encode("utf-8", "surrogateescape"), self._spread.take(name)
+        try:
+            handle = self._core.handle(name, self._core.call_open, its, len(its), priority, self._now())
+        except Refused:
+            self._spread.free(priority)
+            raise
         channel = self._channels[handle] = _Channel(name, handle, priority)
         self._names.setdefault(name, []).append(channel)
-        self._at_priority[priority] += 1
         self._unsettled += 1
         self._search_again()
         return channel
@@ -371,7 +290,7 @@ class Client:
         self._core.call_clear(self._core.at, channel.handle)
         self._hear(channel.circuit)
         del self._channels[channel.handle]
-        self._at_priority[channel.priority] -= 1
+        self._spread.free(channel.priority)
         if not channel.is_live:
             self._unsettled -= 1
         for waiter in channel.waiters:
@@ -430,7 +349,7 @@ class Client:
         if channel.circuit:
             self._flush_soon(channel.circuit)
 
-    def _unfeed(self, feed: _Feed) -> None:
+    def _unfeed(self, feed: Feed) -> None:
         channel = feed.channel
         if not self._is_open or channel.feed is not feed or channel.handle not in self._channels:
             return
@@ -488,12 +407,7 @@ class Client:
             future.set_exception(_failure(channel.name, notice))
 
     def _value(self, channel: _Channel, notice: lib.Notice) -> Reading:
-        core, size = self._core, self._size
-        lib.checked(core.call_value(core.at, lib.TIME + notice.type, core.room, len(core.room), size))
-        if size.value > len(core.room):
-            core.room = ctypes.create_string_buffer(size.value)
-            lib.checked(core.call_value(core.at, lib.TIME + notice.type, core.room, len(core.room), size))
-        return reading(channel.name, notice.type, notice.count, ctypes.string_at(core.room, size.value), channel.greatest == 1)
+        return reading(channel.name, notice.type, notice.count, self._core.image(notice.type), channel.greatest == 1)
 
     def _live(self, channel: _Channel, circuit: Optional[_Circuit]) -> None:
         state = self._state
@@ -545,6 +459,7 @@ class Client:
     def _tick(self) -> None:
         core, to = self._core, self._from
         self._moment = self._now()
+        self._timer, self._due = None, float("inf")
         core.call_tick(core.at, self._moment)
         while (searches := core.taken(core.call_search, to)):
             if self._datagrams:
@@ -558,7 +473,6 @@ class Client:
             circuit.is_echoed = circuit.is_echoed or self._moment - circuit.heard >= ECHO
             self._flush(circuit)
         self._connect()
-        self._timer, self._due = None, float("inf")
         self._arm()
 
     def _arm(self) -> None:
@@ -567,7 +481,7 @@ class Client:
         if self._unsettled:
             silences.append(self._wait)
             self._wait = min(2 * self._wait, LONGEST_WAIT)
-        if silences:
+        if silences and not self._timer:
             # Two milliseconds more, so that it is not a moment before.
             self._set_timer(max(min(silences), 0) / 1000 + 0.002)
 

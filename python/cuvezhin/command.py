@@ -166,7 +166,7 @@ async def monitor(words: argparse.Namespace) -> int:
         # A time-out is for the first update alone: later ones come when they come.
         async with ca.monitor(name, type=kind, count=words.count, mask=words.mask, timeout=words.timeout) as updates:
             async for update in updates:
-                updates._timeout = None
+                updates.timeout = None
                 out.reading(update)
                 left -= 1
                 if left == 0:

@@ -1,118 +1,21 @@
 """A server on asyncio: sockets and timers round the library's server. Everything here runs in the loop's thread."""
 import asyncio
-import ctypes
 import inspect
 import os
 import secrets
-import time
-from collections import Counter, deque
-from collections.abc import Awaitable, Callable, Iterable, Sequence
+from collections.abc import Callable, Iterable, Sequence
 from types import TracebackType
-from typing import Any, NamedTuple, Optional, Union
+from typing import Any, Optional
 
 from . import _library as lib
 from . import addresses
+from ._inside import EVERY_CHANGE, Inside
 from .errors import Error, LibraryMissing, Refused
-from .values import EPOCH, Mask, Reading, Type, Value, elements, kind_of, plain, reading, stamped
+from .record import Put, Record, Waiting, now
+from .values import EPOCH, Reading, elements, stamped
 
-# A circuit takes so many subscriptions: those by which the server hears of its own records are on more than one.
-EACH, PRIORITIES = 288, 100
-PRIORITIES_ARE_FULL = 25
 # Milliseconds between the first two beacons, and between later ones at most.
 FIRST_BEACON, LONGEST_BEACON = 20, 15_000
-EVERY_CHANGE = 15
-
-
-class Put(NamedTuple):
-    """What a client wrote."""
-    record: "Record"
-    value: Value
-    #: The value before.
-    old: Value
-    #: The client's address, as "HOST:PORT", and the user that it says it is; None if the library does not tell.
-    host: Optional[str]
-    user: Optional[str]
-    #: When it was applied, in seconds since 1970.
-    time: float
-
-
-OnPut = Callable[[Put], Union[None, Awaitable[None]]]
-
-
-class Record:
-    """A record: a value that clients read, write and monitor.
-
-    name     1 to 60 bytes
-    value    an int (LONG), a float (DOUBLE), a str (STRING), or a sequence or a buffer of such
-    type     its type, if not that of the value
-    count    the greatest count of elements, if not the count of the value
-    on_put   is called with a Put after each put of a client. If it is a coroutine function the record is slow: a put with notification is answered
-             when the coroutine is done, and the next such put is applied then. What it raises goes to the loop's exception handler
-    slow     says whether it is slow, if `on_put` does not
-
-    Raises ValueError if the value is of no type, or not of this one.
-    """
-
-    def __init__(self, name: str, value: Any, *, type: Optional[Type] = None, count: Optional[int] = None, on_put: Optional[OnPut] = None,
-                 slow: Optional[bool] = None) -> None:
-        self.name = name
-        self.type = kind_of(value) if type is None else Type(type)
-        self.on_put = on_put
-        self.slow = _is_coroutine(on_put) if slow is None else slow
-        many, image = elements(self.type, value)
-        self.count = many if count is None else count
-        if not 0 < many <= self.count:
-            raise ValueError(f"{name}: {many} elements, of {self.count} at most")
-        self._server: Optional[Server] = None
-        self._take(many, stamped(self.type, image, 0, 0, *_now()))
-        # The circuit on which the server hears of it, those that subscribed to it, and puts that wait for its callback.
-        self._inside = 0
-        self._peers: Counter[_Peer] = Counter()
-        self._puts: deque[_Waiting] = deque()
-        self._task: Optional[asyncio.Task[None]] = None
-
-    def __repr__(self) -> str:
-        return f"Record({self.name!r}, {plain(self.value)!r})"
-
-    @property
-    def value(self) -> Value:
-        """The value now, whoever wrote it."""
-        return self.reading.value
-
-    def set(self, value: Any, *, status: int = 0, severity: int = 0, stamp: Optional[float] = None, mask: Optional[int] = None) -> None:
-        """As `post`, and does not wait until the updates are on their way."""
-        count, image = elements(self.type, value)
-        if not 0 < count <= self.count:
-            raise ValueError(f"{self.name}: {count} elements, of {self.count} at most")
-        seconds, nanoseconds = _now() if stamp is None else (int(stamp), int(stamp % 1 * 1e9))
-        if mask is None:
-            is_new = (status, severity) != (self.reading.status, self.reading.severity)
-            mask = Mask.VALUE | Mask.LOG | (Mask.ALARM if is_new else 0)
-        full = stamped(self.type, image, status, severity, seconds, nanoseconds)
-        if self._server:
-            self._server._post(self, mask, count, full)
-        self._take(count, full)
-
-    async def post(self, value: Any, *, status: int = 0, severity: int = 0, stamp: Optional[float] = None, mask: Optional[int] = None) -> None:
-        """The record has this value from now on, and its subscribers are told.
-
-        status, severity   of its alarm (severity 0 none, 1 minor, 2 major, 3 invalid)
-        stamp              its time in seconds since 1970; now by default
-        mask               which subscriptions are told; VALUE and LOG by default, and ALARM if the alarm changed
-
-        Raises ValueError if the value is not of the record's type or has too many elements."""
-        self.set(value, status=status, severity=severity, stamp=stamp, mask=mask)
-        await asyncio.sleep(0)
-
-    def _take(self, count: int, image: bytes) -> None:
-        self.reading = reading(self.name, self.type, count, image, self.count == 1)
-
-
-class _Waiting(NamedTuple):
-    """A put that waits for the record's callback, whether its answer waits for that too, and whose it is, if that is known."""
-    put: Put
-    is_busy: bool
-    peer: "Optional[_Peer]"
 
 
 class _Peer(asyncio.Protocol):
@@ -227,7 +130,7 @@ class Server:
         await self._server.start_serving()
         return self
 
-    def _make(self) -> "_Inside":
+    def _make(self) -> "Inside":
         """Makes the library's server, and the client by which it hears of its records, whom no rule binds."""
         core, user = self._core, secrets.token_hex(16)
         if self._rules:
@@ -237,7 +140,7 @@ class Server:
             lib.checked(core.call_load(core.at, self.port, 0, text, len(text)), "rules")
         else:
             lib.checked(core.call_new(core.at, self.port, 0))
-        return _Inside(core, self.port, user)
+        return Inside(core, self.port, user)
 
     async def _listen(self) -> None:
         """Binds both sockets; if the system chooses the port, one that is free for both."""
@@ -274,7 +177,7 @@ class Server:
         await asyncio.gather(*tasks, return_exceptions=True)
         await asyncio.sleep(0)
         for record in self._records.values():
-            record._server = None
+            record._leave()
         if hasattr(self, "_inside"):
             self._inside.free()
         self._core.free()
@@ -301,8 +204,7 @@ class Server:
         lib.checked(self._core.call_remove(self._core.at, name, len(name)), record.name)
         del self._records[record.name]
         self._inside.forget(record)
-        record._server = None
-        record._peers.clear()
+        record._leave()
         for peer in self._peers.values():
             self._flush_soon(peer)
 
@@ -343,7 +245,7 @@ class Server:
         if self.on_put:
             self._called(self.on_put, put)
         if record.slow:
-            record._puts.append(_Waiting(put, is_busy, peer))
+            record._puts.append(Waiting(put, is_busy, peer))
             if not record._task:
                 record._task = self._loop.create_task(self._process(record))
         elif record.on_put:
@@ -363,7 +265,7 @@ class Server:
 
     async def _process(self, record: Record) -> None:
         """Runs the callback for each put to a slow record, one after another."""
-        while record._puts:
+        while record._puts and record._server is self:
             waiting = record._puts.popleft()
             try:
                 answer = record.on_put(waiting.put) if record.on_put else None
@@ -373,7 +275,8 @@ class Server:
                 self._complain(record, error)
             if waiting.is_busy and record._server is self:
                 self._finish(record, waiting.peer)
-        record._task = None
+        if record._server is self:
+            record._task = None
 
     def _finish(self, record: Record, peer: Optional[_Peer]) -> None:
         """The put that makes the record busy is done; the next one that waits is applied by that."""
@@ -419,7 +322,7 @@ class Server:
     def _serve(self, peer: _Peer) -> None:
         """Handles what came, message by message."""
         core, did, handle = self._core, self._did, peer.handle
-        self._stamp = max(self._stamp, _now())
+        self._stamp = max(self._stamp, now())
         core.call_stamp(core.at, self._stamp[0] - EPOCH, self._stamp[1])
         while True:
             answer = core.call_step(core.at, handle, did)
@@ -516,8 +419,8 @@ class Server:
                 self._datagrams.sendto(answer, peer)
 
     def _beacon(self) -> None:
-        now = int((self._loop.time() - self._began) * 1000)
-        beacon = self._core.taken(self._core.call_beacon, now)
+        moment = int((self._loop.time() - self._began) * 1000)
+        beacon = self._core.taken(self._core.call_beacon, moment)
         if beacon:
             for place in self._beacons:
                 self._datagrams.sendto(beacon, place)
@@ -525,112 +428,3 @@ class Server:
             self._wait = min(2 * self._wait, LONGEST_BEACON)
         else:
             self._timer = self._loop.call_later(0.002, self._beacon)
-
-
-class _Inside:
-    """How a server hears which record was written, and its value: as one of its own clients, on circuits without sockets."""
-
-    def __init__(self, server: lib.End, port: int, user: str) -> None:
-        self._server = server
-        self._core = lib.End(lib.CLIENT, "client")
-        self._did, self._notice, self._cause, self._size = lib.Step(), lib.Notice(), ctypes.c_uint32(), ctypes.c_size_t()
-        self._to, self._wanted = lib.Address(), lib.Wanted()
-        self._here = lib.Address(addresses.number("127.0.0.1"), port)
-        places = (lib.Address * 1)(self._here)
-        lib.checked(self._core.call_new(self._core.at, user.encode(), len(user), b"localhost", 9, places, 1, places, 0, 0))
-        self._circuits: dict[int, int] = {}
-        self._at_priority = [0] * PRIORITIES
-        self._channels: dict[int, Record] = {}
-        self._subscriptions: dict[int, Record] = {}
-        self._of: dict[Record, tuple[int, int]] = {}
-
-    def watch(self, record: Record) -> None:
-        """Hears of this record, once `settle` was called."""
-        priority = next((it for it, many in enumerate(self._at_priority) if many < EACH), None)
-        if priority is None:
-            raise Refused(PRIORITIES_ARE_FULL, record.name)
-        name = record.name.encode("utf-8", "surrogateescape")
-        handle = self._core.handle(record.name, self._core.call_open, name, len(name), priority, 0)
-        self._channels[handle] = record
-        self._of[record] = handle, priority
-        self._at_priority[priority] += 1
-
-    def forget(self, record: Record) -> None:
-        handle, priority = self._of.pop(record)
-        self._core.call_clear(self._core.at, handle)
-        self._channels.pop(handle)
-        self._at_priority[priority] -= 1
-        self.hear([record._inside])
-
-    def settle(self) -> None:
-        """Finds and subscribes to the records that it does not hear of yet."""
-        core, server = self._core, self._server
-        core.call_tick(core.at, 0)
-        while (search := core.taken(core.call_search, self._to)):
-            server.call_datagram(server.at, search, len(search))
-            while (answer := server.taken(server.call_answer)):
-                core.call_datagram(core.at, 0, self._here, answer, len(answer))
-        while core.call_wanted(core.at, 0, self._wanted) == 1:
-            circuit = self._wanted.circuit
-            self._circuits[circuit] = server.handle("", server.call_accept)
-            core.call_connected(core.at, circuit, self._cause)
-        self.hear(self._circuits)
-
-    def hear(self, circuits: Iterable[int]) -> list[tuple[Record, Reading]]:
-        """Which records changed since this was asked last, of those on these circuits."""
-        return [it for circuit in circuits for it in self._exchange(circuit)]
-
-    def _exchange(self, circuit: int) -> list[tuple[Record, Reading]]:
-        """Moves what waits on a circuit to the server and back, until nothing waits."""
-        core, server, its = self._core, self._server, self._circuits[circuit]
-        found = self._brought(circuit)
-        while (data := core.output(circuit)):
-            server.call_give(server.at, its, data, len(data))
-            while server.call_step(server.at, its, self._did) == lib.HANDLED:
-                pass
-            found += self._brought(circuit)
-        return found
-
-    def _brought(self, circuit: int) -> list[tuple[Record, Reading]]:
-        core, server, its, found = self._core, self._server, self._circuits[circuit], []
-        while True:
-            server.call_pump(server.at, its)
-            data = server.output(its)
-            if not data:
-                return found
-            core.call_give(core.at, circuit, data, len(data), False)
-            while core.call_step(core.at, circuit, self._cause) == lib.HANDLED:
-                found += self._noticed(circuit)
-
-    def _noticed(self, circuit: int) -> list[tuple[Record, Reading]]:
-        core, notice, found = self._core, self._notice, []
-        while core.call_next(core.at, notice) == 1:
-            if notice.kind == lib.NOTICE_LIVE:
-                record = self._channels[notice.of]
-                record._inside = circuit
-                handle = core.handle(record.name, core.call_subscribe, notice.of, lib.TIME + record.type, 0, EVERY_CHANGE)
-                self._subscriptions[handle] = record
-            elif notice.kind == lib.NOTICE_UPDATE and notice.outcome == lib.VALUE:
-                found.append((self._subscriptions[notice.of], self._value(notice)))
-        return found
-
-    def _value(self, notice: lib.Notice) -> Reading:
-        core, size = self._core, self._size
-        record = self._subscriptions[notice.of]
-        lib.checked(core.call_value(core.at, lib.TIME + notice.type, core.room, len(core.room), size))
-        if size.value > len(core.room):
-            core.room = ctypes.create_string_buffer(size.value)
-            lib.checked(core.call_value(core.at, lib.TIME + notice.type, core.room, len(core.room), size))
-        return reading(record.name, notice.type, notice.count, ctypes.string_at(core.room, size.value), record.count == 1)
-
-    def free(self) -> None:
-        self._core.free()
-
-
-def _now() -> tuple[int, int]:
-    """The time in seconds since 1970, and nanoseconds."""
-    return divmod(time.time_ns(), 1_000_000_000)
-
-
-def _is_coroutine(call: Any) -> bool:
-    return inspect.iscoroutinefunction(call) or inspect.iscoroutinefunction(getattr(call, "__call__", None))

@@ -1,0 +1,116 @@
+"""Records: values that clients read, write and monitor."""
+import asyncio
+import inspect
+import time
+from collections import Counter, deque
+from collections.abc import Awaitable, Callable
+from typing import Any, NamedTuple, Optional, Union
+
+from .values import Mask, Type, Value, elements, kind_of, plain, reading, stamped
+
+
+class Put(NamedTuple):
+    """What a client wrote."""
+    record: "Record"
+    value: Value
+    #: The value before.
+    old: Value
+    #: The client's address, as "HOST:PORT", and the user that it says it is; None if the library does not tell.
+    host: Optional[str]
+    user: Optional[str]
+    #: When it was applied, in seconds since 1970.
+    time: float
+
+
+OnPut = Callable[[Put], Union[None, Awaitable[None]]]
+
+
+class Record:
+    """A record: a value that clients read, write and monitor.
+
+    name     1 to 60 bytes
+    value    an int (LONG), a float (DOUBLE), a str (STRING), or a sequence or a buffer of such
+    type     its type, if not that of the value
+    count    the greatest count of elements, if not the count of the value
+    on_put   is called with a Put after each put of a client. If it is a coroutine function the record is slow: a put with notification is answered
+             when the coroutine is done, and the next such put is applied then. What it raises goes to the loop's exception handler
+    slow     says whether it is slow, if `on_put` does not
+
+    Raises ValueError if the value is of no type, or not of this one.
+    """
+
+    def __init__(self, name: str, value: Any, *, type: Optional[Type] = None, count: Optional[int] = None, on_put: Optional[OnPut] = None,
+                 slow: Optional[bool] = None) -> None:
+        self.name = name
+        self.type = kind_of(value) if type is None else Type(type)
+        self.on_put = on_put
+        self.slow = _is_coroutine(on_put) if slow is None else slow
+        many, image = elements(self.type, value)
+        self.count = many if count is None else count
+        if not 0 < many <= self.count:
+            raise ValueError(f"{name}: {many} elements, of {self.count} at most")
+        self._server: Any = None
+        self._take(many, stamped(self.type, image, 0, 0, *now()))
+        # The circuit on which the server hears of it, those that subscribed to it, and puts that wait for its callback.
+        self._inside = 0
+        self._peers: Counter[Any] = Counter()
+        self._puts: deque[Waiting] = deque()
+        self._task: Optional[asyncio.Task[None]] = None
+
+    def __repr__(self) -> str:
+        return f"Record({self.name!r}, {plain(self.value)!r})"
+
+    @property
+    def value(self) -> Value:
+        """The value now, whoever wrote it."""
+        return self.reading.value
+
+    def set(self, value: Any, *, status: int = 0, severity: int = 0, stamp: Optional[float] = None, mask: Optional[int] = None) -> None:
+        """As `post`, and does not wait until the updates are on their way."""
+        count, image = elements(self.type, value)
+        if not 0 < count <= self.count:
+            raise ValueError(f"{self.name}: {count} elements, of {self.count} at most")
+        seconds, nanoseconds = now() if stamp is None else (int(stamp), int(stamp % 1 * 1e9))
+        if mask is None:
+            is_new = (status, severity) != (self.reading.status, self.reading.severity)
+            mask = Mask.VALUE | Mask.LOG | (Mask.ALARM if is_new else 0)
+        full = stamped(self.type, image, status, severity, seconds, nanoseconds)
+        if self._server:
+            self._server._post(self, mask, count, full)
+        self._take(count, full)
+
+    async def post(self, value: Any, *, status: int = 0, severity: int = 0, stamp: Optional[float] = None, mask: Optional[int] = None) -> None:
+        """The record has this value from now on, and its subscribers are told.
+
+        status, severity   of its alarm (severity 0 none, 1 minor, 2 major, 3 invalid)
+        stamp              its time in seconds since 1970; now by default
+        mask               which subscriptions are told; VALUE and LOG by default, and ALARM if the alarm changed
+
+        Raises ValueError if the value is not of the record's type or has too many elements."""
+        self.set(value, status=status, severity=severity, stamp=stamp, mask=mask)
+        await asyncio.sleep(0)
+
+    def _leave(self) -> None:
+        """No server has it any more."""
+        self._server, self._task = None, None
+        self._peers.clear()
+        self._puts.clear()
+
+    def _take(self, count: int, image: bytes) -> None:
+        self.reading = reading(self.name, self.type, count, image, self.count == 1)
+
+
+class Waiting(NamedTuple):
+    """A put that waits for the record's callback, whether its answer waits for that too, and whose it is, if that is known."""
+    put: Put
+    is_busy: bool
+    peer: Any
+
+
+def now() -> tuple[int, int]:
+    """The time in seconds since 1970, and nanoseconds."""
+    return divmod(time.time_ns(), 1_000_000_000)
+
+
+def _is_coroutine(call: Any) -> bool:
+    return inspect.iscoroutinefunction(call) or inspect.iscoroutinefunction(getattr(call, "__call__", None))
