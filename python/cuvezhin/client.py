@@ -1,5 +1,6 @@
 """A client on asyncio: sockets and timers round the library's client. Everything here runs in the loop's thread."""
 import asyncio
+import contextlib
 import logging
 import os
 import socket
@@ -153,7 +154,10 @@ class Client:
         lib.checked(self._core.call_new(self._core.at, user, len(user), host, len(host), _addresses(servers), len(servers), _addresses(names), len(names), 0))
         self._datagrams: Optional[asyncio.DatagramTransport] = None
         if servers:
-            self._datagrams, _ = await loop.create_datagram_endpoint(lambda: _Datagrams(self), ("0.0.0.0", 0), allow_broadcast=True)
+            self._socket = socket.socket(socket.AF_INET, socket.SOCK_DGRAM)
+            self._socket.setsockopt(socket.SOL_SOCKET, socket.SO_BROADCAST, 1)
+            self._socket.setblocking(False)
+            self._datagrams, _ = await loop.create_datagram_endpoint(lambda: _Datagrams(self), sock=self._socket)
             self._register()
         self._is_open = True
         self._connect()
@@ -488,10 +492,11 @@ class Client:
     # ---- datagrams and circuits
 
     def _register(self) -> None:
-        """An empty datagram to the repeater asks for beacons."""
+        """An empty datagram to the repeater asks for beacons. It goes by the socket itself: asyncio sends none that is empty."""
         if self._asks_repeater and self._datagrams and not self._datagrams.is_closing():
             port = addresses.port_of(os.environ, ["EPICS_CA_REPEATER_PORT"], addresses.REPEATER_PORT)
-            self._datagrams.sendto(b"", ("127.0.0.1", port))
+            with contextlib.suppress(OSError):
+                self._socket.sendto(b"", ("127.0.0.1", port))
 
     def _datagram(self, data: bytes, peer: tuple[str, int]) -> None:
         if not self._is_open:

@@ -1,6 +1,6 @@
 """EPICS Base's libca, by Debian's python3-pyepics, at the server of server.py: it prints what it found, as one object of JSON.
 
-usage: libca.py        on standard input is a list of JSON: rows of a name and what is put
+usage: libca.py [--restart]       on standard input is a list of JSON: rows of a name and what is put. With --restart the server is started again
 """
 import json
 import sys
@@ -141,5 +141,6 @@ note("a put without callback", lambda: [ca.put(opened("MASKED"), 9), until(lambd
 note("a LONG as text", lambda: ca.get(opened("MASKED"), as_string=True, timeout=20))
 note("FIXED", lambda: [ca.read_access(opened("FIXED")), ca.write_access(opened("FIXED"))])
 note("nobody", lambda: ca.connect_channel(ca.create_channel("NOBODY", auto_cb=False), timeout=0.5))
-note("restart", restarted)
+if "--restart" in sys.argv:
+    note("restart", restarted)
 print(json.dumps(found))
