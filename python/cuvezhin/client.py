@@ -56,6 +56,14 @@ class _Channel:
         self.waiters: list[asyncio.Future[None]] = []
         self.feed: Optional[Feed] = None
 
+    def leave(self) -> None:
+        """It is over: those that wait for it are told."""
+        for waiter in self.waiters:
+            if not waiter.done():
+                waiter.set_exception(Lost(self.name))
+        if self.feed:
+            self.feed.fail(Lost(self.name))
+
 
 class _Circuit(asyncio.Protocol):
     """A circuit and its socket."""
@@ -178,12 +186,8 @@ class Client:
             self._core.call_close(self._core.at, circuit.handle)
             self._hear(circuit)
             self._end(circuit, self._core.left())
-        for feed in {id(it.feed): it.feed for it in self._channels.values() if it.feed}.values():
-            feed.fail(Lost(feed.channel.name))
         for channel in self._channels.values():
-            for waiter in channel.waiters:
-                if not waiter.done():
-                    waiter.set_exception(Lost(channel.name))
+            channel.leave()
         if self._datagrams:
             self._datagrams.close()
         await asyncio.gather(*tasks, return_exceptions=True)
@@ -297,12 +301,9 @@ class Client:
         self._spread.free(channel.priority)
         if not channel.is_live:
             self._unsettled -= 1
-        for waiter in channel.waiters:
-            if not waiter.done():
-                waiter.set_exception(Lost(channel.name))
         if channel.feed:
             self._feeds.pop(channel.feed.subscription or 0, None)
-            channel.feed.fail(Lost(channel.name))
+        channel.leave()
         if channel.circuit:
             self._flush_soon(channel.circuit)
 
@@ -452,7 +453,7 @@ class Client:
         if self._timer:
             self._timer.cancel()
         self._due = self._loop.time() + seconds
-        self._timer = self._loop.call_later(seconds, self._tick)
+        self._timer = self._loop.call_later(seconds, self._timed)
 
     def _search_again(self) -> None:
         """A channel is searched for from now on."""
@@ -460,10 +461,18 @@ class Client:
         if self._is_open and (not self._timer or self._due > self._loop.time()):
             self._set_timer(0)
 
+    def _timed(self) -> None:
+        """A moment for which the timer was set."""
+        self._now()
+        self._timer, self._due = None, float("inf")
+        self._tick()
+        self._arm()
+        self._wait = min(2 * self._wait, LONGEST_WAIT)
+
     def _tick(self) -> None:
+        """Tells the library the moment, and does what it asks: searches, ECHOs, and ends of circuits that were silent too long."""
         core, to = self._core, self._from
         self._moment = self._now()
-        self._timer, self._due = None, float("inf")
         core.call_tick(core.at, self._moment)
         while (searches := core.taken(core.call_search, to)):
             if self._datagrams:
@@ -477,17 +486,16 @@ class Client:
             circuit.is_echoed = circuit.is_echoed or self._moment - circuit.heard >= ECHO
             self._flush(circuit)
         self._connect()
-        self._arm()
 
     def _arm(self) -> None:
-        """The next moment that the library needs: a search's, or that of a silence."""
-        silences = [it.heard + (SILENCE if it.is_echoed else ECHO) - self._moment for it in self._circuits.values() if it.transport]
+        """Sets the timer for the next moment that the library needs, from the last one: a search's, or that of a silence."""
+        waits = [it.heard + (SILENCE if it.is_echoed else ECHO) - self._moment for it in self._circuits.values() if it.transport]
         if self._unsettled:
-            silences.append(self._wait)
-            self._wait = min(2 * self._wait, LONGEST_WAIT)
-        if silences and not self._timer:
-            # Two milliseconds more, so that it is not a moment before.
-            self._set_timer(max(min(silences), 0) / 1000 + 0.002)
+            waits.append(self._wait)
+        # Two milliseconds more, so that it is not a moment before.
+        seconds = max(min(waits, default=0), 0) / 1000 + 0.002
+        if waits and self._loop.time() + seconds < self._due:
+            self._set_timer(seconds)
 
     # ---- datagrams and circuits
 
@@ -539,6 +547,8 @@ class Client:
             assert circuit.transport
             circuit.transport.abort()
             return
+        # The library counts the circuit as heard at the moment that it was told last.
+        self._tick()
         circuit.heard = self._moment
         if core.call_connected(core.at, circuit.handle, self._cause) == lib.CLOSED:
             self._hear(circuit)
@@ -546,8 +556,7 @@ class Client:
             return
         self._rests.pop(circuit.handle, None)
         self._flush(circuit)
-        if not self._timer:
-            self._arm()
+        self._arm()
 
     def _came(self, circuit: _Circuit, data: bytes) -> None:
         core, handle = self._core, circuit.handle
