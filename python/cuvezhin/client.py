@@ -549,7 +549,7 @@ class Client:
             return
         # The library counts the circuit as heard at the moment that it was told last.
         self._tick()
-        circuit.heard = self._moment
+        circuit.heard, circuit.is_echoed = self._moment, False
         if core.call_connected(core.at, circuit.handle, self._cause) == lib.CLOSED:
             self._hear(circuit)
             self._end(circuit, core.left())
