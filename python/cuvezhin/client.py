@@ -318,20 +318,21 @@ class Client:
             await waiter
 
     async def _asked(self, channel: _Channel, ask: Callable[[], int]) -> int:
-        """What a call answers that makes a request, once there is room for that on the circuit."""
+        """What a call answers that makes a request, once there is room for that on the circuit; those that wait for room go first."""
         while True:
-            try:
-                answer = ask()
-                break
-            except Refused as refusal:
-                circuit = channel.circuit
-                if refusal.number != OUTPUT_IS_FULL or circuit is None:
-                    raise
-                self._flush(circuit)
-                if circuit.is_paused and not circuit.is_over:
-                    circuit.room.append(self._loop.create_future())
-                    await circuit.room[-1]
-                    await self._ready(channel)
+            circuit = channel.circuit
+            if circuit is None or not circuit.room:
+                try:
+                    answer = ask()
+                    break
+                except Refused as refusal:
+                    if refusal.number != OUTPUT_IS_FULL or circuit is None:
+                        raise
+                    if self._flush(circuit):
+                        continue
+            circuit.room.append(self._loop.create_future())
+            await circuit.room[-1]
+            await self._ready(channel)
         if channel.circuit:
             self._flush_soon(channel.circuit)
         return answer
@@ -549,7 +550,7 @@ class Client:
             return
         # The library counts the circuit as heard at the moment that it was told last.
         self._tick()
-        circuit.heard = self._moment
+        circuit.heard, circuit.is_echoed = self._moment, False
         if core.call_connected(core.at, circuit.handle, self._cause) == lib.CLOSED:
             self._hear(circuit)
             self._end(circuit, core.left())
@@ -579,16 +580,18 @@ class Client:
             circuit.is_flushing = True
             self._loop.call_soon(self._flush, circuit)
 
-    def _flush(self, circuit: _Circuit) -> None:
-        """Sends what waits, as far as the socket takes it."""
-        circuit.is_flushing = False
+    def _flush(self, circuit: _Circuit) -> bool:
+        """Sends what waits, as far as the socket takes it. Whether there was something."""
+        circuit.is_flushing, is_sent = False, False
         transport = circuit.transport
         if circuit.is_over or transport is None:
-            return
+            return False
         while not circuit.is_paused and (data := self._core.output(circuit.handle)):
             transport.write(data)
-        if not circuit.is_paused and circuit.room:
+            is_sent = True
+        if not circuit.is_paused:
             _wake(circuit.room)
+        return is_sent
 
     def _lost(self, circuit: _Circuit) -> None:
         """The circuit was lost, or could not be connected."""

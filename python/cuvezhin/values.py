@@ -96,12 +96,21 @@ def numbers(kind: Type, value: Any) -> "array[Any]":
     try:
         view = memoryview(value)
     except TypeError:
-        return array(form, [number_of(kind, it) for it in value])
-    if view.ndim != 1:
-        raise ValueError("an array has one dimension")
-    if view.format.lstrip("@") == form and view.contiguous:
-        return array(form, view.tobytes())
-    return array(form, [number_of(kind, it) for it in view.tolist()])
+        found = list(value)
+    else:
+        if view.ndim != 1:
+            raise ValueError("an array has one dimension")
+        if view.format.lstrip("@") == form and view.contiguous:
+            return array(form, view.tobytes())
+        try:
+            found = view.tolist()
+        except NotImplementedError:
+            # Of the other byte order.
+            found = list(value)
+    try:
+        return array(form, found)
+    except TypeError:
+        return array(form, [number_of(kind, it) for it in found])
 
 
 def elements(kind: Type, value: Any) -> tuple[int, bytes]:
