@@ -95,3 +95,25 @@ invariant_of-self-in-Some c =
     subst (λ (o : Option Found). FindsIn (tables_of x) c.args.from c.args.message.now (Ok o) t) c.in-Some.is c.in_ok-found.ensures in
     let r = heard-found x c.args.from c.args.message.now (Some c.in-Some.found) t new did (ap (λ (es : List (ℕ × search.Channel)). record (with_tables t x) { searches = es }) c.pause_found.ensures) in
     subst (IsSoundWith i.lives.items) (sym r.3) (sound-found i.lives.items x c.args.from c.args.message.now r.0 r.1 c.self.invariant)
+
+pub invariant_of-self-in_default : goal.invariant_of-self-in_default
+invariant_of-self-in_default c =
+    let i = c.self.inside in
+    let x : Client = record {
+      peer = record { user = i.user.items; host = i.host.items };
+      servers = i.servers.items;
+      moment = i.moment;
+      channels = i.channels;
+      requests = i.requests.table;
+      subscriptions = i.monitors;
+      circuits = i.circuits;
+      order = i.order.items;
+      issued = i.requests.order;
+      searches = i.searches.entries;
+      beacons = i.beacons;
+    } in
+    let t : Tables = record { channels = c.find.new.channels; circuits = c.find.new.circuits; order = c.find.new.order.items } in
+    let did : FindsIn (tables_of x) c.args.from c.args.message.now (Ok None) t =
+    subst (λ (o : Option Found). FindsIn (tables_of x) c.args.from c.args.message.now (Ok o) t) c.in_default.is c.in_ok-found.ensures in
+    let r = heard-found x c.args.from c.args.message.now None t (with_tables t x) did (λ j. with_tables t x) in
+    subst (IsSoundWith i.lives.items) (sym r.3) (sound-found i.lives.items x c.args.from c.args.message.now r.0 r.1 c.self.invariant)
