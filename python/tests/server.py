@@ -44,7 +44,7 @@ done = Record("DONE", 0)
 records = [Record(name, value, type=Type[name]) for name, value in SCALARS.items()]
 records += [Record(f"{name}_ARRAY", value, type=Type[name], count=5) for name, value in ARRAYS.items()]
 records += [Record("WAVE", [7], count=1000), Record("SLOW", 3, on_put=slow), Record("WRONG", 3, on_put=wrong), Record("MASKED", 1), Record("FIXED", 1)]
-records += [done, Record("DO", "nothing", on_put=order)]
+records += [Record("TEXT", b"hi", type=Type.CHAR, count=100), done, Record("DO", "nothing", on_put=order)]
 all_records = {it.name: it for it in records}
 ended = asyncio.Event()
 
