@@ -110,7 +110,8 @@ def paths() -> list[str]:
     top = os.path.dirname(os.path.dirname(here))
     found = [os.path.join(here, NAME)]
     if os.path.exists(os.path.join(top, "include", "cuvezhin.h")):
-        found.append(os.path.join(top, "target", "lib", NAME))
+        # In the build tree, or in an unpacked archive.
+        found += [os.path.join(top, folder, NAME) for folder in ("target/lib", "lib")]
     # Installed as PREFIX/lib/python3/dist-packages/cuvezhin, beside PREFIX/lib/libcuvezhin.so.1.
     found.append(os.path.join(os.path.dirname(top), NAME))
     return [*filter(os.path.exists, found), NAME]
