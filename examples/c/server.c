@@ -12,6 +12,7 @@
 #include <errno.h>
 #include <fcntl.h>
 #include <netinet/in.h>
+#include <netinet/tcp.h>
 #include <poll.h>
 #include <stdio.h>
 #include <stdlib.h>
@@ -190,10 +191,11 @@ static void answer(cvz_server *server)
 
 static void accept_one(cvz_server *server)
 {
-    int made = accept(polled[LISTENER].fd, NULL, NULL);
+    int made = accept(polled[LISTENER].fd, NULL, NULL), yes = 1;
     if (made < 0)
         return;
     fcntl(made, F_SETFL, O_NONBLOCK);
+    setsockopt(made, IPPROTO_TCP, TCP_NODELAY, &yes, sizeof yes);
     if (used == PLACES || cvz_server_accept(server, &circuits[used]) < 0) {
         close(made);
         return;

@@ -10,6 +10,7 @@
 #include <arpa/inet.h>
 #include <fcntl.h>
 #include <netinet/in.h>
+#include <netinet/tcp.h>
 #include <poll.h>
 #include <sys/socket.h>
 #include <unistd.h>
@@ -225,6 +226,8 @@ private:
         if (made < 0)
             return;
         Socket socket(made);
+        const int yes = 1;
+        setsockopt(made, IPPROTO_TCP, TCP_NODELAY, &yes, sizeof yes);
         try {
             peers.push_back({std::move(socket), server.accept()});
         } catch (const cuvezhin::Refusal &) {   /* its socket closes */
