@@ -8,7 +8,6 @@
 
 #include <cuvezhin.h>
 
-#include <array>
 #include <cstddef>
 #include <cstdint>
 #include <exception>
@@ -156,6 +155,19 @@ std::int32_t copied(std::vector<std::uint8_t> &image, Call call)
     return answer;
 }
 
+/* A text by a call that takes the room and says how long the text is. */
+template <class Call>
+std::string text(Call call)
+{
+    std::string made(64, '\0');
+    const std::size_t size = call(reinterpret_cast<std::uint8_t *>(made.data()), made.size());
+    const bool is_cut = size > made.size();
+    made.resize(size);
+    if (is_cut)
+        call(reinterpret_cast<std::uint8_t *>(made.data()), made.size());
+    return made;
+}
+
 template <class Handle>
 std::uint64_t number(Handle handle)
 {
@@ -216,6 +228,24 @@ public:
         return image;
     }
 
+    /* The image of the record's value, with its count. */
+    std::vector<std::uint8_t> value(std::string_view name, std::uint16_t type, std::uint32_t &count)
+    {
+        const Bytes its(name);
+        std::vector<std::uint8_t> image;
+        detail::unrefused(detail::copied(image, [&](std::uint8_t *room, std::size_t room_size, std::size_t *size) {
+            return cvz_server_value(at(), its.data(), its.size(), type, &count, room, room_size, size);
+        }));
+        return image;
+    }
+
+    std::optional<Circuit> first(std::string_view name)
+    {
+        const Bytes its(name);
+        std::uint64_t circuit = 0;
+        return detail::unrefused(cvz_server_first(at(), its.data(), its.size(), &circuit)) ? std::optional(Circuit{circuit}) : std::nullopt;
+    }
+
     Circuit accept()
     {
         std::uint64_t circuit = 0;
@@ -234,9 +264,17 @@ public:
     /* Empty if the circuit has no such channel. */
     std::string name(Circuit circuit, std::uint32_t sid)
     {
-        std::array<char, 64> room;
-        const std::size_t size = cvz_server_name(at(), detail::number(circuit), sid, reinterpret_cast<std::uint8_t *>(room.data()), room.size());
-        return {room.data(), size};
+        return detail::text([&](std::uint8_t *room, std::size_t size) { return cvz_server_name(at(), detail::number(circuit), sid, room, size); });
+    }
+
+    std::string user(Circuit circuit)
+    {
+        return detail::text([&](std::uint8_t *room, std::size_t size) { return cvz_server_user(at(), detail::number(circuit), room, size); });
+    }
+
+    std::string host(Circuit circuit)
+    {
+        return detail::text([&](std::uint8_t *room, std::size_t size) { return cvz_server_host(at(), detail::number(circuit), room, size); });
     }
 
     void datagram(Bytes bytes) { detail::unrefused(cvz_server_datagram(at(), bytes.data(), bytes.size())); }

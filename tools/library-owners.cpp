@@ -4,6 +4,7 @@
 
 #include "library-test.h"
 
+#include <array>
 #include <type_traits>
 
 using cuvezhin::Circuit, cuvezhin::Channel, cuvezhin::Client, cuvezhin::Repeater, cuvezhin::Request, cuvezhin::Server, cuvezhin::Subscription;
@@ -17,6 +18,8 @@ static_assert(!std::is_convertible_v<Circuit, Channel> && !std::is_convertible_v
 
 static std::array<std::uint8_t, 4096> room;
 static const cvz_address here = {0x7f000001, 5064};
+/* Longer than the room that is tried first. */
+static const std::string long_user(200, 'm');
 
 /* The call throws this refusal, whose text is its name. */
 #define REFUSED(wanted, ...) refused(__LINE__, #__VA_ARGS__, [&] { static_cast<void>(__VA_ARGS__); }, wanted, #wanted)
@@ -49,8 +52,8 @@ static void image_is(int line, const Image &was, const char *wanted)
 
 /* A server, and a client whose channels are live on one circuit. */
 struct Ends {
-    Server server{5064, 1000, "record TEMP LONG 1 quick 21\nrecord MOVE LONG 1 slow 0\nrule me here MOVE rw\nrule * * MOVE r\n"};
-    Client client{"me", "here", {here}, {}, 1000};
+    Server server{5064, 1000, "record TEMP LONG 1 quick 21\nrecord MOVE LONG 1 slow 0\nrule * here MOVE rw\nrule * * MOVE r\n"};
+    Client client{long_user, "here", {here}, {}, 1000};
     Circuit of_server{}, of_client{};
     Channel temp{}, move{};
     cvz_step did{};                  /* the server's last step whose effect was not quiet */
@@ -134,6 +137,10 @@ static void asks(Ends &ends)
     ends.speak();
     IMAGE(ends.taken(), "00000018");
     IS(ends.server.applied(), 2);
+    std::uint32_t count = 0;
+    IMAGE(ends.server.value("TEMP", CVZ_LONG, count), "00000018");
+    IS(count, 1);
+    IS(ends.server.name(ends.of_server, ends.did.sid) == "TEMP" && ends.server.user(ends.of_server) == long_user && ends.server.host(ends.of_server) == "here", true);
     ends.client.unsubscribe(followed);
     ends.speak();
     ends.server.post("TEMP", CVZ_MASK_VALUE, CVZ_LONG, 1, image("00000019"));
@@ -153,13 +160,14 @@ static void is_slow(Ends &ends)
     const Request second = ends.client.put(ends.move, CVZ_LONG, 1, image("00000004"));
     ends.speak();
     IS(ends.server.waiting(), 1);
+    IS(ends.server.first("MOVE") == ends.of_server, true);
     IMAGE(ends.server.busy("MOVE").value_or(Image()), "00000003");
     ends.server.finish("MOVE");
     IMAGE(ends.server.busy("MOVE").value_or(Image()), "00000004");
     ends.server.finish("MOVE");
     ends.speak();
     IS(Request{ends.told.of} == second && ends.told.outcome == CVZ_DONE, true);
-    IS(ends.server.busy("MOVE").has_value(), false);
+    IS(ends.server.busy("MOVE").has_value() || ends.server.first("MOVE").has_value(), false);
 }
 
 /* A value that is longer than the room that is tried first, for both ends. */
@@ -196,6 +204,8 @@ static void refuses(Ends &ends)
     REFUSED(CVZ_SHORT, server.add("LATE", 1, false, CVZ_LONG, 1, {nullptr, 0}));
     REFUSED(CVZ_BAD_COUNT, server.add("LATE", 1, false, CVZ_LONG, 2, Image(8)));
     REFUSED(CVZ_UNKNOWN_RECORD, server.remove("LATE"));
+    std::uint32_t count = 0;
+    REFUSED(CVZ_UNKNOWN_RECORD, server.value("LATE", CVZ_LONG, count));
     REFUSED(CVZ_NOT_BUSY, server.finish("MOVE"));
     REFUSED(CVZ_OUT_OF_RANGE, server.sent(ends.of_server, 1));
     REFUSED(CVZ_BAD_PRIORITY, ends.client.open("TEMP", 100, 0));
@@ -252,6 +262,7 @@ static void no_server(Server &none)
     REFUSED(CVZ_NO_OBJECT, none.output(Circuit{1}, room));
     REFUSED(CVZ_NO_OBJECT, none.busy("MOVE"));
     REFUSED(CVZ_NO_OBJECT, none.name(Circuit{1}, 1));
+    REFUSED(CVZ_NO_OBJECT, none.first("MOVE"));
     REFUSED(CVZ_NO_OBJECT, none.applied());
 }
 
