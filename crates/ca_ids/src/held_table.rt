@@ -94,6 +94,7 @@ impl<T> HeldTable<T> {
     }
 
     /// The handle that is given next. None if no id may be given.
+    #[inline(always)]
     pub fn vacant(&self) -> Option<Handle>
         ensures { IsVacant self.now result }
     {
@@ -104,6 +105,7 @@ impl<T> HeldTable<T> {
     /// known before.
     ///
     /// It is handed back if there is no memory for one more index, or if another handle is the one to be given next.
+    #[inline(always)]
     pub fn open_at(&mut self, vacant: Handle, value: T) -> Result<(), T>
         ensures { Fills self.old vacant value result self.new }
     {
