@@ -8,6 +8,7 @@ A benchmark is a program with CRATES, the crates of its programs, and lines(path
 the one that `./test` left. A ratio is one time by the other of the same round; it prints the median of the rounds, the least and the most, and judges the median.
 The last line is 'N passed, M failed', and the status 1 if something failed. With --instructions it prints what a message takes by callgrind.
 """
+import contextlib
 import os
 import re
 import resource
@@ -22,7 +23,9 @@ from importlib.machinery import SourceFileLoader
 from importlib.util import module_from_spec, spec_from_loader
 
 TOP = os.path.dirname(os.path.dirname(os.path.realpath(__file__)))
-BENCHMARKS = ["answer", "conduct", "replay", "serve", "client_threads", "client", "server", "calls", "parts", "board"]
+BENCHMARKS = ["answer", "conduct", "replay", "serve", "library", "client_threads", "client", "server", "calls", "parts", "board"]
+# What the library for C is called among the crates of a benchmark.
+LIBRARY = "lib"
 ROUNDS = 11
 
 # A time is a tuple, a function and its arguments, which gives seconds; a count is one which gives instructions a message.
@@ -155,7 +158,7 @@ def module_at(path):
 
 def build(crate, option, top=TOP):
     """What tools/build prints as it builds the program of a crate."""
-    words = [os.path.join(top, "tools", "build"), option, crate]
+    words = [os.path.join(top, "tools", "build"), *filter(None, [option]), crate]
     done = subprocess.run(words, stdin=subprocess.DEVNULL, stdout=subprocess.PIPE, text=True, check=False)
     if done.returncode != 0:
         sys.exit(f"{crate} was not built")
@@ -168,24 +171,34 @@ def program(crate):
 
 
 def aligned(crate, top):
-    """The unproved program of a crate of a tree, with branches aligned."""
+    """The unproved program of a crate of a tree, with branches aligned; the library as tools/build makes it."""
+    if crate == LIBRARY:
+        build(crate, "", top)
+        return os.path.join(top, "target", "lib", "libcuvezhin.so.1")
     build(crate, "--aligned", top)
     return os.path.join(top, "target", "aligned", crate, crate)
 
 
 def proved(crate):
     """The program that `./test` proved, built and left. One that only measures is never proved."""
-    if crate != "ca_main":
+    if crate not in ("ca_main", LIBRARY):
         return aligned(crate, TOP)
-    path = os.path.join(TOP, "crates", crate, "out", crate)
-    return path if os.path.exists(path) else sys.exit(f"there is no {path}: ./test makes it")
+    path = aligned(crate, TOP) if crate == LIBRARY else os.path.join(TOP, "crates", crate, "out", crate)
+    return path if is_proved(path) else sys.exit(f"there is no {path} that was proved: ./test makes it")
+
+
+def is_proved(path):
+    """Whether tools/build has it that a program was proved."""
+    with contextlib.suppress(OSError), open(f"{path}.built", encoding="utf-8") as it:
+        return it.readline() == "proved\n"
+    return False
 
 
 def compiled(folder, source, *flags):
     """A C program or library of bench/, or None if there is no gcc."""
     if not shutil.which("gcc"):
         return None
-    made = os.path.join(folder, source.removesuffix(".c") + ".out")
+    made = os.path.join(folder, os.path.basename(source).removesuffix(".c") + ".out")
     subprocess.run(["gcc", "-O2", "-o", made, os.path.join(TOP, "bench", source), *flags], check=True)
     return made
 
@@ -292,8 +305,9 @@ class Server:
     """A program as a server, which is stopped at the end."""
 
     def __init__(self, *words):
-        self.run = subprocess.Popen(words, stdout=subprocess.PIPE, text=True)
-        self.port = int(re.fullmatch(r"serving 127\.0\.0\.1:(\d+)\n", self.run.stdout.readline())[1])
+        # The example server in C ends at the end of its input.
+        self.run = subprocess.Popen(words, stdin=subprocess.PIPE, stdout=subprocess.PIPE, text=True)
+        self.port = int(re.fullmatch(r"serving (?:127\.0\.0\.1:)?(\d+)\n", self.run.stdout.readline())[1])
 
     def __enter__(self):
         return self
@@ -301,6 +315,7 @@ class Server:
     def __exit__(self, *_fault):
         self.run.kill()
         self.run.wait()
+        self.run.stdin.close()
         self.run.stdout.close()
 
 

@@ -1,9 +1,10 @@
 /* A server of Channel Access on poll. Clients may read, write and monitor its records: TEMP; COUNT, which goes up by one each second; and MOVE, which
  * is slow: a put to it is done 100 ms later, and MOVED, which may only be read, goes up by its value.
  *
- *     cc server.c $(pkg-config --cflags --libs cuvezhin) -o server && ./server 5064
+ *     cc server.c $(pkg-config --cflags --libs cuvezhin) -o server && ./server 5064 [RECORDS]
  *
- * With port 0 the system chooses one, which is printed. It ends at the end of its standard input. */
+ * With port 0 the system chooses one, which is printed. RECORDS is a file of records and rules to serve in place of these. It ends at the end of its
+ * standard input. */
 #define _POSIX_C_SOURCE 200809L
 #include <cuvezhin.h>
 
@@ -11,6 +12,7 @@
 #include <errno.h>
 #include <fcntl.h>
 #include <netinet/in.h>
+#include <netinet/tcp.h>
 #include <poll.h>
 #include <stdio.h>
 #include <stdlib.h>
@@ -19,15 +21,20 @@
 #include <time.h>
 #include <unistd.h>
 
-enum { INPUT, LISTENER, SEARCHES, CIRCUITS, PLACES = 64 };
+enum { INPUT, LISTENER, SEARCHES, CIRCUITS, PLACES = 64, DEVICE_MILLISECONDS = 100 };
 
 static struct pollfd polled[PLACES];   /* standard input, the listener, the socket of searches, and circuits */
 static uint64_t circuits[PLACES];      /* the handle of each circuit */
 static nfds_t used = CIRCUITS;
-static uint64_t due;                   /* when the put to MOVE is to be done, or 0 */
+static struct {
+    uint8_t name[60];
+    size_t size;
+    uint64_t due;
+} busy[PLACES];                        /* the slow records that a put makes busy, and when that is to be done: the first one first */
+static size_t busies;
 static uint32_t moved;
 
-static const char records[] =
+static char records[65536] =
     "record TEMP LONG 1 quick 21\n"
     "record COUNT LONG 1 quick 0\n"
     "record MOVE LONG 1 slow 0\n"
@@ -75,18 +82,36 @@ static void post_long(cvz_server *server, const char *name, int32_t value)
     cvz_server_post(server, (const uint8_t *)name, strlen(name), CVZ_MASK_VALUE | CVZ_MASK_LOG, CVZ_TIME + CVZ_LONG, 1, (const uint8_t *)words, sizeof words);
 }
 
-/* The device: it has done what the put to MOVE asks for. The next put that waits makes it busy again. */
+/* If a put makes the record busy, the device has something to do; with too many such records it does it at once. */
+static void begin(cvz_server *server, const uint8_t *name, size_t size)
+{
+    uint8_t room[1];
+    size_t of_value;
+    while (cvz_server_busy(server, name, size, room, 0, &of_value) == 0) {
+        if (busies < PLACES) {
+            memcpy(busy[busies].name, name, size);
+            busy[busies].size = size;
+            busy[busies++].due = milliseconds() + DEVICE_MILLISECONDS;
+            return;
+        }
+        cvz_server_finish(server, name, size);
+    }
+}
+
+/* The device: it has done what the first of these puts asks for. The next one that waits makes the record busy again. */
 static void process(cvz_server *server)
 {
-    static const uint8_t name[4] = "MOVE";
     uint32_t value;                    /* big-endian */
-    size_t size;
-    if (cvz_server_busy(server, name, sizeof name, (uint8_t *)&value, sizeof value, &size) == 0) {
+    size_t size = busy[0].size, of_value;
+    uint8_t name[60];
+    memcpy(name, busy[0].name, size);
+    memmove(busy, busy + 1, --busies * sizeof *busy);
+    if (size == 4 && memcmp(name, "MOVE", 4) == 0 && cvz_server_busy(server, name, size, (uint8_t *)&value, sizeof value, &of_value) == 0) {
         moved += ntohl(value);
         post_long(server, "MOVED", (int32_t)moved);
-        cvz_server_finish(server, name, sizeof name);
     }
-    due = cvz_server_busy(server, name, sizeof name, (uint8_t *)&value, sizeof value, &size) == CVZ_NOT_BUSY ? 0 : milliseconds() + 100;
+    cvz_server_finish(server, name, size);
+    begin(server, name, size);
 }
 
 /* Sends what waits on a circuit, as far as its socket takes it. False if the circuit was lost. */
@@ -128,7 +153,7 @@ static bool serve(cvz_server *server, nfds_t at)
         switch (cvz_server_step(server, circuits[at], &did)) {
         case CVZ_HANDLED:
             if (did.effect == CVZ_BUSIED)
-                due = milliseconds() + 100;
+                begin(server, bytes, cvz_server_name(server, circuits[at], did.sid, bytes, sizeof bytes));
             break;
         case CVZ_NEEDS_BYTES:
             if (!send_all(server, at))
@@ -166,10 +191,11 @@ static void answer(cvz_server *server)
 
 static void accept_one(cvz_server *server)
 {
-    int made = accept(polled[LISTENER].fd, NULL, NULL);
+    int made = accept(polled[LISTENER].fd, NULL, NULL), yes = 1;
     if (made < 0)
         return;
     fcntl(made, F_SETFL, O_NONBLOCK);
+    setsockopt(made, IPPROTO_TCP, TCP_NODELAY, &yes, sizeof yes);
     if (used == PLACES || cvz_server_accept(server, &circuits[used]) < 0) {
         close(made);
         return;
@@ -182,15 +208,26 @@ int main(int argc, char **argv)
 {
     cvz_server server = {0};
     struct sockaddr_in address = {.sin_family = AF_INET, .sin_port = htons((uint16_t)(argc > 1 ? atoi(argv[1]) : 5064))};
-    int32_t count = 0;
+    size_t size = strlen(records);
+    int32_t count = 0, made;
     uint64_t next, wake;
 
+    if (argc > 2) {
+        FILE *file = fopen(argv[2], "r");
+        if (!file) {
+            perror(argv[2]);
+            return 1;
+        }
+        size = fread(records, 1, sizeof records, file);
+        fclose(file);
+    }
     polled[LISTENER] = (struct pollfd){.fd = socket_on(SOCK_STREAM, &address), .events = POLLIN};
     polled[SEARCHES] = (struct pollfd){.fd = socket_on(SOCK_DGRAM, &address), .events = POLLIN};
     polled[INPUT] = (struct pollfd){.fd = 0, .events = POLLIN};
     listen(polled[LISTENER].fd, 16);
-    if (cvz_server_load(&server, ntohs(address.sin_port), milliseconds(), (const uint8_t *)records, sizeof records - 1) < 0) {
-        fprintf(stderr, "server: out of memory\n");
+    made = cvz_server_load(&server, ntohs(address.sin_port), milliseconds(), (const uint8_t *)records, size);
+    if (made < 0) {
+        fprintf(stderr, "server: the records are refused: %d\n", made);
         return 1;
     }
     printf("serving %d\n", ntohs(address.sin_port));
@@ -202,12 +239,12 @@ int main(int argc, char **argv)
             post_long(&server, "COUNT", ++count);
             next += 1000;
         }
-        if (due && now >= due)
+        while (busies > 0 && now >= busy[0].due)
             process(&server);
         for (nfds_t at = CIRCUITS; at < used; at++)
             if (polled[at].events == POLLIN && !send_all(&server, at))
                 cvz_server_cut(&server, circuits[at]);
-        wake = due && due < next ? due : next;
+        wake = busies > 0 && busy[0].due < next ? busy[0].due : next;
         poll(polled, used, wake > now ? (int)(wake - now) : 0);
         if (polled[INPUT].revents && getchar() == EOF)
             break;
