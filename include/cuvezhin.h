@@ -24,7 +24,7 @@
  * is kept: each call copies what it needs. Nothing is lent to you: bytes are copied to your room.
  *
  * Answers: an int32_t is 0, or what the call says, or below zero a refusal. A refusal changes nothing. A size_t is how many bytes were
- * written. Memory is asked of malloc, and a call that gets none is refused by CVZ_OUT_OF_MEMORY, or closes the circuit that needed it.
+ * written, or what the call says. Memory is asked of malloc, and a call that gets none is refused by CVZ_OUT_OF_MEMORY, or closes the circuit that needed it.
  *
  * Handles of circuits, channels, requests and subscriptions are numbers. No handle is given twice by one object for the same kind of thing, so
  * a call with an old one finds nothing. The low 48 bits count; no handle has others.
@@ -43,7 +43,7 @@ extern "C" {
 /* ---- the version */
 
 #define CVZ_VERSION_MAJOR 1
-#define CVZ_VERSION_MINOR 1
+#define CVZ_VERSION_MINOR 2
 
 /* The version of the library: 65,536 times its first number, and its second. A library serves each program whose header has the same first
  * number, and a second one that is not greater: calls are added, and none changes or goes. */
@@ -128,15 +128,18 @@ enum {
     CVZ_SUBSCRIBED = 7,              /* a subscription began */
     CVZ_CANCELLED = 8,               /* a subscription ended, if it was there */
     CVZ_EVENTS_OFF = 9,              /* the client wants no updates for now */
-    CVZ_EVENTS_ON = 10               /* it wants them again */
+    CVZ_EVENTS_ON = 10,              /* it wants them again */
+    CVZ_WRITE_REFUSED = 11           /* a write or a put was refused. Since 1.2 */
 };
 
 /* Why an end has closed. */
 enum { CVZ_CAUSE_OUT_OF_MEMORY = 1, CVZ_CAUSE_MISALIGNED = 2, CVZ_CAUSE_TOO_LARGE = 3, CVZ_CAUSE_CUT = 4 };
 
 typedef struct cvz_step {
-    uint32_t effect;                 /* CVZ_QUIET to CVZ_EVENTS_ON */
-    uint32_t sid;                    /* of the channel, of CVZ_BUSIED, CVZ_CREATED, CVZ_CLEARED, CVZ_SUBSCRIBED and CVZ_CANCELLED, else 0 */
+    uint32_t effect;                 /* CVZ_QUIET to CVZ_WRITE_REFUSED */
+    uint32_t sid;                    /* of the channel, of CVZ_BUSIED, CVZ_CREATED, CVZ_CLEARED, CVZ_SUBSCRIBED and CVZ_CANCELLED, and since 1.2 of
+                                        CVZ_WROTE, CVZ_QUEUED and CVZ_WRITE_REFUSED (for this what the message says, whether or not a channel is open
+                                        under it); else 0 */
     uint32_t subscription;           /* the client's id of it, of CVZ_SUBSCRIBED and CVZ_CANCELLED, else 0 */
     uint32_t cause;                  /* after CVZ_CLOSED, else 0 */
 } cvz_step;
@@ -183,6 +186,15 @@ int32_t cvz_server_finish(cvz_server *server, const uint8_t *name, size_t name_s
  * the room takes it, and writes how long it is. 0, CVZ_NOT_BUSY if no put makes a record of this name busy, or CVZ_OUT_OF_MEMORY. Since 1.1. */
 int32_t cvz_server_busy(cvz_server *server, const uint8_t *name, size_t name_size, uint8_t *room, size_t room_size, size_t *size);
 
+/* The record's value now: writes its count, copies its image, as far as the room takes it, and writes how long that is. The type is the record's
+ * own, 0 to 6, or that plus CVZ_STS or CVZ_TIME. 0, CVZ_UNKNOWN_RECORD, CVZ_BAD_TYPE or CVZ_OUT_OF_MEMORY. Since 1.2. */
+int32_t cvz_server_value(cvz_server *server, const uint8_t *name, size_t name_size, uint16_t type, uint32_t *count, uint8_t *room, size_t room_size,
+                         size_t *size);
+
+/* The circuit of the put that waits longest for the record, which cvz_server_finish applies next. 1, or 0 if none waits, or no record has the name.
+ * Since 1.2. */
+int32_t cvz_server_first(cvz_server *server, const uint8_t *name, size_t name_size, uint64_t *circuit);
+
 /* A circuit was accepted: writes its handle. 0, CVZ_ARENA_FULL or CVZ_OUT_OF_MEMORY. */
 int32_t cvz_server_accept(cvz_server *server, uint64_t *circuit);
 
@@ -208,6 +220,13 @@ size_t cvz_server_left(cvz_server *server, uint8_t *room, size_t room_size);
 
 /* The record of the open channel of this SID on the circuit, as cvz_step tells it: copies its name, and says how long it is, or 0. */
 size_t cvz_server_name(cvz_server *server, uint64_t circuit, uint32_t sid, uint8_t *room, size_t room_size);
+
+/* The user's name that the client on this circuit gave: copies it, as far as the room takes it, and says how long it is, or 0. Names that come once
+ * a channel was created do not count. Since 1.2. */
+size_t cvz_server_user(cvz_server *server, uint64_t circuit, uint8_t *room, size_t room_size);
+
+/* The same of its host's name. Since 1.2. */
+size_t cvz_server_host(cvz_server *server, uint64_t circuit, uint8_t *room, size_t room_size);
 
 /* The circuit was lost, or is to end. The next step on it answers CVZ_CLOSED, and frees its place. 0. */
 int32_t cvz_server_cut(cvz_server *server, uint64_t circuit);

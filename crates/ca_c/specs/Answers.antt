@@ -10,9 +10,9 @@ use Rattle.ca_dbr.specs.Reading.{Reads}
 use Rattle.ca_dbr.specs.Types.{type_number}
 use Rattle.ca_text.specs.Refusal.{refusal_number}
 
--- the version of the interface: 1.1
+-- the version of the interface: 1.2
 abbrev pub version : ℕ
-version = 65537
+version = 65538
 
 -- what a call on a struct with no object answers
 abbrev pub no_object : ℤ
@@ -49,16 +49,29 @@ abbrev pub ShowsAny : Option (List ℕ) → ℕ → (before after : List ℕ) �
 ShowsAny (Some bytes) n before after = Shows bytes n before after
 ShowsAny None n before after = (n ≡ 0) × (after ≡ before)
 
+-- the bytes are copied as far as the room takes them, and it is told how many they are
+abbrev pub ShowsAll : (bytes : List ℕ) → (size : ℕ) → (before after : List ℕ) → Type 0
+ShowsAll bytes size before after = let k : ℕ = min (length bytes) (length before) in (size ≡ length bytes) × (after ≡ take k bytes ++ drop k before)
+
+-- the same of bytes that there may be
+abbrev pub ShowsAllOf : Option (List ℕ) → (size : ℕ) → (before after : List ℕ) → Type 0
+ShowsAllOf (Some bytes) size before after = ShowsAll bytes size before after
+ShowsAllOf None size before after = (size ≡ 0) × (after ≡ before)
+
 -- the image of a value is copied as far as the room takes it, and its size is told
 abbrev pub ShowsImage : Result (Unit {0}) Refusal → (image : List ℕ) → (size_before size_after : ℕ) → (before after : List ℕ) → Type 0
-ShowsImage (Ok _) image size_before size_after before after =
-    let k : ℕ = min (length image) (length before) in (size_after ≡ length image) × (after ≡ take k image ++ drop k before)
+ShowsImage (Ok _) image size_before size_after before after = ShowsAll image size_after before after
 ShowsImage (Err e) image size_before size_after before after = (size_after ≡ size_before) × (after ≡ before)
 
--- the image of this value in this type is shown, or refused
+-- the image of this value in this type is copied, or refused
+abbrev pub CopiesValue : (number : ℕ) → Elements → Meta → Result (Unit {0}) Refusal → (size_before size_after : ℕ) → (before after : List ℕ) → Type 0
+CopiesValue number value meta r size_before size_after before after =
+    (image : List ℕ) × (Writes number value meta [] r image × ShowsImage r image size_before size_after before after)
+
+-- the same, with the number that says which
 abbrev pub ShowsValue : (number : ℕ) → Elements → Meta → ℤ → (size_before size_after : ℕ) → (before after : List ℕ) → Type 0
 ShowsValue number value meta n size_before size_after before after =
-    (r : Result (Unit {0}) Refusal) × ((image : List ℕ) × ((n ≡ code_of r) × Writes number value meta [] r image × ShowsImage r image size_before size_after before after))
+    (r : Result (Unit {0}) Refusal) × ((n ≡ code_of r) × CopiesValue number value meta r size_before size_after before after)
 
 -- the image is that of this value with this metadata
 abbrev pub IsImage : (number count : ℕ) → (image : List ℕ) → Elements → Meta → Type 0

@@ -2,10 +2,11 @@
 use Rattle.std.specs.Prelude.{ℕ, ℤ, pos, ◌≡◌, ◌<◌, ◌⊎◌, ◌++◌, ◌+◌, Bool, false, IfErr, List, [], Option, Some, None, Result, Ok, Err, drop, if◌then◌else◌, is_some, length, map, min, option_map, slice_get, take}
 use Rattle.ca_arena.specs.declared.handle.Handle.{Handle}
 use Rattle.ca_dbr.specs.declared.value.Meta.{Meta}
-use Rattle.ca_dbr.specs.Elements.{Elements, base_of}
+use Rattle.ca_dbr.specs.Elements.{Elements, base_of, count_of}
 use Rattle.ca_dbr.specs.Reading.{ReadRefused}
 use Rattle.ca_dbr.specs.Types.{base_number}
 use Rattle.ca_ids.specs.Table.{has_free, under}
+use Rattle.ca_model.specs.Ends.{Peer}
 use Rattle.ca_model.specs.Server.{new_server}
 use Rattle.ca_model.specs.ServerCalls.{AddsRecord, AnswersDatagram, Beacons, Finishes, Posts, Removes, stamped, waiting}
 use Rattle.ca_model.specs.ServerSteps.{Accepts, Cuts, Gives, Pumps, Sends, Steps, Update, output_of}
@@ -13,7 +14,7 @@ use Rattle.ca_records.specs.Record.{RecordState, unset}
 use Rattle.ca_records.specs.Rules.{Rule}
 use Rattle.ca_script.specs.Grammar.{Refuses}
 use Rattle.ca_script.specs.RecordFiles.{FileReading, SaysFile}
-use Rattle.ca_server_core.specs.Asking.{NamesUnder, busy_value}
+use Rattle.ca_server_core.specs.Asking.{NamesUnder, busy_value, first_waiting, peer_under, record_now}
 use Rattle.ca_server_core.specs.Effects.{TellsEffect}
 use Rattle.ca_server_core.specs.Serving.{Closes, stepped}
 use Rattle.ca_server_core.specs.declared.stepping.Step.{Step}
@@ -21,7 +22,7 @@ use Rattle.ca_server_core.specs.declared.stepping.Step.TheVariants.{Closed}
 use Rattle.ca_text.specs.declared.refusal.Refusal.{Refusal}
 use Rattle.ca_text.specs.declared.refusal.Refusal.TheVariants as refusal
 use Rattle.ca_wire.specs.Fields.{Fields}
-use Rattle.ca_c.specs.Answers.{IsImage, Shows, ShowsAny, ShowsValue, Tells, code_of, handle_of, number_of, refusal_code}
+use Rattle.ca_c.specs.Answers.{CopiesValue, IsImage, Shows, ShowsAllOf, ShowsAny, ShowsValue, Tells, code_of, handle_of, number_of, refusal_code}
 use Rattle.ca_c.specs.Steps.{step_number, told_of}
 use Rattle.ca_c.specs.declared.server_object.ServerObject.{ServerObject}
 use Rattle.ca_c.specs.declared.step.CvzStep.{CvzStep}
@@ -117,6 +118,27 @@ ShowsBusy None n size_before size_after before after = (n ≡ refusal_code refus
 unfoldable pub DoesBusy : ServerObject → ℤ → ServerObject → (name : List ℕ) → (size_before size_after : ℕ) → (before after : List ℕ) → Type 0
 DoesBusy s n t name size_before size_after before after = ShowsBusy (busy_value s.core name) n size_before size_after before after × (t ≡ s)
 
+-- The record's value with its metadata is shown in this type, and its count is told; refused by UnknownRecord if there is no record, or as the
+-- image is.
+abbrev pub ShowsRecord : Option RecordState → (number : ℕ) → ℤ → (count_before count_after size_before size_after : ℕ) → (before after : List ℕ) → Type 0
+ShowsRecord (Some r) number n count_before count_after size_before size_after before after =
+    (x : Result (Unit {0}) Refusal) × ((n ≡ code_of x) × CopiesValue number r.value r.meta x size_before size_after before after
+    × Tells (λ (u : Unit {0}). count_of r.value) x count_before count_after)
+ShowsRecord None number n count_before count_after size_before size_after before after =
+    (n ≡ refusal_code refusal.UnknownRecord) × (count_after ≡ count_before) × (size_after ≡ size_before) × (after ≡ before)
+
+unfoldable pub DoesValue : ServerObject → ℤ → ServerObject → (name : List ℕ) → (number count_before count_after size_before size_after : ℕ) → (before after : List ℕ) → Type 0
+DoesValue s n t name number count_before count_after size_before size_after before after =
+    ShowsRecord (record_now s.core name) number n count_before count_after size_before size_after before after × (t ≡ s)
+
+-- the number of the circuit, or none
+abbrev pub TellsCircuit : Option Handle → ℤ → (before after : ℕ) → Type 0
+TellsCircuit (Some h) n before after = (n ≡ pos 1) × (after ≡ number_of h)
+TellsCircuit None n before after = (n ≡ pos 0) × (after ≡ before)
+
+unfoldable pub DoesFirst : ServerObject → ℤ → ServerObject → (name : List ℕ) → (before after : ℕ) → Type 0
+DoesFirst s n t name before after = TellsCircuit (first_waiting s.core name) n before after × (t ≡ s)
+
 -- the answers to a datagram wait for C, and none of them was taken
 abbrev pub Answered : Result (List (List ℕ)) Refusal → ServerObject → ServerObject → Type 0
 Answered (Ok datagrams) s t = (map (λ d. d.items) t.answers.items ≡ datagrams) × (t.taken ≡ 0) × (t.core ≡ s.core) × (t.left ≡ s.left)
@@ -143,3 +165,11 @@ DoesWaiting s n t = (n ≡ waiting s.core) × (t ≡ s)
 unfoldable pub DoesName : ServerObject → ℕ → ServerObject → (circuit sid : ℕ) → (before after : List ℕ) → Type 0
 DoesName s n t circuit sid before after =
     (name : Option (List ℕ)) × (NamesUnder (under s.core.circuits (handle_of circuit)) sid name × ShowsAny name n before after × (t ≡ s))
+
+unfoldable pub DoesUser : ServerObject → ℕ → ServerObject → (circuit : ℕ) → (before after : List ℕ) → Type 0
+DoesUser s n t circuit before after =
+    ShowsAllOf (option_map (λ (p : Peer). p.user) (peer_under (under s.core.circuits (handle_of circuit)))) n before after × (t ≡ s)
+
+unfoldable pub DoesHost : ServerObject → ℕ → ServerObject → (circuit : ℕ) → (before after : List ℕ) → Type 0
+DoesHost s n t circuit before after =
+    ShowsAllOf (option_map (λ (p : Peer). p.host) (peer_under (under s.core.circuits (handle_of circuit)))) n before after × (t ≡ s)

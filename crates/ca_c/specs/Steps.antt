@@ -2,7 +2,7 @@
 use Rattle.std.specs.Prelude.{ℕ, ℤ, false, pos, true}
 use Rattle.ca_server_circuit.specs.declared.cause.Cause.{Cause}
 use Rattle.ca_server_circuit.specs.declared.cause.Cause.TheVariants as cause
-use Rattle.ca_server_circuit.specs.declared.effect.Effect.TheVariants.{Busied, Cancelled, Cleared, Created, Queued, Quiet, Refused, Subscribed, Switched, Wrote}
+use Rattle.ca_server_circuit.specs.declared.effect.Effect.TheVariants.{Busied, Cancelled, Cleared, Created, Queued, Quiet, Refused, Subscribed, Switched, WriteRefused, Wrote}
 use Rattle.ca_server_core.specs.declared.stepping.Step.{Step}
 use Rattle.ca_server_core.specs.declared.stepping.Step.TheVariants.{Closed, Handled, NeedBytes, OutputFull}
 use Rattle.ca_c.specs.declared.step.CvzStep.{CvzStep}
@@ -26,9 +26,9 @@ handled effect sid subscription = record { effect = effect; sid = sid; subscript
 -- what a step tells beside its number
 abbrev pub told_of : Step → CvzStep
 told_of (Handled Quiet) = handled 0 0 0
-told_of (Handled Wrote) = handled 1 0 0
+told_of (Handled (Wrote sid)) = handled 1 sid 0
 told_of (Handled (Busied sid)) = handled 2 sid 0
-told_of (Handled Queued) = handled 3 0 0
+told_of (Handled (Queued sid)) = handled 3 sid 0
 told_of (Handled Refused) = handled 4 0 0
 told_of (Handled (Created sid)) = handled 5 sid 0
 told_of (Handled (Cleared sid)) = handled 6 sid 0
@@ -36,5 +36,6 @@ told_of (Handled (Subscribed sid subscription)) = handled 7 sid subscription
 told_of (Handled (Cancelled sid subscription)) = handled 8 sid subscription
 told_of (Handled (Switched false)) = handled 9 0 0
 told_of (Handled (Switched true)) = handled 10 0 0
+told_of (Handled (WriteRefused sid)) = handled 11 sid 0
 told_of (Closed why left) = record { effect = 0; sid = 0; subscription = 0; cause = cause_number why }
 told_of did = handled 0 0 0

@@ -2,7 +2,7 @@
 
 ghost use Rattle.std.specs.Prelude.{◌≡◌, ◌≤◌, ◌++◌, drop, length, min, take};
 ghost use Rattle.ca_dbr.specs.Elements.{elements};
-ghost use Rattle.ca_c.specs.Answers.{ShowsValue, code_of, handle_of, number_of, refusal_code};
+ghost use Rattle.ca_c.specs.Answers.{CopiesValue, ShowsAll, ShowsValue, code_of, handle_of, number_of, refusal_code};
 
 use ca_arena::Handle;
 use ca_dbr::{Meta, Value, write_value};
@@ -57,6 +57,14 @@ pub(crate) fn filled(bytes: &[u8], room: &mut [u8]) -> usize
     n
 }
 
+/// Copies as many bytes as there is room for, and says how many they are in all.
+pub(crate) fn copied(bytes: &[u8], room: &mut [u8]) -> usize
+    ensures { ShowsAll bytes.now result room.old room.new }
+{
+    filled(bytes, room);
+    bytes.len()
+}
+
 /// Copies the image of a value in this type, as far as there is room for it, and writes how long it is. Refused as BadType, then as OutOfMemory.
 pub(crate) fn shown(
     alloc: Global,
@@ -69,13 +77,23 @@ pub(crate) fn shown(
     ensures { ShowsValue data_type (elements value.now) meta.now result
         size.old size.new room.old room.new }
 {
+    code(copied_value(alloc, data_type, value, meta, room, size))
+}
+
+/// The same, before its answer is a number.
+pub(crate) fn copied_value(
+    alloc: Global,
+    data_type: u16,
+    value: &Value,
+    meta: &Meta,
+    room: &mut [u8],
+    size: &mut usize,
+) -> Result<(), Refusal>
+    ensures { CopiesValue data_type (elements value.now) meta.now result
+        size.old size.new room.old room.new }
+{
     let mut image = Vec::new(alloc);
-    match write_value(data_type, value, meta, &mut image) {
-        Ok(()) => {
-            filled(image.as_slice(), room);
-            *size = image.len();
-            0
-        }
-        Err(refusal) => refused(refusal),
-    }
+    write_value(data_type, value, meta, &mut image)?;
+    *size = copied(image.as_slice(), room);
+    Ok(())
 }

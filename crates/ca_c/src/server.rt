@@ -5,7 +5,7 @@ ghost use Rattle.ca_script.specs.Grammar.{Refuses};
 ghost use Rattle.ca_script.specs.RecordFiles.{SaysFile};
 ghost use Rattle.ca_object.specs.Calling.{Calls};
 ghost use Rattle.ca_c.specs.Answers.{no_object};
-ghost use Rattle.ca_c.specs.Servers.{Begins, IsBegun, IsLoaded, Loads, DoesAccept, DoesAdd, DoesAnswer, DoesApplied, DoesBeacon, DoesBusy, DoesCut, DoesDatagram, DoesFinish, DoesGive, DoesLeft, DoesName, DoesOutput, DoesPost, DoesPump, DoesRemove, DoesSent, DoesStamp, DoesStep, DoesWaiting};
+ghost use Rattle.ca_c.specs.Servers.{Begins, IsBegun, IsLoaded, Loads, DoesAccept, DoesAdd, DoesAnswer, DoesApplied, DoesBeacon, DoesBusy, DoesCut, DoesDatagram, DoesFinish, DoesFirst, DoesGive, DoesHost, DoesLeft, DoesName, DoesOutput, DoesPost, DoesPump, DoesRemove, DoesSent, DoesStamp, DoesStep, DoesUser, DoesValue, DoesWaiting};
 
 use crate::answers::{NO_OBJECT, refused};
 use crate::cvz_server::CvzServer;
@@ -349,6 +349,52 @@ pub extern "C" fn cvz_server_busy(
     answer
 }
 
+/// Copies the image of the record's value in this type, its own or that with status or with a time stamp too, and writes its count and how long that
+/// is. Refused as UnknownRecord, as BadType, then as OutOfMemory.
+#[unsafe(no_mangle)]
+pub extern "C" fn cvz_server_value(
+    alloc: Global,
+    server: &mut CvzServer,
+    name: &[u8],
+    number: u16,
+    count: &mut u32,
+    room: &mut [u8],
+    size: &mut usize,
+) -> i32
+    ensures call { Calls no_object server.old.value result server.new.value
+        (λ s n t. DoesValue s n t name.now number count.old count.new size.old size.new room.old room.new) }
+    ensures kept_count { server.old.value ≡ None → count.new ≡ count.old }
+    ensures kept_room { server.old.value ≡ None → room.new ≡ room.old }
+    ensures kept_size { server.old.value ≡ None → size.new ≡ size.old }
+{
+    let Some(object) = server.take(alloc) else {
+        return NO_OBJECT;
+    };
+    let answer = object.value(alloc, name, number, count, room, size);
+    server.put(alloc, object);
+    answer
+}
+
+/// Writes the circuit of the put that waits longest for the record, which `cvz_server_finish` applies next: 1, or 0 if none waits.
+#[unsafe(no_mangle)]
+pub extern "C" fn cvz_server_first(
+    alloc: Global,
+    server: &mut CvzServer,
+    name: &[u8],
+    circuit: &mut u64,
+) -> i32
+    ensures call { Calls no_object server.old.value result server.new.value
+        (λ s n t. DoesFirst s n t name.now circuit.old circuit.new) }
+    ensures kept { server.old.value ≡ None → circuit.new ≡ circuit.old }
+{
+    let Some(object) = server.take(alloc) else {
+        return NO_OBJECT;
+    };
+    let answer = object.first(name, circuit);
+    server.put(alloc, object);
+    answer
+}
+
 /// Takes a datagram. `cvz_server_answer` has the datagrams that answer it. Refused as OutOfMemory.
 #[unsafe(no_mangle)]
 pub extern "C" fn cvz_server_datagram(alloc: Global, server: &mut CvzServer, bytes: &[u8]) -> i32
@@ -443,6 +489,46 @@ pub extern "C" fn cvz_server_name(
         return 0;
     };
     let answer = object.name(circuit, sid, room);
+    server.put(alloc, object);
+    answer
+}
+
+/// The user's name that the client on a circuit gave: copies it, as far as there is room for it, and says how long it is: 0 if there is none.
+#[unsafe(no_mangle)]
+pub extern "C" fn cvz_server_user(
+    alloc: Global,
+    server: &mut CvzServer,
+    circuit: u64,
+    room: &mut [u8],
+) -> usize
+    ensures call { Calls 0 server.old.value result server.new.value
+        (λ s n t. DoesUser s n t circuit room.old room.new) }
+    ensures kept { server.old.value ≡ None → room.new ≡ room.old }
+{
+    let Some(object) = server.take(alloc) else {
+        return 0;
+    };
+    let answer = object.user(circuit, room);
+    server.put(alloc, object);
+    answer
+}
+
+/// The same of its host's name.
+#[unsafe(no_mangle)]
+pub extern "C" fn cvz_server_host(
+    alloc: Global,
+    server: &mut CvzServer,
+    circuit: u64,
+    room: &mut [u8],
+) -> usize
+    ensures call { Calls 0 server.old.value result server.new.value
+        (λ s n t. DoesHost s n t circuit room.old room.new) }
+    ensures kept { server.old.value ≡ None → room.new ≡ room.old }
+{
+    let Some(object) = server.take(alloc) else {
+        return 0;
+    };
+    let answer = object.host(circuit, room);
     server.put(alloc, object);
     answer
 }

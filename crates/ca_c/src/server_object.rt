@@ -1,11 +1,13 @@
 //! A server as C has it: its core, and what a call made that C has not taken yet.
 
 ghost use Rattle.std.specs.Prelude.{◌≡◌};
-ghost use Rattle.ca_c.specs.Servers.{DoesAccept, DoesAdd, DoesAnswer, DoesApplied, DoesBeacon, DoesBusy, DoesCut, DoesDatagram, DoesFinish, DoesGive, DoesLeft, DoesName, DoesOutput, DoesPost, DoesPump, DoesRemove, DoesSent, DoesStamp, DoesStep, DoesWaiting};
+ghost use Rattle.ca_dbr.specs.Elements.{count_of};
+ghost use Rattle.ca_c.specs.Servers.{DoesAccept, DoesAdd, DoesAnswer, DoesApplied, DoesBeacon, DoesBusy, DoesCut, DoesDatagram, DoesFinish, DoesFirst, DoesGive, DoesHost, DoesLeft, DoesName, DoesOutput, DoesPost, DoesPump, DoesRemove, DoesSent, DoesStamp, DoesStep, DoesUser, DoesValue, DoesWaiting};
 
-use crate::answers::{code, filled, handle, number, refused, shown};
+use crate::answers::{code, copied, copied_value, filled, handle, number, refused, shown};
 use crate::step::{CvzStep, step_number, told_of};
 use ca_dbr::{Meta, read_value};
+use ca_records::Record;
 use ca_server_core::{ServerCore, Step};
 use ca_text::Refusal;
 use ca_wire::{Pipe, Sid};
@@ -163,6 +165,44 @@ impl ServerObject {
         shown(alloc, own, value, &Meta::ZERO, room, size)
     }
 
+    #[tactic(auto, unfolding(crate::specs::Servers::DoesValue))]
+    pub(crate) fn value(
+        &self,
+        alloc: Global,
+        name: &[u8],
+        number: u16,
+        count: &mut u32,
+        room: &mut [u8],
+        size: &mut usize,
+    ) -> i32
+        ensures { DoesValue self.now result self.now name.now number count.old count.new
+            size.old size.new room.old room.new }
+    {
+        let Some(record) = self.core.record(name) else {
+            return refused(Refusal::UnknownRecord);
+        };
+        match copied_value(alloc, number, record.value(), record.meta(), room, size) {
+            Ok(()) => {
+                *count = count_of(record);
+                0
+            }
+            Err(refusal) => refused(refusal),
+        }
+    }
+
+    #[tactic(auto, unfolding(crate::specs::Servers::DoesFirst))]
+    pub(crate) fn first(&self, name: &[u8], circuit: &mut u64) -> i32
+        ensures { DoesFirst self.now result self.now name.now circuit.old circuit.new }
+    {
+        match self.core.first_waiting(name) {
+            Some(waiting) => {
+                *circuit = number(waiting);
+                1
+            }
+            None => 0,
+        }
+    }
+
     #[tactic(auto, unfolding(crate::specs::Servers::DoesDatagram))]
     pub(crate) fn datagram(&mut self, bytes: &[u8]) -> i32
         ensures { DoesDatagram self.old result self.new bytes.now }
@@ -219,4 +259,31 @@ impl ServerObject {
             None => 0,
         }
     }
+
+    #[tactic(auto, unfolding(crate::specs::Servers::DoesUser))]
+    pub(crate) fn user(&self, circuit: u64, room: &mut [u8]) -> usize
+        ensures { DoesUser self.now result self.now circuit room.old room.new }
+    {
+        match self.core.user(handle(circuit)) {
+            Some(user) => copied(user, room),
+            None => 0,
+        }
+    }
+
+    #[tactic(auto, unfolding(crate::specs::Servers::DoesHost))]
+    pub(crate) fn host(&self, circuit: u64, room: &mut [u8]) -> usize
+        ensures { DoesHost self.now result self.now circuit room.old room.new }
+    {
+        match self.core.host(handle(circuit)) {
+            Some(host) => copied(host, room),
+            None => 0,
+        }
+    }
+}
+
+/// How many elements its value has.
+fn count_of(record: &Record) -> u32
+    ensures { result ≡ count_of record.now.value }
+{
+    record.value().count() as u32
 }

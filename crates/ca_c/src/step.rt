@@ -53,9 +53,9 @@ fn handled_effect(effect: Effect) -> CvzStep
 {
     match effect {
         Effect::Quiet => handled(0, 0, 0),
-        Effect::Wrote => handled(1, 0, 0),
+        Effect::Wrote(sid) => handled(1, sid, 0),
         Effect::Busied(sid) => handled(2, sid, 0),
-        Effect::Queued => handled(3, 0, 0),
+        Effect::Queued(sid) => handled(3, sid, 0),
         Effect::Refused => handled(4, 0, 0),
         Effect::Created(sid) => handled(5, sid, 0),
         Effect::Cleared(sid) => handled(6, sid, 0),
@@ -63,6 +63,7 @@ fn handled_effect(effect: Effect) -> CvzStep
         Effect::Cancelled(sid, subscription) => handled(8, sid, subscription),
         Effect::Switched(false) => handled(9, 0, 0),
         Effect::Switched(true) => handled(10, 0, 0),
+        Effect::WriteRefused(sid) => handled(11, sid, 0),
     }
 }
 

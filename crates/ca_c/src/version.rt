@@ -6,5 +6,5 @@ ghost use Rattle.ca_c.specs.Answers.{version};
 pub extern "C" fn cvz_version() -> u32
     ensures { result ≡ version }
 {
-    65537
+    65538
 }

@@ -84,13 +84,14 @@ fn step(core: &mut ServerCore, mut words: Words<'_>, answer: &mut Answer) -> Res
 fn did(effect: Effect, answer: &mut Answer) -> Result<(), Refusal> {
     match effect {
         Effect::Quiet => Ok(()),
-        Effect::Queued => answer.word("queued"),
+        Effect::Queued(sid) => on("queued", &[sid], answer),
         Effect::Refused => answer.word("no channel"),
+        Effect::WriteRefused(sid) => on("write refused", &[sid], answer),
         Effect::Cleared(sid) => on("cleared", &[sid], answer),
         Effect::Cancelled(sid, sub) => on("cancelled", &[sid, sub], answer),
         Effect::Switched(true) => answer.word("events on"),
         Effect::Switched(false) => answer.word("events off"),
-        Effect::Wrote => answer.word("wrote"),
+        Effect::Wrote(sid) => on("wrote", &[sid], answer),
         Effect::Busied(sid) => on("busied", &[sid], answer),
         Effect::Subscribed(sid, sub) => on("subscribed", &[sid, sub], answer),
         Effect::Created(sid) => on("created", &[sid], answer),

@@ -1,6 +1,8 @@
 -- What is due for a CREATE_CHAN.
 use Rattle.std.proofs.Common.{◌≡◌, ◌≢◌, ℕ, ◌<◌, ◌≤◌, ◌%◌, ◌^◌, ◌⊎◌, inl, inr, true, false, [], ◌∷◌, length, Option, Some, None, refl, sym, ap, ◌∙◌, subst, arith}
 use Rattle.std.specs.Prelude.{map, option_map}
+use Rattle.ca_text.specs.Command.{command_number}
+use Rattle.ca_text.specs.declared.command.Command.TheVariants as command
 use Rattle.ca_text.specs.Limits.{arena_slots}
 use Rattle.ca_text.proofs.Places.{At-map, At-mapped, At-within}
 use Rattle.ca_arena.specs.declared.handle.Handle.{Handle}
@@ -21,7 +23,7 @@ use Rattle.ca_server_circuit.specs.declared.effect.Effect.TheVariants as told
 use Rattle.ca_server_circuit.specs.declared.step.FollowUp.{FollowUp}
 use Rattle.ca_server_circuit.specs.declared.step.FollowUp.TheVariants as effect
 use Rattle.ca_server_circuit.specs.Handling.{AllStay, known, replied}
-use Rattle.ca_server_circuit.proofs.Telling.{refused-told}
+use Rattle.ca_server_circuit.proofs.Telling.{nothing-told}
 use Rattle.ca_server_circuit.proofs.Tables.{given-none, held-other, listed-under, place, under-at, under-listed}
 
 -- ---- CIDs
@@ -89,7 +91,7 @@ is-created port s e new m spot tells few unused did = record {
 -- the same, and nothing is left to do
 pub none-created : (port : ℕ) (s : Store) (e new : ServerEnd) (m : Fields) (did : FollowUp) → ((known port s e).record_of (text_in m.payload) ≡ None) ⊎ (CidTaken (known port s e) m.p1 ⊎ ((known port s e).full ≡ true)) → (did ≡ effect.Quiet told.Refused) × (new ≡ replied (failed_reply m ∷ []) e) → CreatesBy port s e m did new
 unfolding not-created
-none-created port s e new m did why is = (not-created port s e new m why is.1, λ creates. is.0 ∙ refused-told m creates)
+none-created port s e new m did why is = (not-created port s e new m why is.1, λ creates. is.0 ∙ nothing-told m (command_number command.CreateChannel) creates)
 
 -- the same, and the circuit has a channel to the record of the name
 pub one-created : (port spot : ℕ) (s : Store) (e new : ServerEnd) (m : Fields) (did : FollowUp) → Finds s (text_in m.payload) spot → length e.channels ≤ arena_slots → (UsesCid e.channels m.p1 → ⊥) → IsCreation s e m spot did new → CreatesBy port s e m did new

@@ -24,7 +24,7 @@ use Rattle.ca_server_circuit.specs.Creating.{CreatesBy}
 use Rattle.ca_server_circuit.specs.Handling.{Does, Replies, known, replied}
 use Rattle.ca_server_circuit.proofs.Dues.{IsDueFor, command_at, due-for, due-other}
 use Rattle.ca_server_circuit.proofs.Taken.{replied-none}
-use Rattle.ca_server_circuit.proofs.Telling.{no-creation, quiet-told}
+use Rattle.ca_server_circuit.proofs.Telling.{none-told, quiet-told, told_at}
 
 module _ (port : ℕ) (s : Store) (h : Handle) (e : ServerEnd) (m : Fields) where
   -- what is due for the message of this command
@@ -51,8 +51,8 @@ module _ (port : ℕ) (s : Store) (h : Handle) (e : ServerEnd) (m : Fields) wher
   }
 
   -- only replies go out
-  pub does-reply : (new : ServerEnd) (c : Command) → m.command ≡ command_number c → is_known (command_number c) ≡ true → command_at (command_number c) ≡ c → (command_number c == command_number command.CreateChannel) ≡ false → Replies (DueFor c) e new → Does DueHere s h e m (effect.Quiet told.Quiet) s new
-  does-reply new c is yes_it one other r = record {
+  pub does-reply : (new : ServerEnd) (c : Command) → m.command ≡ command_number c → is_known (command_number c) ≡ true → command_at (command_number c) ≡ c → told_at m.p1 (command_number c) ≡ told.Quiet → Replies (DueFor c) e new → Does DueHere s h e m (effect.Quiet told.Quiet) s new
+  does-reply new c is yes_it one quiet r = record {
     replies = r.replies;
     action = Nothing;
     due = due-for (known port s e) m r.replies Nothing c is yes_it one r.due;
@@ -61,7 +61,7 @@ module _ (port : ℕ) (s : Store) (h : Handle) (e : ServerEnd) (m : Fields) wher
     records = refl;
     rules = refl;
     stamp = refl;
-    tells = quiet-told m (command_number c) is other;
+    tells = quiet-told m (command_number c) is quiet;
     fits = tt;
     leaves = r.leaves;
   }
@@ -82,8 +82,8 @@ module _ (port : ℕ) (s : Store) (h : Handle) (e : ServerEnd) (m : Fields) wher
   }
 
   -- a name of the peer, which counts unless it is settled
-  pub does-name : (new : ServerEnd) (p : Peer) → (m.command == command_number command.CreateChannel) ≡ false → ((a : Action) → a ≡ named (known port s e) p → DueHere [] a) → new ≡ (if e.settled then e else record e { peer = p }) → Does DueHere s h e m (effect.Quiet told.Quiet) s new
-  does-name new p other due done = by e.settled refl
+  pub does-name : (new : ServerEnd) (p : Peer) → told_at m.p1 m.command ≡ told.Quiet → ((a : Action) → a ≡ named (known port s e) p → DueHere [] a) → new ≡ (if e.settled then e else record e { peer = p }) → Does DueHere s h e m (effect.Quiet told.Quiet) s new
+  does-name new p quiet due done = by e.settled refl
     where
       by : (b : Bool) → e.settled ≡ b → Does DueHere s h e m (effect.Quiet told.Quiet) s new
       by true is = record {
@@ -95,7 +95,7 @@ module _ (port : ℕ) (s : Store) (h : Handle) (e : ServerEnd) (m : Fields) wher
         records = refl;
         rules = refl;
         stamp = refl;
-        tells = quiet-told m m.command refl other;
+        tells = quiet-told m m.command refl quiet;
         fits = tt;
         leaves = done ∙ ap (λ (x : Bool). if x then e else record e { peer = p }) is ∙ sym (replied-none e);
       }
@@ -115,11 +115,11 @@ module _ (port : ℕ) (s : Store) (h : Handle) (e : ServerEnd) (m : Fields) wher
 
   pub does-user : (new : ServerEnd) → m.command ≡ command_number command.ClientName → new ≡ (if e.settled then e else record e { peer = record e.peer { user = text_in m.payload } }) → Does DueHere s h e m (effect.Quiet told.Quiet) s new
   does-user new is done =
-      does-name new (record e.peer { user = text_in m.payload }) (ap (λ (n : ℕ). n == command_number command.CreateChannel) is) (λ a same. due-for (known port s e) m [] a command.ClientName is refl refl (refl, same)) done
+      does-name new (record e.peer { user = text_in m.payload }) (ap (told_at m.p1) is) (λ a same. due-for (known port s e) m [] a command.ClientName is refl refl (refl, same)) done
 
   pub does-host : (new : ServerEnd) → m.command ≡ command_number command.HostName → new ≡ (if e.settled then e else record e { peer = record e.peer { host = text_in m.payload } }) → Does DueHere s h e m (effect.Quiet told.Quiet) s new
   does-host new is done =
-      does-name new (record e.peer { host = text_in m.payload }) (ap (λ (n : ℕ). n == command_number command.CreateChannel) is) (λ a same. due-for (known port s e) m [] a command.HostName is refl refl (refl, same)) done
+      does-name new (record e.peer { host = text_in m.payload }) (ap (told_at m.p1) is) (λ a same. due-for (known port s e) m [] a command.HostName is refl refl (refl, same)) done
 
   pub does-echo : (new : ServerEnd) → m.command ≡ command_number command.Echo → new ≡ replied (bare command.Echo ∷ []) e → Does DueHere s h e m (effect.Quiet told.Quiet) s new
   does-echo new is done =
@@ -205,7 +205,7 @@ module _ (port : ℕ) (s : Store) (h : Handle) (e : ServerEnd) (m : Fields) wher
     records = refl;
     rules = refl;
     stamp = refl;
-    tells = quiet-told m m.command refl (no-creation m.command other);
+    tells = quiet-told m m.command refl (none-told m.p1 m.command other);
     fits = tt;
     leaves = sym (replied-none e);
   }

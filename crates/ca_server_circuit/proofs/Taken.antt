@@ -28,7 +28,7 @@ use Rattle.ca_server_circuit.specs.Putting.{IsRefused, IsTaken, early}
 use Rattle.ca_server_circuit.specs.Seeking.{IsServed, IsStray}
 use Rattle.ca_server_circuit.proofs.Known.{serves}
 use Rattle.ca_server_circuit.proofs.Replying.{stray-due}
-use Rattle.ca_server_circuit.proofs.Telling.{quiet-told}
+use Rattle.ca_server_circuit.proofs.Telling.{nothing-told}
 
 -- no replies leave the end as it is
 pub replied-none : (e : ServerEnd) → replied [] e ≡ e
@@ -99,7 +99,7 @@ not-notify m is = ap (λ (n : ℕ). n == command_number command.WriteNotify) is
 is-notify : (m : Fields) → m.command ≡ command_number command.WriteNotify → (m.command == command_number command.WriteNotify) ≡ true
 is-notify m is = ap (λ (n : ℕ). n == command_number command.WriteNotify) is
 
-pub write-stray : (port : ℕ) (s : Store) (h : Handle) (e new : ServerEnd) (m : Fields) (cid : ℕ) → IsStray e m.p1 cid → m.command ≡ command_number command.Write → new ≡ replied (error_reply cid 410 m ∷ []) e → Does (Writes (known port s e) m) s h e m (effect.Quiet told.Quiet) s new
+pub write-stray : (port : ℕ) (s : Store) (h : Handle) (e new : ServerEnd) (m : Fields) (cid : ℕ) → IsStray e m.p1 cid → m.command ≡ command_number command.Write → new ≡ replied (error_reply cid 410 m ∷ []) e → Does (Writes (known port s e) m) s h e m (effect.Quiet (told.WriteRefused m.p1)) s new
 write-stray port s h e new m cid stray is done = record {
   replies = error_reply cid 410 m ∷ [];
   action = Nothing;
@@ -109,12 +109,12 @@ write-stray port s h e new m cid stray is done = record {
   records = refl;
   rules = refl;
   stamp = refl;
-  tells = quiet-told m (command_number command.Write) is refl;
+  tells = nothing-told m (command_number command.Write) is;
   fits = tt;
   leaves = done;
 }
 
-pub write-refused : (port : ℕ) (s : Store) (h : Handle) (e new : ServerEnd) (m : Fields) (seat : Seat) (i : IsServed s e m.p1 seat) (bits status : ℕ) → bits ≡ rights s.rules e.peer.user e.peer.host i.channel.name → m.command ≡ command_number command.Write → IsRefused i.r bits None m status → new ≡ replied (error_reply seat.cid status m ∷ []) e → Does (Writes (known port s e) m) s h e m (effect.Quiet told.Quiet) s new
+pub write-refused : (port : ℕ) (s : Store) (h : Handle) (e new : ServerEnd) (m : Fields) (seat : Seat) (i : IsServed s e m.p1 seat) (bits status : ℕ) → bits ≡ rights s.rules e.peer.user e.peer.host i.channel.name → m.command ≡ command_number command.Write → IsRefused i.r bits None m status → new ≡ replied (error_reply seat.cid status m ∷ []) e → Does (Writes (known port s e) m) s h e m (effect.Quiet (told.WriteRefused m.p1)) s new
 write-refused port s h e new m seat i bits status right is refused done = record {
   replies = error_reply i.channel.cid status m ∷ [];
   action = Nothing;
@@ -124,7 +124,7 @@ write-refused port s h e new m seat i bits status right is refused done = record
   records = refl;
   rules = refl;
   stamp = refl;
-  tells = quiet-told m (command_number command.Write) is refl;
+  tells = nothing-told m (command_number command.Write) is;
   fits = tt;
   leaves = done ∙ ap (λ (cid : ℕ). replied (error_reply cid status m ∷ []) e) (sym i.cid);
 }
@@ -147,7 +147,7 @@ write-applied port s t h e new m seat i bits false next right is taken becomes d
 
 -- ---- WRITE_NOTIFY
 
-pub put-stray : (port : ℕ) (s : Store) (h : Handle) (e new : ServerEnd) (m : Fields) (cid : ℕ) → IsStray e m.p1 cid → m.command ≡ command_number command.WriteNotify → new ≡ replied (status_reply m 410 ∷ []) e → Does (Puts (known port s e) m) s h e m (effect.Quiet told.Quiet) s new
+pub put-stray : (port : ℕ) (s : Store) (h : Handle) (e new : ServerEnd) (m : Fields) (cid : ℕ) → IsStray e m.p1 cid → m.command ≡ command_number command.WriteNotify → new ≡ replied (status_reply m 410 ∷ []) e → Does (Puts (known port s e) m) s h e m (effect.Quiet (told.WriteRefused m.p1)) s new
 put-stray port s h e new m cid stray is done = record {
   replies = status_reply m 410 ∷ [];
   action = Nothing;
@@ -157,12 +157,12 @@ put-stray port s h e new m cid stray is done = record {
   records = refl;
   rules = refl;
   stamp = refl;
-  tells = quiet-told m (command_number command.WriteNotify) is refl;
+  tells = nothing-told m (command_number command.WriteNotify) is;
   fits = tt;
   leaves = done;
 }
 
-pub put-refused : (port : ℕ) (s : Store) (h : Handle) (e new : ServerEnd) (m : Fields) (seat : Seat) (i : IsServed s e m.p1 seat) (bits status : ℕ) (p : Put) → bits ≡ rights s.rules e.peer.user e.peer.host i.channel.name → m.command ≡ command_number command.WriteNotify → IsRefused i.r bits (Some p) m status → new ≡ replied (status_reply m status ∷ []) e → Does (Puts (known port s e) m) s h e m (effect.Quiet told.Quiet) s new
+pub put-refused : (port : ℕ) (s : Store) (h : Handle) (e new : ServerEnd) (m : Fields) (seat : Seat) (i : IsServed s e m.p1 seat) (bits status : ℕ) (p : Put) → bits ≡ rights s.rules e.peer.user e.peer.host i.channel.name → m.command ≡ command_number command.WriteNotify → IsRefused i.r bits (Some p) m status → new ≡ replied (status_reply m status ∷ []) e → Does (Puts (known port s e) m) s h e m (effect.Quiet (told.WriteRefused m.p1)) s new
 put-refused port s h e new m seat i bits status p right is refused done = record {
   replies = status_reply m status ∷ [];
   action = Nothing;
@@ -172,7 +172,7 @@ put-refused port s h e new m seat i bits status p right is refused done = record
   records = refl;
   rules = refl;
   stamp = refl;
-  tells = quiet-told m (command_number command.WriteNotify) is refl;
+  tells = nothing-told m (command_number command.WriteNotify) is;
   fits = tt;
   leaves = done;
 }
@@ -243,7 +243,7 @@ put-applied port s t h e new m seat i bits false next right is taken becomes don
       leaves = done;
     }
 
-pub put-waits : (port : ℕ) (s t : Store) (h : Handle) (e new : ServerEnd) (m : Fields) (seat : Seat) (i : IsServed s e m.p1 seat) (bits : ℕ) (next : Record) → bits ≡ rights s.rules e.peer.user e.peer.host i.channel.name → m.command ≡ command_number command.WriteNotify → IsTaken s i.r bits (Some (put_in h seat m)) m begun.Waiting next → Becomes s seat.place i.r next t → new ≡ replied (late i.r.state.slow m) e → Does (Puts (known port s e) m) s h e m (effect.Quiet told.Queued) t new
+pub put-waits : (port : ℕ) (s t : Store) (h : Handle) (e new : ServerEnd) (m : Fields) (seat : Seat) (i : IsServed s e m.p1 seat) (bits : ℕ) (next : Record) → bits ≡ rights s.rules e.peer.user e.peer.host i.channel.name → m.command ≡ command_number command.WriteNotify → IsTaken s i.r bits (Some (put_in h seat m)) m begun.Waiting next → Becomes s seat.place i.r next t → new ≡ replied (late i.r.state.slow m) e → Does (Puts (known port s e) m) s h e m (effect.Quiet (told.Queued m.p1)) t new
 put-waits port s t h e new m seat i bits next right is taken becomes done =
     let k = taken.takes in
     let p : put_in h seat m ≡ k.0 = some_is (put_in h seat m) k.0 k.1 in

@@ -94,7 +94,7 @@ is_wrote _ = false
 abbrev pub effect_of : FollowUp → Effect
 effect_of (effect.Quiet did) = did
 effect_of (effect.Wrote place true sid) = told.Busied sid
-effect_of (effect.Wrote place false sid) = told.Wrote
+effect_of (effect.Wrote place false sid) = told.Wrote sid
 effect_of (effect.Began place sid sub) = told.Subscribed sid sub
 effect_of (effect.Opened place sid) = told.Created sid
 

@@ -1,4 +1,5 @@
--- Vocabulary: what is asked of a circuit before its next message is handled, and of its channels by their SIDs (section "Virtual Circuit").
+-- Vocabulary: what is asked of a circuit before its next message is handled, of its channels by their SIDs, and of its client (section "Virtual
+-- Circuit").
 use Rattle.std.specs.Prelude.{ℕ, ◌≡◌, ◌==◌, ◌||◌, Bool, false, List, [], ◌∷◌, Option, None, Some}
 use Rattle.ca_arena.specs.declared.handle.Handle.{Handle}
 use Rattle.ca_ids.specs.Table.{held}
@@ -7,6 +8,7 @@ use Rattle.ca_link.specs.Link.{TakesFirst}
 use Rattle.ca_text.specs.Command.{command_number}
 use Rattle.ca_text.specs.declared.command.Command.TheVariants as command
 use Rattle.ca_wire.specs.Fields.{Fields}
+use Rattle.ca_model.specs.Ends.{Peer}
 use Rattle.ca_model.specs.Server.{Ended, Open, OpenChannel, ServerCircuit, ServerEnd}
 use Rattle.ca_model.specs.Speech.{In}
 
@@ -21,6 +23,11 @@ NamesBy e sid None = (c : Handle × OpenChannel) → In (held e.channels) c → 
 abbrev pub NamesAt : ServerCircuit → (sid : ℕ) → Option (List ℕ) → Type 0
 NamesAt (Open e) sid name = NamesBy e sid name
 NamesAt (Ended w left) sid name = name ≡ None
+
+-- how the client of a circuit named itself, if its end is open
+abbrev pub peer_on : ServerCircuit → Option Peer
+peer_on (Open e) = Some e.peer
+peer_on (Ended w left) = None
 
 -- ---- whether the next message may write
 

@@ -9,7 +9,7 @@ ghost use Rattle.ca_server_circuit.specs.Clearing.{ArePuts};
 ghost use Rattle.ca_server_circuit.specs.Concerned.{ConcernsOn, bytes_on, channels_on};
 ghost use Rattle.ca_server_circuit.specs.Ending.{ArePutsAt, EndsAt, IsLeft, WithdrawsAll};
 ghost use Rattle.ca_server_circuit.specs.Finishing.{RepliesAt};
-ghost use Rattle.ca_server_circuit.specs.Peeking.{NamesAt, may_write_at};
+ghost use Rattle.ca_server_circuit.specs.Peeking.{NamesAt, may_write_at, peer_on};
 ghost use Rattle.ca_server_circuit.specs.Posting.{PostsAt, WatchesAt};
 ghost use Rattle.ca_server_circuit.specs.Pumping.{PumpsAt};
 ghost use Rattle.ca_server_circuit.specs.Removing.{LosesAt, MayLose};
@@ -339,6 +339,26 @@ impl Circuit {
     {
         match &self.state {
             State::Open(end) => end.served_name(sid),
+            State::Ended(_, _) => None,
+        }
+    }
+
+    /// The user's name that the client gave: empty if it gave none, and none if its end is not open.
+    pub fn user(&self) -> Option<&[u8]>
+        ensures { option_map (λ t. t.now) result ≡ option_map (λ p. p.user) (peer_on self.now) }
+    {
+        match &self.state {
+            State::Open(end) => Some(end.user.as_slice()),
+            State::Ended(_, _) => None,
+        }
+    }
+
+    /// The same of its host's.
+    pub fn host(&self) -> Option<&[u8]>
+        ensures { option_map (λ t. t.now) result ≡ option_map (λ p. p.host) (peer_on self.now) }
+    {
+        match &self.state {
+            State::Open(end) => Some(end.host.as_slice()),
             State::Ended(_, _) => None,
         }
     }

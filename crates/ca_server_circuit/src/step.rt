@@ -58,7 +58,7 @@ impl FollowUp {
         match self {
             FollowUp::Quiet(effect) => effect,
             FollowUp::Wrote(_, true, sid) => Effect::Busied(sid),
-            FollowUp::Wrote(_, false, _) => Effect::Wrote,
+            FollowUp::Wrote(_, false, sid) => Effect::Wrote(sid),
             FollowUp::Began(_, sid, sub) => Effect::Subscribed(sid, sub),
             FollowUp::Opened(_, sid) => Effect::Created(sid),
         }

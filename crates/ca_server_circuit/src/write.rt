@@ -45,7 +45,7 @@ impl End {
         match self.seek(records, wanted.sid) {
             Sought::Stray(cid) => {
                 self.refuse(cid, Status::BADCHID, head)?;
-                Ok(FollowUp::Quiet(Effect::Quiet))
+                Ok(FollowUp::Quiet(Effect::WriteRefused(head.header.p1)))
             }
             Sought::Served(seat) => self.write_on(seat, records, head),
         }
@@ -83,7 +83,7 @@ impl End {
             Begun::Waiting => unreachable!(),
             Begun::Refused(status) => {
                 self.refuse(seat.cid, status, head)?;
-                Ok(FollowUp::Quiet(Effect::Quiet))
+                Ok(FollowUp::Quiet(Effect::WriteRefused(head.header.p1)))
             }
         }
     }

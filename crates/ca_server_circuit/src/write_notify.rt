@@ -52,7 +52,7 @@ impl End {
         match self.seek(records, wanted.sid) {
             Sought::Stray(_) => {
                 self.refuse_put(&wanted, Status::BADCHID)?;
-                Ok(FollowUp::Quiet(Effect::Quiet))
+                Ok(FollowUp::Quiet(Effect::WriteRefused(head.header.p1)))
             }
             Sought::Served(seat) => self.put_on(seat, circuit, records, head),
         }
@@ -102,11 +102,11 @@ impl End {
         };
         match begun {
             Begun::Applied(busies) => { Ok(FollowUp::Wrote(place, busies, wanted.sid.number())) }
-            Begun::Waiting => Ok(FollowUp::Quiet(Effect::Queued)),
+            Begun::Waiting => Ok(FollowUp::Quiet(Effect::Queued(head.header.p1))),
             Begun::Refused(status) => {
                 self.link.truncate(waited);
                 self.refuse_put(&wanted, status)?;
-                Ok(FollowUp::Quiet(Effect::Quiet))
+                Ok(FollowUp::Quiet(Effect::WriteRefused(head.header.p1)))
             }
         }
     }

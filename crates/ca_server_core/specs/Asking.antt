@@ -3,9 +3,11 @@ use Rattle.std.specs.Prelude.{ℕ, ◌≡◌, Bool, true, false, List, [], ◌�
 use Rattle.ca_arena.specs.declared.handle.Handle.{Handle}
 use Rattle.ca_dbr.specs.Elements.{Elements}
 use Rattle.ca_records.specs.Puts.{Record, WaitingPut, record_named}
+use Rattle.ca_records.specs.Record.{RecordState}
+use Rattle.ca_model.specs.Ends.{Peer}
 use Rattle.ca_model.specs.Server.{Server, ServerCircuit, ServerEnd}
 use Rattle.ca_model.specs.ServerSteps.{HasEnd}
-use Rattle.ca_server_circuit.specs.Peeking.{FirstWritesNothing, NamesAt, may_write}
+use Rattle.ca_server_circuit.specs.Peeking.{FirstWritesNothing, NamesAt, may_write, peer_on}
 
 -- the circuit of the put that waits longest
 abbrev pub first_circuit : List WaitingPut → Option Handle
@@ -29,6 +31,20 @@ value_busy (Some r) = if is_some r.busy then Some r.state.value else None
 -- `busy_value`: the value of the record of this name, if a put makes it busy
 abbrev pub busy_value : Server → List ℕ → Option Elements
 busy_value y name = value_busy (record_named y.records name)
+
+-- a record as it is now, if there is one
+abbrev pub state_in : Option Record → Option RecordState
+state_in None = None
+state_in (Some r) = Some r.state
+
+-- `record`: the record of this name as it is now, with its value, the alarm of that and its stamp
+abbrev pub record_now : Server → List ℕ → Option RecordState
+record_now y name = state_in (record_named y.records name)
+
+-- `user`, `host`: how the client on the circuit under a handle named itself, if its end is open
+abbrev pub peer_under : Option ServerCircuit → Option Peer
+peer_under (Some c) = peer_on c
+peer_under None = None
 
 -- The SID stands for an open channel of this circuit whose record was not removed, which has this name; or for none.
 abbrev pub NamesUnder : Option ServerCircuit → (sid : ℕ) → Option (List ℕ) → Type 0

@@ -3,13 +3,13 @@ ghost use Rattle.ca_dbr.specs.Elements.{elements};
 ghost use Rattle.ca_ids.specs.Table.{under};
 ghost use Rattle.ca_records.specs.Store.{records_of};
 ghost use Rattle.ca_server_circuit.specs.Circuits.{is_open};
-ghost use Rattle.ca_server_core.specs.Asking.{busy_value, circuit_next, first_waiting, value_busy};
+ghost use Rattle.ca_server_core.specs.Asking.{busy_value, circuit_next, first_waiting, record_now, state_in, value_busy};
 ghost use Rattle.ca_records.specs.Puts.{record_named};
 
 use crate::server::ServerCore;
 use ca_arena::Handle;
 use ca_dbr::Value;
-use ca_records::ServedRecords;
+use ca_records::{Record, ServedRecords};
 use ca_records::for_histories::waiting_put;
 
 impl ServerCore {
@@ -26,6 +26,13 @@ impl ServerCore {
         ensures { option_map (λ v. elements v.now) result ≡ busy_value self.now name.now }
     {
         value_of_busy(&self.records, name)
+    }
+
+    /// The record of this name as it is now: its value, the alarm of that and its stamp, and what it may hold.
+    pub fn record(&self, name: &[u8]) -> Option<&Record>
+        ensures { option_map (λ r. r.now) result ≡ record_now self.now name.now }
+    {
+        record_among(&self.records, name)
     }
 
     /// Whether the end of a circuit is open.
@@ -66,4 +73,15 @@ fn value_of_busy<'a>(records: &'a ServedRecords, name: &[u8]) -> Option<&'a Valu
         return None;
     }
     Some(served.state().value())
+}
+
+/// The record of this name.
+fn record_among<'a>(records: &'a ServedRecords, name: &[u8]) -> Option<&'a Record>
+    ensures { option_map (λ r. r.now) result
+        ≡ state_in (record_named (records_of records.now) name.now) }
+{
+    let Some(place) = records.find(name) else {
+        return None;
+    };
+    Some(records.at(place).state())
 }

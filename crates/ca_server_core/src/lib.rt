@@ -16,6 +16,7 @@ mod following;
 pub mod for_histories;
 pub mod foretelling;
 mod next_write;
+mod peer;
 mod posting;
 mod pumping;
 mod removing;

@@ -79,5 +79,5 @@ returns-in_ok-refuse_put-in-Refused-clause-ok c port =
     let back = taken-back _ e _ _ c.truncate-in-Refused.new.self (c.self-2.view_is ∙ c.in_ok-acknowledge.ensures.ok) all c.truncate-in-Refused.ensures in
     let said = ap (λ (x : ServerEnd). replied (status_reply (on_channel command.WriteNotify c.named_by-wanted.result []) c.in-Refused.status.number ∷ []) x) back in
     let done = c.in_ok-refuse_put-in-Refused.ensures.ok ∙ said ∙ refused-put e m c.named_by-wanted.result c.in-Refused.status.number c.named_by-wanted.ensures c.requires.command in
-    with-store (Puts (known port s e) m) s c.begin.new.records c.args.circuit e _ m (effect.Quiet told.Quiet) w.3
+    with-store (Puts (known port s e) m) s c.begin.new.records c.args.circuit e _ m (effect.Quiet (told.WriteRefused m.p1)) w.3
     (put-refused port s c.args.circuit e _ m c.args.seat i bits c.in-Refused.status.number p right c.requires.command refused done)

@@ -43,5 +43,5 @@ returns-in_ok-refuse-in-Refused-clause-ok c port h =
     let w = asked-is s c.begin.new.records c.args.seat.place bits None (begun.Refused c.in-Refused.status) m c.named_by-wanted.result c.payload-payload.result.now c.named_by-wanted.ensures c.payload-payload.ensures (rw c.in-Refused.is at c.in_ok-begun.ensures.ok) in
     let one : w.0 ≡ i.r = one-record s c.args.seat.place w.0 i.r w.1 i.at in
     let refused = subst (λ (r : Record). IsRefused r bits None m c.in-Refused.status.number) one w.2 in
-    subst (λ (t : Store). Does (Writes (known port s e) m) s h e m (effect.Quiet told.Quiet) t c.refuse.new.self) (sym w.3)
+    subst (λ (t : Store). Does (Writes (known port s e) m) s h e m (effect.Quiet (told.WriteRefused m.p1)) t c.refuse.new.self) (sym w.3)
     (write-refused port s h e c.refuse.new.self m c.args.seat i bits c.in-Refused.status.number right c.requires.command refused c.in_ok-refuse-in-Refused.ensures.ok)
