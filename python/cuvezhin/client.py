@@ -387,6 +387,8 @@ class Client:
         feed = channel.feed
         if feed:
             if feed.subscription is not None:
+                # The library would make it again by itself, of the type that the channel had.
+                self._core.call_unsubscribe(self._core.at, feed.subscription)
                 self._feeds.pop(feed.subscription, None)
                 feed.subscription = None
             if not feed.follow:
