@@ -22,7 +22,7 @@ from importlib.machinery import SourceFileLoader
 from importlib.util import module_from_spec, spec_from_loader
 
 TOP = os.path.dirname(os.path.dirname(os.path.realpath(__file__)))
-BENCHMARKS = ["answer", "conduct", "replay", "serve", "client_threads", "client", "server", "calls", "parts", "board"]
+BENCHMARKS = ["answer", "conduct", "replay", "serve", "client_threads", "client", "server", "calls", "parts", "board", "python"]
 ROUNDS = 11
 
 # A time is a tuple, a function and its arguments, which gives seconds; a count is one which gives instructions a message.

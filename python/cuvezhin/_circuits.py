@@ -96,6 +96,8 @@ class Circuit(asyncio.BufferedProtocol):
         while not self.is_paused and (data := self.core.output(self.handle)):
             transport.write(data)
             is_sent = True
+            if len(data) < lib.ROOM:
+                break
         if not self.is_paused:
             wake(self.room)
         return is_sent

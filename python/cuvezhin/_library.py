@@ -15,6 +15,8 @@ QUIET, WROTE, BUSIED, QUEUED, REFUSED, CREATED, CLEARED, SUBSCRIBED, CANCELLED, 
 NOTICE_LIVE, NOTICE_LOST, NOTICE_COMPLETED, NOTICE_UPDATE, NOTICE_ENDED, NOTICE_WRITE_REFUSED = range(1, 7)
 VALUE, DONE, FAILED, UNREADABLE, LOST = range(5)
 TIME = 14
+# Bytes that an object hands over at once, or more after a larger value.
+ROOM = 1 << 16
 
 
 class Object(ctypes.Structure):
@@ -151,7 +153,7 @@ class End:
 
     def __init__(self, calls: dict[str, tuple[Any, ...]], end: str) -> None:
         self.at = Object()
-        self._set_room(1 << 16)
+        self._set_room(ROOM)
         self.number, self.size, self.many = c_uint64(), c_size_t(), c_uint32()
         for name in calls:
             setattr(self, f"call_{name}", getattr(library, f"cvz_{end}_{name}"))
