@@ -36,8 +36,48 @@
     } \
 } while (0)
 
+/* The record's value is this, in that type and of so many elements, also in part; or the call is refused so, and writes nothing. */
+#define VALUE(name, type, wanted, elements, image) do { \
+    size_t size = 4095, all; \
+    uint32_t count = 4095; \
+    memset(room, 9, sizeof room); \
+    IS(cvz_server_value(&server, T(name), type, &count, room, sizeof room, &size), wanted); \
+    if ((wanted) == 0) { \
+        IS(count, elements); \
+        bytes_are(__LINE__, room, size, image); \
+        memset(room, 9, sizeof room); \
+        IS(cvz_server_value(&server, T(name), type, &count, room, 3, &all), 0); \
+        IS(all == size && room[2] != 9 && room[3] == 9, 1); \
+    } else { \
+        IS(room[0] == 9 && size == 4095 && count == 4095, 1); \
+    } \
+} while (0)
+
+/* The put that waits longest for the record is of this circuit; or none waits, if it is 7, and nothing is written. */
+#define FIRST(name, wanted) do { \
+    uint64_t first = 7; \
+    IS(cvz_server_first(&server, T(name), &first), (wanted) != 7); \
+    IS(first, wanted); \
+} while (0)
+
+/* What the client on the circuit called itself, also in part; or it gave nothing. */
+#define CALLED(circuit, name, host) do { \
+    called(__LINE__, cvz_server_user, circuit, T(name)); \
+    called(__LINE__, cvz_server_host, circuit, T(host)); \
+} while (0)
+
 static cvz_server server;
 static uint8_t room[4096];
+
+static void called(int line, size_t (*of)(cvz_server *, uint64_t, uint8_t *, size_t), uint64_t circuit, const uint8_t *name, size_t size)
+{
+    memset(room, 9, sizeof room);
+    is(line, "the length of the name", (int64_t)of(&server, circuit, room, sizeof room), (int64_t)size);
+    is(line, "the name is as it was given", memcmp(room, name, size) == 0 && room[size] == 9, 1);
+    memset(room, 9, sizeof room);
+    is(line, "the length of the name, in part", (int64_t)of(&server, circuit, room, 1), (int64_t)size);
+    is(line, "the name is cut", (size == 0 || room[0] == name[0]) && room[1] == 9, 1);
+}
 
 static void give(uint64_t circuit, const char *text)
 {
@@ -51,6 +91,7 @@ static void nothing_is_there(void)
     cvz_step did = {7, 7, 7, 7};
     uint64_t circuit = 7;
     size_t size = 7;
+    uint32_t count = 7;
     uint8_t image[4] = {0};
     IS(cvz_server_accept(&server, &circuit), CVZ_NO_OBJECT);
     IS(circuit, 7);
@@ -74,7 +115,12 @@ static void nothing_is_there(void)
     IS(cvz_server_waiting(&server), 0);
     IS(cvz_server_name(&server, 65536, 65536, room, sizeof room), 0);
     IS(cvz_server_busy(&server, T("TEMP"), room, sizeof room, &size), CVZ_NO_OBJECT);
-    IS(size, 7);
+    IS(cvz_server_value(&server, T("TEMP"), CVZ_LONG, &count, room, sizeof room, &size), CVZ_NO_OBJECT);
+    IS(size == 7 && count == 7, 1);
+    IS(cvz_server_first(&server, T("TEMP"), &circuit), CVZ_NO_OBJECT);
+    IS(circuit, 7);
+    IS(cvz_server_user(&server, 65536, room, sizeof room), 0);
+    IS(cvz_server_host(&server, 65536, room, sizeof room), 0);
 }
 
 static void records(void)
@@ -93,6 +139,14 @@ static void records(void)
     IS(cvz_server_finish(&server, T("SLOW")), CVZ_NOT_BUSY);
     BUSY("NONE", CVZ_NOT_BUSY, "");
     BUSY("SLOW", CVZ_NOT_BUSY, "");
+    FIRST("NONE", 7);
+    FIRST("SLOW", 7);
+    VALUE("TEMP", CVZ_LONG, 0, 1, "00000015");
+    VALUE("TEMP", CVZ_STS + CVZ_LONG, 0, 1, "00000000 00000015");
+    VALUE("TEMP", CVZ_TIME + CVZ_LONG, 0, 1, "00000000 00000000 00000000 00000015");
+    VALUE("TEMP", CVZ_DOUBLE, CVZ_BAD_TYPE, 0, "");
+    VALUE("TEMP", 21, CVZ_BAD_TYPE, 0, "");
+    VALUE("NONE", 21, CVZ_UNKNOWN_RECORD, 0, "");
     IS(cvz_server_remove(&server, T("NONE")), CVZ_UNKNOWN_RECORD);
 }
 
@@ -118,7 +172,7 @@ static void reads(uint64_t circuit)
 /* EVENT_ADD, a post, WRITE_NOTIFY of 22 to TEMP, which is quick, and of 23 to SLOW. */
 static void writes(uint64_t circuit)
 {
-    const uint8_t image[16] = {0, 0, 0, 0, 0, 0, 0, 5, 0, 0, 0, 6, 0, 0, 0, 30};
+    const uint8_t image[16] = {0, 3, 0, 2, 0, 0, 0, 5, 0, 0, 0, 6, 0, 0, 0, 30};
     give(circuit, "00010010 00050001 00010000 00000009 00000000 00000000 00000000 00010000");
     STEP(circuit, CVZ_SUBSCRIBED, 65536, 9);
     IS(cvz_server_pump(&server, circuit), 0);
@@ -130,9 +184,12 @@ static void writes(uint64_t circuit)
     OUTPUT(circuit, "");
     IS(cvz_server_pump(&server, circuit), 0);
     OUTPUT(circuit, "00010008 00050001 00000001 00000009 0000001e 00000000");
-    IS(cvz_server_stamp(&server, 5, 6), 0);
+    VALUE("TEMP", CVZ_TIME + CVZ_LONG, 0, 1, "00030002 00000005 00000006 0000001e");
+    VALUE("TEMP", CVZ_STS + CVZ_LONG, 0, 1, "00030002 0000001e");
+    IS(cvz_server_stamp(&server, 7, 8), 0);
     give(circuit, "00130008 00050001 00010000 00000007 00000016 00000000");
-    STEP(circuit, CVZ_WROTE, 0, 0);
+    STEP(circuit, CVZ_WROTE, 65536, 0);
+    VALUE("TEMP", CVZ_TIME + CVZ_LONG, 0, 1, "00000000 00000007 00000008 00000016");
     IS(cvz_server_pump(&server, circuit), 0);
     OUTPUT(circuit, "00130000 00050001 00000001 00000007  00010008 00050001 00000001 00000009 00000016 00000000");
     IS(cvz_server_applied(&server), 1);
@@ -142,7 +199,9 @@ static void writes(uint64_t circuit)
     BUSY("SLOW", 0, "00000017");
     OUTPUT(circuit, "00160000 00000000 00010001 00000003  00120000 00050001 00010001 00010001");
     give(circuit, "00130008 00050001 00010001 0000000a 00000018 00000000");
-    STEP(circuit, CVZ_QUEUED, 0, 0);
+    STEP(circuit, CVZ_QUEUED, 65537, 0);
+    FIRST("SLOW", circuit);
+    FIRST("TEMP", 7);
     IS(cvz_server_waiting(&server), 1);
     IS(cvz_server_applied(&server), 2);
     BUSY("SLOW", 0, "00000017");
@@ -150,10 +209,50 @@ static void writes(uint64_t circuit)
     OUTPUT(circuit, "00130000 00050001 00000001 00000008");
     IS(cvz_server_applied(&server), 3);
     BUSY("SLOW", 0, "00000018");
+    FIRST("SLOW", 7);
     IS(cvz_server_finish(&server, T("SLOW")), 0);
     BUSY("SLOW", CVZ_NOT_BUSY, "");
     IS(cvz_server_finish(&server, T("SLOW")), CVZ_NOT_BUSY);
     OUTPUT(circuit, "00130000 00050001 00000001 0000000a");
+}
+
+/* A put makes SLOW busy; one of another circuit waits, and then one of the first. */
+static void waits(uint64_t circuit)
+{
+    uint64_t other;
+    IS(cvz_server_accept(&server, &other), 0);
+    give(other, "00120008 00000000 00000001 0000000d 534c4f57 00000000");
+    STEP(other, CVZ_CREATED, 65536, 0);
+    give(circuit, "00130008 00050001 00010001 00000001 00000001 00000000");
+    STEP(circuit, CVZ_BUSIED, 65537, 0);
+    FIRST("SLOW", 7);
+    give(other, "00130008 00050001 00010000 00000002 00000002 00000000");
+    STEP(other, CVZ_QUEUED, 65536, 0);
+    give(circuit, "00130008 00050001 00010001 00000003 00000003 00000000");
+    STEP(circuit, CVZ_QUEUED, 65537, 0);
+    FIRST("SLOW", other);
+    IS(cvz_server_finish(&server, T("SLOW")), 0);
+    FIRST("SLOW", circuit);
+    IS(cvz_server_finish(&server, T("SLOW")), 0);
+    FIRST("SLOW", 7);
+    IS(cvz_server_finish(&server, T("SLOW")), 0);
+    OUTPUT(circuit, "00130000 00050001 00000001 00000001  00130000 00050001 00000001 00000003");
+    OUTPUT(other, "00160000 00000000 00000001 00000003  00120000 00050001 00000001 00010000  00130000 00050001 00000001 00000002");
+}
+
+/* A WRITE under a SID that no channel has, one of no element, and a WRITE_NOTIFY of a type that no put has. */
+static void refuses(uint64_t circuit)
+{
+    give(circuit, "00040008 00050001 00050000 00000001 00000005 00000000  00040008 00050000 00010000 00000002 00000005 00000000");
+    give(circuit, "00130008 00070001 00010001 00000003 00000005 00000000");
+    STEP(circuit, CVZ_WRITE_REFUSED, 327680, 0);
+    STEP(circuit, CVZ_WRITE_REFUSED, 65536, 0);
+    STEP(circuit, CVZ_WRITE_REFUSED, 65537, 0);
+    OUTPUT(circuit, "000b0018 00000000 ffffffff 0000019a 00040008 00050001 00050000 00000001 00000000 00000000"
+                    "  000b0018 00000000 00010000 000000b0 00040008 00050000 00010000 00000002 00000000 00000000"
+                    "  00130000 00070001 00000072 00000003");
+    IS(cvz_server_applied(&server), 6);
+    VALUE("TEMP", CVZ_LONG, 0, 1, "00000016");
 }
 
 /* On a circuit of its own: CREATE_CHAN of TEMP, and of a record that is not served, EVENT_ADD, EVENTS_OFF, EVENTS_ON, EVENT_CANCEL and CLEAR_CHANNEL. */
@@ -212,6 +311,9 @@ static void ends(uint64_t circuit)
     IS(did.cause, CVZ_CAUSE_CUT);
     IS(cvz_server_give(&server, circuit, &byte, 1), CVZ_CIRCUIT_CLOSED);
     IS(cvz_server_output(&server, circuit, room, sizeof room), 0);
+    CALLED(circuit, "", "");
+    CALLED(UINT64_MAX, "", "");
+    VALUE("TEMP", CVZ_LONG, CVZ_UNKNOWN_RECORD, 0, "");
     IS(cvz_server_sent(&server, circuit, 1), CVZ_OUT_OF_RANGE);
     IS(cvz_server_accept(&server, &next), 0);
     IS(next != circuit && next != other, 1);
@@ -239,10 +341,22 @@ static void loads(void)
     STEP(circuit, CVZ_QUIET, 0, 0);
     STEP(circuit, CVZ_BUSIED, 65536, 0);
     BUSY("SETP", 0, "00050006");
+    VALUE("SETP", CVZ_INT, 0, 2, "00050006");
+    VALUE("SETP", CVZ_TIME + CVZ_INT, 0, 2, "00000000 00000000 00000000 0000 00050006");
+    CALLED(circuit, "me", "here");
     OUTPUT(circuit, "00160000 00000000 00000001 00000002  00120000 00010002 00000001 00010000"
                     "  00160000 00000000 00000002 00000000  00120000 00050001 00000002 00010001"
                     "  000f0000 00010002 00000170 00000001");
+    give(circuit, "00140008 00000000 00000000 00000000 796f7500 00000000");
+    STEP(circuit, CVZ_QUIET, 0, 0);
+    CALLED(circuit, "me", "here");
+    IS(cvz_server_cut(&server, circuit), 0);
+    CALLED(circuit, "", "");
     IS(cvz_server_accept(&server, &circuit), 0);
+    CALLED(circuit, "", "");
+    give(circuit, "00150008 00000000 00000000 00000000 68616c6c 00000000");
+    STEP(circuit, CVZ_QUIET, 0, 0);
+    CALLED(circuit, "", "hall");
     give(circuit, "00120008 00000000 00000001 0000000d 53455450 00000000  00120008 00000000 00000002 0000000d 4c415445 00000000");
     STEP(circuit, CVZ_CREATED, 65536, 0);
     STEP(circuit, CVZ_CREATED, 65537, 0);
@@ -268,6 +382,8 @@ int main(int argc, char **argv)
     IS(cvz_server_accept(&server, &circuit), 0);
     reads(circuit);
     writes(circuit);
+    waits(circuit);
+    refuses(circuit);
     effects();
     datagrams();
     ends(circuit);

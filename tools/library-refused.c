@@ -85,8 +85,9 @@ static int run(cvz_server *server)
     static uint8_t room[65536];
     const uint8_t image[8] = {0, 0, 0, 21};
     uint64_t circuit;
-    int answers[12] = {0}, refused = 0;
-    size_t size;
+    int answers[13] = {0}, refused = 0;
+    size_t size = 7;
+    uint32_t count = 7;
     answers[0] = cvz_server_load(server, 5064, 0, T("record SLOW LONG 1 slow 5\nrule me * SLOW rw\n"));
     if (answers[0] == 0) {
         answers[1] = cvz_server_add(server, T("TEMP"), 4, false, CVZ_LONG, 1, image, 4);
@@ -107,10 +108,16 @@ static int run(cvz_server *server)
             answers[11] = cvz_server_busy(server, T("SLOW"), room, sizeof room, &size);
             if (answers[11] == CVZ_NOT_BUSY && refused_any(answers))
                 answers[11] = 0;
+            size = 7;
+            answers[12] = cvz_server_value(server, T("TEMP"), CVZ_TIME + CVZ_LONG, &count, room, sizeof room, &size);
+            if (answers[12] == CVZ_OUT_OF_MEMORY ? count != 7 || size != 7 : size != 12 + 4 * count)
+                answers[12] = 2;
+            if (cvz_server_first(server, T("SLOW"), &circuit) != 0 || cvz_server_user(server, circuit, room, sizeof room) != 0)
+                answers[12] = 3;       /* neither asks for memory */
         }
         answers[9] = cvz_server_remove(server, T("TEMP"));
     }
-    for (int i = 0; i < 12; i++) {
+    for (int i = 0; i < 13; i++) {
         if (answers[i] != 0 && answers[i] != 1 && answers[i] != CVZ_OUT_OF_MEMORY)
             return printf("answer %d is %d\n", i, answers[i]), -1;
         refused += answers[i] != 0;

@@ -321,7 +321,7 @@ class Server:
             else:
                 quoted = header(m.command, m.size, m.data_type, m.count, m.p1, m.p2)
                 e.out += spelled(ERROR, 0, 0, channel.cid if channel else 0xFFFFFFFF, status, quoted + bytes(8))
-            return None
+            return f"write refused {m.p1}" if m.command in (WRITE, WRITE_NOTIFY) else None
 
     def check_read(self, e, r, m):
         if m.data_type > 20:
@@ -360,18 +360,18 @@ class Server:
             raise Refused(NOCONVERT if why.args[0] == 6 else PUTFAIL)
         if m.command == WRITE:
             self.written(r, elements)
-            return "wrote"
+            return f"wrote {m.p1}"
         p = Thing(circuit=h, channel=c, data_type=m.data_type, count=m.count, ioid=m.p2, elements=elements)
         if r.busy:
             if len(r.waiting) == 16:
                 raise Refused(PUTFAIL)
             r.waiting.append(p)
-            return "queued"
+            return f"queued {m.p1}"
         r.busy = p if r.slow else None
         if not r.slow:
             e.out += spelled(WRITE_NOTIFY, m.data_type, m.count, NORMAL, m.p2)
         self.written(r, elements)
-        return f"busied {m.p1}" if r.slow else "wrote"
+        return f"busied {m.p1}" if r.slow else f"wrote {m.p1}"
 
     def subscribe(self, h, e, c, r, m):
         self.check_read(e, r, m)

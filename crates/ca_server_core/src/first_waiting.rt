@@ -9,8 +9,8 @@ ghost use Rattle.ca_records.specs.Puts.{record_named};
 use crate::server::ServerCore;
 use ca_arena::Handle;
 use ca_dbr::Value;
-use ca_records::{Record, ServedRecords};
 use ca_records::for_histories::waiting_put;
+use ca_records::{Record, ServedRecords};
 
 impl ServerCore {
     /// The circuit of the put that waits longest for the record of this name: none if no put waits for it, or no record has the name. It is
