@@ -5,11 +5,11 @@ standard library alone. docs/PYTHON.md begins with ten lines of each."""
 from .client import Client, Info
 from .errors import Error, LibraryMissing, Lost, Refused, ServerRefused, TimedOut, Unreadable
 from .monitor import Monitor
-from .record import Put, Record
+from .record import Put, Record, RefusedPut
 from .server import Server
 from .values import Mask, Reading, Type, Value
 
 __all__ = [
-    "Client", "Error", "Info", "LibraryMissing", "Lost", "Mask", "Monitor", "Put", "Reading", "Record", "Refused", "Server", "ServerRefused", "TimedOut",
-    "Type", "Unreadable", "Value",
+    "Client", "Error", "Info", "LibraryMissing", "Lost", "Mask", "Monitor", "Put", "Reading", "Record", "Refused", "RefusedPut", "Server", "ServerRefused",
+    "TimedOut", "Type", "Unreadable", "Value",
 ]

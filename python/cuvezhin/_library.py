@@ -7,13 +7,16 @@ from typing import Any
 from .errors import LibraryMissing, Refused
 
 NAME = "libcuvezhin.so.1"
-MAJOR = 1
+# The interface that the package needs: one with this first number, and at least this second one.
+MAJOR, MINOR = 1, 2
 
 NEEDS_BYTES, HANDLED, OUTPUT_FULL, CLOSED = range(4)
-QUIET, WROTE, BUSIED, QUEUED, REFUSED, CREATED, CLEARED, SUBSCRIBED, CANCELLED, EVENTS_OFF, EVENTS_ON = range(11)
+QUIET, WROTE, BUSIED, QUEUED, REFUSED, CREATED, CLEARED, SUBSCRIBED, CANCELLED, EVENTS_OFF, EVENTS_ON, WRITE_REFUSED = range(12)
 NOTICE_LIVE, NOTICE_LOST, NOTICE_COMPLETED, NOTICE_UPDATE, NOTICE_ENDED, NOTICE_WRITE_REFUSED = range(1, 7)
 VALUE, DONE, FAILED, UNREADABLE, LOST = range(5)
 TIME = 14
+# Bytes that an object hands over at once, or more after a larger value.
+ROOM = 1 << 16
 
 
 class Object(ctypes.Structure):
@@ -46,13 +49,15 @@ BYTES = (c_char_p, c_size_t)
 IMAGE = (c_uint16, c_uint32, *BYTES)
 
 SERVER: dict[str, tuple[Any, ...]] = {
-    "new": (c_int32, c_uint16, c_uint64),
+    "load": (c_int32, c_uint16, c_uint64, *BYTES),
     "free": (None,),
     "add": (c_int32, *BYTES, c_uint32, c_bool, *IMAGE),
     "remove": (c_int32, *BYTES),
     "post": (c_int32, *BYTES, c_uint16, *IMAGE),
     "stamp": (c_int32, c_uint32, c_uint32),
+    "first": (c_int32, *BYTES, POINTER(c_uint64)),
     "finish": (c_int32, *BYTES),
+    "value": (c_int32, *BYTES, c_uint16, POINTER(c_uint32), *BYTES, POINTER(c_size_t)),
     "accept": (c_int32, POINTER(c_uint64)),
     "give": (c_int32, c_uint64, *BYTES),
     "step": (c_int32, c_uint64, POINTER(Step)),
@@ -61,6 +66,8 @@ SERVER: dict[str, tuple[Any, ...]] = {
     "sent": (c_int32, c_uint64, c_size_t),
     "left": (c_size_t, *BYTES),
     "name": (c_size_t, c_uint64, c_uint32, *BYTES),
+    "user": (c_size_t, c_uint64, *BYTES),
+    "host": (c_size_t, c_uint64, *BYTES),
     "cut": (c_int32, c_uint64),
     "datagram": (c_int32, *BYTES),
     "answer": (c_size_t, *BYTES),
@@ -68,9 +75,6 @@ SERVER: dict[str, tuple[Any, ...]] = {
     "applied": (c_uint64,),
     "waiting": (c_uint64,),
 }
-
-# Calls that came later than the others: a library may lack them.
-LATER: dict[str, tuple[Any, ...]] = {"load": (c_int32, c_uint16, c_uint64, *BYTES)}
 
 CLIENT: dict[str, tuple[Any, ...]] = {
     "new": (c_int32, *BYTES, *BYTES, POINTER(Address), c_size_t, POINTER(Address), c_size_t, c_uint64),
@@ -126,21 +130,22 @@ def load() -> ctypes.PyDLL:
         raise LibraryMissing(f"{error}; build it by tools/build lib, or name it in CUVEZHIN_LIBRARY") from error
     library.cvz_version.restype = c_uint32
     library.cvz_version.argtypes = []
-    if library.cvz_version() >> 16 != MAJOR:
-        raise LibraryMissing(f"{path} has interface {library.cvz_version() >> 16}, and this package needs {MAJOR}")
+    major, minor = divmod(library.cvz_version(), 1 << 16)
+    if major != MAJOR or minor < MINOR:
+        raise LibraryMissing(f"{path} has interface {major}.{minor}, and this package needs {MAJOR}.{MINOR}")
     for end, calls in (("server", SERVER), ("client", CLIENT)):
         for name, (result, *arguments) in calls.items():
             call = getattr(library, f"cvz_{end}_{name}")
             call.restype, call.argtypes = result, [POINTER(Object), *arguments]
-    for name, (result, *arguments) in LATER.items():
-        if hasattr(library, f"cvz_server_{name}"):
-            call = getattr(library, f"cvz_server_{name}")
-            call.restype, call.argtypes = result, [POINTER(Object), *arguments]
-            SERVER[name] = (result, *arguments)
     return library
 
 
 library = load()
+
+
+def room(size: int) -> Any:
+    """Room for so many bytes, into which the library and sockets write."""
+    return ctypes.create_string_buffer(size)
 
 
 class End:
@@ -148,18 +153,25 @@ class End:
 
     def __init__(self, calls: dict[str, tuple[Any, ...]], end: str) -> None:
         self.at = Object()
-        self.room = ctypes.create_string_buffer(1 << 16)
-        self.number, self.size = c_uint64(), c_size_t()
+        self._set_room(ROOM)
+        self.number, self.size, self.many = c_uint64(), c_size_t(), c_uint32()
         for name in calls:
             setattr(self, f"call_{name}", getattr(library, f"cvz_{end}_{name}"))
 
     def __getattr__(self, name: str) -> Any:
         raise AttributeError(name)
 
+    def _set_room(self, size: int) -> None:
+        self.room = room(size)
+        self.view = memoryview(self.room)
+
     def taken(self, call: Any, *given: Any) -> bytes:
         """What a call writes into the room that it gets last."""
-        size = call(self.at, *given, self.room, len(self.room))
-        return ctypes.string_at(self.room, size)
+        return self.view[:call(self.at, *given, self.room, len(self.room))].tobytes()
+
+    def text(self, call: Any, *given: Any) -> str:
+        """The same, as a text."""
+        return self.taken(call, *given).decode("utf-8", "surrogateescape")
 
     def handle(self, of: str, call: Any, *given: Any) -> int:
         """The handle that a call writes."""
@@ -168,23 +180,22 @@ class End:
 
     def output(self, circuit: int) -> bytes:
         """The next bytes to be sent on a circuit, which count as sent from now on; none if nothing waits."""
-        size = self.call_output(self.at, circuit, self.room, len(self.room))
-        if not size:
-            return b""
-        self.call_sent(self.at, circuit, size)
-        return ctypes.string_at(self.room, size)
+        found = self.taken(self.call_output, circuit)
+        if found:
+            self.call_sent(self.at, circuit, len(found))
+        return found
 
     def left(self) -> bytes:
         """All that is left of the circuit that was closed last."""
         return b"".join(iter(lambda: self.taken(self.call_left), b""))
 
-    def image(self, kind: int) -> bytes:
-        """The image of the value that the last notice brought, of a type from 0 to 6, with its alarm and time stamp."""
-        checked(self.call_value(self.at, TIME + kind, self.room, len(self.room), self.size))
+    def image(self, *given: Any) -> memoryview:
+        """The image of a value: that of the last notice, or a record's, of this type. It is there until the next call."""
+        checked(self.call_value(self.at, *given, self.room, len(self.room), self.size))
         if self.size.value > len(self.room):
-            self.room = ctypes.create_string_buffer(self.size.value)
-            checked(self.call_value(self.at, TIME + kind, self.room, len(self.room), self.size))
-        return ctypes.string_at(self.room, self.size.value)
+            self._set_room(self.size.value)
+            checked(self.call_value(self.at, *given, self.room, len(self.room), self.size))
+        return self.view
 
     def free(self) -> None:
         self.call_free(self.at)

@@ -1,30 +1,24 @@
-"""A client on asyncio: sockets and timers round the library's client. Everything here runs in the loop's thread."""
+"""A client on asyncio: its calls, its channels and what the library reports of them. Everything here runs in the loop's thread."""
 import asyncio
-import contextlib
 import logging
 import os
 import socket
-from collections.abc import Callable, Iterable, Sequence
+from collections.abc import Awaitable, Callable, Iterable, Sequence
 from types import TracebackType
 from typing import Any, NamedTuple, Optional, Union
 
 from . import _library as lib
 from . import addresses
-from ._spread import Spread
+from ._channels import Channel, Spread
+from ._circuits import Circuit, Circuits, wake
+from ._searches import Searches
 from .errors import Error, Lost, Refused, ServerRefused, TimedOut, Unreadable
 from .monitor import Feed, Monitor
 from .values import Mask, Reading, Type, Value, elements, reading
 
 log = logging.getLogger("cuvezhin")
 
-OUTPUT_IS_FULL = 26
-# Milliseconds: between the first two searches of a channel, between later ones at most, until an ECHO, and until a silent circuit ends.
-FIRST_WAIT, LONGEST_WAIT, ECHO, SILENCE = 32, 300_000, 30_000, 35_000
-# Seconds. A timer that fires later than this finds a process that stood still, and what it slept is no silence of a server.
-LATE = 1.0
-CONNECT, REST = 5.0, 1.0
-# A socket is read by at most so many bytes at once.
-READ = 256 * 1024
+OUTPUT_IS_FULL = -26
 
 
 class Info(NamedTuple):
@@ -42,69 +36,8 @@ class _Default:
 
 _DEFAULT = _Default()
 Timeout = Union[float, None, _Default]
-
-
-class _Channel:
-    """A channel of the library, and those that wait for it."""
-    __slots__ = ("name", "handle", "priority", "circuit", "is_live", "type", "greatest", "rights", "waiters", "feed")
-
-    def __init__(self, name: str, handle: int, priority: int) -> None:
-        self.name, self.handle, self.priority = name, handle, priority
-        self.circuit: Optional[_Circuit] = None
-        self.is_live = False
-        self.type, self.greatest, self.rights = Type.STRING, 0, 0
-        self.waiters: list[asyncio.Future[None]] = []
-        self.feed: Optional[Feed] = None
-
-    def leave(self) -> None:
-        """It is over: those that wait for it are told."""
-        for waiter in self.waiters:
-            if not waiter.done():
-                waiter.set_exception(Lost(self.name))
-        if self.feed:
-            self.feed.fail(Lost(self.name))
-
-
-class _Circuit(asyncio.Protocol):
-    """A circuit and its socket."""
-
-    def __init__(self, client: "Client", handle: int) -> None:
-        self.client, self.handle = client, handle
-        self.transport: Optional[asyncio.Transport] = None
-        self.task: Optional[asyncio.Task[None]] = None
-        self.is_paused = self.is_flushing = self.is_over = self.is_echoed = False
-        self.heard = 0
-        self.room: list[asyncio.Future[None]] = []
-
-    def connection_made(self, transport: asyncio.BaseTransport) -> None:
-        assert isinstance(transport, asyncio.Transport)
-        self.transport = transport
-        self.client._connected(self)
-
-    def data_received(self, data: bytes) -> None:
-        if not self.is_over:
-            self.client._came(self, data)
-
-    def pause_writing(self) -> None:
-        self.is_paused = True
-
-    def resume_writing(self) -> None:
-        self.is_paused = False
-        self.client._flush(self)
-
-    def connection_lost(self, exc: Optional[Exception]) -> None:
-        self.client._lost(self)
-
-
-class _Datagrams(asyncio.DatagramProtocol):
-    def __init__(self, client: "Client") -> None:
-        self.client = client
-
-    def datagram_received(self, data: bytes, addr: Any) -> None:
-        self.client._datagram(data, addr)
-
-    def error_received(self, exc: Exception) -> None:
-        """A search that reached nobody is made again."""
+# When a call has to be done, by the loop's clock, and how many seconds it had; None if it has any time.
+Limit = Optional[tuple[float, float]]
 
 
 class Client:
@@ -135,40 +68,28 @@ class Client:
         self._asks_repeater = repeater
         self._write_refused = write_refused
         self._is_open = False
-        self._names: dict[str, list[_Channel]] = {}
-        self._channels: dict[int, _Channel] = {}
-        self._circuits: dict[int, _Circuit] = {}
-        self._requests: dict[int, tuple[asyncio.Future[Optional[Reading]], _Channel]] = {}
+        self._names: dict[str, list[Channel]] = {}
+        self._channels: dict[int, Channel] = {}
+        # How many channels are searched for, or not live yet.
+        self._unsettled = 0
+        self._requests: dict[int, tuple[asyncio.Future[Optional[Reading]], Channel]] = {}
         self._feeds: dict[int, Feed] = {}
         self._spread = Spread()
-        self._rests: dict[int, float] = {}
 
     # ---- its life
 
     async def __aenter__(self) -> "Client":
         loop = self._loop = asyncio.get_running_loop()
         servers, names = await loop.run_in_executor(None, self._found)
-        self._core = lib.End(lib.CLIENT, "client")
-        self._notice, self._cause = lib.Notice(), lib.c_uint32()
-        self._wanted, self._from, self._state = lib.Wanted(), lib.Address(), lib.ChannelState()
-        self._began, self._missed, self._due = loop.time(), 0.0, float("inf")
-        # The moment of the last tick. The library counts bytes that come as heard then.
-        self._moment = 0
-        self._wait = FIRST_WAIT
-        self._timer: Optional[asyncio.TimerHandle] = None
-        # How many channels are searched for, or not live yet.
-        self._unsettled = 0
+        core = self._core = lib.End(lib.CLIENT, "client")
+        self._notice, self._cause, self._state = lib.Notice(), lib.c_uint32(), lib.ChannelState()
+        self._circuits, self._searches = Circuits(self), Searches(self, self._asks_repeater)
         user, host = self._user.encode(), self._host.encode()
-        lib.checked(self._core.call_new(self._core.at, user, len(user), host, len(host), _addresses(servers), len(servers), _addresses(names), len(names), 0))
-        self._datagrams: Optional[asyncio.DatagramTransport] = None
+        lib.checked(core.call_new(core.at, user, len(user), host, len(host), _addresses(servers), len(servers), _addresses(names), len(names), 0))
         if servers:
-            self._socket = socket.socket(socket.AF_INET, socket.SOCK_DGRAM)
-            self._socket.setsockopt(socket.SOL_SOCKET, socket.SO_BROADCAST, 1)
-            self._socket.setblocking(False)
-            self._datagrams, _ = await loop.create_datagram_endpoint(lambda: _Datagrams(self), sock=self._socket)
-            self._register()
+            await self._searches.open()
         self._is_open = True
-        self._connect()
+        self._circuits.connect()
         return self
 
     async def __aexit__(self, kind: Optional[type[BaseException]], error: Optional[BaseException], trace: Optional[TracebackType]) -> None:
@@ -179,18 +100,15 @@ class Client:
         if not self._is_open:
             return
         self._is_open = False
-        if self._timer:
-            self._timer.cancel()
-        tasks = [it.task for it in self._circuits.values() if it.task]
-        for circuit in list(self._circuits.values()):
+        self._searches.close()
+        circuits = list(self._circuits.all.values())
+        for circuit in circuits:
             self._core.call_close(self._core.at, circuit.handle)
             self._hear(circuit)
-            self._end(circuit, self._core.left())
+            circuit.end(self._core.left())
         for channel in self._channels.values():
             channel.leave()
-        if self._datagrams:
-            self._datagrams.close()
-        await asyncio.gather(*tasks, return_exceptions=True)
+        await asyncio.gather(*[it.task for it in circuits if it.task], return_exceptions=True)
         await asyncio.sleep(0)
         self._core.free()
 
@@ -204,44 +122,58 @@ class Client:
         """The value of a channel with its alarm and time stamp, as a type (its own), and with so many elements (0: those that there are).
 
         Raises TimedOut, Lost, ServerRefused, Unreadable, or Refused: NoAccess, BadCount."""
-        async with self._within(name, timeout) as channel:
-            await self._ready(channel)
-            kind = channel.type if type is None else type
-            request = await self._asked(channel, lambda: self._core.handle(name, self._core.call_read, channel.handle, lib.TIME + kind, count))
-            found = await self._answer(request, channel)
-            assert found is not None
-            return found
+        channel, limit = self._channel(name), self._limit(timeout)
+        await self._ready(channel, limit)
+        kind = channel.type if type is None else type
+        await self._asked(channel, limit, self._core.call_read, lib.TIME + kind, count, self._core.number)
+        found = await self._until(self._requested(channel), channel, limit)
+        assert found is not None
+        return found
 
     async def get_many(self, names: Iterable[str], *, timeout: Timeout = _DEFAULT) -> dict[str, Union[Value, Error]]:
         """The values of many channels at once, by their names; the error in place of a value that could not be got."""
-        wanted = list(dict.fromkeys(names))
-
-        async def one(name: str) -> Union[Value, Error]:
-            try:
-                return await self.get(name, timeout=timeout)
-            except Error as error:
-                return error
-        return dict(zip(wanted, await asyncio.gather(*map(one, wanted))))
+        self._check_open()
+        limit, core = self._limit(timeout), self._core
+        found: dict[str, Any] = dict.fromkeys(names)
+        asked: dict[str, tuple[Channel, asyncio.Future[Optional[Reading]]]] = {}
+        tasks: dict[str, asyncio.Task[Reading]] = {}
+        for name in found:
+            its = self._names.get(name)
+            if its and its[0].is_live and self._ask(its[0], core.call_read, lib.TIME + its[0].type, 0, core.number) >= 0:
+                asked[name] = its[0], self._requested(its[0])
+            else:
+                tasks[name] = self._loop.create_task(self.read(name, timeout=timeout))
+        try:
+            for name, (channel, future) in asked.items():
+                found[name] = await _outcome(self._until(future, channel, limit))
+            for name, task in tasks.items():
+                found[name] = await _outcome(task)
+        finally:
+            for it in [*(future for _, future in asked.values()), *tasks.values()]:
+                it.cancel()
+        return found
 
     async def put(self, name: str, value: Any, *, wait: bool = True, type: Optional[Type] = None, timeout: Timeout = _DEFAULT) -> None:
         """Writes a channel, and waits until that is done; with `wait=False` until it is handed to the socket alone.
 
         A number or an array goes as the channel's own type; a text goes as a STRING, which the server converts, but for a decimal to FLOAT or
         DOUBLE. Raises as `read`, and ValueError if the value does not fit the type. After TimedOut or Lost it may be done all the same."""
-        async with self._within(name, timeout) as channel:
-            await self._ready(channel)
-            kind, count, image = _written(channel, value, type)
-            core, given = self._core, (channel.handle, kind, count, image, len(image))
-            if not wait:
-                await self._asked(channel, lambda: lib.checked(core.call_write(core.at, *given), name))
-                return
-            await self._answer(await self._asked(channel, lambda: core.handle(name, core.call_put, *given)), channel)
+        channel, limit, core = self._channel(name), self._limit(timeout), self._core
+        await self._ready(channel, limit)
+        kind, count, image = _written(channel, value, type)
+        given = (kind, count, image, len(image))
+        if wait:
+            await self._asked(channel, limit, core.call_put, *given, core.number)
+            await self._until(self._requested(channel), channel, limit)
+        else:
+            await self._asked(channel, limit, core.call_write, *given)
+            channel.flush_soon()
 
     async def info(self, name: str, *, timeout: Timeout = _DEFAULT) -> Info:
         """What the server says of a channel. Raises TimedOut."""
-        async with self._within(name, timeout) as channel:
-            await self._ready(channel)
-            return Info(name, channel.type, channel.greatest, bool(channel.rights & 1), bool(channel.rights & 2))
+        channel = self._channel(name)
+        await self._ready(channel, self._limit(timeout))
+        return Info(name, channel.type, channel.greatest, bool(channel.rights & 1), bool(channel.rights & 2))
 
     def monitor(self, name: str, *, mask: int = Mask.VALUE | Mask.ALARM, type: Optional[Type] = None, count: int = 0,
                 timeout: Optional[float] = None, follow: bool = True, limit: int = 1000) -> Monitor:
@@ -275,26 +207,29 @@ class Client:
         port = addresses.port_of(os.environ, ["EPICS_CA_SERVER_PORT"], addresses.SERVER_PORT)
         return [addresses.address(it, port) for it in servers or []], [addresses.address(it, port) for it in names or []]
 
-    def _channel(self, name: str) -> _Channel:
+    def _channel(self, name: str) -> Channel:
         found = self._names.get(name)
         return found[0] if found else self._open_channel(name)
 
-    def _open_channel(self, name: str) -> _Channel:
+    def _check_open(self) -> None:
         if not self._is_open:
             raise RuntimeError("the client is not open")
+
+    def _open_channel(self, name: str) -> Channel:
+        self._check_open()
         its, priority = name.encode("utf-8", "surrogateescape"), self._spread.take(name)
         try:
-            handle = self._core.handle(name, self._core.call_open, its, len(its), priority, self._now())
+            handle = self._core.handle(name, self._core.call_open, its, len(its), priority, self._searches.now())
         except Refused:
             self._spread.free(priority)
             raise
-        channel = self._channels[handle] = _Channel(name, handle, priority)
+        channel = self._channels[handle] = Channel(name, handle, priority)
         self._names.setdefault(name, []).append(channel)
         self._unsettled += 1
-        self._search_again()
+        self._searches.again()
         return channel
 
-    def _clear(self, channel: _Channel) -> None:
+    def _clear(self, channel: Channel) -> None:
         self._core.call_clear(self._core.at, channel.handle)
         self._hear(channel.circuit)
         del self._channels[channel.handle]
@@ -304,45 +239,67 @@ class Client:
         if channel.feed:
             self._feeds.pop(channel.feed.subscription or 0, None)
         channel.leave()
-        if channel.circuit:
-            self._flush_soon(channel.circuit)
+        channel.flush_soon()
 
-    def _within(self, name: str, timeout: Timeout) -> "_Within":
-        return _Within(self._channel(name), self._timeout if isinstance(timeout, _Default) else timeout)
+    # ---- what calls wait for
 
-    async def _ready(self, channel: _Channel) -> None:
+    def _limit(self, timeout: Timeout) -> Limit:
+        seconds = self._timeout if isinstance(timeout, _Default) else timeout
+        return None if seconds is None else (self._loop.time() + seconds, seconds)
+
+    async def _until(self, future: "asyncio.Future[Any]", channel: Channel, limit: Limit) -> Any:
+        """What a future brings for a channel. Raises TimedOut if that is not by the limit."""
+        if limit is None or future.done():
+            return await future
+        timer = self._loop.call_at(limit[0], _late, future, channel, limit[1])
+        try:
+            return await future
+        finally:
+            timer.cancel()
+
+    async def _ready(self, channel: Channel, limit: Limit) -> None:
         """Waits until the channel is live."""
         while not channel.is_live:
             waiter = self._loop.create_future()
-            channel.waiters.append(waiter)
-            await waiter
+            channel.waiters[waiter] = None
+            try:
+                await self._until(waiter, channel, limit)
+            finally:
+                channel.waiters.pop(waiter, None)
 
-    async def _asked(self, channel: _Channel, ask: Callable[[], int]) -> int:
-        """What a call answers that makes a request, once there is room for that on the circuit; those that wait for room go first."""
-        while True:
-            circuit = channel.circuit
-            if circuit is None or not circuit.room:
-                try:
-                    answer = ask()
-                    break
-                except Refused as refusal:
-                    if refusal.number != OUTPUT_IS_FULL or circuit is None:
-                        raise
-                    if self._flush(circuit):
-                        continue
-            circuit.room.append(self._loop.create_future())
-            await circuit.room[-1]
-            await self._ready(channel)
-        if channel.circuit:
-            self._flush_soon(channel.circuit)
+    def _ask(self, channel: Channel, call: Callable[..., int], *given: Any) -> int:
+        """What a call on a live channel answers: OUTPUT_IS_FULL if its circuit has no room, or others wait for that."""
+        circuit = channel.circuit
+        assert circuit
+        answer = OUTPUT_IS_FULL
+        while not circuit.room and (answer := call(self._core.at, channel.handle, *given)) == OUTPUT_IS_FULL and circuit.flush():
+            pass
         return answer
 
-    async def _answer(self, request: int, channel: _Channel) -> Optional[Reading]:
-        future: asyncio.Future[Optional[Reading]] = self._loop.create_future()
-        self._requests[request] = future, channel
-        return await future
+    async def _asked(self, channel: Channel, limit: Limit, call: Callable[..., int], *given: Any) -> None:
+        """Makes a call on a live channel, once there is room for it on its circuit."""
+        while (answer := self._ask(channel, call, *given)) == OUTPUT_IS_FULL:
+            waiter = self._loop.create_future()
+            channel.circuit.room.append(waiter)
+            await self._until(waiter, channel, limit)
+            await self._ready(channel, limit)
+        lib.checked(answer, channel.name)
 
-    def _subscribe(self, channel: _Channel) -> None:
+    def _requested(self, channel: Channel) -> "asyncio.Future[Optional[Reading]]":
+        """What the request that was just made is to bring. It goes out at once if it is the only one, else with others of this turn of the loop."""
+        future: asyncio.Future[Optional[Reading]] = self._loop.create_future()
+        circuit, is_only = channel.circuit, not self._requests
+        assert circuit
+        self._requests[self._core.number.value] = future, channel
+        if is_only:
+            circuit.flush()
+        else:
+            circuit.flush_soon()
+        return future
+
+    # ---- subscriptions
+
+    def _subscribe(self, channel: Channel) -> None:
         feed = channel.feed
         assert feed
         kind = channel.type if feed.kind is None else feed.kind
@@ -352,8 +309,7 @@ class Client:
             feed.fail(refusal)
             return
         self._feeds[feed.subscription] = feed
-        if channel.circuit:
-            self._flush_soon(channel.circuit)
+        channel.flush_soon()
 
     def _unfeed(self, feed: Feed) -> None:
         channel = feed.channel
@@ -366,12 +322,12 @@ class Client:
         if channel in its[1:]:
             its.remove(channel)
             self._clear(channel)
-        elif channel.circuit:
-            self._flush_soon(channel.circuit)
+        else:
+            channel.flush_soon()
 
     # ---- what the library reports
 
-    def _hear(self, circuit: Optional[_Circuit]) -> None:
+    def _hear(self, circuit: Optional[Circuit]) -> None:
         """Takes the notices of the call that reported, which are about channels of this circuit."""
         notice, core = self._notice, self._core
         while core.call_next(core.at, notice) == 1:
@@ -412,242 +368,32 @@ class Client:
         else:
             future.set_exception(_failure(channel.name, notice))
 
-    def _value(self, channel: _Channel, notice: lib.Notice) -> Reading:
-        return reading(channel.name, notice.type, notice.count, self._core.image(notice.type), channel.greatest == 1)
+    def _value(self, channel: Channel, notice: lib.Notice) -> Reading:
+        return reading(channel.name, notice.type, notice.count, self._core.image(lib.TIME + notice.type), channel.greatest == 1)
 
-    def _live(self, channel: _Channel, circuit: Optional[_Circuit]) -> None:
+    def _live(self, channel: Channel, circuit: Optional[Circuit]) -> None:
         state = self._state
         self._core.call_channel(self._core.at, channel.handle, state)
         channel.type, channel.greatest, channel.rights = Type(state.type), state.greatest, state.rights
         channel.is_live, channel.circuit = True, circuit
         self._unsettled -= 1
-        waiters, channel.waiters = channel.waiters, []
-        for waiter in waiters:
-            if not waiter.done():
-                waiter.set_result(None)
+        wake(channel.waiters)
         if channel.feed and not channel.feed.error:
             self._subscribe(channel)
 
-    def _gone(self, channel: _Channel) -> None:
+    def _gone(self, channel: Channel) -> None:
         channel.is_live, channel.circuit = False, None
         self._unsettled += 1
         feed = channel.feed
         if feed:
             if feed.subscription is not None:
+                # The library would make it again by itself, of the type that the channel had.
+                self._core.call_unsubscribe(self._core.at, feed.subscription)
                 self._feeds.pop(feed.subscription, None)
                 feed.subscription = None
             if not feed.follow:
                 feed.fail(Lost(channel.name))
-        self._search_again()
-
-    # ---- moments
-
-    def _now(self) -> int:
-        """The moment, in milliseconds, without what the process stood still."""
-        now = self._loop.time()
-        if now - self._due > LATE:
-            self._missed += now - self._due - LATE
-            self._due = now - LATE
-        return int((now - self._began - self._missed) * 1000)
-
-    def _set_timer(self, seconds: float) -> None:
-        if self._timer:
-            self._timer.cancel()
-        self._due = self._loop.time() + seconds
-        self._timer = self._loop.call_later(seconds, self._timed)
-
-    def _search_again(self) -> None:
-        """A channel is searched for from now on."""
-        self._wait = FIRST_WAIT
-        if self._is_open and (not self._timer or self._due > self._loop.time()):
-            self._set_timer(0)
-
-    def _timed(self) -> None:
-        """A moment for which the timer was set."""
-        self._now()
-        self._timer, self._due = None, float("inf")
-        self._tick()
-        self._arm()
-        self._wait = min(2 * self._wait, LONGEST_WAIT)
-
-    def _tick(self) -> None:
-        """Tells the library the moment, and does what it asks: searches, ECHOs, and ends of circuits that were silent too long."""
-        core, to = self._core, self._from
-        self._moment = self._now()
-        core.call_tick(core.at, self._moment)
-        while (searches := core.taken(core.call_search, to)):
-            if self._datagrams:
-                self._datagrams.sendto(searches, (addresses.dotted(to.host), to.port))
-        while core.call_ended(core.at, core.number) == 1:
-            circuit = self._circuits.get(core.number.value)
-            self._hear(circuit)
-            if circuit:
-                self._end(circuit, core.left())
-        for circuit in list(self._circuits.values()):
-            circuit.is_echoed = circuit.is_echoed or self._moment - circuit.heard >= ECHO
-            self._flush(circuit)
-        self._connect()
-
-    def _arm(self) -> None:
-        """Sets the timer for the next moment that the library needs, from the last one: a search's, or that of a silence."""
-        waits = [it.heard + (SILENCE if it.is_echoed else ECHO) - self._moment for it in self._circuits.values() if it.transport]
-        if self._unsettled:
-            waits.append(self._wait)
-        # Two milliseconds more, so that it is not a moment before.
-        seconds = max(min(waits, default=0), 0) / 1000 + 0.002
-        if waits and self._loop.time() + seconds < self._due:
-            self._set_timer(seconds)
-
-    # ---- datagrams and circuits
-
-    def _register(self) -> None:
-        """An empty datagram to the repeater asks for beacons. It goes by the socket itself: asyncio sends none that is empty."""
-        if self._asks_repeater and self._datagrams and not self._datagrams.is_closing():
-            port = addresses.port_of(os.environ, ["EPICS_CA_REPEATER_PORT"], addresses.REPEATER_PORT)
-            with contextlib.suppress(OSError):
-                self._socket.sendto(b"", ("127.0.0.1", port))
-
-    def _datagram(self, data: bytes, peer: tuple[str, int]) -> None:
-        if not self._is_open:
-            return
-        core, came = self._core, lib.Address(addresses.number(peer[0]), peer[1])
-        core.call_datagram(core.at, self._now(), came, data, len(data))
-        if self._unsettled:
-            self._follow()
-            if self._wait > 1000:
-                self._search_again()
-
-    def _follow(self) -> None:
-        """Channels may have been found: their circuits are connected, or asked for them."""
-        self._connect()
-        for circuit in list(self._circuits.values()):
-            self._flush(circuit)
-
-    def _connect(self) -> None:
-        """Connects the circuits that are wanted."""
-        core, told, place, now = self._core, self._wanted, 0, self._loop.time()
-        while core.call_wanted(core.at, place, told) == 1:
-            place += 1
-            if told.circuit not in self._circuits and self._rests.get(told.circuit, 0) <= now:
-                circuit = self._circuits[told.circuit] = _Circuit(self, told.circuit)
-                circuit.task = self._loop.create_task(self._reach(circuit, addresses.dotted(told.host), told.port))
-
-    async def _reach(self, circuit: _Circuit, host: str, port: int) -> None:
-        try:
-            async with asyncio.timeout(CONNECT):
-                await self._loop.create_connection(lambda: circuit, host, port)
-        except OSError:
-            self._lost(circuit)
-        except asyncio.CancelledError:
-            self._lost(circuit)
-            raise
-
-    def _connected(self, circuit: _Circuit) -> None:
-        core = self._core
-        if circuit.is_over:
-            assert circuit.transport
-            circuit.transport.abort()
-            return
-        # The library counts the circuit as heard at the moment that it was told last.
-        self._tick()
-        circuit.heard, circuit.is_echoed = self._moment, False
-        if core.call_connected(core.at, circuit.handle, self._cause) == lib.CLOSED:
-            self._hear(circuit)
-            self._end(circuit, core.left())
-            return
-        self._rests.pop(circuit.handle, None)
-        self._flush(circuit)
-        self._arm()
-
-    def _came(self, circuit: _Circuit, data: bytes) -> None:
-        core, handle = self._core, circuit.handle
-        circuit.heard, circuit.is_echoed = self._moment, False
-        if core.call_give(core.at, handle, data, len(data), len(data) >= READ) < 0:
-            self._lost(circuit)
-            return
-        while (did := core.call_step(core.at, handle, self._cause)) != lib.NEEDS_BYTES:
-            self._hear(circuit)
-            if did != lib.HANDLED:
-                self._end(circuit, core.left())
-                return
-        if self._unsettled:
-            self._follow()
-        else:
-            self._flush(circuit)
-
-    def _flush_soon(self, circuit: _Circuit) -> None:
-        if not circuit.is_flushing:
-            circuit.is_flushing = True
-            self._loop.call_soon(self._flush, circuit)
-
-    def _flush(self, circuit: _Circuit) -> bool:
-        """Sends what waits, as far as the socket takes it. Whether there was something."""
-        circuit.is_flushing, is_sent = False, False
-        transport = circuit.transport
-        if circuit.is_over or transport is None:
-            return False
-        while not circuit.is_paused and (data := self._core.output(circuit.handle)):
-            transport.write(data)
-            is_sent = True
-        if not circuit.is_paused:
-            _wake(circuit.room)
-        return is_sent
-
-    def _lost(self, circuit: _Circuit) -> None:
-        """The circuit was lost, or could not be connected."""
-        if not circuit.is_over:
-            self._core.call_cut(self._core.at, circuit.handle)
-            self._hear(circuit)
-            self._end(circuit, b"")
-
-    def _end(self, circuit: _Circuit, left: bytes) -> None:
-        """The library has ended the circuit."""
-        circuit.is_over = True
-        self._circuits.pop(circuit.handle, None)
-        _wake(circuit.room)
-        if circuit.transport:
-            if left:
-                circuit.transport.write(left)
-            circuit.transport.close()
-        elif circuit.task and not self._is_open:
-            circuit.task.cancel()
-        if not self._is_open:
-            return
-        # A name server's circuit is wanted again, under the same handle. It rests first.
-        self._rest(circuit.handle)
-        self._register()
-        self._connect()
-
-    def _rest(self, handle: int) -> None:
-        core, told, place = self._core, self._wanted, 0
-        while core.call_wanted(core.at, place, told) == 1:
-            if told.circuit == handle:
-                self._rests[handle] = self._loop.time() + REST
-                self._loop.call_later(REST + 0.01, self._retry)
-                return
-            place += 1
-
-    def _retry(self) -> None:
-        if self._is_open:
-            self._connect()
-
-
-class _Within:
-    """A channel for the time that a call has."""
-
-    def __init__(self, channel: _Channel, seconds: Optional[float]) -> None:
-        self._channel, self._seconds = channel, seconds
-        self._limit = asyncio.timeout(seconds)
-
-    async def __aenter__(self) -> _Channel:
-        await self._limit.__aenter__()
-        return self._channel
-
-    async def __aexit__(self, kind: Optional[type[BaseException]], error: Optional[BaseException], trace: Optional[TracebackType]) -> None:
-        try:
-            await self._limit.__aexit__(kind, error, trace)
-        except TimeoutError:
-            raise TimedOut(self._channel.name, self._seconds or 0, self._channel.is_live) from None
+        self._searches.again()
 
 
 def _addresses(found: Sequence[addresses.Found]) -> Any:
@@ -657,11 +403,16 @@ def _addresses(found: Sequence[addresses.Found]) -> Any:
     return made
 
 
-def _wake(waiters: list["asyncio.Future[None]"]) -> None:
-    for it in waiters:
-        if not it.done():
-            it.set_result(None)
-    waiters.clear()
+def _late(future: "asyncio.Future[Any]", channel: Channel, seconds: float) -> None:
+    if not future.done():
+        future.set_exception(TimedOut(channel.name, seconds, channel.is_live))
+
+
+async def _outcome(reading: Awaitable[Reading]) -> Union[Value, Error]:
+    try:
+        return (await reading).value
+    except Error as error:
+        return error
 
 
 def _failure(name: str, notice: lib.Notice) -> Error:
@@ -672,7 +423,7 @@ def _failure(name: str, notice: lib.Notice) -> Error:
     return Lost(name)
 
 
-def _written(channel: _Channel, value: Any, kind: Optional[Type]) -> tuple[Type, int, bytes]:
+def _written(channel: Channel, value: Any, kind: Optional[Type]) -> tuple[Type, int, bytes]:
     """The type, the count and the image with which a value is written."""
     if kind is None:
         kind = channel.type

@@ -10,9 +10,9 @@ import sys
 import time
 import tomllib
 from collections.abc import Callable
-from typing import Any, Optional, TextIO
+from typing import Any, Optional, TextIO, Union
 
-from . import Client, Error, Put, Reading, Record, Server, Type
+from . import Client, Error, Put, Reading, Record, RefusedPut, Server, Type
 from .values import Value, plain
 
 EXAMPLE = """a file of records, in TOML (or the same in JSON):
@@ -197,13 +197,15 @@ def record_of(path: str, name: str, row: Any) -> Record:
         raise ValueError(f"{path}: {name}: {what}") from error
 
 
-def logged(it: Put, log: TextIO) -> None:
-    """A put as a line of JSON."""
-    kind = it.record.type
-    line = {
-        "time": stamp(*divmod(int(it.time * 1_000_000) * 1000, 1_000_000_000)), "user": it.user, "host": it.host, "record": it.record.name,
-        "old": for_json(it.old, kind), "new": for_json(it.value, kind), "outcome": "done",
-    }
+def logged(it: Union[Put, RefusedPut], log: TextIO) -> None:
+    """A put as a line of JSON. Of one that was refused, what was to be written is not known."""
+    moment = stamp(*divmod(int(it.time * 1_000_000) * 1000, 1_000_000_000))
+    line: dict[str, Any] = {"time": moment, "user": it.user, "host": it.host, "host_name": it.host_name, "record": None, "old": None, "new": None, "outcome": "refused"}
+    if isinstance(it, Put):
+        kind = it.record.type
+        line |= {"record": it.record.name, "old": for_json(it.old, kind), "new": for_json(it.value, kind), "outcome": "done"}
+    elif it.record:
+        line |= {"record": it.record.name, "old": for_json(it.record.value, it.record.type)}
     log.write(json.dumps(line, ensure_ascii=False) + "\n")
     log.flush()
 
@@ -212,9 +214,9 @@ async def serve(words: argparse.Namespace) -> int:
     host, port = words.listen or (None, None)
     with contextlib.ExitStack() as files:
         log = files.enter_context(open(words.log, "a", encoding="utf-8")) if words.log else None
-        on_put = (lambda it: logged(it, log)) if log else None
+        told = (lambda it: logged(it, log)) if log else None
         records, rules = records_of(words.file)
-        async with Server(records, host=host, port=port, on_put=on_put, rules=rules) as server:
+        async with Server(records, host=host, port=port, on_put=told, on_refused=told, rules=rules) as server:
             loop, ended = asyncio.get_running_loop(), asyncio.Event()
             for number in (signal.SIGINT, signal.SIGTERM):
                 loop.add_signal_handler(number, ended.set)
@@ -279,7 +281,7 @@ def parser() -> argparse.ArgumentParser:
     server = order("serve", "serves the records of a file, until it is ended", serve, epilog=EXAMPLE, formatter_class=argparse.RawDescriptionHelpFormatter)
     server.add_argument("file", metavar="FILE")
     server.add_argument("--listen", type=place, metavar="HOST:PORT", help="where; by default what EPICS_CAS_INTF_ADDR_LIST and EPICS_CAS_SERVER_PORT say, or 0.0.0.0:5064")
-    server.add_argument("--log", metavar="FILE", help="appends a line of JSON for each put: time, user, host, record, old, new, outcome")
+    server.add_argument("--log", metavar="FILE", help="appends a line of JSON for each put: time, user, host, host_name, record, old, new, outcome")
     return all_of
 
 

@@ -4,7 +4,7 @@ from collections import deque
 from collections.abc import AsyncIterator
 from typing import Any, Optional
 
-from .errors import Error, TimedOut
+from .errors import Error
 from .values import Reading, Type
 
 
@@ -59,10 +59,7 @@ class Monitor(AsyncIterator[Reading]):
         if not feed.updates and not feed.error and not self._is_closed:
             feed.waiter = asyncio.get_running_loop().create_future()
             try:
-                async with asyncio.timeout(self.timeout):
-                    await feed.waiter
-            except TimeoutError:
-                raise TimedOut(feed.channel.name, self.timeout or 0, feed.channel.is_live) from None
+                await self._client._until(feed.waiter, feed.channel, self._client._limit(self.timeout))
             finally:
                 feed.waiter = None
         if feed.updates:

@@ -15,10 +15,23 @@ class Put(NamedTuple):
     value: Value
     #: The value before.
     old: Value
-    #: The client's address, as "HOST:PORT", and the user that it says it is; None if the library does not tell.
-    host: Optional[str]
-    user: Optional[str]
+    #: The client's address, as "HOST:PORT".
+    host: str
+    #: The user and the host that the client says it is, by which rules go.
+    user: str
+    host_name: str
     #: When it was applied, in seconds since 1970.
+    time: float
+
+
+class RefusedPut(NamedTuple):
+    """What a client wanted to write, and was refused. The library does not tell the value."""
+    #: The record; None if the client's channel was not open.
+    record: Optional["Record"]
+    host: str
+    user: str
+    host_name: str
+    #: When it was refused, in seconds since 1970.
     time: float
 
 
@@ -50,9 +63,8 @@ class Record:
         if not 0 < many <= self.count:
             raise ValueError(f"{name}: {many} elements, of {self.count} at most")
         self._server: Any = None
-        self._take(many, stamped(self.type, image, 0, 0, *now()))
-        # The circuit on which the server hears of it, those that subscribed to it, and puts that wait for its callback.
-        self._inside = 0
+        self._take(many, memoryview(stamped(self.type, image, 0, 0, *now())))
+        # The circuits that subscribed to it, how often, and puts that wait for its callback.
         self._peers: Counter[Any] = Counter()
         self._puts: deque[Waiting] = deque()
         self._task: Optional[asyncio.Task[None]] = None
@@ -77,7 +89,7 @@ class Record:
         full = stamped(self.type, image, status, severity, seconds, nanoseconds)
         if self._server:
             self._server._post(self, mask, count, full)
-        self._take(count, full)
+        self._take(count, memoryview(full))
 
     async def post(self, value: Any, *, status: int = 0, severity: int = 0, stamp: Optional[float] = None, mask: Optional[int] = None) -> None:
         """The record has this value from now on, and its subscribers are told.
@@ -96,12 +108,12 @@ class Record:
         self._peers.clear()
         self._puts.clear()
 
-    def _take(self, count: int, image: bytes) -> None:
+    def _take(self, count: int, image: memoryview) -> None:
         self.reading = reading(self.name, self.type, count, image, self.count == 1)
 
 
 class Waiting(NamedTuple):
-    """A put that waits for the record's callback, whether its answer waits for that too, and whose it is, if that is known."""
+    """A put that waits for the record's callback, whether its answer waits for that too, and on which circuit it came."""
     put: Put
     is_busy: bool
     peer: Any

@@ -2,18 +2,18 @@
 import asyncio
 import inspect
 import os
-import secrets
+import time
 from collections.abc import Callable, Iterable, Sequence
 from types import TracebackType
 from typing import Any, Optional
 
 from . import _library as lib
 from . import addresses
-from ._inside import EVERY_CHANGE, Inside
-from .errors import Error, LibraryMissing, Refused
-from .record import Put, Record, Waiting, now
-from .values import EPOCH, Reading, elements, stamped
+from .errors import Error, Refused
+from .record import Put, Record, RefusedPut, Waiting, now
+from .values import EPOCH, elements, stamped
 
+EVERY_CHANGE = 15
 # Milliseconds between the first two beacons, and between later ones at most.
 FIRST_BEACON, LONGEST_BEACON = 20, 15_000
 
@@ -28,8 +28,6 @@ class _Peer(asyncio.Protocol):
         self.is_paused = self.is_full = self.is_over = False
         self.records: dict[int, Record] = {}
         self.subscribed: dict[int, set[int]] = {}
-        # The circuits on which the server hears of this client's records.
-        self.inside: set[int] = set()
 
     def connection_made(self, transport: asyncio.BaseTransport) -> None:
         assert isinstance(transport, asyncio.Transport)
@@ -80,28 +78,28 @@ class Server:
     host      the address at which it listens; by default EPICS_CAS_INTF_ADDR_LIST, or all of this host
     port      the port for circuits (TCP) and searches (UDP); by default EPICS_CAS_SERVER_PORT, EPICS_CA_SERVER_PORT, or 5064. 0 has the system choose
     beacons   where beacons go; by default to this host's repeater, and to EPICS_CAS_BEACON_ADDR_LIST
-    on_put    is called with a Put after each put of a client to any record, before the record's own callback
+    on_put, on_refused
+              are called with a Put after each put of a client to any record, before the record's own callback, and with a RefusedPut after each that was
+              refused
     rules     of access, "USER HOST RECORD RIGHTS" each, with rw, r, w or - as rights and * for any: the first that fits decides, and what fits none
-              may be read and written. User and host are what a client says of itself. They need a library of interface 1.1
+              may be read and written. User and host are what a client says of itself
 
     `port` and `host` say where it listens once it was entered. Entering raises OSError if that place is taken, and Refused if a record is refused:
-    RecordExists, NameLength, or BadCount for over 262,144 elements. It serves 28,800 records at most, since that many it can hear of.
+    RecordExists, NameLength, or BadCount for over 262,144 elements.
     """
 
     def __init__(self, records: Iterable[Record] = (), *, host: Optional[str] = None, port: Optional[int] = None,
-                 beacons: Optional[Sequence[addresses.Place]] = None, on_put: Optional[Callable[[Put], None]] = None, rules: Sequence[str] = ()) -> None:
+                 beacons: Optional[Sequence[addresses.Place]] = None, on_put: Optional[Callable[[Put], None]] = None,
+                 on_refused: Optional[Callable[[RefusedPut], None]] = None, rules: Sequence[str] = ()) -> None:
         listens, at = addresses.served(os.environ)
         self.host = listens if host is None else host
         self.port = at if port is None else port
-        self.on_put = on_put
+        self.on_put, self.on_refused = on_put, on_refused
         self._rules = list(rules)
         self._beacons = addresses.beacons(os.environ) if beacons is None else [addresses.address(it, addresses.REPEATER_PORT) for it in beacons]
         self._given = list(records)
         self._records: dict[str, Record] = {}
         self._peers: dict[int, _Peer] = {}
-        # Those whose put waited behind another, and how many such puts wait for their callback.
-        self._queued: set[_Peer] = set()
-        self._orphans = 0
         self._dirty: dict[_Peer, None] = {}
         self._is_open = False
 
@@ -117,10 +115,10 @@ class Server:
         self._stamp = (0, 0)
         self._is_open = True
         try:
-            self._inside = self._make()
+            text = "".join(f"rule {it}\n" for it in self._rules).encode()
+            lib.checked(self._core.call_load(self._core.at, self.port, 0, text, len(text)), "rules")
             for record in self._given:
-                self._add(record)
-            self._inside.settle()
+                self.add(record)
         except Error:
             await self.close()
             raise
@@ -129,18 +127,6 @@ class Server:
         self._beacon()
         await self._server.start_serving()
         return self
-
-    def _make(self) -> "Inside":
-        """Makes the library's server, and the client by which it hears of its records, whom no rule binds."""
-        core, user = self._core, secrets.token_hex(16)
-        if self._rules:
-            if "load" not in lib.SERVER:
-                raise LibraryMissing("the library has no rules of access: they came with interface 1.1")
-            text = "".join(f"rule {it}\n" for it in [f"{user} localhost * rw", *self._rules]).encode()
-            lib.checked(core.call_load(core.at, self.port, 0, text, len(text)), "rules")
-        else:
-            lib.checked(core.call_new(core.at, self.port, 0))
-        return Inside(core, self.port, user)
 
     async def _listen(self) -> None:
         """Binds both sockets; if the system chooses the port, one that is free for both."""
@@ -178,8 +164,6 @@ class Server:
         await asyncio.sleep(0)
         for record in self._records.values():
             record._leave()
-        if hasattr(self, "_inside"):
-            self._inside.free()
         self._core.free()
         if not self._stopped.done():
             self._stopped.set_result(None)
@@ -195,20 +179,6 @@ class Server:
 
     def add(self, record: Record) -> None:
         """Serves one more record. Raises Refused: RecordExists, NameLength or BadCount."""
-        self._add(record)
-        self._inside.settle()
-
-    def remove(self, record: Record) -> None:
-        """Serves the record no more: its channels are told, and its puts that wait are never applied. Raises Refused (UnknownRecord)."""
-        name = record.name.encode()
-        lib.checked(self._core.call_remove(self._core.at, name, len(name)), record.name)
-        del self._records[record.name]
-        self._inside.forget(record)
-        record._leave()
-        for peer in self._peers.values():
-            self._flush_soon(peer)
-
-    def _add(self, record: Record) -> None:
         if record._server:
             raise ValueError(f"{record.name} is served already")
         core, name, value = self._core, record.name.encode("utf-8", "surrogateescape"), record.reading
@@ -218,13 +188,19 @@ class Server:
         core.call_post(core.at, name, len(name), EVERY_CHANGE, lib.TIME + record.type, many, full, len(full))
         self._records[record.name] = record
         record._server = self
-        self._inside.watch(record)
+
+    def remove(self, record: Record) -> None:
+        """Serves the record no more: its channels are told, and its puts that wait are never applied. Raises Refused (UnknownRecord)."""
+        name = record.name.encode("utf-8", "surrogateescape")
+        lib.checked(self._core.call_remove(self._core.at, name, len(name)), record.name)
+        del self._records[record.name]
+        record._leave()
+        for peer in self._peers.values():
+            self._flush_soon(peer)
 
     def _post(self, record: Record, mask: int, count: int, image: bytes) -> None:
         core, name = self._core, record.name.encode("utf-8", "surrogateescape")
         lib.checked(core.call_post(core.at, name, len(name), mask, lib.TIME + record.type, count, image, len(image)), record.name)
-        # The server hears of it as well: that is no put.
-        self._inside.hear((record._inside,))
         self._tell(record)
 
     def _tell(self, record: Record) -> None:
@@ -233,35 +209,43 @@ class Server:
 
     # ---- puts
 
-    def _wrote(self, peer: _Peer, did: lib.Step) -> None:
-        """A message of this circuit wrote a record."""
-        for record, found in self._inside.hear(peer.inside):
-            self._heard(record, found, peer, did.effect == lib.BUSIED)
-
-    def _heard(self, record: Record, found: Reading, peer: Optional[_Peer], is_busy: bool) -> None:
-        put = Put(record, found.value, record.value, peer and peer.host, None, found.time)
-        record.reading = found
+    def _applied(self, record: Record, peer: _Peer, is_busy: bool) -> None:
+        """A put of this client was applied."""
+        core, name, old = self._core, record.name.encode("utf-8", "surrogateescape"), record.value
+        image = core.image(name, len(name), lib.TIME + record.type, core.many)
+        record._take(core.many.value, image)
+        put = Put(record, record.value, old, peer.host, *self._names(peer), record.reading.time)
         self._tell(record)
         if self.on_put:
-            self._called(self.on_put, put)
+            self._called(record, self.on_put, put)
         if record.slow:
             record._puts.append(Waiting(put, is_busy, peer))
             if not record._task:
                 record._task = self._loop.create_task(self._process(record))
         elif record.on_put:
-            answer = self._called(record.on_put, put)
+            answer = self._called(record, record.on_put, put)
             if inspect.isawaitable(answer):
                 asyncio.ensure_future(answer)
 
-    def _called(self, call: Callable[[Put], Any], put: Put) -> Any:
+    def _refused(self, record: Optional[Record], peer: _Peer) -> None:
+        if self.on_refused:
+            self._called(record, self.on_refused, RefusedPut(record, peer.host, *self._names(peer), time.time()))
+
+    def _names(self, peer: _Peer) -> tuple[str, str]:
+        """The user and the host that a client says it is."""
+        core = self._core
+        return core.text(core.call_user, peer.handle), core.text(core.call_host, peer.handle)
+
+    def _called(self, record: Optional[Record], call: Callable[[Any], Any], put: Any) -> Any:
         try:
             return call(put)
         except Exception as error:
-            self._complain(put.record, error)
+            self._complain(record, error)
             return None
 
-    def _complain(self, record: Record, error: Exception) -> None:
-        self._loop.call_exception_handler({"message": f"the callback of {record.name} failed", "exception": error})
+    def _complain(self, record: Optional[Record], error: Exception) -> None:
+        of = record.name if record else "a put that was refused"
+        self._loop.call_exception_handler({"message": f"the callback of {of} failed", "exception": error})
 
     async def _process(self, record: Record) -> None:
         """Runs the callback for each put to a slow record, one after another."""
@@ -278,25 +262,20 @@ class Server:
         if record._server is self:
             record._task = None
 
-    def _finish(self, record: Record, peer: Optional[_Peer]) -> None:
+    def _finish(self, record: Record, peer: _Peer) -> None:
         """The put that makes the record busy is done; the next one that waits is applied by that."""
         core, name = self._core, record.name.encode("utf-8", "surrogateescape")
-        before = core.call_applied(core.at)
-        if core.call_finish(core.at, name, len(name)) < 0:
-            return
-        if peer:
-            self._flush_soon(peer)
-        else:
-            self._orphans -= 1
-            for queued in self._queued:
-                self._flush_soon(queued)
-        if core.call_applied(core.at) != before:
-            whose = next(iter(self._queued)) if len(self._queued) == 1 else None
-            for heard, found in self._inside.hear((record._inside,)):
-                self._orphans += whose is None
-                self._heard(heard, found, whose, True)
-        elif not self._orphans and not core.call_waiting(core.at):
-            self._queued.clear()
+        following = self._peers[core.number.value] if core.call_first(core.at, name, len(name), core.number) == 1 else None
+        self._set_stamp()
+        core.call_finish(core.at, name, len(name))
+        self._flush_soon(peer)
+        if following:
+            self._applied(record, following, True)
+
+    def _set_stamp(self) -> None:
+        """Puts that are applied from now on have this moment's time stamp, or that of the last, if the clock went back."""
+        self._stamp = max(self._stamp, now())
+        self._core.call_stamp(self._core.at, self._stamp[0] - EPOCH, self._stamp[1])
 
     # ---- circuits
 
@@ -322,8 +301,7 @@ class Server:
     def _serve(self, peer: _Peer) -> None:
         """Handles what came, message by message."""
         core, did, handle = self._core, self._did, peer.handle
-        self._stamp = max(self._stamp, now())
-        core.call_stamp(core.at, self._stamp[0] - EPOCH, self._stamp[1])
+        self._set_stamp()
         while True:
             answer = core.call_step(core.at, handle, did)
             if answer == lib.HANDLED:
@@ -344,21 +322,16 @@ class Server:
 
     def _follow(self, peer: _Peer, did: lib.Step) -> None:
         """What a message did, beside its replies."""
-        effect, sid = did.effect, did.sid
+        core, effect, sid = self._core, did.effect, did.sid
         if effect in (lib.WROTE, lib.BUSIED):
-            self._wrote(peer, did)
-        elif effect == lib.QUEUED:
-            self._queued.add(peer)
+            self._applied(peer.records[sid], peer, effect == lib.BUSIED)
+        elif effect == lib.WRITE_REFUSED:
+            self._refused(peer.records.get(sid), peer)
         elif effect == lib.CREATED:
-            name = self._core.taken(self._core.call_name, peer.handle, sid).decode("utf-8", "surrogateescape")
-            record = self._records.get(name)
-            if record:
-                peer.records[sid] = record
-                peer.inside.add(record._inside)
+            peer.records[sid] = self._records[core.text(core.call_name, peer.handle, sid)]
         elif effect == lib.SUBSCRIBED:
             peer.subscribed.setdefault(sid, set()).add(did.subscription)
-            if sid in peer.records:
-                peer.records[sid]._peers[peer] += 1
+            peer.records[sid]._peers[peer] += 1
         elif effect == lib.CANCELLED:
             if did.subscription in peer.subscribed.get(sid, ()):
                 peer.subscribed[sid].remove(did.subscription)
@@ -404,7 +377,6 @@ class Server:
         """The library has ended the circuit."""
         peer.is_over = True
         del self._peers[peer.handle]
-        self._queued.discard(peer)
         for record in peer.records.values():
             record._peers.pop(peer, None)
         if left:

@@ -136,8 +136,8 @@ def stamped(kind: Type, image: bytes, status: int, severity: int, seconds: int, 
     return HEAD.pack(status, severity, seconds - EPOCH & 0xFFFF_FFFF, nanoseconds) + bytes(PADDING[kind]) + image
 
 
-def reading(name: str, number: int, count: int, image: bytes, is_one: bool) -> Reading:
-    """What an image with an alarm and a time stamp says; `is_one` if the record has a greatest count of 1."""
+def reading(name: str, number: int, count: int, image: memoryview, is_one: bool) -> Reading:
+    """What bytes say that begin with an image with an alarm and a time stamp; `is_one` if the record has a greatest count of 1."""
     kind = TYPES[number]
     if is_one and count == 1 and kind != Type.STRING:
         status, severity, seconds, nanoseconds, value = ONE[kind].unpack_from(image)
@@ -146,10 +146,11 @@ def reading(name: str, number: int, count: int, image: bytes, is_one: bool) -> R
     rest = image[HEAD.size + PADDING[kind]:]
     found: Value
     if kind == Type.STRING:
-        texts = [text_of(rest[at:at + TEXT]) for at in range(0, count * TEXT, TEXT)]
+        texts = [text_of(rest[at:at + TEXT].tobytes()) for at in range(0, count * TEXT, TEXT)]
         found = texts[0] if is_one and count == 1 else texts
     else:
-        all_elements = array(FORMATS[kind], rest[:count * struct.calcsize(FORMATS[kind])])
+        all_elements = array(FORMATS[kind])
+        all_elements.frombytes(rest[:count * struct.calcsize(FORMATS[kind])])
         if sys.byteorder == "little":
             all_elements.byteswap()
         found = memoryview(all_elements)
