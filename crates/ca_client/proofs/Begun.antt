@@ -21,7 +21,8 @@ use Rattle.ca_client_core.specs.declared.stepping.Stepped.TheVariants as step
 use Rattle.ca_client.specs.declared.answer.Answer.{Answer}
 use Rattle.ca_client.specs.declared.ask.Ask.TheVariants as ask
 use Rattle.ca_client.specs.declared.stepping.Begun.TheVariants as begun
-use Rattle.ca_client.specs.Awaited.{FillsAll, IsState, StateView, completions}
+use Rattle.ca_client_core.specs.Notices.{completions}
+use Rattle.ca_client.specs.Awaited.{FillsAll, IsState, StateView}
 use Rattle.ca_client.specs.Beginning.{Begins}
 use Rattle.ca_client.specs.Calls.{HasSteppedUnderLock}
 use Rattle.ca_client.specs.Replies.{IsOther}

@@ -1,5 +1,5 @@
 -- Statement: what the functions that are lent the state under the lock do.
-use Rattle.std.specs.Prelude.{◌≡◌, ◌⊎◌, ℕ, zero, suc, ◌<◌, List, [], ◌∷◌, Some, None, Result, Ok, Err, map, slice_set}
+use Rattle.std.specs.Prelude.{◌≡◌, ◌⊎◌, ℕ, zero, suc, ◌<◌, List, [], ◌∷◌, Some, None, Result, Ok, Err, slice_set}
 use Rattle.ca_text.specs.Limits.{board_cells}
 use Rattle.ca_text.specs.declared.refusal.Refusal.{Refusal}
 use Rattle.ca_text.specs.declared.refusal.Refusal.TheVariants.{OutOfMemory}
@@ -20,7 +20,8 @@ use Rattle.ca_client.specs.declared.ask.Request.{Request}
 use Rattle.ca_client.specs.declared.ask.Request.TheVariants as request
 use Rattle.ca_client.specs.declared.answer.Answer.{Answer}
 use Rattle.ca_client.specs.declared.answer.Answer.TheVariants as answer
-use Rattle.ca_client.specs.Awaited.{FillsAll, StateView, completions, others}
+use Rattle.ca_client_core.specs.Notices.{completions}
+use Rattle.ca_client.specs.Awaited.{FillsAll, StateView, others}
 
 -- ---- issue
 
@@ -100,17 +101,12 @@ HasAnswered old (ask.Tick now) ns (answer.Ticked t) new = (sent : List Sending) 
 HasAnswered old (ask.Tick now) ns (answer.Refused e) new = (ns ≡ []) × ((sent : List Sending) × ClientTicks old now (Err e) sent new)
 HasAnswered old asked ns _ new = ⊥
 
--- The answer hands these notices back, in order. That of a moment does not: its are of channels that were lost.
-abbrev pub HandsBack : Answer → List Notice → Type 0
-HandsBack (answer.Ticked t) ns = (t.notices ≡ []) × ((hs : List Handle) × (ns ≡ map core.Lost hs))
-HandsBack result ns = told_in result ≡ ns
-
--- The core made its call once; each completion filled its own request's ticket, and the other notices are handed back.
+-- The core made its call once; each completion filled its own request's ticket, and the other notices are handed back, in order.
 abbrev pub HasSteppedUnderLock : StateView → Ask → Answer → StateView → Type 0
 HasSteppedUnderLock old asked result new =
     (ns : List Notice) × HasAnswered old.core asked ns result new.core
     × FillsAll old.tickets old.seat (completions ns) new.seat
-    × HandsBack result (others ns) × (new.tickets ≡ old.tickets) × (new.own ≡ old.own)
+    × (told_in result ≡ others ns) × (new.tickets ≡ old.tickets) × (new.own ≡ old.own)
 
 -- ---- new
 

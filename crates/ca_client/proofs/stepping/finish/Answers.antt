@@ -5,7 +5,7 @@ use Rattle.ca_client.specs.Beginning.{Begins}
 use Rattle.ca_client.specs.Replies.{IsOther}
 use Rattle.ca_client.specs.Stepping.{notices_in}
 use Rattle.ca_client.proofs.Begun.{finishes, other-handed, state-before}
-use Rattle.ca_client.proofs.Settled.{due-told, first-told, stands-stepped, state-told}
+use Rattle.ca_client.proofs.Settled.{due-told, stands-stepped, state-told}
 use Rattle.ca_client.proofs.stepping.finish.Goals as goal
 
 pub finish-stepped-requires : goal.finish-stepped-requires
@@ -21,15 +21,6 @@ hand_over-requires-clause-due c =
     let was = state-before before c.args.circuit c.args.first s.core s.seat s.own.board s.tickets.items s.own b c.state.invariant in
     let steps = c.finish-stepped.ensures before.core b.1 in
     due-told before.core s.seat s.own.board s.tickets.items (notices_in c.finish-stepped.result) c.finish-stepped.new.self was (stands-stepped before.core c.args.circuit c.finish-stepped.result steps.0 c.finish-stepped.new.self was.placed was.listed steps.1).told
-
-pub hand_over-requires-clause-first : goal.hand_over-requires-clause-first
-hand_over-requires-clause-first c =
-    let s = c.state.inside in
-    let before = c.requires.0 in
-    let b = subst (λ (v : StateView). Begins before c.args.circuit (begun.Other c.args.first) v) (sym c.state.view_is) c.requires.1 in
-    let was = state-before before c.args.circuit c.args.first s.core s.seat s.own.board s.tickets.items s.own b c.state.invariant in
-    let steps = c.finish-stepped.ensures before.core b.1 in
-    first-told before.core (notices_in c.finish-stepped.result) c.finish-stepped.new.self (stands-stepped before.core c.args.circuit c.finish-stepped.result steps.0 c.finish-stepped.new.self was.placed was.listed steps.1).told
 
 pub invariant_of-state : goal.invariant_of-state
 invariant_of-state c =
