@@ -121,8 +121,8 @@ stands-ticked x now a sent y placed l does =
     let z : Client = (searches_made t).core in
     let done : Stands x u.notices z = stands-on x u.notices u.core z far (record { requests = refl; issued = refl }) (keeps-searches u.core z.searches) in
     let told : Stands x t.notices z = subst (λ (ns : List Notice). Stands x ns z) (quiet-searches ws cs t) done in
-    let own : Stands x a.notices z = subst (λ (ns : List Notice). Stands x ns z) (sym (ap (λ (b : Ticked). b.notices) does.0)) told in
-    subst (Stands x a.notices) (sym does.2) own
+    let all : Stands x a.notices z = subst (λ (ns : List Notice). Stands x ns z) (sym (ap (λ (b : Ticked). b.notices) does.0)) told in
+    subst (Stands x a.notices) (sym does.2) all
 
 pub rests-tick : (x : Client) (now : ℕ) (e : Refusal) (sent : List Sending) (y : Client) → ClientTicks x now (Err e) sent y → y ≡ x
 rests-tick x now refusal.OutOfMemory sent y does = does.1.1

@@ -6,7 +6,7 @@ use Rattle.ca_text.specs.Limits.{arena_slots}
 use Rattle.ca_arena.specs.declared.handle.Handle.{Handle}
 use Rattle.ca_board.specs.declared.ticket.Ticket.{Ticket}
 use Rattle.ca_board.specs.History.{ticket}
-use Rattle.ca_board.specs.Views.{CallerView, CoreView, IsDue, with_fill, with_refusal}
+use Rattle.ca_board.specs.Views.{CoreView, IsDue, with_fill, with_refusal}
 use Rattle.ca_dbr.specs.declared.value.Outcome.{Outcome}
 use Rattle.ca_ids.specs.Table.{under}
 use Rattle.ca_requests.specs.Requests.{Open, Request}
@@ -15,13 +15,11 @@ use Rattle.ca_model.specs.Client.{Client}
 use Rattle.ca_model.specs.Placed.{IsPlaced}
 use Rattle.ca_client_core.specs.Notices.{Completion, completion}
 
--- What the lock keeps: the client, the core's seat at the board, the table of tickets, by the indices of requests, and the seat of the caller from
--- which others are made.
+-- What the lock keeps: the client, the core's seat at the board, which says of which board it is, and the table of tickets, by the indices of requests.
 pub record StateView : Type 0 where
   pub core : Client
   pub seat : CoreView
   pub tickets : List Ticket
-  pub own : CallerView
 
 -- the ticket of a request
 abbrev pub ticket_of : List Ticket → Handle → Ticket

@@ -75,11 +75,11 @@ pub(crate) fn begin(state: &mut ClientState, circuit: Handle) -> Begun
         core,
         seat,
         tickets,
-        own,
+        board,
     } = state;
     let first = match core.advance(circuit) {
         Advanced::Completed(request, outcome) => {
-            fill_one(own.board(), seat, tickets, request, outcome);
+            fill_one(board, seat, tickets, request, outcome);
             return Begun::Filled;
         }
         Advanced::Unawaited => return Begun::Filled,
@@ -101,10 +101,10 @@ pub(crate) fn finish(state: &mut ClientState, circuit: Handle, first: First) -> 
         core,
         seat,
         tickets,
-        own,
+        board,
     } = state;
     let stepped = core.finish(circuit, first);
-    hand_over(own.board(), seat, tickets, stepped)
+    hand_over(board, seat, tickets, stepped)
 }
 
 // Hands the completions of a step over, and the rest back.
@@ -138,10 +138,10 @@ pub(crate) fn cut(state: &mut ClientState, circuit: Handle) -> Closing
         core,
         seat,
         tickets,
-        own,
+        board,
     } = state;
     let closing = core.cut(circuit);
-    settle(own.board(), seat, tickets, closing)
+    settle(board, seat, tickets, closing)
 }
 
 fn close(state: &mut ClientState, circuit: Handle) -> Closing
@@ -151,10 +151,10 @@ fn close(state: &mut ClientState, circuit: Handle) -> Closing
         core,
         seat,
         tickets,
-        own,
+        board,
     } = state;
     let closing = core.close(circuit);
-    settle(own.board(), seat, tickets, closing)
+    settle(board, seat, tickets, closing)
 }
 
 fn connect(state: &mut ClientState, circuit: Handle) -> Answer
@@ -164,13 +164,13 @@ fn connect(state: &mut ClientState, circuit: Handle) -> Answer
         core,
         seat,
         tickets,
-        own,
+        board,
     } = state;
     let closing = match core.connected(circuit) {
         Some(closing) => closing,
         None => return Answer::Connected,
     };
-    Answer::Closed(settle(own.board(), seat, tickets, closing))
+    Answer::Closed(settle(board, seat, tickets, closing))
 }
 
 fn clear(state: &mut ClientState, channel: Handle) -> Answer
@@ -180,13 +180,13 @@ fn clear(state: &mut ClientState, channel: Handle) -> Answer
         core,
         seat,
         tickets,
-        own,
+        board,
     } = state;
     let mut notices = match core.clear(channel) {
         Ok(notices) => notices,
         Err(refusal) => return Answer::Refused(refusal),
     };
-    fill_all(own.board(), seat, tickets, &mut notices);
+    fill_all(board, seat, tickets, &mut notices);
     Answer::Notices(notices)
 }
 

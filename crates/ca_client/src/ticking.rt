@@ -19,7 +19,7 @@ pub(crate) fn tick(state: &mut ClientState, now: u64) -> Answer
         core,
         seat,
         tickets,
-        own,
+        board,
     } = state;
     let ticked = match core.tick(now) {
         Ok(ticked) => ticked,
@@ -29,7 +29,7 @@ pub(crate) fn tick(state: &mut ClientState, now: u64) -> Answer
         datagrams,
         mut closings,
     } = ticked;
-    fill_each(own.board(), seat, tickets, &mut closings);
+    fill_each(board, seat, tickets, &mut closings);
     Answer::Ticked(Ticked {
         datagrams,
         closings,
