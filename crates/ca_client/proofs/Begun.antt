@@ -4,7 +4,7 @@ use Rattle.std.specs.Prelude.{option_map}
 use Rattle.atomic_table.specs.Seated.{TableId}
 use Rattle.ca_arena.specs.declared.handle.Handle.{Handle}
 use Rattle.ca_board.specs.declared.ticket.Ticket.{Ticket}
-use Rattle.ca_board.specs.Views.{CallerView, CoreView}
+use Rattle.ca_board.specs.Views.{CoreView}
 use Rattle.ca_ids.specs.Table.{Table, under, with_changed}
 use Rattle.ca_model.specs.Answers.{Sending}
 use Rattle.ca_model.specs.Client.{Client, ClientCircuit, Connection, on_connection}
@@ -21,7 +21,8 @@ use Rattle.ca_client_core.specs.declared.stepping.Stepped.TheVariants as step
 use Rattle.ca_client.specs.declared.answer.Answer.{Answer}
 use Rattle.ca_client.specs.declared.ask.Ask.TheVariants as ask
 use Rattle.ca_client.specs.declared.stepping.Begun.TheVariants as begun
-use Rattle.ca_client.specs.Awaited.{FillsAll, IsState, StateView, completions}
+use Rattle.ca_client_core.specs.Notices.{completions}
+use Rattle.ca_client.specs.Awaited.{FillsAll, IsState, StateView}
 use Rattle.ca_client.specs.Beginning.{Begins}
 use Rattle.ca_client.specs.Calls.{HasSteppedUnderLock}
 use Rattle.ca_client.specs.Replies.{IsOther}
@@ -77,8 +78,8 @@ state-begun x v board ts c r y s begun =
     let rests = rests-begun x c r y begun in
     state-same x v board ts y s rests.same (rests.placed s.placed)
 
-pub state-before : (before : StateView) (c : Handle) (r : First) (y : Client) (v : CoreView) (board : TableId) (ts : List Ticket) (own : CallerView) → Begins before c (begun.Other r) (record { core = y; seat = v; tickets = ts; own = own }) → IsState y v board ts → IsState before.core v board ts
-state-before before c r y v board ts own b s = state-same y v board ts before.core s (rests-begun before.core c r y b.1).back b.0
+pub state-before : (before : StateView) (c : Handle) (r : First) (y : Client) (v : CoreView) (board : TableId) (ts : List Ticket) → Begins before c (begun.Other r) (record { core = y; seat = v; tickets = ts }) → IsState y v board ts → IsState before.core v board ts
+state-before before c r y v board ts b s = state-same y v board ts before.core s (rests-begun before.core c r y b.1).back b.0
 
 -- what it comes to
 pub other-handed : (s : Stepped) → IsOther (handed_over s)
@@ -86,12 +87,12 @@ other-handed (step.Notices told) = tt
 other-handed step.NeedBytes = tt
 other-handed (step.Closed k) = tt
 
-pub finishes : (before : StateView) (c : Handle) (r : First) (x : Client) (v w : CoreView) (ts : List Ticket) (own : CallerView) (s : Stepped) (y : Client) (a : Answer)
-    → Begins before c (begun.Other r) (record { core = x; seat = v; tickets = ts; own = own }) → (sent : List Sending) × ClientSteps before.core c (stepped_as s) sent y
-    → FillsAll ts v (completions (notices_in s)) w → a ≡ handed_over s → HasSteppedUnderLock before (ask.Step c) a (record { core = y; seat = w; tickets = ts; own = own })
-finishes before c r x v w ts own s y a b steps fills is =
+pub finishes : (before : StateView) (c : Handle) (r : First) (x : Client) (v w : CoreView) (ts : List Ticket) (s : Stepped) (y : Client) (a : Answer)
+    → Begins before c (begun.Other r) (record { core = x; seat = v; tickets = ts }) → (sent : List Sending) × ClientSteps before.core c (stepped_as s) sent y
+    → FillsAll ts v (completions (notices_in s)) w → a ≡ handed_over s → HasSteppedUnderLock before (ask.Step c) a (record { core = y; seat = w; tickets = ts })
+finishes before c r x v w ts s y a b steps fills is =
     let answers = answers-stepped before.core c s y steps in
-    let after : StateView = record { core = y; seat = w; tickets = ts; own = own } in
+    let after : StateView = record { core = y; seat = w; tickets = ts } in
     let seat : v ≡ before.seat = ap (λ (z : StateView). z.seat) b.2 in
     let tickets : ts ≡ before.tickets = ap (λ (z : StateView). z.tickets) b.2 in
     subst (λ (q : Answer). HasSteppedUnderLock before (ask.Step c) q after) (sym is) (
@@ -100,5 +101,4 @@ finishes before c r x v w ts own s y a b steps fills is =
       subst (λ (u : List Ticket). FillsAll u before.seat (completions (notices_in s)) w) tickets (subst (λ (u : CoreView). FillsAll ts u (completions (notices_in s)) w) seat fills),
       answers.1,
       tickets,
-      ap (λ (z : StateView). z.own) b.2,
     )

@@ -16,7 +16,9 @@ use Rattle.ca_model.proofs.Placed.{bare-never}
 use Rattle.ca_model.proofs.Standings.{fails-anywhere, fails-searched, found-standing}
 use Rattle.ca_model.proofs.Tables.{all-freed-back, one-value}
 use Rattle.ca_model.specs.Placed.{IsBare}
-use Rattle.ca_client.specs.Awaited.{IsListed, Waits, completions}
+use Rattle.ca_client_core.specs.Notices.{completions}
+use Rattle.ca_client_core.proofs.Completing.{no-losses}
+use Rattle.ca_client.specs.Awaited.{IsListed, Waits}
 use Rattle.ca_client.proofs.Waiting.{Same, Told, listed-fewer, listed-same, not-open, open-back, over-waits, same-itself, same-then, told-ended, told-on, waits-same}
 
 -- ---- the end of a circuit has ended
@@ -73,10 +75,6 @@ sent-nowhere c x placed none q e =
     let waiting = placed.waiting r.0.channel live.0 r.0.circuit on.0 live.1 on.1 in
     let nothing : connection_at x r.0.circuit ≡ None = ap (λ (k : Handle). connection_at x k) at ∙ ap (λ (o : Option ClientCircuit). option_and_then (λ (d : ClientCircuit). d.connection) o) none in
     both_ways (is_connecting on.0) (waits-not on.0 on.2) (waiting ∙ ap (λ (o : Option Connection). is_none o) nothing)
-
-pub no-losses : (hs : List Handle) → completions (map Lost hs) ≡ []
-no-losses [] = refl
-no-losses (h ∷ hs) = no-losses hs
 
 pub told-end : (c : Handle) (x : Client) → IsPlaced x → IsListed x → Told x (farewell c x) (ended c x)
 told-end c x placed l = go (under x.circuits c) refl

@@ -16,7 +16,8 @@ use Rattle.ca_model.specs.Client.{Channel, Client, ClientCircuit, Clearing, Conn
 use Rattle.ca_model.specs.Hears.{Answers, Completes, Effect, Fails, FindsAt, Hears, PutsOn, Updates, any_failed, becomes, clear_answered, confirmed, created, doing, failed, failing, found_at, heard_by, left, put_on, request_failed, rights_told, searched_by, subscription_failed, with_circuit, without_drained, without_request, without_subscription, write_failed}
 use Rattle.ca_model.specs.Hears as hears
 use Rattle.ca_model.proofs.Tables.{all-freed-back}
-use Rattle.ca_client.specs.Awaited.{IsListed, completions}
+use Rattle.ca_client_core.specs.Notices.{completions}
+use Rattle.ca_client.specs.Awaited.{IsListed}
 use Rattle.ca_client.proofs.Waiting.{Same, Told, answered-there, freed-waits, listed-fewer, over-waits, same-itself, same-sending, told-ended, told-on, told-one, told-quiet, told-same}
 
 -- what a message makes of a client, and what it sends, which waits on its circuit

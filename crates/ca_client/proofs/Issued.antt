@@ -106,14 +106,14 @@ state-issued x v mid armed board ts t asked q y s o e new due f =
     }
 
 -- no cell could be armed
-pub issued-none : (old : StateView) (asked : Request) (e : Refusal) (new : StateView) (r : Result (Handle × Ticket) Refusal) → IsErrAnd r (λ (f : Refusal). f ≡ e) → new.tickets ≡ old.tickets → new.core ≡ old.core → HasArmedOne old.seat (Err e) new.seat → new.own ≡ old.own
+pub issued-none : (old : StateView) (asked : Request) (e : Refusal) (new : StateView) (r : Result (Handle × Ticket) Refusal) → IsErrAnd r (λ (f : Refusal). f ≡ e) → new.tickets ≡ old.tickets → new.core ≡ old.core → HasArmedOne old.seat (Err e) new.seat
     → HasIssuedUnderLock old asked r new
-issued-none old asked e new (Ok h) is tickets core none own = absurd is
-issued-none old asked e new (Err f) is tickets core none own = (tickets, core, own, inl (subst (λ (x : Refusal). HasArmedOne old.seat (Err x) new.seat) (sym is) none))
+issued-none old asked e new (Ok h) is tickets core none = absurd is
+issued-none old asked e new (Err f) is tickets core none = (tickets, core, inl (subst (λ (x : Refusal). HasArmedOne old.seat (Err x) new.seat) (sym is) none))
 
 -- the core refused, and the ticket was taken back
-pub issued-undone : (old : StateView) (asked : Request) (e : Refusal) (new : StateView) (r : Result (Handle × Ticket) Refusal) (t : Ticket) (armed : CoreView) → IsErrAnd r (λ (f : Refusal). f ≡ e) → new.tickets ≡ old.tickets → new.own ≡ old.own → HasArmedOne old.seat (Ok t) armed → HasIssued old.core asked (Err e) new.core → HasTakenBack armed t new.seat
+pub issued-undone : (old : StateView) (asked : Request) (e : Refusal) (new : StateView) (r : Result (Handle × Ticket) Refusal) (t : Ticket) (armed : CoreView) → IsErrAnd r (λ (f : Refusal). f ≡ e) → new.tickets ≡ old.tickets → HasArmedOne old.seat (Ok t) armed → HasIssued old.core asked (Err e) new.core → HasTakenBack armed t new.seat
     → HasIssuedUnderLock old asked r new
-issued-undone old asked e new (Ok h) t armed is tickets own arms refused back = absurd is
-issued-undone old asked e new (Err f) t armed is tickets own arms refused back =
-    (tickets, issued-refused old.core asked e new.core refused, own, inr (t, armed, arms, subst (λ (x : Refusal). HasIssued old.core asked (Err x) new.core) (sym is) refused, back))
+issued-undone old asked e new (Ok h) t armed is tickets arms refused back = absurd is
+issued-undone old asked e new (Err f) t armed is tickets arms refused back =
+    (tickets, issued-refused old.core asked e new.core refused, inr (t, armed, arms, subst (λ (x : Refusal). HasIssued old.core asked (Err x) new.core) (sym is) refused, back))

@@ -1,11 +1,12 @@
--- Lists of handles, each there once; and completions before other notices.
+-- Lists of handles, each there once; and completions among other notices.
 use Rattle.std.proofs.Common.{◌≡◌, inl, inr, ◌⊎◌, Bool, true, false, cond, List, [], ◌∷◌, ◌++◌, map, Option, Some, None, refl, sym, ap, ◌∙◌, filter, ⊎_elim}
 use Rattle.std.specs.List.{cons_option}
 use Rattle.std.specs.Prelude.{is_none}
 use Rattle.ca_arena.specs.declared.handle.Handle.{Handle}
 use Rattle.ca_dbr.specs.declared.value.Outcome.TheVariants as outcome
 use Rattle.ca_model.specs.Answers.{Completed, Notice}
-use Rattle.ca_client.specs.Awaited.{Among, AreApart, AreFirst, Completion, completed, completion, completions, others}
+use Rattle.ca_client_core.specs.Notices.{Completion, completed, completion, completions}
+use Rattle.ca_client.specs.Awaited.{Among, AreApart, others}
 
 -- ---- each there once
 
@@ -39,7 +40,7 @@ apart-last (k ∷ hs) h a new = (
   apart-last hs h a.1 (λ m. new (inr m)),
 )
 
--- ---- completions first
+-- ---- completions
 
 -- Disconnected for each of these requests
 abbrev pub ends : List Handle → List Completion
@@ -57,10 +58,6 @@ pub append-nil : {A : Type 0} (xs : List A) → xs ++ [] ≡ xs
 append-nil [] = refl
 append-nil (x ∷ xs) = ap (λ ys. x ∷ ys) (append-nil xs)
 
-pub others-first : (cs : List Completion) (rest : List Notice) → others (map completed cs ++ rest) ≡ others rest
-others-first [] rest = refl
-others-first (c ∷ cs) rest = others-first cs rest
-
 pub others-all : (rest : List Notice) → completions rest ≡ [] → others rest ≡ rest
 others-all [] e = refl
 others-all (n ∷ rest) e = go (completion n) refl e (λ f. others-all rest f)
@@ -68,9 +65,3 @@ others-all (n ∷ rest) e = go (completion n) refl e (λ f. others-all rest f)
     go : (o : Option Completion) → completion n ≡ o → cons_option o (completions rest) ≡ [] → (completions rest ≡ [] → others rest ≡ rest) → cond (is_none (completion n)) (n ∷ others rest) (others rest) ≡ n ∷ rest
     go None at f more = ap (λ (x : Option Completion). cond (is_none x) (n ∷ others rest) (others rest)) at ∙ ap (λ (ns : List Notice). n ∷ ns) (more f)
     go (Some c) at f more = absurd cc
-
-pub first-is : (ns : List Notice) (cs : List Completion) (rest : List Notice) → AreFirst ns cs rest → (completions ns ≡ cs) × (others ns ≡ rest)
-first-is ns cs rest f = (
-  ap completions f.split ∙ completions-first cs rest ∙ ap (λ (ds : List Completion). cs ++ ds) f.none ∙ append-nil cs,
-  ap others f.split ∙ others-first cs rest ∙ others-all rest f.none,
-)

@@ -1,5 +1,5 @@
 -- The state under the lock, after completions were handed over.
-use Rattle.std.proofs.Common.{◌≡◌, cond, List, [], ◌++◌, map, Option, Some, None, Ok, Err, refl, sym, ap, ◌∙◌, subst}
+use Rattle.std.proofs.Common.{◌≡◌, cond, List, [], ◌++◌, Option, Some, None, Ok, Err, refl, sym, ap, ◌∙◌, subst}
 use Rattle.std.specs.Prelude.{is_none, option_and_then}
 use Rattle.atomic_table.specs.Seated.{TableId}
 use Rattle.ca_arena.specs.declared.handle.Handle.{Handle}
@@ -25,13 +25,13 @@ use Rattle.ca_client_core.specs.declared.stepping.Stepped.{Stepped}
 use Rattle.ca_client_core.specs.declared.stepping.Stepped.TheVariants as step
 use Rattle.ca_client_core.specs.Stepping.{stepped_as}
 use Rattle.ca_client.specs.declared.ask.Ask.TheVariants as ask
-use Rattle.ca_client.specs.Calls.{HandsBack, HasAnswered}
+use Rattle.ca_client.specs.Calls.{HasAnswered, told_in}
 use Rattle.ca_client.specs.Stepping.{handed_over, notices_in}
-use Rattle.ca_client.specs.Awaited.{AreFirst, Completion, Fillable, FillsAll, IsListed, IsState, Waits, completed, completions, others}
+use Rattle.ca_client_core.specs.Notices.{completions}
+use Rattle.ca_client.specs.Awaited.{Fillable, FillsAll, IsListed, IsState, Waits, others}
 use Rattle.ca_client.proofs.Ends.{told-clear, told-end}
 use Rattle.ca_client.proofs.Heard.{told-heard}
-use Rattle.ca_client.proofs.Lists.{first-is}
-use Rattle.ca_client.proofs.Tickets.{Leaves, Tells, fewer_awaited, fillable_awaited, filled_awaited}
+use Rattle.ca_client.proofs.Tickets.{Leaves, fewer_awaited, fillable_awaited, filled_awaited}
 use Rattle.ca_client.proofs.Waiting.{Same, Told, listed-same, same-sending, told-from, told-on, told-same, waits-same}
 
 -- What a call reported of requests, and the channels are where they may be.
@@ -41,22 +41,8 @@ pub record Stands (x : Client) (ns : List Notice) (y : Client) : Type 0 where
 
 -- ---- tickets
 
-pub first-told : (x : Client) (ns : List Notice) (y : Client) → Told x ns y → AreFirst ns (completions ns) (others ns)
-first-told x ns y t =
-    let is = first-is ns t.cs t.rest t.first in
-    record {
-      split = subst (λ (a : List _ × List Notice). ns ≡ map completed a.0 ++ a.1) (λ i. (sym is.0 i, sym is.1 i)) t.first.split;
-      none = subst (λ (rest : List Notice). completions rest ≡ []) (sym is.1) t.first.none;
-    }
-
-pub tells-told : (x : Client) (ns : List Notice) (y : Client) → Told x ns y → Tells (Waits x) (completions ns)
-tells-told x ns y t = subst (Tells (Waits x)) (sym (first-is ns t.cs t.rest t.first).0) t.tells
-
-pub leaves-told : (x : Client) (ns : List Notice) (y : Client) → Told x ns y → (q : Handle) → Waits y q → Leaves (Waits x) (completions ns) q
-leaves-told x ns y t q w = subst (λ (cs : List Completion). Leaves (Waits x) cs q) (sym (first-is ns t.cs t.rest t.first).0) (t.leaves q w)
-
 pub due-told : (x : Client) (v : CoreView) (board : TableId) (ts : List Ticket) (ns : List Notice) (y : Client) → IsState x v board ts → Told x ns y → Fillable ts v (completions ns)
-due-told x v board ts ns y s t = fillable_awaited ts v (Waits x) (completions ns) s.awaited (tells-told x ns y t)
+due-told x v board ts ns y s t = fillable_awaited ts v (Waits x) (completions ns) s.awaited t.tells
 
 pub state-told : (x : Client) (v : CoreView) (board : TableId) (ts : List Ticket) (ns : List Notice) (y : Client) (w : CoreView) → IsState x v board ts → Stands x ns y → FillsAll ts v (completions ns) w → w.board ≡ board → IsState y w board ts
 state-told x v board ts ns y w s t f same = record {
@@ -64,7 +50,7 @@ state-told x v board ts ns y w s t f same = record {
   wide = s.wide;
   placed = t.placed;
   listed = t.told.listed;
-  awaited = fewer_awaited ts w (Leaves (Waits x) (completions ns)) (Waits y) (leaves-told x ns y t.told) (filled_awaited ts v w (Waits x) (completions ns) s.awaited (tells-told x ns y t.told) f);
+  awaited = fewer_awaited ts w (Leaves (Waits x) (completions ns)) (Waits y) t.told.leaves (filled_awaited ts v w (Waits x) (completions ns) s.awaited t.told.tells f);
 }
 
 -- the requests are the same
@@ -132,7 +118,7 @@ stands-stepped x c step.NeedBytes sent y placed l steps =
 stands-stepped x c (step.Closed k) sent y placed l steps = stands-closed x c k sent y placed l steps
 
 -- what is handed back of it
-pub answers-stepped : (x : Client) (c : Handle) (s : Stepped) (y : Client) → (sent : List Sending) × ClientSteps x c (stepped_as s) sent y → HasAnswered x (ask.Step c) (notices_in s) (handed_over s) y × HandsBack (handed_over s) (others (notices_in s))
+pub answers-stepped : (x : Client) (c : Handle) (s : Stepped) (y : Client) → (sent : List Sending) × ClientSteps x c (stepped_as s) sent y → HasAnswered x (ask.Step c) (notices_in s) (handed_over s) y × (told_in (handed_over s) ≡ others (notices_in s))
 answers-stepped x c (step.Notices told) y steps = (steps, refl)
 answers-stepped x c step.NeedBytes y steps = ((refl, steps), refl)
 answers-stepped x c (step.Closed k) y steps = (steps, refl)

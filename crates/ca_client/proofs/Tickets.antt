@@ -12,7 +12,8 @@ use Rattle.ca_board.proofs.Outstanding.{due_filled, due_taken_back}
 use Rattle.ca_board.proofs.Stock.{has_snoc}
 use Rattle.ca_dbr.specs.declared.value.Outcome.{Outcome}
 use Rattle.std.specs.Prelude.{Result}
-use Rattle.ca_client.specs.Awaited.{AreAwaited, Completion, Fillable, Fills, FillsAll, ticket_of}
+use Rattle.ca_client_core.specs.Notices.{Completion}
+use Rattle.ca_client.specs.Awaited.{AreAwaited, Fillable, Fills, FillsAll, ticket_of}
 use Rattle.ca_client.specs.Calls.{AreInUse, HasArmedAfter, HasArmedOne, Recycles, RecyclesBelow, RecyclesEach}
 
 -- a fill, as it is said here

@@ -10,8 +10,9 @@ use Rattle.ca_requests.specs.Requests.{Draining, Open, Request, Stage, answered_
 use Rattle.ca_model.specs.Answers.{Completed, Notice, Sending}
 use Rattle.ca_model.specs.Client.{Client, disconnections, sending, with_one_sent}
 use Rattle.ca_model.proofs.Tables.{all-back, freed-back, given-none, held-back, held-other, held-own, one-value, wire-under}
-use Rattle.ca_client.specs.Awaited.{Among, AreApart, AreFirst, Completion, IsListed, Waits, completions}
-use Rattle.ca_client.proofs.Lists.{among-filter, among-last, apart-filter, apart-last, ends, told-ends}
+use Rattle.ca_client_core.specs.Notices.{Completion, completions}
+use Rattle.ca_client.specs.Awaited.{Among, AreApart, IsListed, Waits}
+use Rattle.ca_client.proofs.Lists.{among-filter, among-last, apart-filter, apart-last, append-nil, completions-first, ends, told-ends}
 use Rattle.ca_client.proofs.Tickets.{But, Leaves, Tells}
 
 -- ---- a request is open
@@ -66,11 +67,8 @@ leaves-more few more (c ∷ cs) f q h = leaves-more (But few c.0) (But more c.0)
 
 -- From x, these notices tell what became of requests that waited, and y is left.
 pub record Told (x : Client) (ns : List Notice) (y : Client) : Type 0 where
-  pub cs : List Completion
-  pub rest : List Notice
-  pub first : AreFirst ns cs rest
-  pub tells : Tells (Waits x) cs
-  pub leaves : (q : Handle) → Waits y q → Leaves (Waits x) cs q
+  pub tells : Tells (Waits x) (completions ns)
+  pub leaves : (q : Handle) → Waits y q → Leaves (Waits x) (completions ns) q
   pub listed : IsListed y
 
 -- the requests are the same
@@ -109,24 +107,29 @@ same-sending (s ∷ sends) x =
 
 -- ---- what is told
 
+-- these are the completions among the notices
+told-by : (x y : Client) (ns : List Notice) (cs : List Completion) → completions ns ≡ cs → Tells (Waits x) cs → ((q : Handle) → Waits y q → Leaves (Waits x) cs q) → IsListed y → Told x ns y
+told-by x y ns cs is tells leaves l = record {
+  tells = subst (Tells (Waits x)) (sym is) tells;
+  leaves = λ q w. subst (λ (ds : List Completion). Leaves (Waits x) ds q) (sym is) (leaves q w);
+  listed = l;
+}
+
 -- no request is complete
 pub told-quiet : (x y : Client) (ns : List Notice) → ((q : Handle) → Waits y q → Waits x q) → IsListed y → completions ns ≡ [] → Told x ns y
-told-quiet x y ns back l none = record { cs = []; rest = ns; first = record { split = refl; none = none }; tells = tt; leaves = back; listed = l }
+told-quiet x y ns back l none = told-by x y ns [] none tt back l
 
 pub told-same : (x y : Client) (ns : List Notice) → Same x y → IsListed x → completions ns ≡ [] → Told x ns y
 told-same x y ns s l none = told-quiet x y ns (λ q w. waits-same x y q s w) (listed-same x y s l) none
 
 pub told-on : (x y z : Client) (ns : List Notice) → Told x ns y → Same y z → Told x ns z
 told-on x y z ns t s =
-    record { cs = t.cs; rest = t.rest; first = t.first; tells = t.tells; leaves = λ q w. t.leaves q (waits-same y z q s w); listed = listed-same y z s t.listed }
+    record { tells = t.tells; leaves = λ q w. t.leaves q (waits-same y z q s w); listed = listed-same y z s t.listed }
 
 pub told-from : (x y z : Client) (ns : List Notice) → Same x y → Told y ns z → Told x ns z
 told-from x y z ns s t = record {
-  cs = t.cs;
-  rest = t.rest;
-  first = t.first;
-  tells = tells-more (Waits y) (Waits x) t.cs (λ q w. waits-same x y q s w) t.tells;
-  leaves = λ q w. leaves-more (Waits y) (Waits x) t.cs (λ k h. waits-same x y k s h) q (t.leaves q w);
+  tells = tells-more (Waits y) (Waits x) (completions ns) (λ q w. waits-same x y q s w) t.tells;
+  leaves = λ q w. leaves-more (Waits y) (Waits x) (completions ns) (λ k h. waits-same x y k s h) q (t.leaves q w);
   listed = t.listed;
 }
 
@@ -134,19 +137,18 @@ told-from x y z ns s t = record {
 pub told-ended : (x y : Client) (which : Request → Bool) (rest : List Notice) → IsListed x → IsListed y → ((q : Handle) → Waits y q → Waits x q × ¬ (is_open which x.requests q ≡ true)) → completions rest ≡ [] → Told x (disconnections which x ++ rest) y
 told-ended x y which rest l after back none =
     let qs : List Handle = filter (is_open which x.requests) x.issued in
-    record {
-      cs = ends qs;
-      rest = rest;
-      first = record { split = ap (λ (ns : List Notice). ns ++ rest) (told-ends qs); none = none };
-      tells = tells-ends (Waits x) qs (apart-filter (is_open which x.requests) x.issued l.once) (λ k m. l.wait k (among-filter (is_open which x.requests) x.issued k m).0);
-      leaves = λ q w. leaves-ends (Waits x) qs q (back q w).0 (λ m. (back q w).1 (among-filter (is_open which x.requests) x.issued q m).1);
-      listed = after;
-    }
+    let is : completions (disconnections which x ++ rest) ≡ ends qs =
+    ap (λ (ns : List Notice). completions (ns ++ rest)) (told-ends qs) ∙ completions-first (ends qs) rest ∙ ap (λ (cs : List Completion). ends qs ++ cs) none
+    ∙ append-nil (ends qs) in
+    told-by x y (disconnections which x ++ rest) (ends qs) is
+    (tells-ends (Waits x) qs (apart-filter (is_open which x.requests) x.issued l.once) (λ k m. l.wait k (among-filter (is_open which x.requests) x.issued k m).0))
+    (λ q w. leaves-ends (Waits x) qs q (back q w).0 (λ m. (back q w).1 (among-filter (is_open which x.requests) x.issued q m).1))
+    after
 
 -- one request is complete
 pub told-one : (x y : Client) (q : Handle) (o : Outcome) → Waits x q → IsListed y → ((k : Handle) → Waits y k → But (Waits x) q k) → Told x (Completed q o ∷ []) y
 told-one x y q o w l back =
-    record { cs = (q, o) ∷ []; rest = []; first = record { split = refl; none = refl }; tells = (w, tt); leaves = back; listed = l }
+    record { tells = (w, tt); leaves = back; listed = l }
 
 -- ---- requests that are over
 

@@ -1,26 +1,25 @@
 -- Statement: the state under the lock. Each request that waits has a ticket of its own, which is to be filled; and what completions do with
 -- tickets.
-use Rattle.std.specs.Prelude.{◌≡◌, ◌⊎◌, ◌<◌, List, [], ◌∷◌, ◌++◌, Option, Some, None, filter, filter_map, is_none, length, map, slice_index_or}
+use Rattle.std.specs.Prelude.{◌≡◌, ◌⊎◌, ◌<◌, List, [], ◌∷◌, Some, filter, is_none, length, slice_index_or}
 use Rattle.atomic_table.specs.Seated.{TableId}
 use Rattle.ca_text.specs.Limits.{arena_slots}
 use Rattle.ca_arena.specs.declared.handle.Handle.{Handle}
 use Rattle.ca_board.specs.declared.ticket.Ticket.{Ticket}
 use Rattle.ca_board.specs.History.{ticket}
-use Rattle.ca_board.specs.Views.{CallerView, CoreView, IsDue, with_fill, with_refusal}
+use Rattle.ca_board.specs.Views.{CoreView, IsDue, with_fill, with_refusal}
 use Rattle.ca_dbr.specs.declared.value.Outcome.{Outcome}
 use Rattle.ca_ids.specs.Table.{under}
 use Rattle.ca_requests.specs.Requests.{Open, Request}
-use Rattle.ca_model.specs.Answers.{Completed, Notice}
+use Rattle.ca_model.specs.Answers.{Notice}
 use Rattle.ca_model.specs.Client.{Client}
 use Rattle.ca_model.specs.Placed.{IsPlaced}
+use Rattle.ca_client_core.specs.Notices.{Completion, completion}
 
--- What the lock keeps: the client, the core's seat at the board, the table of tickets, by the indices of requests, and the seat of the caller from
--- which others are made.
+-- What the lock keeps: the client, the core's seat at the board, which says of which board it is, and the table of tickets, by the indices of requests.
 pub record StateView : Type 0 where
   pub core : Client
   pub seat : CoreView
   pub tickets : List Ticket
-  pub own : CallerView
 
 -- the ticket of a request
 abbrev pub ticket_of : List Ticket → Handle → Ticket
@@ -60,24 +59,7 @@ pub record IsState (core : Client) (seat : CoreView) (board : TableId) (tickets 
 
 -- ---- completions
 
--- a request that is complete, and its outcome
-abbrev pub Completion : Type 0
-Completion = Handle × Outcome
-
--- the notice of a completion
-abbrev pub completed : Completion → Notice
-completed c = Completed c.0 c.1
-
--- the completion that a notice tells, if it tells one
-abbrev pub completion : Notice → Option Completion
-completion (Completed q o) = Some (q, o)
-completion n = None
-
--- the completions among the notices, in order
-abbrev pub completions : List Notice → List Completion
-completions ns = filter_map completion ns
-
--- the other notices, in order
+-- the notices that tell of no completion, in order
 abbrev pub others : List Notice → List Notice
 others ns = filter (λ (n : Notice). is_none (completion n)) ns
 
@@ -96,8 +78,3 @@ Fillable tickets v [] = Unit {0}
 Fillable tickets v (c ∷ cs) =
     (c.0.index < length tickets) × IsDue v (ticket_of tickets c.0)
     × ((u : CoreView) → Fills v (ticket_of tickets c.0) c.1 u → Fillable tickets u cs)
-
--- Working: first completions, and then none.
-pub record AreFirst (ns : List Notice) (cs : List Completion) (rest : List Notice) : Type 0 where
-  pub split : ns ≡ map completed cs ++ rest
-  pub none : completions rest ≡ []

@@ -1,12 +1,12 @@
 -- Statement: what the functions that are lent the state under the lock do.
-use Rattle.std.specs.Prelude.{◌≡◌, ◌⊎◌, ℕ, zero, suc, ◌<◌, List, [], ◌∷◌, Some, None, Result, Ok, Err, map, slice_set}
+use Rattle.std.specs.Prelude.{◌≡◌, ◌⊎◌, ℕ, zero, suc, ◌<◌, List, [], ◌∷◌, Some, None, Result, Ok, Err, slice_set}
 use Rattle.ca_text.specs.Limits.{board_cells}
 use Rattle.ca_text.specs.declared.refusal.Refusal.{Refusal}
 use Rattle.ca_text.specs.declared.refusal.Refusal.TheVariants.{OutOfMemory}
 use Rattle.ca_arena.specs.declared.handle.Handle.{Handle}
 use Rattle.ca_board.specs.declared.ticket.Ticket.{Ticket}
 use Rattle.ca_board.specs.History.{InUse}
-use Rattle.ca_board.specs.Views.{CoreView, HasArmed, HasRecycled, HasTakenBack, caller_start, core_start}
+use Rattle.ca_board.specs.Views.{CoreView, HasArmed, HasRecycled, HasTakenBack, core_start}
 use Rattle.ca_dbr.specs.declared.value.Outcome.{Outcome}
 use Rattle.ca_dbr.specs.Elements.{elements}
 use Rattle.ca_model.specs.Answers.{Closing, Notice, Sending}
@@ -20,7 +20,8 @@ use Rattle.ca_client.specs.declared.ask.Request.{Request}
 use Rattle.ca_client.specs.declared.ask.Request.TheVariants as request
 use Rattle.ca_client.specs.declared.answer.Answer.{Answer}
 use Rattle.ca_client.specs.declared.answer.Answer.TheVariants as answer
-use Rattle.ca_client.specs.Awaited.{FillsAll, StateView, completions, others}
+use Rattle.ca_client_core.specs.Notices.{completions}
+use Rattle.ca_client.specs.Awaited.{FillsAll, StateView, others}
 
 -- ---- issue
 
@@ -62,9 +63,9 @@ HasIssued old (request.Put h value) result new = (sent : List Sending) × Client
 abbrev pub HasIssuedUnderLock : StateView → Request → Result (Handle × Ticket) Refusal → StateView → Type 0
 HasIssuedUnderLock old asked (Ok r) new =
     HasArmedOne old.seat (Ok r.1) new.seat × HasIssued old.core asked (Ok r.0) new.core
-    × (new.tickets ≡ slice_set old.tickets r.0.index r.1) × (new.own ≡ old.own)
+    × (new.tickets ≡ slice_set old.tickets r.0.index r.1)
 HasIssuedUnderLock old asked (Err e) new =
-    (new.tickets ≡ old.tickets) × (new.core ≡ old.core) × (new.own ≡ old.own)
+    (new.tickets ≡ old.tickets) × (new.core ≡ old.core)
     × (HasArmedOne old.seat (Err e) new.seat
     ⊎ ((t : Ticket) × (armed : CoreView) × HasArmedOne old.seat (Ok t) armed × HasIssued old.core asked (Err e) new.core × HasTakenBack armed t new.seat))
 
@@ -100,25 +101,19 @@ HasAnswered old (ask.Tick now) ns (answer.Ticked t) new = (sent : List Sending) 
 HasAnswered old (ask.Tick now) ns (answer.Refused e) new = (ns ≡ []) × ((sent : List Sending) × ClientTicks old now (Err e) sent new)
 HasAnswered old asked ns _ new = ⊥
 
--- The answer hands these notices back, in order. That of a moment does not: its are of channels that were lost.
-abbrev pub HandsBack : Answer → List Notice → Type 0
-HandsBack (answer.Ticked t) ns = (t.notices ≡ []) × ((hs : List Handle) × (ns ≡ map core.Lost hs))
-HandsBack result ns = told_in result ≡ ns
-
--- The core made its call once; each completion filled its own request's ticket, and the other notices are handed back.
+-- The core made its call once; each completion filled its own request's ticket, and the other notices are handed back, in order.
 abbrev pub HasSteppedUnderLock : StateView → Ask → Answer → StateView → Type 0
 HasSteppedUnderLock old asked result new =
     (ns : List Notice) × HasAnswered old.core asked ns result new.core
     × FillsAll old.tickets old.seat (completions ns) new.seat
-    × HandsBack result (others ns) × (new.tickets ≡ old.tickets) × (new.own ≡ old.own)
+    × (told_in result ≡ others ns) × (new.tickets ≡ old.tickets)
 
 -- ---- new
 
--- nothing was asked yet, and both seats are of one board
+-- nothing was asked yet
 pub record IsFresh (setting : ClientSetting) (state : StateView) : Type 0 where
   pub core : ClientBegins setting (Ok state.core)
-  pub seat : state.seat ≡ core_start state.own.board
-  pub own : state.own ≡ caller_start state.own.board
+  pub seat : state.seat ≡ core_start state.seat.board
 
 -- Nothing was begun: the core refused; or it would have begun, and memory lacked for the board or the tickets.
 abbrev pub HasNotBegun : ClientSetting → Refusal → Type 0

@@ -1,9 +1,8 @@
-ghost use Rattle.std.specs.Prelude.{◌≡◌, IfOk, IsFalse, IsTrue};
-ghost use Rattle.ca_board.specs.Views.{HasCollected, HasFoundEnded, HasFoundOpen, HasGivenUp, caller_start};
+ghost use Rattle.std.specs.Prelude.{IsFalse, IsTrue};
+ghost use Rattle.ca_board.specs.Views.{HasCollected, HasFoundEnded, HasFoundOpen, HasGivenUp};
 
-use ca_board::{Board, CallerSeat, CoreSeat, Ticket};
+use ca_board::{Board, CallerSeat, Ticket};
 use ca_dbr::Outcome;
-use std::alloc::AllocError;
 use std::marker::Model;
 use std::sync::Arc;
 
@@ -47,23 +46,5 @@ impl Caller {
         ensures open { IsFalse result → HasFoundOpen self.old ticket self.new }
     {
         self.board.has_ended(&mut self.seat, ticket)
-    }
-
-    // A new caller of the same board, for any thread.
-    pub(crate) fn another(&self, core: &mut CoreSeat) -> Result<Caller, AllocError>
-        requires { core.old.board ≡ self.now.board }
-        ensures core { core.new ≡ core.old }
-        ensures new { IfOk result (λ c. c ≡ caller_start self.now.board) }
-    {
-        let board = Arc::try_clone(&self.board)?;
-        let seat = board.caller(core);
-        Ok(Caller { board, seat })
-    }
-
-    // The board that it is of.
-    pub(crate) fn board(&self) -> &Board
-        ensures { result.now ≡ self.now.board }
-    {
-        &self.board
     }
 }

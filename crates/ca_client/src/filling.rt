@@ -1,45 +1,27 @@
-ghost use Rattle.std.specs.Prelude.{◌≡◌, ◌∷◌, [], Ok, Err, None, Some};
-ghost use Rattle.ca_client.specs.Awaited.{Fillable, FillsAll, completion, completions, others, AreFirst, Completion};
-ghost use Rattle.ca_client.specs.Filling.{Parts};
-ghost use Rattle.ca_client_core.specs.Notices.{notice_of};
+ghost use Rattle.std.specs.Prelude.{◌≡◌, ◌∷◌, []};
+ghost use Rattle.ca_client.specs.Awaited.{Fillable, FillsAll, others};
+ghost use Rattle.ca_client_core.specs.Notices.{completions};
 
-use crate::answer::Told;
 use ca_arena::Handle;
 use ca_board::{Board, CoreSeat, Ticket};
-use ca_client_core::{Notice, Notices};
+use ca_client_core::Notices;
 use ca_dbr::Outcome;
 
-// Fills the ticket of each completion, in order, and hands the other notices back. The completions come first.
+// Fills the ticket of each completion, in order, and leaves the other notices.
 pub(crate) fn fill_all(
     board: &Board,
     seat: &mut CoreSeat,
     tickets: &Vec<Ticket>,
-    notices: Notices,
-) -> Told
+    notices: &mut Notices,
+)
     requires board { seat.old.board ≡ board.now }
-    requires due { Fillable tickets.now.items seat.old (completions notices) }
-    requires first { AreFirst notices (completions notices) (others notices) }
-    ensures fills { FillsAll tickets.now.items seat.old (completions notices) seat.new }
-    ensures others { result ≡ others notices }
+    requires due { Fillable tickets.now.items seat.old (completions notices.old) }
+    ensures fills { FillsAll tickets.now.items seat.old (completions notices.old) seat.new }
+    ensures others { notices.new ≡ others notices.old }
     ensures board { seat.new.board ≡ board.now }
 {
-    let mut notices = notices;
-    while let Some(notice) = notices.next() {
-        match parts(notice) {
-            Ok((request, outcome)) => {
-                board.fill(seat, tickets[usize::from(request.index)], outcome);
-            }
-            Err(other) => {
-                return Told {
-                    first: Some(other),
-                    rest: notices,
-                };
-            }
-        }
-    }
-    Told {
-        first: None,
-        rest: notices,
+    while let Some((request, outcome)) = notices.next_completed() {
+        fill_one(board, seat, tickets, request, outcome);
     }
 }
 
@@ -59,20 +41,4 @@ pub(crate) fn fill_one(
 {
     let ticket = tickets[usize::from(request.index)];
     board.fill(seat, ticket, outcome);
-}
-
-// The request that a notice completes, with its outcome; or the notice.
-pub(crate) fn parts(notice: Notice) -> Result<(Handle, Outcome), Notice>
-    ensures { Parts notice result }
-{
-    match notice {
-        Notice::Completed(request, outcome) => Ok((request, outcome)),
-        Notice::Live(channel) => Err(Notice::Live(channel)),
-        Notice::Lost(channel) => Err(Notice::Lost(channel)),
-        Notice::Update(subscription, outcome) => Err(Notice::Update(subscription, outcome)),
-        Notice::SubscriptionEnded(subscription, status) => {
-            Err(Notice::SubscriptionEnded(subscription, status))
-        }
-        Notice::WriteRefused(channel, status) => Err(Notice::WriteRefused(channel, status)),
-    }
 }

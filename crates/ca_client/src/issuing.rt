@@ -23,10 +23,10 @@ pub fn issue_under_lock(
         core,
         seat,
         tickets,
-        own,
+        board,
     } = state;
-    let ticket = arm_one(own.board(), seat)?;
-    let handle = issue_or_take_back(core, own.board(), seat, ticket, request)?;
+    let ticket = arm_one(board, seat)?;
+    let handle = issue_or_take_back(core, board, seat, ticket, request)?;
     tickets[usize::from(handle.index)] = ticket;
     Ok((handle, ticket))
 }

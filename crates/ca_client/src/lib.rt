@@ -15,7 +15,7 @@ mod ticking;
 mod turning;
 mod wire;
 
-pub use answer::{Answer, Ended, Steps, Told};
+pub use answer::{Answer, Steps};
 pub use ask::{Ask, Request};
 pub use caller::Caller;
 pub use issuing::issue_under_lock;

@@ -18,7 +18,7 @@ use std::alloc::{AllocError, Global};
 use std::marker::Model;
 use std::sync::Arc;
 
-/// What a client's lock keeps: the core and its seat at the board, the ticket of each request that waits, and the caller from which others are made.
+/// What a client's lock keeps: the core and its seat at the board, the ticket of each request that waits, and the board.
 ///
 /// Each request of the core that waits has a ticket. So the core is lent to be read, and its calls that complete no request are here.
 #[derive(Drop)]
@@ -26,7 +26,7 @@ pub struct ClientState {
     pub(crate) core: ClientCore,
     pub(crate) seat: CoreSeat,
     pub(crate) tickets: Vec<Ticket>,
-    pub(crate) own: Caller,
+    pub(crate) board: Arc<Board>,
 }
 
 impl Model for ClientState {
@@ -34,14 +34,15 @@ impl Model for ClientState {
 
     ghost Value = { StateView };
 
+    ghost use Rattle.std.specs.Arc.{arc_value};
     ghost use Rattle.std.specs.Coded.{codes};
     ghost use Rattle.ca_client_core.specs.Codes.{servers_code};
 
     ghost coded = { Prim.hlevel (codes, servers_code) };
 
-    ghost view = { λ s. record { core = s.core; seat = s.seat; tickets = s.tickets.items; own = s.own } };
+    ghost view = { λ s. record { core = s.core; seat = s.seat; tickets = s.tickets.items } };
 
-    ghost invariant = { λ s. IsState s.core s.seat s.own.board s.tickets.items };
+    ghost invariant = { λ s. IsState s.core s.seat (arc_value s.board) s.tickets.items };
 }
 
 impl ClientState {
@@ -68,23 +69,18 @@ impl ClientState {
         })) }
     {
         let core = ClientCore::new(alloc, user, host, servers, names, now)?;
-        let (board, mut seat) = Board::new(alloc)?;
-        let caller = board.caller(&mut seat);
+        let (board, seat) = Board::new(alloc)?;
         let none = Ticket {
             cell: 0,
             generation: 0,
         };
         let tickets = vec![in alloc; none; ARENA_SLOTS]?;
         let board = Arc::new(alloc, board)?;
-        let own = Caller {
-            board,
-            seat: caller,
-        };
         let state = ClientState {
             core,
             seat,
             tickets,
-            own,
+            board,
         };
         Ok(state)
     }
@@ -92,9 +88,11 @@ impl ClientState {
     /// A new caller, for any thread.
     pub fn caller(&mut self) -> Result<Caller, AllocError>
         ensures same { self.new ≡ self.old }
-        ensures new { IfOk result (λ c. c ≡ caller_start self.old.own.board) }
+        ensures new { IfOk result (λ c. c ≡ caller_start self.old.seat.board) }
     {
-        self.own.another(&mut self.seat)
+        let board = Arc::try_clone(&self.board)?;
+        let seat = board.caller(&mut self.seat);
+        Ok(Caller { board, seat })
     }
 
     /// The core, to be read.

@@ -1,5 +1,6 @@
 ghost use Rattle.std.specs.Prelude.{◌≡◌};
-ghost use Rattle.ca_client.specs.Awaited.{AreFirst, Fillable, FillsAll, StateView, completions, others};
+ghost use Rattle.ca_client_core.specs.Notices.{completions};
+ghost use Rattle.ca_client.specs.Awaited.{Fillable, FillsAll, StateView, others};
 ghost use Rattle.ca_client.specs.Beginning.{Begins};
 ghost use Rattle.ca_client.specs.Calls.{HasSteppedUnderLock};
 ghost use Rattle.ca_client.specs.Replies.{IsOther};
@@ -8,7 +9,7 @@ ghost use Rattle.ca_client.specs.declared.ask.Ask.TheVariants as ask;
 ghost use Rattle.ca_client.specs.declared.answer.Answer.TheVariants as answer;
 ghost use Rattle.ca_client.specs.declared.stepping.Begun.TheVariants as begun;
 
-use crate::answer::{Answer, Ended};
+use crate::answer::Answer;
 use crate::ask::Ask;
 use crate::filling::{fill_all, fill_one};
 use crate::state::ClientState;
@@ -74,11 +75,11 @@ pub(crate) fn begin(state: &mut ClientState, circuit: Handle) -> Begun
         core,
         seat,
         tickets,
-        own,
+        board,
     } = state;
     let first = match core.advance(circuit) {
         Advanced::Completed(request, outcome) => {
-            fill_one(own.board(), seat, tickets, request, outcome);
+            fill_one(board, seat, tickets, request, outcome);
             return Begun::Filled;
         }
         Advanced::Unawaited => return Begun::Filled,
@@ -100,10 +101,10 @@ pub(crate) fn finish(state: &mut ClientState, circuit: Handle, first: First) -> 
         core,
         seat,
         tickets,
-        own,
+        board,
     } = state;
     let stepped = core.finish(circuit, first);
-    hand_over(own.board(), seat, tickets, stepped)
+    hand_over(board, seat, tickets, stepped)
 }
 
 // Hands the completions of a step over, and the rest back.
@@ -111,10 +112,6 @@ pub(crate) fn finish(state: &mut ClientState, circuit: Handle, first: First) -> 
 fn hand_over(board: &Board, seat: &mut CoreSeat, tickets: &Vec<Ticket>, stepped: Stepped) -> Answer
     requires board { seat.old.board ≡ board.now }
     requires due { Fillable tickets.now.items seat.old (completions (notices_in stepped)) }
-    requires first { AreFirst
-        (notices_in stepped)
-        (completions (notices_in stepped))
-        (others (notices_in stepped)) }
     ensures fills { FillsAll
         tickets.now.items
         seat.old
@@ -124,37 +121,40 @@ fn hand_over(board: &Board, seat: &mut CoreSeat, tickets: &Vec<Ticket>, stepped:
     ensures board { seat.new.board ≡ board.now }
 {
     match stepped {
-        Stepped::Notices(notices) => Answer::Notices(fill_all(board, seat, tickets, notices)),
+        Stepped::Notices(mut notices) => {
+            fill_all(board, seat, tickets, &mut notices);
+            Answer::Notices(notices)
+        }
         Stepped::NeedBytes => Answer::NeedBytes,
         Stepped::Closed(closing) => Answer::Closed(settle(board, seat, tickets, closing)),
     }
 }
 
 // Ends a circuit that was cut.
-pub(crate) fn cut(state: &mut ClientState, circuit: Handle) -> Ended
+pub(crate) fn cut(state: &mut ClientState, circuit: Handle) -> Closing
     ensures { HasSteppedUnderLock state.old (ask.Cut circuit) (answer.Closed result) state.new }
 {
     let ClientState {
         core,
         seat,
         tickets,
-        own,
+        board,
     } = state;
     let closing = core.cut(circuit);
-    settle(own.board(), seat, tickets, closing)
+    settle(board, seat, tickets, closing)
 }
 
-fn close(state: &mut ClientState, circuit: Handle) -> Ended
+fn close(state: &mut ClientState, circuit: Handle) -> Closing
     ensures { HasSteppedUnderLock state.old (ask.Close circuit) (answer.Closed result) state.new }
 {
     let ClientState {
         core,
         seat,
         tickets,
-        own,
+        board,
     } = state;
     let closing = core.close(circuit);
-    settle(own.board(), seat, tickets, closing)
+    settle(board, seat, tickets, closing)
 }
 
 fn connect(state: &mut ClientState, circuit: Handle) -> Answer
@@ -164,13 +164,13 @@ fn connect(state: &mut ClientState, circuit: Handle) -> Answer
         core,
         seat,
         tickets,
-        own,
+        board,
     } = state;
     let closing = match core.connected(circuit) {
         Some(closing) => closing,
         None => return Answer::Connected,
     };
-    Answer::Closed(settle(own.board(), seat, tickets, closing))
+    Answer::Closed(settle(board, seat, tickets, closing))
 }
 
 fn clear(state: &mut ClientState, channel: Handle) -> Answer
@@ -180,28 +180,25 @@ fn clear(state: &mut ClientState, channel: Handle) -> Answer
         core,
         seat,
         tickets,
-        own,
+        board,
     } = state;
-    let notices = match core.clear(channel) {
+    let mut notices = match core.clear(channel) {
         Ok(notices) => notices,
         Err(refusal) => return Answer::Refused(refusal),
     };
-    Answer::Notices(fill_all(own.board(), seat, tickets, notices))
+    fill_all(board, seat, tickets, &mut notices);
+    Answer::Notices(notices)
 }
 
 // Hands the completions of an end over.
-fn settle(board: &Board, seat: &mut CoreSeat, tickets: &Vec<Ticket>, closing: Closing) -> Ended
+fn settle(board: &Board, seat: &mut CoreSeat, tickets: &Vec<Ticket>, closing: Closing) -> Closing
     requires board { seat.old.board ≡ board.now }
     requires due { Fillable tickets.now.items seat.old (completions closing.notices) }
-    requires first { AreFirst
-        closing.notices
-        (completions closing.notices)
-        (others closing.notices) }
     ensures fills { FillsAll tickets.now.items seat.old (completions closing.notices) seat.new }
     ensures ended { result ≡ record closing { notices = others closing.notices } }
     ensures board { seat.new.board ≡ board.now }
 {
-    let Closing { why, notices, left } = closing;
-    let told = fill_all(board, seat, tickets, notices);
-    Ended { why, told, left }
+    let mut ended = closing;
+    fill_all(board, seat, tickets, &mut ended.notices);
+    ended
 }

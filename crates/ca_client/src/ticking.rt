@@ -1,16 +1,17 @@
-ghost use Rattle.std.specs.Prelude.{◌≡◌, []};
+ghost use Rattle.std.specs.Prelude.{◌≡◌};
+ghost use Rattle.ca_client_core.specs.Notices.{completions};
 ghost use Rattle.ca_client_core.specs.Ticked.{lefts_of, notices_of};
-ghost use Rattle.ca_client.specs.Awaited.{Fillable, FillsAll, completions};
+ghost use Rattle.ca_client.specs.Awaited.{Fillable, FillsAll, others};
 ghost use Rattle.ca_client.specs.Calls.{HasSteppedUnderLock};
 ghost use Rattle.ca_client.specs.declared.ask.Ask.TheVariants as ask;
 
 use crate::answer::Answer;
-use crate::filling::parts;
+use crate::filling::fill_all;
 use crate::state::ClientState;
 use ca_board::{Board, CoreSeat, Ticket};
-use ca_client_core::{Left, Notices, Ticked};
+use ca_client_core::{Left, Ticked};
 
-// The core is told the time: the tickets of the requests that end with circuits are filled, and notices of lost channels are dropped.
+// The core is told the time: the tickets of the requests that end with circuits are filled.
 pub(crate) fn tick(state: &mut ClientState, now: u64) -> Answer
     ensures { HasSteppedUnderLock state.old (ask.Tick now) result state.new }
 {
@@ -18,7 +19,7 @@ pub(crate) fn tick(state: &mut ClientState, now: u64) -> Answer
         core,
         seat,
         tickets,
-        own,
+        board,
     } = state;
     let ticked = match core.tick(now) {
         Ok(ticked) => ticked,
@@ -28,15 +29,15 @@ pub(crate) fn tick(state: &mut ClientState, now: u64) -> Answer
         datagrams,
         mut closings,
     } = ticked;
-    drain_all(own.board(), seat, tickets, &mut closings);
+    fill_each(board, seat, tickets, &mut closings);
     Answer::Ticked(Ticked {
         datagrams,
         closings,
     })
 }
 
-// Fills the ticket of each completion, in order, and leaves no notice.
-fn drain_all(board: &Board, seat: &mut CoreSeat, tickets: &Vec<Ticket>, closings: &mut Vec<Left>)
+// Fills the ticket of each completion of these ends, in order, and leaves the other notices.
+fn fill_each(board: &Board, seat: &mut CoreSeat, tickets: &Vec<Ticket>, closings: &mut Vec<Left>)
     requires board { seat.old.board ≡ board.now }
     requires due { Fillable
         tickets.now.items
@@ -47,27 +48,11 @@ fn drain_all(board: &Board, seat: &mut CoreSeat, tickets: &Vec<Ticket>, closings
         seat.old
         (completions (notices_of closings.old.items))
         seat.new }
-    ensures none { notices_of closings.new.items ≡ [] }
+    ensures others { notices_of closings.new.items ≡ others (notices_of closings.old.items) }
     ensures lefts { lefts_of closings.new.items ≡ lefts_of closings.old.items }
     ensures board { seat.new.board ≡ board.now }
 {
     for index in 0..closings.len() {
-        drain(board, seat, tickets, &mut closings[index].notices);
-    }
-}
-
-// The same for one end.
-fn drain(board: &Board, seat: &mut CoreSeat, tickets: &Vec<Ticket>, notices: &mut Notices)
-    requires board { seat.old.board ≡ board.now }
-    requires due { Fillable tickets.now.items seat.old (completions notices.old) }
-    ensures fills { FillsAll tickets.now.items seat.old (completions notices.old) seat.new }
-    ensures none { notices.new ≡ [] }
-    ensures board { seat.new.board ≡ board.now }
-{
-    while let Some(notice) = notices.next() {
-        let Ok((request, outcome)) = parts(notice) else {
-            continue;
-        };
-        board.fill(seat, tickets[usize::from(request.index)], outcome);
+        fill_all(board, seat, tickets, &mut closings[index].notices);
     }
 }

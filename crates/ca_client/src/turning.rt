@@ -6,11 +6,11 @@ ghost use Rattle.ca_model.specs.ClientEnds.{ClientGives, handed_over};
 ghost use Rattle.ca_client.specs.Turning.{Tries};
 ghost use Rattle.ca_client.specs.Turns.{Turns, with_core};
 
-use crate::answer::Ended;
 use crate::socket::{Moved, Socket};
 use crate::state::ClientState;
 use crate::stepping::cut;
 use ca_arena::Handle;
+use ca_client_core::Closing;
 use ca_text::Refusal;
 
 /// How often a socket is called in one turn.
@@ -24,16 +24,16 @@ enum Turned {
     // Nothing is to be read yet, after what waited was written as far as that could be.
     Idle,
     // The circuit was cut.
-    Cut(Ended),
+    Cut(Closing),
 }
 
 /// Moves bytes between a circuit and its socket, by at most 16 reads and writes. A fault of the socket cuts the circuit, and so do bytes
-/// for which there is no memory.
+/// for which there is no memory: then it answers as a step with `Ask::Cut`.
 pub fn turn_over<S: Socket>(
     state: &mut ClientState,
     circuit: Handle,
     socket: &mut S,
-) -> Option<Ended>
+) -> Option<Closing>
     requires { S.fault_count socket.old < 2 ^ 63 }
     ensures { Turns
         S.fault_count
@@ -51,7 +51,7 @@ pub fn turn_over<S: Socket>(
         match once(state, circuit, socket, call % 2 == 0) {
             Turned::GoesOn => {}
             Turned::Idle => return None,
-            Turned::Cut(ended) => return Some(ended),
+            Turned::Cut(closing) => return Some(closing),
         }
     }
     None

@@ -1,6 +1,6 @@
 use crate::addresses::{from_system, to_system};
 use crate::lead::{TURN, wait_at};
-use crate::links::{Brought, Heard, Link, Tries, close_all, connect, forget};
+use crate::links::{Brought, Heard, Tries, close_all, connect, forget, keep};
 use crate::listener::{Ears, Listener};
 use crate::shared::{Locked, Place, Shared};
 use ca_client::{Answer, Ask, ClientState, step_under_lock};
@@ -216,7 +216,7 @@ fn turn<N: Net, L: Listener>(
     ears.follow(&mut locked.changes);
     let brought = locked.serve();
     let hears = hear(&mut locked.state, datagrams, now);
-    let ended = tick(&mut locked.state, datagrams, &mut locked.links, now);
+    let ended = tick(locked, datagrams, now);
     connect(
         net,
         &mut locked.state,
@@ -248,9 +248,13 @@ fn hear(state: &mut ClientState, datagrams: &UdpSocket, now: u64) -> bool {
     true
 }
 
-// A moment: its searches are sent, and circuits that were silent too long are let go. It says whether there were any.
-fn tick(state: &mut ClientState, datagrams: &UdpSocket, links: &mut Vec<Link>, now: u64) -> bool {
-    let Answer::Ticked(ticked) = step_under_lock(state, Ask::Tick(now)) else {
+// A moment: its searches are sent, and circuits that were silent too long are let go, as those that were cut. It says whether there were any.
+fn tick<L: Listener>(locked: &mut Locked<L>, datagrams: &UdpSocket, now: u64) -> bool {
+    // No moment is told without room for what it tells.
+    if locked.told.reserve(locked.links.len()).is_err() {
+        return false;
+    }
+    let Answer::Ticked(ticked) = step_under_lock(&mut locked.state, Ask::Tick(now)) else {
         return false;
     };
     let Ticked {
@@ -263,10 +267,14 @@ fn tick(state: &mut ClientState, datagrams: &UdpSocket, links: &mut Vec<Link>, n
             to_system(searches[index].to),
         );
     }
-    for index in 0..closings.len() {
-        forget(links, closings[index].circuit);
+    let any = !closings.is_empty();
+    for left in closings {
+        forget(&mut locked.links, left.circuit);
+        if locked.told.reserve(1).is_ok() {
+            keep(&mut locked.told, left.notices);
+        }
     }
-    !closings.is_empty()
+    any
 }
 
 // Tells the listeners, in order.

@@ -4,9 +4,9 @@ ghost use Rattle.std.specs.Vec.{vec_capacity, vec_len};
 use crate::addresses::to_system;
 use ca_arena::Handle;
 use ca_client::{
-    Answer, Ask, ClientState, Moved, Socket, Told, Wire, step_all, step_under_lock, turn_over,
+    Answer, Ask, ClientState, Moved, Socket, Wire, step_all, step_under_lock, turn_over,
 };
-use ca_client_core::{Notice, WantedCircuit};
+use ca_client_core::{Notice, Notices, WantedCircuit};
 use mio::net::TcpStream;
 use mio::{Interest, Registry, Token};
 use std::alloc::{AllocError, Global};
@@ -184,11 +184,11 @@ fn reach<R: Net>(rt: &R, registry: &Registry, wanted: WantedCircuit) -> Option<L
 #[derive(Drop)]
 pub(crate) struct Heard {
     pub(crate) first: Notice,
-    pub(crate) rest: Told,
+    pub(crate) rest: Notices,
 }
 
 // Keeps the notices for the listeners. There are none if a message completed requests alone.
-fn keep(told: &mut Vec<Heard>, notices: Told)
+pub(crate) fn keep(told: &mut Vec<Heard>, notices: Notices)
     requires { vec_len told.old < vec_capacity told.old }
 {
     let mut rest = notices;
@@ -334,8 +334,8 @@ fn send_one(state: &mut ClientState, link: &mut Link, told: &mut Vec<Heard>) -> 
         return Served::behind();
     }
     link.wire.drained = true;
-    if let Some(ended) = turn_over(state, link.circuit, &mut link.wire) {
-        keep(told, ended.told);
+    if let Some(closing) = turn_over(state, link.circuit, &mut link.wire) {
+        keep(told, closing.notices);
         return Served::Over;
     }
     if link.wire.behind {
@@ -351,15 +351,15 @@ fn serve_one(state: &mut ClientState, link: &mut Link, told: &mut Vec<Heard>) ->
         return Served::On(Brought::nothing());
     }
     if link.wire.faults() >= MOST_FAULTS {
-        if let Answer::Closed(ended) = step_under_lock(state, Ask::Cut(link.circuit)) {
-            keep(told, ended.told);
+        if let Answer::Closed(closing) = step_under_lock(state, Ask::Cut(link.circuit)) {
+            keep(told, closing.notices);
         }
         return Served::Over;
     }
     link.wire.drained = false;
     link.wire.came = false;
-    if let Some(ended) = turn_over(state, link.circuit, &mut link.wire) {
-        keep(told, ended.told);
+    if let Some(closing) = turn_over(state, link.circuit, &mut link.wire) {
+        keep(told, closing.notices);
         return Served::Over;
     }
     match handle_all(state, link.circuit, told) {
@@ -398,8 +398,8 @@ fn handle_all(state: &mut ClientState, circuit: Handle, told: &mut Vec<Heard>) -
                 brought.news = true;
             }
             Answer::Filled => break,
-            Answer::Closed(ended) => {
-                keep(told, ended.told);
+            Answer::Closed(closing) => {
+                keep(told, closing.notices);
                 return Served::Over;
             }
             _ => return Served::On(brought),

@@ -19,6 +19,7 @@ mod Replied
 mod Firsts
 pub mod Cleared
 pub mod Listing
+pub mod Completing
 pub mod Finds
 pub mod Arriving
 pub mod Datagrams

@@ -22,8 +22,8 @@ impl ClientCore {
             from,
             message,
         )?;
-        if let Some(found) = found {
-            pause_found(&mut self.searches, found.channel);
+        if let Some(channel) = found {
+            pause_found(&mut self.searches, channel);
         }
         Ok(())
     }

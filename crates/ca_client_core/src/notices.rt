@@ -1,5 +1,5 @@
 ghost use Rattle.std.specs.Prelude.{◌≡◌, [], None, Some};
-ghost use Rattle.ca_client_core.specs.Notices.{TakesNotice, told_by};
+ghost use Rattle.ca_client_core.specs.Notices.{Parts, TakesCompletion, TakesNotice, told_by};
 ghost use Rattle.ca_model.specs.Answers as notice;
 
 use crate::notice::Notice;
@@ -76,5 +76,42 @@ impl Notices {
             return Some(Notice::Lost(channel));
         }
         self.last.take()
+    }
+
+    /// Takes the first request that is complete, with its outcome. The other notices stay.
+    pub fn next_completed(&mut self) -> Option<(Handle, Outcome)>
+        ensures { TakesCompletion self.old result self.new }
+    {
+        let told = self.disconnected_told;
+        if told < self.disconnected.len() {
+            self.disconnected_told = told + 1;
+            return Some((self.disconnected[told], Outcome::Disconnected));
+        }
+        let Some(last) = self.last.take() else {
+            return None;
+        };
+        match parts(last) {
+            Ok(completion) => Some(completion),
+            Err(other) => {
+                self.last.insert(other);
+                None
+            }
+        }
+    }
+}
+
+// The request that a notice completes, with its outcome; or the notice.
+fn parts(notice: Notice) -> Result<(Handle, Outcome), Notice>
+    ensures { Parts notice result }
+{
+    match notice {
+        Notice::Completed(request, outcome) => Ok((request, outcome)),
+        Notice::Live(channel) => Err(Notice::Live(channel)),
+        Notice::Lost(channel) => Err(Notice::Lost(channel)),
+        Notice::Update(subscription, outcome) => Err(Notice::Update(subscription, outcome)),
+        Notice::SubscriptionEnded(subscription, status) => {
+            Err(Notice::SubscriptionEnded(subscription, status))
+        }
+        Notice::WriteRefused(channel, status) => Err(Notice::WriteRefused(channel, status)),
     }
 }

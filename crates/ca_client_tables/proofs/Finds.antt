@@ -19,7 +19,7 @@ use Rattle.ca_model.specs.Ends.{Address}
 use Rattle.ca_model.specs.Hears.{Effect, Finds, found_at, with_circuit}
 use Rattle.ca_model.proofs.Standings.{searched-is}
 use Rattle.ca_client_tables.specs.Ends.{with_message, cut_in, left_at, queued}
-use Rattle.ca_client_tables.specs.Finding.{CreatesIn, FindsIn, FindsOne, Halfway, HasFound, TakesSome, Tables, WantsNew, circuit_in, found_undone, opened, paused_for, searched_in, stood, tables_of, undone, unopened, with_tables}
+use Rattle.ca_client_tables.specs.Finding.{CreatesIn, FindsIn, FindsOne, Halfway, HasFound, TakesSome, Tables, WantsNew, channel_of, circuit_in, found_undone, opened, paused_for, searched_in, stood, tables_of, undone, unopened, with_tables}
 use Rattle.ca_client_tables.specs.Opening.{AreOpening}
 use Rattle.ca_client_tables.specs.declared.finding.Found.{Found}
 use Rattle.ca_client_tables.specs.declared.finding.How.{How}
@@ -100,10 +100,10 @@ found-waiting old from m h here c u is to stands =
       λ x at.
           (let all = subst (λ (t : Tables). (Some (h, here) ≡ searched_in m.p2 t.channels) × (Some (c, false) ≡ circuit_in (found_at from m) here.priority t.circuits) × (u ≡ stood (On c Connecting) h t.channels)) (sym at) (is, to, stands) in
           let new : Tables = record { channels = u; circuits = x.circuits; order = x.order } in
-          let y : Client = paused_for (Some f) (with_tables new x) in
-          let left : y ≡ found_on c Connecting h x = ap (λ (t : Table Channel). paused_for (Some f) (record x { channels = t })) all.2 in
+          let y : Client = paused_for (Some f.channel) (with_tables new x) in
+          let left : y ≡ found_on c Connecting h x = ap (λ (t : Table Channel). paused_for (Some f.channel) (record x { channels = t })) all.2 in
           let r = finds-waiting x from m h here c y all.0 all.1 left in
-          (r.0, r.1, r.2, sym r.3 ∙ ap (λ (t : Tables). paused_for (Some f) (with_tables (record t { channels = u }) x)) at)),
+          (r.0, r.1, r.2, sym r.3 ∙ ap (λ (t : Tables). paused_for (Some f.channel) (with_tables (record t { channels = u }) x)) at)),
       ap (λ (t : Table Channel). let z : Halfway = record old { channels = stood Searching h t } in z) stands
           ∙ ap (λ (t : Table Channel). let z : Halfway = record old { channels = t } in z) (stood-back old.channels h here (On c Connecting) found.0 found.1),
       inl refl,
@@ -123,9 +123,9 @@ found-new old new from m h here (Ok (Some f)) is to (may, named, way, left) =
     let longer : new.order ≢ old.order = λ same. one-longer old.order c (ap (λ (t : Halfway). t.order) (sym left) ∙ same) in (
       λ x at.
           (let all = subst (λ (t : Tables). (Some (h, here) ≡ searched_in m.p2 t.channels) × (None ≡ circuit_in a here.priority t.circuits) × MayGive t.circuits c × (opened new ≡ wanted t h)) (sym at) (is, to, may, whole) in
-          let y : Client = paused_for (Some f) (with_tables (opened new) x) in
+          let y : Client = paused_for (Some f.channel) (with_tables (opened new) x) in
           let same : y ≡ found_on c Connecting h (with_circuit c d x) =
-          ap (λ (t : Tables). paused_for (Some f) (with_tables t x)) all.3
+          ap (λ (t : Tables). paused_for (Some f.channel) (with_tables t x)) all.3
           ∙ ap (λ (k : Handle). let z : Client = record (with_tables (wanted (tables_of x) h) x) { searches = with_one paused (wire_of k) x.searches } in z) named in
           let r = finds-new x from m h here c y all.0 all.1 all.2 same in
           (r.0, r.1, r.2, sym r.3)),
@@ -166,12 +166,12 @@ found-created old from m h here c k (Ok o) u w opening is to says (way, stands, 
       subst (λ (p : Option Found). FindsOne old from m (Ok p) (record { channels = u; circuits = w; opening = old.opening; order = old.order })) (sym way) (
         λ x at.
             (let all = subst (λ (t : Tables). (Some (h, here) ≡ searched_in m.p2 t.channels) × (Some (c, true) ≡ circuit_in (found_at from m) here.priority t.circuits) × (u ≡ stood (On c (Creating 0)) h t.channels) × (v ≡ with_changed (queued k) c t.circuits)) (sym at) (is, to, stands, whole) in
-            let y : Client = paused_for (Some f) (with_tables (record { channels = u; circuits = v; order = x.order }) x) in
+            let y : Client = paused_for (Some f.channel) (with_tables (record { channels = u; circuits = v; order = x.order }) x) in
             let left : y ≡ with_message c k (found_on c (Creating 0) h x) =
-            ap (λ (t : Table Channel). paused_for (Some f) (with_tables (record { channels = t; circuits = v; order = x.order }) x)) all.2
-            ∙ ap (λ (t : Table ClientCircuit). paused_for (Some f) (with_tables (record { channels = stood (On c (Creating 0)) h x.channels; circuits = t; order = x.order }) x)) all.3 in
+            ap (λ (t : Table Channel). paused_for (Some f.channel) (with_tables (record { channels = t; circuits = v; order = x.order }) x)) all.2
+            ∙ ap (λ (t : Table ClientCircuit). paused_for (Some f.channel) (with_tables (record { channels = stood (On c (Creating 0)) h x.channels; circuits = t; order = x.order }) x)) all.3 in
             let r = finds-connected x from m h here c k y all.0 all.1 says left in
-            (r.0, r.1, r.2, sym r.3 ∙ ap (λ (t : Tables). paused_for (Some f) (with_tables (record { channels = u; circuits = v; order = t.order }) x)) at)),
+            (r.0, r.1, r.2, sym r.3 ∙ ap (λ (t : Tables). paused_for (Some f.channel) (with_tables (record { channels = u; circuits = v; order = t.order }) x)) at)),
         ap (λ (t : Table Channel). let z : Halfway = record { channels = stood Searching h t; circuits = with_changed (cut_in (length (left_at old.circuits c))) c w; opening = old.opening; order = old.order } in z) stands
             ∙ ap (λ (t : Table ClientCircuit). let z : Halfway = record { channels = stood Searching h (stood (On c (Creating 0)) h old.channels); circuits = with_changed (cut_in (length (left_at old.circuits c))) c t; opening = old.opening; order = old.order } in z) queues
             ∙ ap (λ (t : Table Channel). let z : Halfway = record { channels = t; circuits = with_changed (cut_in (length (left_at old.circuits c))) c (with_changed (queued k) c old.circuits); opening = old.opening; order = old.order } in z) (stood-back old.channels h here (On c (Creating 0)) found.0 found.1)
@@ -213,16 +213,17 @@ abbrev pub started : Tables → Halfway
 started t = record { channels = t.channels; circuits = t.circuits; opening = []; order = t.order }
 
 -- there was no memory for it
-pub found-none : (old : Tables) (mid : Halfway) (from : Address) (m : Fields) (e : AllocError) (r : Result (Option Found) AllocError) → FindsOne (started old) from m (Err e) mid → IsErr r → FindsIn old from m r (unopened mid)
+pub found-none : (old : Tables) (mid : Halfway) (from : Address) (m : Fields) (e : AllocError) (r : Result (Option Handle) AllocError) → FindsOne (started old) from m (Err e) mid → IsErr r → FindsIn old from m r (unopened mid)
 found-none old mid from m e (Ok o) did err =
     let bad : false ≡ true = err in
     absurd cc
 found-none old mid from m e (Err f) did err = (ap unopened did.0, did.1 refl)
 
 -- its circuit was opened
-pub found-opened : (old : Tables) (mid : Halfway) (from : Address) (m : Fields) (found : Option Found) (values : Vec (Handle × ClientCircuit) Global) (t : Table ClientCircuit) (u : Unit {0}) → FindsOne (started old) from m (Ok found) mid → values.items ≡ mid.opening → FillsAll mid.circuits values (Ok u) t → FindsIn old from m (Ok found) (record { channels = mid.channels; circuits = t; order = mid.order })
-found-opened old mid from m found values t u did are fills =
-    subst (λ (w : Table ClientCircuit). HasFound old from m found (record { channels = mid.channels; circuits = w; order = mid.order })) (sym (fills.1 ∙ ap (λ (es : List (Handle × ClientCircuit)). with_all_held es mid.circuits) are)) did.0
+pub found-opened : (old : Tables) (mid : Halfway) (from : Address) (m : Fields) (found : Option Found) (o : Option Handle) (values : Vec (Handle × ClientCircuit) Global) (t : Table ClientCircuit) (u : Unit {0}) → FindsOne (started old) from m (Ok found) mid → channel_of found ≡ o → values.items ≡ mid.opening → FillsAll mid.circuits values (Ok u) t → FindsIn old from m (Ok o) (record { channels = mid.channels; circuits = t; order = mid.order })
+found-opened old mid from m found o values t u did is are fills =
+    subst (λ (p : Option Handle). HasFound old from m p (record { channels = mid.channels; circuits = t; order = mid.order })) is
+    (subst (λ (w : Table ClientCircuit). HasFound old from m (channel_of found) (record { channels = mid.channels; circuits = w; order = mid.order })) (sym (fills.1 ∙ ap (λ (es : List (Handle × ClientCircuit)). with_all_held es mid.circuits) are)) did.0)
 
 -- or not
 pub found-refused : (old new : Tables) (mid : Halfway) (from : Address) (m : Fields) (found : Option Found) (values back : Vec (Handle × ClientCircuit) Global) (t : Table ClientCircuit) → FindsOne (started old) from m (Ok found) mid → values.items ≡ mid.opening → FillsAll mid.circuits values (Err back) t → new ≡ unopened (undone found (record { channels = mid.channels; circuits = t; opening = back.items; order = mid.order })) → (new ≡ old) × TakesSome old from m
@@ -236,10 +237,10 @@ found-refused old new mid from m found values back t did are fills is =
           elim did.2 [
             | inl none ↦ absurd (some none)
             | inr other ↦
-                (r.0, r.1, inr (inr (λ same. other (sym (in-order found x) ∙ ap (λ (y : Client). y.order) (sym r.3) ∙ same ∙ ap (λ (z : Tables). z.order) at))))
+                (r.0, r.1, inr (inr (λ same. other (sym (in-order (channel_of found) x) ∙ ap (λ (y : Client). y.order) (sym r.3) ∙ same ∙ ap (λ (z : Tables). z.order) at))))
           ]),
     )
   where
-    in-order : (o : Option Found) (x : Client) → (paused_for o (with_tables (opened mid) x)).order ≡ mid.order
+    in-order : (o : Option Handle) (x : Client) → (paused_for o (with_tables (opened mid) x)).order ≡ mid.order
     in-order None x = refl
-    in-order (Some f) x = refl
+    in-order (Some h) x = refl

@@ -77,9 +77,14 @@ abbrev pub stood : Standing → Handle → Table Channel → Table Channel
 stood s h t = with_changed (λ (here : Channel). record here { standing = s }) h t
 
 -- the client that searches no more for a channel that was found
-abbrev pub paused_for : Option Found → Client → Client
+abbrev pub paused_for : Option Handle → Client → Client
 paused_for None x = x
-paused_for (Some f) x = record x { searches = with_one paused (wire_of f.channel) x.searches }
+paused_for (Some h) x = record x { searches = with_one paused (wire_of h) x.searches }
+
+-- the channel that was found
+abbrev pub channel_of : Option Found → Option Handle
+channel_of None = None
+channel_of (Some f) = Some f.channel
 
 -- the circuits, those to be opened and their order as before a channel was found on one
 abbrev pub circuits_undone : How → Handle → Table ClientCircuit → Table ClientCircuit
@@ -110,7 +115,7 @@ abbrev pub unopened : Halfway → Tables
 unopened t = record { channels = t.channels; circuits = t.circuits; order = t.order }
 
 -- A search reply that came from this address had its effect, but that this channel is searched for still.
-abbrev pub HasFound : Tables → Address → Fields → Option Found → Tables → Type 0
+abbrev pub HasFound : Tables → Address → Fields → Option Handle → Tables → Type 0
 HasFound old from m found new =
     (x : Client) → tables_of x ≡ old
     → (e : Effect) × Finds x from m e × (e.notices ≡ []) × (e.core ≡ paused_for found (with_tables new x))
@@ -120,14 +125,14 @@ abbrev pub TakesSome : Tables → Address → Fields → Type 0
 TakesSome old from m = (x : Client) → tables_of x ≡ old → (e : Effect) × Finds x from m e × DoesSome x e
 
 -- It had its effect; or there was no memory for it, which changed nothing.
-abbrev pub FindsIn : Tables → Address → Fields → Result (Option Found) AllocError → Tables → Type 0
+abbrev pub FindsIn : Tables → Address → Fields → Result (Option Handle) AllocError → Tables → Type 0
 FindsIn old from m (Ok found) new = HasFound old from m found new
 FindsIn old from m (Err _) new = (new ≡ old) × TakesSome old from m
 
 -- It had once the circuits are opened, and can be undone; or there was no memory for it, which changed nothing.
 abbrev pub FindsOne : Halfway → Address → Fields → Result (Option Found) AllocError → Halfway → Type 0
 FindsOne old from m (Ok found) new =
-    HasFound (opened old) from m found (opened new)
+    HasFound (opened old) from m (channel_of found) (opened new)
     × (undone found new ≡ old)
     × ((new.opening ≡ old.opening) ⊎ (new.order ≢ old.order))
 FindsOne old from m (Err _) new = (new ≡ old) × (old.opening ≡ [] → TakesSome (opened old) from m)

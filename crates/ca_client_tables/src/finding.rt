@@ -49,8 +49,8 @@ pub enum How {
     Wanted,
 }
 
-/// A reply to a SEARCH came from this address: a channel that is searched for is put on the circuit to its server, and its searches are
-/// still to be paused. Without memory nothing changes.
+/// A reply to a SEARCH came from this address: a channel that is searched for is put on the circuit to its server. It is named, since its searches
+/// are still to be paused. Without memory nothing changes.
 pub fn find(
     alloc: Global,
     channels: &mut Channels,
@@ -58,7 +58,7 @@ pub fn find(
     order: &mut Vec<Handle>,
     from: Address,
     message: &Message,
-) -> Result<Option<Found>, AllocError>
+) -> Result<Option<Handle>, AllocError>
     ensures { FindsIn
         (record { channels = channels.old; circuits = circuits.old; order = order.old.items })
         from
@@ -77,7 +77,10 @@ pub fn find(
         message,
     )?;
     match circuits.open_all(opening) {
-        Ok(()) => Ok(found),
+        Ok(()) => match found {
+            Some(found) => Ok(Some(found.channel)),
+            None => Ok(None),
+        },
         Err(opening) => {
             lose_found(channels, circuits, opening, order, found);
             Err(AllocError)

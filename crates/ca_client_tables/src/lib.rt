@@ -46,7 +46,7 @@ pub use clearing::is_used;
 pub use connecting::{connect, new_connection};
 pub use ending::{bring_back, resume};
 pub use ends::Address;
-pub use finding::{Found, How, find, pause_found};
+pub use finding::{find, pause_found};
 pub use first::First;
 pub use foreseeing::find_after;
 pub use foretelling::{Creation, creation_by};

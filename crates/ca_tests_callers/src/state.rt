@@ -1,15 +1,17 @@
 //! What lies under a client's lock, with a socket in memory. Requests that the core refuses use up no cells of the board, and neither do requests that
-//! complete; a full board refuses a request before the core does; and a socket that fails at any of its calls completes each open request with Disconnected,
-//! once.
+//! complete; a full board refuses a request before the core does; a socket that fails at any of its calls completes each open request with Disconnected,
+//! once; and so does a circuit that falls silent, whose channel is told as lost.
 
 mod circuit;
 mod faults;
 pub(crate) mod growths;
 mod requests;
+mod silence;
 
 use crate::state::circuit::{live, memory, turn};
 use crate::state::faults::{lost, lost_at};
 use crate::state::requests::{Requests, accepted, answered, make_requests, refused_as};
+use crate::state::silence::silenced;
 use crate::tell;
 use ca_board::Ticket;
 use ca_client::{Caller, ClientState};
@@ -35,7 +37,10 @@ fn show_all<W: Write>(alloc: Global, state: &mut ClientState, out: &mut W) -> Re
     let requests = make_requests(alloc, channel)?;
     let mut caller = state.caller()?;
     show_cells(alloc, state, &mut caller, &requests, out)?;
-    show_faults(alloc, state, &mut caller, &requests, out)
+    show_faults(alloc, state, &mut caller, &requests, out)?;
+    let (ended, channels) = silenced(alloc, state, &mut caller, &requests, channel)?;
+    say(out, "lost to a silence", ended)?;
+    say(out, "channels told as lost", channels)
 }
 
 /// More requests than the board has cells complete, and more are refused by the core; then all cells can be in use, and the board refuses.

@@ -46,7 +46,8 @@ fn made_until_cut(
     Ok(tickets)
 }
 
-fn make_both(
+/// A read and a put.
+pub(crate) fn make_both(
     state: &mut ClientState,
     requests: &Requests,
     tickets: &mut Vec<Ticket>,

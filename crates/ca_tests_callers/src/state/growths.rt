@@ -6,10 +6,9 @@ use crate::state::new_state;
 use crate::state::requests::{MANY, Requests, done_reply, is_done, make_requests};
 use ca_arena::Handle;
 use ca_client::{
-    Answer, Ask, Caller, ClientState, Request, Tape, Told, issue_under_lock, step_under_lock,
-    turn_over,
+    Answer, Ask, Caller, ClientState, Request, Tape, issue_under_lock, step_under_lock, turn_over,
 };
-use ca_client_core::Notice;
+use ca_client_core::{Notice, Notices};
 use ca_dbr::{Outcome, Value};
 use ca_text::{BOARD_CELLS, Mask, Refusal};
 use std::alloc::Global;
@@ -167,7 +166,7 @@ impl Course {
         goes_on
     }
 
-    fn hear(&mut self, told: Told) {
+    fn hear(&mut self, told: Notices) {
         let mut left = told;
         while let Some(notice) = left.next() {
             match notice {

@@ -1,25 +1,34 @@
-use Rattle.std.proofs.Common.{sym, ◌∙◌, subst, List}
+use Rattle.std.proofs.Common.{List, ◌<◌, arith, length}
 use Rattle.ca_board.specs.declared.ticket.Ticket.{Ticket}
-use Rattle.ca_board.specs.Views.{IsDue}
-use Rattle.ca_client_core.specs.Notices.{notice_of}
-use Rattle.ca_client.specs.Awaited.{Fillable}
-use Rattle.ca_client.proofs.Filled.{last-fills, last-others, taken}
-use Rattle.ca_client.proofs.Tickets.{ticket_at}
+use Rattle.ca_client_core.specs.Notices.{Completion, completions}
+use Rattle.ca_client.proofs.Filled.{fewer, filling-due, filling-end, filling-next}
 use Rattle.ca_client.proofs.filling.fill_all.Goals as goal
 
-pub fill-requires-clause-due : goal.fill-requires-clause-due
-fill-requires-clause-due c =
+pub fill_one-requires-clause-due : goal.fill_one-requires-clause-due
+fill_one-requires-clause-due c =
+    let l = c.loop-request in
     let ts : List Ticket = c.args.tickets.now.items in
-    let d = subst (Fillable ts c.loop-notice.seat) (taken c.loop-notice.notices c.next.new.self (notice_of c.in-Some.notice) (c.in-Ok.request, c.in-Ok.outcome) c.in-Some.ensures c.in-Ok.ensures) c.loop-notice.invariant.filling.due in
-    let read = rw c.from.ensures at c.index.ensures in
-    subst (λ (t : Ticket). IsDue c.loop-notice.seat t) (sym (ticket_at ts c.in-Ok.request.index c.index.result.now d.0 read)) d.1
+    let one : Completion = (c.in-Some.request, c.in-Some.outcome) in
+    filling-due ts c.args.seat.now l.seat c.args.notices.now l.notices c.next_completed.new.self l.invariant.filling one c.in-Some.ensures
 
-pub returns-in-Err-clause-fills : goal.returns-in-Err-clause-fills
-returns-in-Err-clause-fills c =
-    c.loop-notice.invariant.filling.fills c.loop-notice.seat
-    (last-fills c.args.tickets.now.items c.loop-notice.seat c.loop-notice.notices c.next.new.self c.in-Err.other c.in-Some.notice c.in-Some.ensures c.in-Err.ensures c.loop-notice.invariant.filling.first)
+pub loop-request-smaller : goal.loop-request-smaller
+loop-request-smaller c =
+    let one : Completion = (c.in-Some.request, c.in-Some.outcome) in
+    let e = fewer c.loop-request.notices c.next_completed.new.self one c.in-Some.ensures in
+    let less : length (completions c.next_completed.new.self) < length (completions c.loop-request.notices) = omega (arith, e) in
+    less
 
-pub returns-in-Err-clause-others : goal.returns-in-Err-clause-others
-returns-in-Err-clause-others c =
-    last-others c.loop-notice.notices c.next.new.self c.in-Err.other c.in-Some.notice c.in-Some.ensures c.in-Err.ensures c.loop-notice.invariant.filling.first
-    ∙ c.loop-notice.invariant.filling.others
+pub loop-request-preserved : goal.loop-request-preserved
+loop-request-preserved c =
+    let l = c.loop-request in
+    let ts : List Ticket = c.args.tickets.now.items in
+    let one : Completion = (c.in-Some.request, c.in-Some.outcome) in
+    record {
+      filling = filling-next ts c.args.seat.now l.seat c.args.notices.now l.notices c.next_completed.new.self l.invariant.filling c.fill_one.new.seat one c.in-Some.ensures c.fill_one.ensures.fills;
+      same = c.fill_one.ensures.board;
+    }
+
+pub returns-clause-others : goal.returns-clause-others
+returns-clause-others c =
+    let l = c.loop-request in
+    (filling-end c.args.tickets.now.items c.args.seat.now l.seat c.args.notices.now l.notices c.next_completed.new.self l.invariant.filling c.in_default.ensures).1

@@ -1,19 +1,15 @@
 use Rattle.std.proofs.Common.{◌∙◌}
+use Rattle.std.specs.Arc.{arc_value}
 use Rattle.ca_model.specs.Ends as why
-use Rattle.ca_client.proofs.Settled.{due-told, first-told, stands-end, state-told}
+use Rattle.ca_client.proofs.Settled.{due-told, stands-end, state-told}
 use Rattle.ca_client.proofs.stepping.close.Goals as goal
 
 pub settle-requires-clause-due : goal.settle-requires-clause-due
 settle-requires-clause-due c =
     let s = c.state.inside in
-    due-told s.core s.seat s.own.board s.tickets.items c.close-closing.result.notices c.close-closing.new.self c.state.invariant (stands-end why.Asked s.core c.args.circuit c.close-closing.result c.close-closing.ensures.0 c.close-closing.new.self c.state.invariant.placed c.state.invariant.listed c.close-closing.ensures.1).told
-
-pub settle-requires-clause-first : goal.settle-requires-clause-first
-settle-requires-clause-first c =
-    let s = c.state.inside in
-    first-told s.core c.close-closing.result.notices c.close-closing.new.self (stands-end why.Asked s.core c.args.circuit c.close-closing.result c.close-closing.ensures.0 c.close-closing.new.self c.state.invariant.placed c.state.invariant.listed c.close-closing.ensures.1).told
+    due-told s.core s.seat (arc_value s.board) s.tickets.items c.close-closing.result.notices c.close-closing.new.self c.state.invariant (stands-end why.Asked s.core c.args.circuit c.close-closing.result c.close-closing.ensures.0 c.close-closing.new.self c.state.invariant.placed c.state.invariant.listed c.close-closing.ensures.1).told
 
 pub invariant_of-state : goal.invariant_of-state
 invariant_of-state c =
     let s = c.state.inside in
-    state-told s.core s.seat s.own.board s.tickets.items c.close-closing.result.notices c.close-closing.new.self c.settle.new.seat c.state.invariant (stands-end why.Asked s.core c.args.circuit c.close-closing.result c.close-closing.ensures.0 c.close-closing.new.self c.state.invariant.placed c.state.invariant.listed c.close-closing.ensures.1) c.settle.ensures.fills (c.settle.ensures.board ∙ c.board.ensures)
+    state-told s.core s.seat (arc_value s.board) s.tickets.items c.close-closing.result.notices c.close-closing.new.self c.settle.new.seat c.state.invariant (stands-end why.Asked s.core c.args.circuit c.close-closing.result c.close-closing.ensures.0 c.close-closing.new.self c.state.invariant.placed c.state.invariant.listed c.close-closing.ensures.1) c.settle.ensures.fills (c.settle.ensures.board ∙ c.deref.ensures)

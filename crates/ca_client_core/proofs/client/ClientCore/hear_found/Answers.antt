@@ -1,9 +1,9 @@
 use Rattle.std.proofs.Common.{List, None, Ok, Option, Some, ap, subst, sym, ℕ}
+use Rattle.ca_arena.specs.declared.handle.Handle.{Handle}
 use Rattle.ca_search.specs.Searches as search
 use Rattle.ca_model.specs.Client.{Client}
 use Rattle.ca_client_tables.specs.Finding.{FindsIn, Tables, tables_of, with_tables}
 use Rattle.ca_client_core.specs.Hearing.{FindsOr}
-use Rattle.ca_client_tables.specs.declared.finding.Found.{Found}
 use Rattle.ca_client_core.proofs.Arriving.{IsSoundWith, sound-found}
 use Rattle.ca_client_core.proofs.Finds.{heard-found, heard-out}
 use Rattle.ca_client_core.proofs.client.ClientCore.hear_found.Goals as goal
@@ -46,10 +46,10 @@ returns-in-Some c =
     } in
     let t : Tables = record { channels = c.find.new.channels; circuits = c.find.new.circuits; order = c.find.new.order.items } in
     let new : Client = record (with_tables t x) { searches = c.pause_found.new.searches.entries } in
-    let did : FindsIn (tables_of x) c.args.from c.args.message.now (Ok (Some c.in-Some.found)) t =
-    subst (λ (o : Option Found). FindsIn (tables_of x) c.args.from c.args.message.now (Ok o) t) c.in-Some.is c.in_ok-found.ensures in
+    let did : FindsIn (tables_of x) c.args.from c.args.message.now (Ok (Some c.in-Some.channel)) t =
+    subst (λ (o : Option Handle). FindsIn (tables_of x) c.args.from c.args.message.now (Ok o) t) c.in-Some.is c.in_ok-found.ensures in
     subst (λ (y : Client). FindsOr y c.args.from c.args.message.now (Ok tt) new) c.self.view_is
-    (heard-found x c.args.from c.args.message.now (Some c.in-Some.found) t new did (ap (λ (es : List (ℕ × search.Channel)). record (with_tables t x) { searches = es }) c.pause_found.ensures))
+    (heard-found x c.args.from c.args.message.now (Some c.in-Some.channel) t new did (ap (λ (es : List (ℕ × search.Channel)). record (with_tables t x) { searches = es }) c.pause_found.ensures))
 
 pub returns-in_default : goal.returns-in_default
 returns-in_default c =
@@ -69,7 +69,7 @@ returns-in_default c =
     } in
     let t : Tables = record { channels = c.find.new.channels; circuits = c.find.new.circuits; order = c.find.new.order.items } in
     let did : FindsIn (tables_of x) c.args.from c.args.message.now (Ok None) t =
-    subst (λ (o : Option Found). FindsIn (tables_of x) c.args.from c.args.message.now (Ok o) t) c.in_default.is c.in_ok-found.ensures in
+    subst (λ (o : Option Handle). FindsIn (tables_of x) c.args.from c.args.message.now (Ok o) t) c.in_default.is c.in_ok-found.ensures in
     subst (λ (y : Client). FindsOr y c.args.from c.args.message.now (Ok tt) (with_tables t x)) c.self.view_is
     (heard-found x c.args.from c.args.message.now None t (with_tables t x) did (λ j. with_tables t x))
 
@@ -91,9 +91,9 @@ invariant_of-self-in-Some c =
     } in
     let t : Tables = record { channels = c.find.new.channels; circuits = c.find.new.circuits; order = c.find.new.order.items } in
     let new : Client = record (with_tables t x) { searches = c.pause_found.new.searches.entries } in
-    let did : FindsIn (tables_of x) c.args.from c.args.message.now (Ok (Some c.in-Some.found)) t =
-    subst (λ (o : Option Found). FindsIn (tables_of x) c.args.from c.args.message.now (Ok o) t) c.in-Some.is c.in_ok-found.ensures in
-    let r = heard-found x c.args.from c.args.message.now (Some c.in-Some.found) t new did (ap (λ (es : List (ℕ × search.Channel)). record (with_tables t x) { searches = es }) c.pause_found.ensures) in
+    let did : FindsIn (tables_of x) c.args.from c.args.message.now (Ok (Some c.in-Some.channel)) t =
+    subst (λ (o : Option Handle). FindsIn (tables_of x) c.args.from c.args.message.now (Ok o) t) c.in-Some.is c.in_ok-found.ensures in
+    let r = heard-found x c.args.from c.args.message.now (Some c.in-Some.channel) t new did (ap (λ (es : List (ℕ × search.Channel)). record (with_tables t x) { searches = es }) c.pause_found.ensures) in
     subst (IsSoundWith i.lives.items) (sym r.3) (sound-found i.lives.items x c.args.from c.args.message.now r.0 r.1 c.self.invariant)
 
 pub invariant_of-self-in_default : goal.invariant_of-self-in_default
@@ -114,6 +114,6 @@ invariant_of-self-in_default c =
     } in
     let t : Tables = record { channels = c.find.new.channels; circuits = c.find.new.circuits; order = c.find.new.order.items } in
     let did : FindsIn (tables_of x) c.args.from c.args.message.now (Ok None) t =
-    subst (λ (o : Option Found). FindsIn (tables_of x) c.args.from c.args.message.now (Ok o) t) c.in_default.is c.in_ok-found.ensures in
+    subst (λ (o : Option Handle). FindsIn (tables_of x) c.args.from c.args.message.now (Ok o) t) c.in_default.is c.in_ok-found.ensures in
     let r = heard-found x c.args.from c.args.message.now None t (with_tables t x) did (λ j. with_tables t x) in
     subst (IsSoundWith i.lives.items) (sym r.3) (sound-found i.lives.items x c.args.from c.args.message.now r.0 r.1 c.self.invariant)
