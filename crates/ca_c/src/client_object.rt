@@ -75,7 +75,8 @@ impl ClientObject {
         count: u32,
         request: &mut u64,
     ) -> i32
-        ensures { DoesRead self.old result self.new channel data_type count request.old request.new }
+        ensures { DoesRead self.old result self.new channel data_type count
+            request.old request.new }
     {
         given(self.core.read(handle(channel), data_type, count), request)
     }
@@ -107,7 +108,8 @@ impl ClientObject {
         image: &[u8],
         request: &mut u64,
     ) -> i32
-        ensures { DoesPut self.old result self.new channel data_type count image.now request.old request.new }
+        ensures { DoesPut self.old result self.new channel data_type count image.now
+            request.old request.new }
     {
         match read_value(alloc, data_type, count, image) {
             Ok((value, _)) => given(self.core.write_notify(handle(channel), &value), request),
@@ -124,7 +126,8 @@ impl ClientObject {
         mask: u16,
         subscription: &mut u64,
     ) -> i32
-        ensures { DoesSubscribe self.old result self.new channel data_type count mask subscription.old subscription.new }
+        ensures { DoesSubscribe self.old result self.new channel data_type count mask
+            subscription.old subscription.new }
     {
         let Some(mask) = Mask::new(mask) else {
             return refused(Refusal::BadEvent);

@@ -37,7 +37,8 @@ pub fn creation_by(
     requires { AreOpening opening.now circuits.now }
     ensures ok { IfOk result (λ o. o
         ≡ creation_by channels.now (with_all_held opening.now circuits.now) from reply.now) }
-    ensures some { OnErr result (creation_by channels.now (with_all_held opening.now circuits.now) from reply.now ≢ None) }
+    ensures some { OnErr result
+        (creation_by channels.now (with_all_held opening.now circuits.now) from reply.now ≢ None) }
 {
     let Some((channel, found)) = searched_by(channels, reply.p2()) else {
         return Ok(None);
