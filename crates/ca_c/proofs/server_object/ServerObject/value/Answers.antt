@@ -14,9 +14,8 @@ returns-in-Err c =
     let r : RecordState = c.in-Some.record.now in
     let of_meta =
     subst (λ (v : Elements). CopiesValue c.args.number v c.meta.result.now (Err e) c.args.size.now c.copied_value.new.size c.args.room.now c.copied_value.new.room) c.value.ensures.value c.in-Err.ensures in
-    let copies = subst (λ (m : Meta). CopiesValue c.args.number r.value m (Err e) c.args.size.now c.copied_value.new.size c.args.room.now c.copied_value.new.room) c.meta.ensures of_meta in
-    (
+    let copies = subst (λ (m : Meta). CopiesValue c.args.number r.value m (Err e) c.args.size.now c.copied_value.new.size c.args.room.now c.copied_value.new.room) c.meta.ensures of_meta in (
       subst (λ (o : Option RecordState). ShowsRecord o c.args.number (to_z w32 (of_z w32 c.refused-in-Err.result)) c.args.count.now c.args.count.now c.args.size.now c.copied_value.new.size c.args.room.now c.copied_value.new.room) c.in-Some.ensures
-      (Err e, (search rules, copies, refl)),
+          (Err e, (search rules, copies, refl)),
       refl,
     )
