@@ -22,23 +22,27 @@ use Rattle.ca_model.proofs.Tables.{freed-back}
 use Rattle.ca_model.specs.ServerEvents.{ending, ends_at, ends_here, logged_by, numbers_after, records_after, reported, withdrawals, without_puts, write_numbers}
 use Rattle.ca_model.specs.World.{Joined, PutPlace, RecordSide, ServerSide, grown}
 use Rattle.ca_laws_parts.proofs.ServerEnds.{next-own, reaches-stays}
+use Rattle.ca_server_circuit.specs.Effects.{effect_due}
+use Rattle.ca_server_circuit.specs.declared.effect.Effect.{Effect}
+use Rattle.ca_server_core.specs.Effects.{TellsEffect, action_at, message_at}
+use Rattle.ca_server_core.specs.declared.stepping.Step.TheVariants as step
 use Rattle.ca_server_core.proofs.Servers.{freed-changed}
 use Rattle.ca_world.proofs.EndsClosed.{ends-closed}
 use Rattle.ca_world.proofs.ServerSteppings.{clears-same, closed-same}
 use Rattle.ca_world.proofs.StepFacts.{alike-wrote}
 use Rattle.ca_world.proofs.StepNumbers.{gone-agree, quits-here, writes-agree}
 use Rattle.ca_world.specs.ServerStepping.{BreaksAt, LacksAs, LacksAt, Quits, RestsAt, StepsAt, circuits_acted, logs_acted, records_acted}
-use Rattle.ca_world.specs.declared.server_step.Counts.{Counts}
+use Rattle.ca_world.specs.declared.server_step.Turn.{Turn}
 use Rattle.ca_world.specs.StepParts.{ClosesWith, IsHandled, MayStep}
 use Rattle.ca_world_data.specs.declared.server.ServerSide.{ServerSide as Side}
 use Rattle.ca_world_data.specs.Numbering.{AllAlike, IsAlike}
 use Rattle.ca_world_data.specs.Seen.{record_of, server_of}
 use Rattle.ca_world_data.specs.ServerCuts.{cut_core}
-use Rattle.ca_world_servers.specs.Deeds.{WasDone, busies_of, is_busy_in, wrote_in}
+use Rattle.ca_world_servers.specs.Effects.{TellsAction, TellsWrite, is_busy_in, wrote_in}
 use Rattle.ca_world_servers.specs.declared.ahead.Ahead.{Ahead}
-use Rattle.ca_world_servers.specs.declared.deeds.Deed.TheVariants as deed
 use Rattle.ca_world_servers.specs.EndsWith.{ReportsWith, ends_under}
-use Rattle.ca_world_servers.proofs.Dealt.{deed-written, left_written, wrote-lacks}
+use Rattle.ca_world_servers.proofs.Dealt.{busies_of, left_written, wrote-lacks}
+use Rattle.ca_world_servers.proofs.Done.{WasDone, tells-busies}
 
 -- ---- lists and actions
 
@@ -60,18 +64,18 @@ written-still place (Adds s) j is = absurd cc
 written-still place (Drops key) j is = absurd cc
 written-still place (Switches on) j is = absurd cc
 
--- and makes its record busy, or not
-written-busies : (action : Action) → is_write action ≡ true → (b : Bool) × (busies_of action ≡ Some b)
-written-busies (Applies name value busies) is = (busies, refl)
-written-busies (Waits name value) is = absurd cc
-written-busies (Clears sid) is = absurd cc
-written-busies Nothing is = absurd cc
-written-busies Greets is = absurd cc
-written-busies (Names p) is = absurd cc
-written-busies (Opens c) is = absurd cc
-written-busies (Adds s) is = absurd cc
-written-busies (Drops key) is = absurd cc
-written-busies (Switches on) is = absurd cc
+-- another action writes nothing
+unwritten-busies : (action : Action) → is_write action ≡ false → busies_of action ≡ None
+unwritten-busies (Applies name value busies) is = absurd cc
+unwritten-busies (Waits name value) is = refl
+unwritten-busies (Clears sid) is = refl
+unwritten-busies Nothing is = refl
+unwritten-busies Greets is = refl
+unwritten-busies (Names p) is = refl
+unwritten-busies (Opens c) is = refl
+unwritten-busies (Adds s) is = refl
+unwritten-busies (Drops key) is = refl
+unwritten-busies (Switches on) is = refl
 
 take-first : {A : Type 0} (xs ys : List A) → take (length xs) (xs ++ ys) ≡ xs
 take-first [] ys = refl
@@ -86,23 +90,30 @@ cut-closed core h e has =
     let circuits = freed-changed core.circuits h (Open e) (Ended why.Cut (output_of (under core.circuits h))) has in
     λ t. record core { circuits = circuits t; records = puts t }
 
+-- An end lacks memory for a message that it handled, whose write was applied if it is one.
+abbrev LacksAll : (before : Server) (h : Handle) (e : ServerEnd) → Action → Server → Type 0
+LacksAll before h e action new = (l : LacksMemory before h e new) × (busies_of action ≡ left_written l.written l.next.action)
+
 -- the end that handled a message and was closed for want of memory
-pub lacks-handled : (before core : Server) (h : Handle) (e : ServerEnd) → HasEnd before h e → (d : IsHandled before core h e) → NeedsMemory d.next.m d.next.replies d.next.action → LacksMemory before h e (closed h core)
-lacks-handled before core h e has d needs = go (is_write d.next.action) refl
+lacks-handled : (before core : Server) (h : Handle) (e : ServerEnd) (did : Effect) → HasEnd before h e → (d : IsHandled before core h e did) → NeedsMemory d.next.m d.next.replies d.next.action → LacksAll before h e d.next.action (closed h core)
+lacks-handled before core h e did has d needs = go (is_write d.next.action) refl
   where
-    go : (b : Bool) → is_write d.next.action ≡ b → LacksMemory before h e (closed h core)
-    go true is = record { next = d.next; needs = needs; written = Some d.gone; mid = core; left_is = (is, d.reaches); leaves = refl }
-    go false is = record {
-      next = d.next;
-      needs = needs;
-      written = None;
-      mid = before;
-      left_is = refl;
-      leaves = closed-same h before e _ d.next.m d.next.replies d.next.action d.next.after core d.gone has d.next.handles is d.reaches;
-    }
+    go : (b : Bool) → is_write d.next.action ≡ b → LacksAll before h e d.next.action (closed h core)
+    go true is = (record { next = d.next; needs = needs; written = Some d.gone; mid = core; left_is = (is, d.reaches); leaves = refl }, refl)
+    go false is = (
+      record {
+        next = d.next;
+        needs = needs;
+        written = None;
+        mid = before;
+        left_is = refl;
+        leaves = closed-same h before e _ d.next.m d.next.replies d.next.action d.next.after core d.gone has d.next.handles is d.reaches;
+      },
+      unwritten-busies d.next.action is,
+    )
 
 -- circuits beside a core are beside it once an end of it closed
-pub alike-closed : (i : ℕ) (mid : Server) (h : Handle) (ks : List Joined) → AllAlike i mid ks → AllAlike i (closed h mid) ks
+alike-closed : (i : ℕ) (mid : Server) (h : Handle) (ks : List Joined) → AllAlike i mid ks → AllAlike i (closed h mid) ks
 alike-closed i mid h ks alike k c at mine opened = go (under (with_freed h mid.circuits) c.at_server) refl
   where
     go : (o : Option ServerCircuit) → under (with_freed h mid.circuits) c.at_server ≡ o → IsAlike o c
@@ -163,20 +174,25 @@ module _ (k i : ℕ) (j : Joined) (mine : j.server ≡ i) (before : Server) (e :
       (subst (λ (g : Handle). Left g left i (server_of z) zs ls (server_of y') ks' logs') here (left-of h left i z zs ls y' ks' logs' r)))
 
   -- An end that closed out of memory, by whether its message wrote.
-  pub lacks-at : (wrote : Option Bool) → wrote ≡ left_written lacks.written lacks.next.action
-      → (wrote ≡ None → ReportsWith h left i y ks logs y' ks' logs')
-      → ((busies : Bool) → wrote ≡ Some busies → ClosesWith k i (length j.lists.handled) before j.at_server h lacks.next.action left y ks logs y' ks' logs')
+  lacks-at : (a : Ahead) → WasDone before j.at_server (map record_of y.records.items) a lacks.next.m lacks.next.action → (wrote : Option Bool) → wrote ≡ left_written lacks.written lacks.next.action
+      → ClosesWith k i h (length j.lists.handled) wrote a.write left y ks logs y' ks' logs'
       → LacksAt k j (record (server_of y) { core = before }) ks logs (server_of y') ks' logs'
-  lacks-at wrote is none some = record { e = e; has = has; core = y.core; lacks = lacks; quits = go lacks.written lacks.left_is is }
+  lacks-at a was wrote is c = record { e = e; has = has; core = y.core; lacks = lacks; quits = go lacks.written lacks.left_is is }
     where
+      p : PutPlace
+      p = record { circuit = k; place = length j.lists.handled }
+
       go : (written : Option (Handle → Bool)) → LeftOf lacks.next written lacks.mid → wrote ≡ left_written written lacks.next.action → LacksAs k j (record (server_of y) { core = before }) lacks.next written e.link.output y.core ks logs (server_of y') ks' logs'
-      go None left_of is = quits-none k j before e has e.link.output (server_of y) ks at logs (server_of y') ks' logs' (moved y ks logs (none is))
+      go None left_of is =
+          let told : TellsWrite i p None a.write y ks logs c.mid c.circuits c.told = subst (λ (o : Option Bool). TellsWrite i p o a.write y ks logs c.mid c.circuits c.told) is c.done in
+          quits-none k j before e has e.link.output (server_of y) ks at logs (server_of y') ks' logs'
+          (moved y ks logs
+          (subst (λ (z : Side × (List Joined × List (List Entry))). ReportsWith h left i z.0 z.1.0 z.1.1 y' ks' logs') (λ t. (told.0 t, (told.1 t, told.2 t))) c.reports))
       go (Some gone) left_of is =
-          let b = written-busies lacks.next.action left_of.0 in
-          let c = some b.0 (is ∙ b.1) in
-          let told = c.done in
+          let told : TellsAction i p before j.at_server lacks.next.action y ks logs c.mid c.circuits c.told =
+          tells-busies i p before j.at_server y ks logs a lacks.next.m lacks.next.action c.mid c.circuits c.told left_of.0 was
+          (subst (λ (o : Option Bool). TellsWrite i p o a.write y ks logs c.mid c.circuits c.told) is c.done) in
           let there = moved c.mid c.circuits c.told c.reports in
-          let p : PutPlace = record { circuit = k; place = length j.lists.handled } in
           let R : List RecordSide = records_after before j.at_server p lacks.next.action (server_of y).records in
           let at_told : Left j.at_server e.link.output j.server (record (server_of y) { records = R }) (map (write_numbers i y.core lacks.next.action) ks) (grown y.life (logged_by before j.at_server p lacks.next.action (server_of y).records) logs) (server_of y') ks' logs' =
           subst (λ (ls : List (List Entry)). Left j.at_server e.link.output j.server (record (server_of y) { records = R }) (map (write_numbers i y.core lacks.next.action) ks) ls (server_of y') ks' logs') told.logged
@@ -187,46 +203,34 @@ module _ (k i : ℕ) (j : Joined) (mine : j.server ≡ i) (before : Server) (e :
 
 -- ---- an end that lacks memory
 
-module _ (before core : Server) (i : ℕ) (j : Joined) (ks : List Joined) (rs : List RecordSide) (a : Ahead) (c : Counts) (m : MayStep i before j ks rs a c) (l : LacksMemory before j.at_server m.e core) where
-  -- whether its message wrote
-  lacks-wrote : wrote_in core c.applied a.command a.write ≡ left_written l.written l.next.action
+module _ (before core : Server) (j : Joined) (ks : List Joined) (rs : List RecordSide) (a : Ahead) (t : Turn) (m : MayStep t before j ks rs a) (l : LacksMemory before j.at_server m.e core) where
+  -- what is known of its message
+  lacks-done : WasDone before j.at_server rs a l.next.m l.next.action
+  lacks-done = record {
+    e = m.e;
+    has = m.has;
+    replies = l.next.replies;
+    due = l.next.handles.due;
+    ahead = m.ahead l.next;
+    beside = m.beside;
+    unstamped = m.unstamped;
+  }
+
+  -- whether that wrote
+  lacks-wrote : wrote_in core t.applied a.command a.write ≡ left_written l.written l.next.action
   lacks-wrote =
       let ahead = m.ahead l.next in
-      (λ t. wrote_in core (m.counts.applied t) (ahead.command t) a.write)
-      ∙ wrote-lacks before j.at_server m.e m.has m.counts.few l.next l.written l.mid core l.left_is l.leaves rs a.write a.parting ahead.foreseen
+      (λ z. wrote_in core (m.turn.applied z) (ahead.command z) a.write)
+      ∙ wrote-lacks before j.at_server m.e m.has m.turn.few l.next l.written l.mid core l.left_is l.leaves a.write ahead.writes
 
-  lacks-busies : (busies : Bool) → wrote_in core c.applied a.command a.write ≡ Some busies → busies_of l.next.action ≡ Some busies
-  lacks-busies busies is = go l.written (sym lacks-wrote ∙ is)
+  pub lacks-alike : (wrote : Option Bool) → wrote ≡ left_written l.written l.next.action → (busies : Bool) → wrote ≡ Some busies → AllAlike t.server core ks
+  lacks-alike wrote are busies is = go l.written l.left_is (sym are ∙ is)
     where
-      go : (written : Option (Handle → Bool)) → left_written written l.next.action ≡ Some busies → busies_of l.next.action ≡ Some busies
-      go None is = absurd cc
-      go (Some gone) is = is
-
-  -- the write that is told then
-  pub lacks-done : (busies : Bool) → wrote_in core c.applied a.command a.write ≡ Some busies → WasDone before j.at_server rs (deed.Applies busies) a.write a.parting l.next.action
-  lacks-done busies is =
-      let ahead = m.ahead l.next in
-      record {
-        e = m.e;
-        has = m.has;
-        m = l.next.m;
-        replies = l.next.replies;
-        due = l.next.handles.due;
-        is = deed-written l.next.action busies (lacks-busies busies is);
-        foreseen = ahead.foreseen;
-        beside = m.beside;
-        apart = m.apart;
-        unstamped = m.unstamped;
-      }
-
-  pub lacks-alike : (busies : Bool) → wrote_in core c.applied a.command a.write ≡ Some busies → AllAlike i core ks
-  lacks-alike busies is = go l.written l.left_is (sym lacks-wrote ∙ is)
-    where
-      go : (written : Option (Handle → Bool)) → LeftOf l.next written l.mid → left_written written l.next.action ≡ Some busies → AllAlike i core ks
+      go : (written : Option (Handle → Bool)) → LeftOf l.next written l.mid → left_written written l.next.action ≡ Some busies → AllAlike t.server core ks
       go None left is = absurd cc
       go (Some gone) left is =
-          subst (λ (z : Server). AllAlike i z ks) (sym l.leaves)
-          (alike-closed i l.mid j.at_server ks (alike-wrote before j.at_server m.e m.has l.next gone l.mid left.1 left.0 i ks m.alike))
+          subst (λ (z : Server). AllAlike t.server z ks) (sym l.leaves)
+          (alike-closed t.server l.mid j.at_server ks (alike-wrote before j.at_server m.e m.has l.next gone l.mid left.1 left.0 t.server ks m.alike))
 
 -- ---- an end that closed
 
@@ -234,48 +238,46 @@ module _ (before core : Server) (i : ℕ) (j : Joined) (ks : List Joined) (rs : 
 pub open-steps : (y : Server) (h : Handle) (e : ServerEnd) (did : stepped.Stepped) (new : Server) → HasEnd y h e → stepped.Steps y h did new → StepsOpen y h e did new
 open-steps y h e did new has steps = subst (λ (o : Option ServerCircuit). stepped.StepsAt y h o did new) has steps
 
-pub handled-step : (y : Server) (h : Handle) (e : ServerEnd) (new : Server) → HasEnd y h e → stepped.Steps y h stepped.Handled new → IsHandled y new h e
-handled-step y h e new has steps = (let s = open-steps y h e stepped.Handled new has steps in record { next = s.0; gone = s.1; stays = s.2; reaches = s.3 })
+pub handled-step : (y : Server) (h : Handle) (e : ServerEnd) (did : Effect) (new : Server) → HasEnd y h e → TellsEffect y h (step.Handled did) new → IsHandled y new h e did
+handled-step y h e did new has tells =
+    let s =
+    subst (λ (o : Option ServerCircuit). (d : stepped.StepsAt y h o stepped.Handled new) × (did ≡ effect_due (message_at y h new o d) (action_at y h new o d))) has tells in
+    record { next = s.0.0; gone = s.0.1; stays = s.0.2; reaches = s.0.3; tells = s.1 }
 
-module _ (before core : Server) (i : ℕ) (j : Joined) (ks : List Joined) (rs : List RecordSide) (a : Ahead) (c : Counts) (m : MayStep i before j ks rs a c) where
+module _ (before core : Server) (j : Joined) (ks : List Joined) (rs : List RecordSide) (a : Ahead) (t : Turn) (m : MayStep t before j ks rs a) where
   -- a server as it was, but for an end that closed, did not write
-  unwritten : core ≡ closed j.at_server before → wrote_in core c.applied a.command a.write ≡ None
+  unwritten : core ≡ closed j.at_server before → wrote_in core t.applied a.command a.write ≡ None
   unwritten is =
-      let applied : core.applied ≡ c.applied = ap (λ (z : Server). z.applied) is ∙ sym m.counts.applied in
-      ap (λ (b : Bool). if b then Some (nat_eq a.command (command_number command.WriteNotify) && is_busy_in core a.write) else None) (le-ltb c.applied core.applied (omega (arith, applied)))
+      let applied : core.applied ≡ t.applied = ap (λ (z : Server). z.applied) is ∙ sym m.turn.applied in
+      ap (λ (b : Bool). if b then Some (nat_eq a.command (command_number command.WriteNotify) && is_busy_in core a.write) else None) (le-ltb t.applied core.applied (omega (arith, applied)))
 
   none-some : (b : Bool) → (let n : Option Bool = None in n ≡ Some b) → ⊥
   none-some b e = cc
 
-  -- one that wrote closed out of memory
-  pub closed-wrote : (left : List ℕ) (cause : Why) → StepsOpen before j.at_server m.e (stepped.Closed cause left) core → (busies : Bool) → wrote_in core c.applied a.command a.write ≡ Some busies → LacksMemory before j.at_server m.e core
-  closed-wrote left why.OutOfMemory steps busies is = steps.1
-  closed-wrote left why.Misaligned steps busies is = absurd (none-some busies (sym (unwritten steps.3) ∙ is))
-  closed-wrote left why.TooLarge steps busies is = absurd (none-some busies (sym (unwritten steps.3) ∙ is))
-  closed-wrote left why.Silence steps busies is = absurd (none-some busies (sym (unwritten steps.3) ∙ is))
-  closed-wrote left why.Asked steps busies is = absurd (none-some busies (sym (unwritten steps.3) ∙ is))
-  closed-wrote left why.Cut steps busies is = absurd (none-some busies (sym (unwritten steps.3) ∙ is))
+  -- Where the end closed the same subscriptions stand at the ends and on the circuits, if its message wrote.
+  pub closed-alike : (left : List ℕ) (cause : Why) → StepsOpen before j.at_server m.e (stepped.Closed cause left) core → (busies : Bool) → wrote_in core t.applied a.command a.write ≡ Some busies → AllAlike t.server core ks
+  closed-alike left why.OutOfMemory steps busies is = lacks-alike before core j ks rs a t m steps.1 _ (lacks-wrote before core j ks rs a t m steps.1) busies is
+  closed-alike left why.Misaligned steps busies is = absurd (none-some busies (sym (unwritten steps.3) ∙ is))
+  closed-alike left why.TooLarge steps busies is = absurd (none-some busies (sym (unwritten steps.3) ∙ is))
+  closed-alike left why.Silence steps busies is = absurd (none-some busies (sym (unwritten steps.3) ∙ is))
+  closed-alike left why.Asked steps busies is = absurd (none-some busies (sym (unwritten steps.3) ∙ is))
+  closed-alike left why.Cut steps busies is = absurd (none-some busies (sym (unwritten steps.3) ∙ is))
 
 -- ---- an end that closed, by what is told of it
 
-module _ (k i : ℕ) (before : Server) (j : Joined) (y : Side) (ks : List Joined) (at : At ks k j) (a : Ahead) (c : Counts) (m : MayStep i before j ks (map record_of y.records.items) a c) (h : Handle) (here : h ≡ j.at_server) (left : List ℕ) (zs : List Joined) (same : zs ≡ ks) (logs : List (List Entry)) (y' : Side) (ks' : List Joined) (logs' : List (List Entry))
-    (none : wrote_in y.core c.applied a.command a.write ≡ None → ReportsWith h left i y zs logs y' ks' logs')
-    (some : (busies : Bool) (x : Joined) → wrote_in y.core c.applied a.command a.write ≡ Some busies → At zs k x → (old : Server) (g : Handle) (action : Action) → WasDone old g (map record_of y.records.items) (deed.Applies busies) a.write a.parting action
-    → ClosesWith k i (length x.lists.handled) old g h action left y zs logs y' ks' logs') where
+module _ (t : Turn) (before : Server) (j : Joined) (y : Side) (ks : List Joined) (at : At ks t.circuit j) (a : Ahead) (m : MayStep t before j ks (map record_of y.records.items) a) (wrote : Option Bool) (left : List ℕ) (logs : List (List Entry)) (y' : Side) (ks' : List Joined) (logs' : List (List Entry))
+    (closes : ClosesWith t.circuit t.server t.at (length j.lists.handled) wrote a.write left y ks logs y' ks' logs') where
   abbrev begun : ServerSide
   begun = record (server_of y) { core = before }
 
   -- out of memory
-  pub closed-lacks : left ≡ m.e.link.output → LacksMemory before j.at_server m.e y.core → LacksAt k j begun ks logs (server_of y') ks' logs'
-  closed-lacks left_is l =
-      lacks-at k i j m.mine before m.e m.has h here left left_is y ks at logs y' ks' logs' l (wrote_in y.core c.applied a.command a.write) (lacks-wrote before y.core i j ks (map record_of y.records.items) a c m l)
-      (λ is. subst (λ (xs : List Joined). ReportsWith h left i y xs logs y' ks' logs') same (none is))
-      (λ busies is. subst (λ (xs : List Joined). ClosesWith k i (length j.lists.handled) before j.at_server h l.next.action left y xs logs y' ks' logs') same
-      (some busies j is (subst (λ (xs : List Joined). At xs k j) (sym same) at) before j.at_server l.next.action (lacks-done before y.core i j ks (map record_of y.records.items) a c m l busies is)))
+  pub closed-lacks : left ≡ m.e.link.output → (l : LacksMemory before j.at_server m.e y.core) → wrote ≡ left_written l.written l.next.action → LacksAt t.circuit j begun ks logs (server_of y') ks' logs'
+  closed-lacks left_is l is =
+      lacks-at t.circuit t.server j m.mine before m.e m.has t.at m.turn.here left left_is y ks at logs y' ks' logs' l a (lacks-done before y.core j ks (map record_of y.records.items) a t m l) wrote is closes
 
   -- for another cause
-  closed-breaks : (cause : Why) → cause ≢ why.OutOfMemory → StepsOpen before j.at_server m.e (stepped.Closed cause left) (closed j.at_server before) → y.core ≡ closed j.at_server before → BreaksAt k j begun ks logs (server_of y') ks' logs'
-  closed-breaks cause other steps core = record {
+  closed-breaks : (cause : Why) → cause ≢ why.OutOfMemory → StepsOpen before j.at_server m.e (stepped.Closed cause left) (closed j.at_server before) → y.core ≡ closed j.at_server before → wrote ≡ wrote_in y.core t.applied a.command a.write → BreaksAt t.circuit j begun ks logs (server_of y') ks' logs'
+  closed-breaks cause other steps core is = record {
     e = m.e;
     has = m.has;
     cause = cause;
@@ -285,34 +287,30 @@ module _ (k i : ℕ) (before : Server) (j : Joined) (y : Side) (ks : List Joined
     quits =
         subst (λ (f : Joined → Option (List ℕ)). Quits f (closed j.at_server before) begun begun.records ks logs (server_of y') ks' logs') (ends-closed j left j.server before)
         (subst (λ (z : Server). Quits (ends_here j left j.server z) z begun begun.records ks logs (server_of y') ks' logs') core
-        (quits-none k j before m.e m.has left (server_of y) ks at logs (server_of y') ks' logs' reports));
+        (quits-none t.circuit j before m.e m.has left (server_of y) ks at logs (server_of y') ks' logs' reports));
   }
     where
+      p : PutPlace
+      p = record { circuit = t.circuit; place = length j.lists.handled }
+
+      told : TellsWrite t.server p None a.write y ks logs closes.mid closes.circuits closes.told
+      told = subst (λ (o : Option Bool). TellsWrite t.server p o a.write y ks logs closes.mid closes.circuits closes.told) (is ∙ unwritten before y.core j ks (map record_of y.records.items) a t m core) closes.done
+
       reports : Left j.at_server left j.server (server_of y) ks logs (server_of y') ks' logs'
       reports =
           subst (λ (n : ℕ). Left j.at_server left n (server_of y) ks logs (server_of y') ks' logs') (sym m.mine)
-          (subst (λ (g : Handle). Left g left i (server_of y) ks logs (server_of y') ks' logs') here
-          (subst (λ (xs : List Joined). Left h left i (server_of y) xs logs (server_of y') ks' logs') same (left-of h left i y zs logs y' ks' logs' (none (unwritten before y.core i j ks (map record_of y.records.items) a c m core)))))
+          (subst (λ (g : Handle). Left g left t.server (server_of y) ks logs (server_of y') ks' logs') m.turn.here
+          (left-of t.at left t.server y ks logs y' ks' logs'
+          (subst (λ (z : Side × (List Joined × List (List Entry))). ReportsWith t.at left t.server z.0 z.1.0 z.1.1 y' ks' logs') (λ n. (told.0 n, (told.1 n, told.2 n))) closes.reports)))
 
   -- The end closed.
-  pub closed-at : (cause : Why) → StepsOpen before j.at_server m.e (stepped.Closed cause left) y.core → StepsAt k j begun ks logs (server_of y') ks' logs'
-  closed-at why.OutOfMemory steps = inr (inl (closed-lacks steps.0 steps.1))
-  closed-at why.Misaligned steps = inr (inr (inl (closed-breaks why.Misaligned (λ is. cc) (steps.0, steps.1, steps.2, refl) steps.3)))
-  closed-at why.TooLarge steps = inr (inr (inl (closed-breaks why.TooLarge (λ is. cc) (steps.0, steps.1, steps.2, refl) steps.3)))
-  closed-at why.Silence steps = inr (inr (inl (closed-breaks why.Silence (λ is. cc) (steps.0, steps.1, steps.2, refl) steps.3)))
-  closed-at why.Asked steps = inr (inr (inl (closed-breaks why.Asked (λ is. cc) (steps.0, steps.1, steps.2, refl) steps.3)))
-  closed-at why.Cut steps = inr (inr (inl (closed-breaks why.Cut (λ is. cc) (steps.0, steps.1, steps.2, refl) steps.3)))
-
-  -- The numbers of the server's circuits stay.
-  pub closed-numbers : ((busies : Bool) → wrote_in y.core c.applied a.command a.write ≡ Some busies → LacksMemory before j.at_server m.e y.core) → y'.circuits.items ≡ y.circuits.items
-  closed-numbers lacks = go (wrote_in y.core c.applied a.command a.write) refl
-    where
-      go : (o : Option Bool) → wrote_in y.core c.applied a.command a.write ≡ o → y'.circuits.items ≡ y.circuits.items
-      go None is = (none is).numbers
-      go (Some busies) is =
-          let l = lacks busies is in
-          let told = some busies j is (subst (λ (xs : List Joined). At xs k j) (sym same) at) before j.at_server l.next.action (lacks-done before y.core i j ks (map record_of y.records.items) a c m l busies is) in
-          told.reports.numbers ∙ told.done.numbers
+  pub closed-at : (cause : Why) → StepsOpen before j.at_server m.e (stepped.Closed cause left) y.core → wrote ≡ wrote_in y.core t.applied a.command a.write → StepsAt t.circuit j begun ks logs (server_of y') ks' logs'
+  closed-at why.OutOfMemory steps is = inr (inl (closed-lacks steps.0 steps.1 (is ∙ lacks-wrote before y.core j ks (map record_of y.records.items) a t m steps.1)))
+  closed-at why.Misaligned steps is = inr (inr (inl (closed-breaks why.Misaligned (λ is. cc) (steps.0, steps.1, steps.2, refl) steps.3 is)))
+  closed-at why.TooLarge steps is = inr (inr (inl (closed-breaks why.TooLarge (λ is. cc) (steps.0, steps.1, steps.2, refl) steps.3 is)))
+  closed-at why.Silence steps is = inr (inr (inl (closed-breaks why.Silence (λ is. cc) (steps.0, steps.1, steps.2, refl) steps.3 is)))
+  closed-at why.Asked steps is = inr (inr (inl (closed-breaks why.Asked (λ is. cc) (steps.0, steps.1, steps.2, refl) steps.3 is)))
+  closed-at why.Cut steps is = inr (inr (inl (closed-breaks why.Cut (λ is. cc) (steps.0, steps.1, steps.2, refl) steps.3 is)))
 
 -- The end took no message.
 pub rests-at : (k : ℕ) (before : Server) (j : Joined) (y : ServerSide) (ks : List Joined) (logs : List (List Entry)) (e : ServerEnd) → HasEnd before j.at_server e → (full : Bool) → StepsOpen before j.at_server e (if full then stepped.OutputFull else stepped.NeedBytes) y.core
@@ -328,22 +326,25 @@ rests-at k before j y ks logs e has full steps = inr (inr (inr (go full steps)))
 
 -- ---- a message that was handled, for which there was no memory then
 
-module _ (before core : Server) (i : ℕ) (j : Joined) (ks : List Joined) (rs : List RecordSide) (a : Ahead) (c : Counts) (m : MayStep i before j ks rs a c) (d : IsHandled before core j.at_server m.e) where
+module _ (before core : Server) (j : Joined) (ks : List Joined) (rs : List RecordSide) (a : Ahead) (t : Turn) (did : Effect) (m : MayStep t before j ks rs a) (d : IsHandled before core j.at_server m.e did) where
   -- its end is open still
-  pub handled-open : (f : ServerEnd) × HasEnd core j.at_server f
+  pub handled-open : (f : ServerEnd) × HasEnd core t.at f
   handled-open =
       let own = next-own before j.at_server m.e m.has d.next in
       let on = reaches-stays d.next.action d.gone d.next.after core d.reaches j.at_server d.stays own.0 own.1 in
-      (on.0, on.1)
+      (on.0, subst (λ (h : Handle). HasEnd core h on.0) (sym m.turn.here) on.1)
 
   -- of what waits there the first was there before
-  pub handled-left : take c.waited (output_of (under core.circuits j.at_server)) ≡ m.e.link.output
+  pub handled-left : take t.waited (output_of (under core.circuits t.at)) ≡ m.e.link.output
   handled-left =
       let own = next-own before j.at_server m.e m.has d.next in
       let on = reaches-stays d.next.action d.gone d.next.after core d.reaches j.at_server d.stays own.0 own.1 in
       let all : output_of (under core.circuits j.at_server) ≡ m.e.link.output ++ spelled d.next.replies = ap output_of on.1 ∙ on.3 ∙ append-nil own.0.link.output ∙ own.3 in
-      (λ t. take (m.counts.waited t) (all t)) ∙ take-first m.e.link.output (spelled d.next.replies)
+      (λ z. take (m.turn.waited z) (output_of (under core.circuits (m.turn.here z)))) ∙ ap (take (length m.e.link.output)) all ∙ take-first m.e.link.output (spelled d.next.replies)
 
-  pub handled-lacks : (new : Server) → new ≡ cut_core j.at_server core → NeedsMemory d.next.m d.next.replies d.next.action → LacksMemory before j.at_server m.e new
+  -- once that is cut, it lacks memory
+  pub handled-lacks : (new : Server) → new ≡ cut_core t.at core → NeedsMemory d.next.m d.next.replies d.next.action → LacksAll before j.at_server m.e d.next.action new
   handled-lacks new is needs =
-      subst (LacksMemory before j.at_server m.e) (sym (is ∙ cut-closed core j.at_server handled-open.0 handled-open.1)) (lacks-handled before core j.at_server m.e m.has d needs)
+      let shut : new ≡ closed j.at_server core =
+      is ∙ cut-closed core t.at handled-open.0 handled-open.1 ∙ ap (λ (h : Handle). closed h core) m.turn.here in
+      subst (LacksAll before j.at_server m.e d.next.action) (sym shut) (lacks-handled before core j.at_server m.e did m.has d needs)

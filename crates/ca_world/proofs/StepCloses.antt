@@ -1,17 +1,17 @@
 -- A step of a server's end: what is known when it begins, and where its message stands.
-use Rattle.std.proofs.Common.{◌≡◌, ℕ, ◌<◌, Bool, List, Option, Some, Result, Ok, Err, length, get_or, sym, ap, subst, ◌∙◌}
+use Rattle.std.proofs.Common.{◌≡◌, ℕ, ◌<◌, List, Option, Result, Ok, Err, length, get_or, inl, inr, sym, ap, subst, ◌∙◌, arith}
 use Rattle.std.specs.Prelude.{IsErrAnd, map, slice_set, vec_len}
 use Rattle.std.proofs.lemmas.List.{length-map}
+use Rattle.ca_arena.specs.declared.handle.Handle.{Handle}
 use Rattle.ca_ids.specs.Table.{under}
 use Rattle.ca_text.specs.declared.refusal.Refusal.{Refusal}
 use Rattle.ca_text.specs.declared.refusal.Refusal.TheVariants.{OutOfMemory}
 use Rattle.ca_text.specs.Limits.{applied_limit}
 use Rattle.ca_text.specs.Place.{At}
-use Rattle.ca_text.proofs.Places.{At-map, At-one, At-within, some_is}
+use Rattle.ca_text.proofs.Places.{At-map, At-one, At-or, At-within}
 use Rattle.ca_wire.specs.Fields.{Fields}
 use Rattle.ca_model.specs.History.{Entry}
 use Rattle.ca_model.specs.Server.{Server, ServerCircuit}
-use Rattle.ca_model.specs.ServerCalls.{waiting}
 use Rattle.ca_model.specs.ServerSteps.{output_of}
 use Rattle.ca_model.specs.World as model
 use Rattle.ca_world_data.specs.declared.joined.Joined.{Joined}
@@ -19,8 +19,8 @@ use Rattle.ca_world_data.specs.declared.server.ServerSide.{ServerSide}
 use Rattle.ca_world_data.specs.Seen.{joined_of, server_of, step_of}
 use Rattle.ca_world_data.proofs.Worlds.{found}
 use Rattle.ca_world_servers.specs.declared.ahead.Ahead.{Ahead}
-use Rattle.ca_world_servers.specs.Deeds.{IsAhead}
-use Rattle.ca_world.specs.declared.server_step.Counts.{Counts}
+use Rattle.ca_world_servers.specs.Effects.{IsAhead}
+use Rattle.ca_world.specs.declared.server_step.Turn.{Turn}
 use Rattle.ca_world.specs.ServerStepping.{StepsAt}
 use Rattle.ca_world.specs.StepParts.{IsAheadOf, MayBegin, MayStep, StepsServer}
 use Rattle.ca_world.proofs.Downward.{at-set}
@@ -33,9 +33,9 @@ place-of ks k x j there at =
     let one : joined_of x ≡ j = At-one (map joined_of ks) k (joined_of x) j (At-map joined_of ks k x there) at in
     x.lists.handled.ok.0 ∙ sym (length-map x.lists.handled.items step_of) ∙ ap (λ (z : model.Joined). length z.lists.handled) one
 
--- the same write made its record busy
-pub busies-one : (a b : Bool) (o : Option Bool) → o ≡ Some a → o ≡ Some b → a ≡ b
-busies-one a b o p q = some_is a b (sym p ∙ q)
+-- a circuit is there
+pub there-is : {A : Type 0} (xs : List A) (k : ℕ) → k < length xs → (x : A) × At xs k x
+there-is xs k within = elim (At-or xs k) [ inl found ↦ found | inr over ↦ absurd (omega (arith, within, over)) ]
 
 -- ---- a step without memory
 
@@ -57,19 +57,19 @@ read-one xs k old new x d there is =
     let put = at-set xs k old new there in
     At-one (slice_set xs k new) k x new (found (slice_set xs k new) k x d (At-within (slice_set xs k new) k new put) is) put
 
-may-one : (i : ℕ) (core : Server) (j : model.Joined) (ks : List model.Joined) (rs : List model.RecordSide) (a : Ahead) (n : Counts) → MayBegin i core j ks rs → IsAheadOf core j rs a → n.waited ≡ length (output_of (under core.circuits j.at_server)) → n.applied ≡ core.applied → n.applied < applied_limit → n.waiting ≡ waiting core → MayStep i core j ks rs a n
-may-one i core j ks rs a n m known waited applied few waits = record {
+may-one : (t : Turn) (core : Server) (j : model.Joined) (ks : List model.Joined) (rs : List model.RecordSide) (a : Ahead) → MayBegin t.server core j ks rs → IsAheadOf core j rs a → t.at ≡ j.at_server → t.waited ≡ length (output_of (under core.circuits t.at)) → t.applied ≡ core.applied → t.applied < applied_limit → MayStep t core j ks rs a
+may-one t core j ks rs a m known here waited applied few = record {
   mine = m.mine;
   opened = m.opened;
   e = m.e;
   has = m.has;
-  ahead = λ next. (let t = m.takes next in subst (λ (f : Fields). IsAhead core j.at_server rs f a) t.2 (known t.0 t.1));
+  ahead = λ next. (let n = m.takes next in subst (λ (f : Fields). IsAhead core j.at_server rs f a) n.2 (known n.0 n.1));
   good = m.good;
-  counts = record {
-    waited = waited ∙ ap (λ (o : Option ServerCircuit). length (output_of o)) m.has;
+  turn = record {
+    here = here;
+    waited = waited ∙ ap (λ (h : Handle). length (output_of (under core.circuits h))) here ∙ ap (λ (o : Option ServerCircuit). length (output_of o)) m.has;
     applied = applied;
     few = subst (λ (z : ℕ). z < applied_limit) applied few;
-    waiting = waits;
   };
   alike = m.alike;
   own = m.own;
@@ -81,12 +81,12 @@ may-one i core j ks rs a n m known waited applied few waits = record {
 }
 
 -- what holds before anything is looked at, and what was looked at
-pub may-step : (i k : ℕ) (core : Server) (ks ms : List model.Joined) (rs ns : List model.RecordSide) (x : model.Joined) (a : Ahead) (n : Counts) → ms ≡ ks → ns ≡ rs → At ms k x → ((j : model.Joined) → At ks k j → MayBegin i core j ks rs) → IsAheadOf core x rs a → n.waited ≡ length (output_of (under core.circuits x.at_server)) → n.applied ≡ core.applied → n.applied < applied_limit → n.waiting ≡ waiting core → (j : model.Joined) → At ms k j → MayStep i core j ms ns a n
-may-step i k core ks ms rs ns x a n is same there gives known waited applied few waits j at =
-    let old : At ks k x = subst (λ (z : List model.Joined). At z k x) is there in
-    let may : MayStep i core x ks rs a n = may-one i core x ks rs a n (gives x old) known waited applied few waits in
-    let one : x ≡ j = At-one ms k x j there at in
-    subst (λ (z : model.Joined × (List model.Joined × List model.RecordSide)). MayStep i core z.0 z.1.0 z.1.1 a n) (λ t. (one t, (sym is t, sym same t))) may
+pub may-step : (t : Turn) (core : Server) (ks ms : List model.Joined) (rs ns : List model.RecordSide) (x : model.Joined) (a : Ahead) → ms ≡ ks → ns ≡ rs → At ms t.circuit x → ((j : model.Joined) → At ks t.circuit j → MayBegin t.server core j ks rs) → IsAheadOf core x rs a → t.at ≡ x.at_server → t.waited ≡ length (output_of (under core.circuits t.at)) → t.applied ≡ core.applied → t.applied < applied_limit → (j : model.Joined) → At ms t.circuit j → MayStep t core j ms ns a
+may-step t core ks ms rs ns x a is same there gives known here waited applied few j at =
+    let old : At ks t.circuit x = subst (λ (z : List model.Joined). At z t.circuit x) is there in
+    let may : MayStep t core x ks rs a = may-one t core x ks rs a (gives x old) known here waited applied few in
+    let one : x ≡ j = At-one ms t.circuit x j there at in
+    subst (λ (z : model.Joined × (List model.Joined × List model.RecordSide)). MayStep t core z.0 z.1.0 z.1.1 a) (λ n. (one n, (sym is n, sym same n))) may
 
 -- the step of what was looked at is that of what was there
 pub steps-whole : (k : ℕ) (y z : model.ServerSide) (ks ms : List model.Joined) (logs ls : List (List Entry)) (y' : model.ServerSide) (ks' : List model.Joined) (logs' : List (List Entry)) → z ≡ y → ms ≡ ks → ls ≡ logs → ((j : model.Joined) → At ms k j → StepsAt k j z ms ls y' ks' logs') → (j : model.Joined) → At ks k j → StepsAt k j y ks logs y' ks' logs'

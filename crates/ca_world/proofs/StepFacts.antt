@@ -23,19 +23,20 @@ use Rattle.ca_model.proofs.Tables.{changed-own}
 use Rattle.ca_model.specs.ServerEvents.{numbers_after}
 use Rattle.ca_model.specs.World as model
 use Rattle.ca_model.specs.World.{Joined, RecordSide}
-use Rattle.ca_world.specs.declared.server_step.Counts.{Counts}
+use Rattle.ca_server_circuit.specs.declared.effect.Effect.{Effect}
+use Rattle.ca_world.specs.declared.server_step.Turn.{Turn}
 use Rattle.ca_world.specs.ServerStepping.{with_lists}
 use Rattle.ca_world.specs.Reported.{HasReported, IsReportedTable}
-use Rattle.ca_world.specs.StepParts.{IsHandled, MayStep, wrote_by}
+use Rattle.ca_world.specs.StepParts.{IsHandled, MayStep}
 use Rattle.ca_world_data.specs.declared.joined.Joined.{Joined as Opened}
 use Rattle.ca_world_data.specs.Numbering.{AllAlike, AllMayCount, AreAlike, IsAlike, keys_within, post_limit}
 use Rattle.ca_world_data.specs.Reporting.{AreServed}
 use Rattle.ca_world_data.specs.Seen.{standing_of}
 use Rattle.ca_world_data.proofs.Indexes.{KeepsEnds}
 use Rattle.ca_world_servers.specs.declared.ahead.Ahead.{Ahead}
-use Rattle.ca_world_servers.specs.declared.deeds.Deed.{Deed}
-use Rattle.ca_world_servers.specs.declared.deeds.Deed.TheVariants as deed
-use Rattle.ca_world_servers.specs.Deeds.{IsDeed, WasDone}
+use Rattle.ca_world_servers.specs.Effects.{wrote_by}
+use Rattle.ca_world_servers.proofs.Dealt.{busies_of, wrote-due}
+use Rattle.ca_world_servers.proofs.Done.{WasDone}
 use Rattle.ca_wire.specs.Fields.{Fields}
 use Rattle.ca_world.proofs.Reported.{reported-changed}
 use Rattle.ca_world.proofs.StepNumbers.{each-under, wrote-circuits}
@@ -43,23 +44,20 @@ use Rattle.ca_world.proofs.StepNumbers.{each-under, wrote-circuits}
 -- ---- by the action
 
 -- a write that is applied at once
-pub applies-writes : (action : Action) (done : Deed) (busies : Bool) → IsDeed action done → done ≡ deed.Applies busies → is_write action ≡ true
-applies-writes action done busies is applies = go action (subst (IsDeed action) applies is)
-  where
-    go : (action : Action) → IsDeed action (deed.Applies busies) → is_write action ≡ true
-    go (Applies name value b) is = refl
-    go (Waits name value) is = absurd is
-    go (Clears sid) is = absurd is
-    go Nothing is = absurd is
-    go Greets is = absurd is
-    go (Names p) is = absurd is
-    go (Opens c) is = absurd is
-    go (Adds s) is = absurd is
-    go (Drops key) is = absurd is
-    go (Switches on) is = absurd is
+busies-writes : (action : Action) (busies : Bool) → busies_of action ≡ Some busies → is_write action ≡ true
+busies-writes (Applies name value b) busies is = refl
+busies-writes (Waits name value) busies is = absurd cc
+busies-writes (Clears sid) busies is = absurd cc
+busies-writes Nothing busies is = absurd cc
+busies-writes Greets busies is = absurd cc
+busies-writes (Names p) busies is = absurd cc
+busies-writes (Opens c) busies is = absurd cc
+busies-writes (Adds s) busies is = absurd cc
+busies-writes (Drops key) busies is = absurd cc
+busies-writes (Switches on) busies is = absurd cc
 
 -- does nothing to its own circuit beside the numbers
-pub write-same : (place : ℕ) (action : Action) (j : Joined) → is_write action ≡ true → numbers_after place action j ≡ j
+write-same : (place : ℕ) (action : Action) (j : Joined) → is_write action ≡ true → numbers_after place action j ≡ j
 write-same place (Applies name value b) j is = refl
 write-same place (Waits name value) j is = refl
 write-same place Nothing j is = refl
@@ -119,7 +117,7 @@ lists-alike d s None j a = tt
 lists-alike d s (Some (Ended cause left)) j a = tt
 lists-alike d s (Some (Open e)) j a = record { keys = a.keys; apart = a.apart; queues = a.queues }
 
-pub alike-set : (d : List Told) (s : List Step) (i : ℕ) (core : Server) (ks : List Joined) (k : ℕ) (j : Joined) → At ks k j → AllAlike i core ks → AllAlike i core (slice_set ks k (with_lists d s j))
+alike-set : (d : List Told) (s : List Step) (i : ℕ) (core : Server) (ks : List Joined) (k : ℕ) (j : Joined) → At ks k j → AllAlike i core ks → AllAlike i core (slice_set ks k (with_lists d s j))
 alike-set d s i core ks k j at all n g there mine on = elim (At-set ks k (with_lists d s j) n g there) [
   | inr old ↦ all n g old.0 mine on
   | inl is ↦
@@ -159,27 +157,17 @@ alike-wrote y h e has next gone core reaches wrote i ks alike = go next.action n
     go (Switches on) handles reaches wrote = absurd cc
 
 -- another action leaves the ends of the other circuits as they are
-quiet-action : (action : Action) (done : Deed) → IsDeed action done → wrote_by done ≡ false → is_write action ≡ false
-quiet-action (Applies name value b) done is none = go done is none
-  where
-    go : (done : Deed) → IsDeed (Applies name value b) done → wrote_by done ≡ false → true ≡ false
-    go (deed.Applies other) is none = none
-    go (deed.Opens sid) is none = absurd is
-    go (deed.Clears sid) is none = absurd is
-    go deed.Waits is none = absurd is
-    go (deed.Adds key) is none = absurd is
-    go (deed.Drops key) is none = absurd is
-    go (deed.Switches on) is none = absurd is
-    go deed.Nothing is none = absurd is
-quiet-action (Waits name value) done is none = refl
-quiet-action (Clears sid) done is none = refl
-quiet-action Nothing done is none = refl
-quiet-action Greets done is none = refl
-quiet-action (Names p) done is none = refl
-quiet-action (Opens c) done is none = refl
-quiet-action (Adds s) done is none = refl
-quiet-action (Drops key) done is none = refl
-quiet-action (Switches on) done is none = refl
+quiet-action : (action : Action) → busies_of action ≡ None → is_write action ≡ false
+quiet-action (Applies name value b) none = absurd cc
+quiet-action (Waits name value) none = refl
+quiet-action (Clears sid) none = refl
+quiet-action Nothing none = refl
+quiet-action Greets none = refl
+quiet-action (Names p) none = refl
+quiet-action (Opens c) none = refl
+quiet-action (Adds s) none = refl
+quiet-action (Drops key) none = refl
+quiet-action (Switches on) none = refl
 
 quiet-records : (y : Server) (h : Handle) (e : ServerEnd) (m : Fields) (action : Action) (new : Server) → is_write action ≡ false → Records y h e m action new → new.circuits ≡ y.circuits
 quiet-records y h e m (Applies name value b) new none is = absurd cc
@@ -207,42 +195,42 @@ quiet-reaches (Switches on) gone y new none is = is.1
 
 -- ---- a message that was handled
 
-module _ (before core : Server) (i : ℕ) (j : Joined) (ks : List Joined) (rs : List RecordSide) (a : Ahead) (c : Counts) (m : MayStep i before j ks rs a c) (d : IsHandled before core j.at_server m.e) where
+module _ (before core : Server) (j : Joined) (ks : List Joined) (rs : List RecordSide) (a : Ahead) (t : Turn) (did : Effect) (m : MayStep t before j ks rs a) (d : IsHandled before core j.at_server m.e did) where
   -- what it did
-  pub was-done : (done : Deed) → IsDeed d.next.action done → WasDone before j.at_server rs done a.write a.parting d.next.action
-  was-done done is =
-      let ahead = m.ahead d.next in
-      record {
-        e = m.e;
-        has = m.has;
-        m = d.next.m;
-        replies = d.next.replies;
-        due = d.next.handles.due;
-        is = is;
-        foreseen = ahead.foreseen;
-        beside = m.beside;
-        apart = m.apart;
-        unstamped = m.unstamped;
-      }
+  pub was-done : WasDone before j.at_server rs a d.next.m d.next.action
+  was-done = record {
+    e = m.e;
+    has = m.has;
+    replies = d.next.replies;
+    due = d.next.handles.due;
+    ahead = m.ahead d.next;
+    beside = m.beside;
+    unstamped = m.unstamped;
+  }
+
+  -- whether it wrote
+  pub handled-wrote : wrote_by did ≡ busies_of d.next.action
+  handled-wrote = ap (λ (e : Effect). wrote_by e) d.tells ∙ wrote-due d.next.m d.next.action
 
   -- no end has ended by it, if it was no write
-  pub handled-reported : (done : Deed) → IsDeed d.next.action done → wrote_by done ≡ false → HasReported core
-  handled-reported done is none =
-      let quiet : is_write d.next.action ≡ false = quiet-action d.next.action done is none in
+  pub handled-reported : wrote_by did ≡ None → HasReported core
+  handled-reported none =
+      let quiet : is_write d.next.action ≡ false = quiet-action d.next.action (sym handled-wrote ∙ none) in
       let h = d.next.handles in
       let recorded : HasReported h.recorded = subst IsReportedTable (sym (quiet-records before j.at_server (record m.e { link = with_rest d.next.rest m.e.link }) d.next.m d.next.action h.recorded quiet h.records)) m.reported in
       let after : HasReported d.next.after = subst HasReported (sym h.leaves) (reported-changed h.recorded.circuits j.at_server _ recorded) in
       subst HasReported (sym (quiet-reaches d.next.action d.gone d.next.after core quiet d.reaches)) after
 
-  -- the same subscriptions stand at the ends and on the circuits, once its write reached them
-  pub alike-core : is_write d.next.action ≡ true → AllAlike i core ks
-  alike-core wrote = alike-wrote before j.at_server m.e m.has d.next d.gone core d.reaches wrote i ks m.alike
+  -- a write does nothing to its own circuit beside the numbers
+  pub handled-same : (busies : Bool) → wrote_by did ≡ Some busies → (place : ℕ) → numbers_after place d.next.action j ≡ j
+  handled-same busies wrote place = write-same place d.next.action j (busies-writes d.next.action busies (sym handled-wrote ∙ wrote))
 
-  -- with the lists of its circuit aside
-  pub alike-after : (done : Deed) → IsDeed d.next.action done → (busies : Bool) → done ≡ deed.Applies busies → (k place : ℕ) → At ks k j → AllAlike i core (slice_set ks k (with_lists [] [] (numbers_after place d.next.action j)))
-  alike-after done is busies applies k place at =
-      let wrote : is_write d.next.action ≡ true = applies-writes d.next.action done busies is applies in
-      subst (λ (z : Joined). AllAlike i core (slice_set ks k (with_lists [] [] z))) (sym (write-same place d.next.action j wrote)) (alike-set [] [] i core ks k j at (alike-core wrote))
+  -- The same subscriptions stand at the ends and on the circuits, once its write reached them; the lists of its circuit are aside.
+  pub alike-after : (busies : Bool) → wrote_by did ≡ Some busies → (k place : ℕ) → At ks k j → AllAlike t.server core (slice_set ks k (with_lists [] [] (numbers_after place d.next.action j)))
+  alike-after busies wrote k place at =
+      let written : is_write d.next.action ≡ true = busies-writes d.next.action busies (sym handled-wrote ∙ wrote) in
+      subst (λ (z : Joined). AllAlike t.server core (slice_set ks k (with_lists [] [] z))) (sym (handled-same busies wrote place))
+      (alike-set [] [] t.server core ks k j at (alike-wrote before j.at_server m.e m.has d.next d.gone core d.reaches written t.server ks m.alike))
 
 -- ---- one circuit of many
 

@@ -12,17 +12,19 @@ use Rattle.ca_model.specs.History as history
 use Rattle.ca_model.specs.Server.{Server, ServerEnd}
 use Rattle.ca_model.specs.ServerSteps.{HasEnd}
 use Rattle.ca_model.specs.ServerEvents.{about, ending, ends_at, ends_by, handled_at, left_by, logged_by, numbers_after, records_after, reported, withdrawals, without_puts, write_numbers}
-use Rattle.ca_model.specs.World.{Joined, RecordSide, ServerSide as Side, grown, log_length}
-use Rattle.ca_world.specs.declared.server_step.Counts.{Counts}
+use Rattle.ca_model.specs.World.{Joined, PutPlace, RecordSide, ServerSide as Side, grown, log_length}
+use Rattle.ca_server_circuit.specs.declared.effect.Effect.{Effect}
 use Rattle.ca_world.specs.declared.server_step.Prepared.{Prepared}
+use Rattle.ca_world.specs.declared.server_step.Turn.{Turn}
 use Rattle.ca_world.specs.ServerStepping.{HandlesAt, StepsAt, put_place, with_lists}
 use Rattle.ca_world.specs.StepParts.{AreAside, IsHandled, IsPrepared, MayStep, NotesAt}
 use Rattle.ca_world_data.specs.declared.server.ServerSide.{ServerSide}
 use Rattle.ca_world_data.specs.Reporting.{gone_at}
 use Rattle.ca_world_data.specs.Seen.{record_of, server_of, step_of, told_of}
 use Rattle.ca_world_servers.specs.declared.ahead.Ahead.{Ahead}
-use Rattle.ca_world_servers.specs.Deeds.{WasDone}
+use Rattle.ca_world_servers.specs.Effects.{TellsAction, TellsMessage}
 use Rattle.ca_world_servers.specs.Handling.{with_handled}
+use Rattle.ca_world_servers.proofs.Done.{WasDone, tells-action}
 use Rattle.ca_world.proofs.Downward.{at-set, set-set}
 use Rattle.ca_world.proofs.StepFacts.{was-done}
 use Rattle.ca_world.proofs.StepLists.{ending-aside, ending-lists, gone-aside, write-lists}
@@ -54,7 +56,7 @@ ending-lasts i core j =
     let own : ending (ends_by i core) j ≡ with_lists j.lists.down j.lists.handled (ending (ends_by i core) j) = ending-lists j.lists.down j.lists.handled (ends_by i core) j refl in
     (ap (λ (z : Joined). z.lists.down) own, ap (λ (z : Joined). z.lists.handled) own)
 
-module _ (k : ℕ) (j : Joined) (before core : Server) (ks : List Joined) (e : ServerEnd) (has : HasEnd before j.at_server e) (d : IsHandled before core j.at_server e) (at : At ks k j) where
+module _ (k : ℕ) (j : Joined) (before core : Server) (ks : List Joined) (e : ServerEnd) (has : HasEnd before j.at_server e) (did : Effect) (d : IsHandled before core j.at_server e did) (at : At ks k j) where
   abbrev action : Action
   action = d.next.action
 
@@ -141,17 +143,20 @@ module _ (k : ℕ) (j : Joined) (before core : Server) (ks : List Joined) (e : S
     noted-is = set-is ∙ sym (ap (λ (o : Option Joined). unwrap_or (option_map (λ (c : Joined). slice_set mid k (handled_at (length j.lists.handled) now d.next.replies c)) o) mid) here-at)
 
 -- What a message did is told and noted, so it was handled.
-pub handled-at : (k : ℕ) (j : Joined) (before : Server) (y y' : ServerSide) (ks noted ks' : List Joined) (logs logs' : List (List history.Entry)) (e : ServerEnd) (d : IsHandled before y.core j.at_server e) (r : Prepared) (new : Joined)
-    → HasEnd before j.at_server e → At ks k j → IsPrepared before e j d.next r new → AreAside j r → noted ≡ slice_set ks k new
-    → NotesAt k j.server before j.at_server d.next.action r y noted logs y' ks' logs'
+handled-at : (k : ℕ) (j : Joined) (before : Server) (y y' : ServerSide) (ks noted ks' : List Joined) (logs logs' : List (List history.Entry)) (e : ServerEnd) (did : Effect) (d : IsHandled before y.core j.at_server e did) (a : Ahead) (r : Prepared) (new : Joined)
+    → HasEnd before j.at_server e → At ks k j → WasDone before j.at_server (map record_of y.records.items) a d.next.m d.next.action → IsPrepared before e j d.next r new → AreAside j r → noted ≡ slice_set ks k new
+    → NotesAt k j.server did a r y noted logs y' ks' logs'
     → HandlesAt k j (record (server_of y) { core = before }) ks logs (server_of y') ks' logs'
-handled-at k j before y y' ks noted ks' logs logs' e d r new has at prepared aside is n =
+handled-at k j before y y' ks noted ks' logs logs' e did d a r new has at was prepared aside is n =
     let act : Action = d.next.action in
     let h : Handle = j.at_server in
+    let p : PutPlace = record { circuit = k; place = length r.handled.items } in
     let rs : List RecordSide = map record_of y.records.items in
     let long : length r.handled.items ≡ length j.lists.handled = sym (length-map r.handled.items step_of) ∙ ap length aside.handled in
     let sent : length r.down.items ≡ length j.lists.down = sym (length-map r.down.items told_of) ∙ ap length aside.down in
-    let done = n.done in
+    let done : TellsAction j.server p before h act y noted logs n.mid n.circuits n.told =
+    tells-action j.server p before h y noted logs a d.next.m act n.mid n.circuits n.told was
+    (subst (λ (e : Effect). TellsMessage j.server p e a.write a.parting y noted logs n.mid n.circuits n.told) d.tells n.done) in
     let reports = n.reports in
     let around : noted ≡ slice_set ks k (with_lists [] [] (numbers_after (length j.lists.handled) act j)) = is ∙ ap (slice_set ks k) prepared.circuit in
     let circuits : n.circuits ≡ map (write_numbers j.server y.core act) (slice_set ks k (with_lists [] [] (numbers_after (length j.lists.handled) act j))) =
@@ -161,16 +166,16 @@ handled-at k j before y y' ks noted ks' logs logs' e d r new has at prepared asi
     let life : n.mid.life ≡ y.life = ap (λ (s : Side). s.life) side in
     let records : map record_of n.mid.records.items ≡ records_after before h (put_place k j) act rs =
     ap (λ (s : Side). s.records) side ∙ ap (λ (p : ℕ). records_after before h (record { circuit = k; place = p }) act rs) long in
-    let gone : gone_at j.server n.mid.core n.circuits ≡ ends_at (ends_by j.server y.core) (acted k j before y.core ks e has d at) =
-    (λ t. ends_at (ends_by j.server (core t)) (circuits t)) ∙ gone-is k j before y.core ks e has d at in
-    let over : n.over ≡ slice_set (mid k j before y.core ks e has d at) k (with_lists [] [] (here k j before y.core ks e has d at)) =
-    reports.circuits ∙ (λ t. map (ending (ends_by j.server (core t))) (circuits t)) ∙ over-is k j before y.core ks e has d at in
+    let gone : gone_at j.server n.mid.core n.circuits ≡ ends_at (ends_by j.server y.core) (acted k j before y.core ks e has did d at) =
+    (λ t. ends_at (ends_by j.server (core t)) (circuits t)) ∙ gone-is k j before y.core ks e has did d at in
+    let over : n.over ≡ slice_set (mid k j before y.core ks e has did d at) k (with_lists [] [] (here k j before y.core ks e has did d at)) =
+    reports.circuits ∙ (λ t. map (ending (ends_by j.server (core t))) (circuits t)) ∙ over-is k j before y.core ks e has did d at in
     record {
       e = e;
       has = has;
       core = y.core;
       steps = (d.next, d.gone, d.stays, d.reaches);
-      mid = mid k j before y.core ks e has d at;
+      mid = mid k j before y.core ks e has did d at;
       quits = record {
         side =
             reports.side
@@ -179,11 +184,11 @@ handled-at k j before y y' ks noted ks' logs logs' e d r new has at prepared asi
         logged =
             reports.logged
             ∙ (λ t. grown (life t) (withdrawals (gone t) (records t)) (done.logged t))
-            ∙ ap (λ (p : ℕ). grown y.life (withdrawals (ends_at (ends_by j.server y.core) (acted k j before y.core ks e has d at)) (records_after before h (put_place k j) act rs)) (grown y.life (logged_by before h (record { circuit = k; place = p }) act rs) logs)) long;
+            ∙ ap (λ (p : ℕ). grown y.life (withdrawals (ends_at (ends_by j.server y.core) (acted k j before y.core ks e has did d at)) (records_after before h (put_place k j) act rs)) (grown y.life (logged_by before h (record { circuit = k; place = p }) act rs) logs)) long;
       };
       noted =
           n.noted
-          ∙ noted-is k j before y.core ks e has d at (map told_of r.down.items) (map step_of r.handled.items) (map told_of r.told.items)
+          ∙ noted-is k j before y.core ks e has did d at (map told_of r.down.items) (map step_of r.handled.items) (map told_of r.told.items)
           (record { sent = length r.down.items; logged = log_length y.life logs; after = log_length y.life logs' })
           (record { sent = length j.lists.down; logged = log_length y.life logs; after = log_length y.life logs' })
           prepared.told aside.down aside.handled (λ t. record { sent = sent t; logged = log_length y.life logs; after = log_length y.life logs' })
@@ -191,15 +196,14 @@ handled-at k j before y y' ks noted ks' logs logs' e d r new has at prepared asi
     }
 
 -- The same of the circuit at that place, whatever it is called.
-pub step-handled : (k i : ℕ) (x : Joined) (before : Server) (y y' : ServerSide) (ks noted ks' : List Joined) (logs logs' : List (List history.Entry)) (rs : List RecordSide) (a : Ahead) (c : Counts) (r : Prepared) (new : Joined)
-    → At ks k x → ((m : MayStep i before x ks rs a c) (d : IsHandled before y.core x.at_server m.e) → IsPrepared before m.e x d.next r new) → AreAside x r → noted ≡ slice_set ks k new
-    → ((h : Handle) (action : Action) → WasDone before h rs r.deed a.write a.parting action → NotesAt k i before h action r y noted logs y' ks' logs')
-    → (j : Joined) → At ks k j → (m : MayStep i before j ks rs a c) → IsHandled before y.core j.at_server m.e
-    → StepsAt k j (record (server_of y) { core = before }) ks logs (server_of y') ks' logs'
-step-handled k i x before y y' ks noted ks' logs logs' rs a c r new here prepared aside is notes j at =
-    subst (λ (z : Joined). (m : MayStep i before z ks rs a c) → IsHandled before y.core z.at_server m.e → StepsAt k z (record (server_of y) { core = before }) ks logs (server_of y') ks' logs')
-    (At-one ks k x j here at)
+pub step-handled : (t : Turn) (x : Joined) (before : Server) (y y' : ServerSide) (ks noted ks' : List Joined) (logs logs' : List (List history.Entry)) (a : Ahead) (did : Effect) (r : Prepared) (new : Joined)
+    → At ks t.circuit x → ((m : MayStep t before x ks (map record_of y.records.items) a) (d : IsHandled before y.core x.at_server m.e did) → IsPrepared before m.e x d.next r new) → AreAside x r → noted ≡ slice_set ks t.circuit new
+    → NotesAt t.circuit t.server did a r y noted logs y' ks' logs'
+    → (j : Joined) → At ks t.circuit j → (m : MayStep t before j ks (map record_of y.records.items) a) → IsHandled before y.core j.at_server m.e did
+    → StepsAt t.circuit j (record (server_of y) { core = before }) ks logs (server_of y') ks' logs'
+step-handled t x before y y' ks noted ks' logs logs' a did r new here prepared aside is notes j at =
+    subst (λ (z : Joined). (m : MayStep t before z ks (map record_of y.records.items) a) → IsHandled before y.core z.at_server m.e did → StepsAt t.circuit z (record (server_of y) { core = before }) ks logs (server_of y') ks' logs')
+    (At-one ks t.circuit x j here at)
     (λ m d.
-    let p = prepared m d in
-    let n : NotesAt k i before x.at_server d.next.action r y noted logs y' ks' logs' = notes x.at_server d.next.action (was-done before y.core i x ks rs a c m d r.deed p.did) in
-    inl (handled-at k x before y y' ks noted ks' logs logs' m.e d r new m.has here p aside is (subst (λ (i : ℕ). NotesAt k i before x.at_server d.next.action r y noted logs y' ks' logs') (sym m.mine) n)))
+    inl (handled-at t.circuit x before y y' ks noted ks' logs logs' m.e did d a r new m.has here (was-done before y.core x ks (map record_of y.records.items) a t did m d) (prepared m d) aside is
+    (subst (λ (i : ℕ). NotesAt t.circuit i did a r y noted logs y' ks' logs') (sym m.mine) notes)))

@@ -1,30 +1,29 @@
--- What a message did, read off the core after its step and begun on its circuit.
-use Rattle.std.proofs.Common.{◌≡◌, ◌≢◌, ◌∙◌, ◌<◌, ◌≤◌, ◌+◌, ℕ, Bool, true, false, cond, inl, inr, List, [], ◌∷◌, Option, length, map, Result, Ok, Err, refl, sym, ap, arith}
-use Rattle.std.specs.Prelude.{OnErr, nat_lt}
+-- What a message did is begun on its circuit, and its replies are read off the core after the step.
+use Rattle.std.proofs.Common.{◌≡◌, ◌≢◌, ◌∙◌, ◌<◌, ◌≤◌, ◌+◌, ℕ, Bool, true, false, cond, inl, inr, List, [], ◌∷◌, length, map, Result, Ok, Err, refl, sym, ap, subst, arith}
+use Rattle.std.specs.Prelude.{OnErr}
 use Rattle.std.proofs.lemmas.List.{append-nil, length-append, length-map}
+use Rattle.ca_arena.specs.declared.handle.Handle.{Handle}
 use Rattle.ca_ids.specs.Table.{under}
-use Rattle.ca_queue.specs.Circuit.{HasNone}
-use Rattle.ca_queue.specs.declared.entry.SubKey.{SubKey}
 use Rattle.ca_wire.specs.Fields.{Fields}
 use Rattle.ca_wire.specs.Message.{spelled, spelling}
 use Rattle.ca_wire.proofs.Messages.{spelling-long}
-use Rattle.ca_model.specs.Due.{Action, Adds, Applies, Clears, Drops, Due, Greets, KnownChannel, Knows, Names, Nothing, Opens, Switches, Waits, key_in}
+use Rattle.ca_model.specs.Due.{Action, Adds, Applies, Clears, Drops, Due, Greets, KnownChannel, Knows, Names, Nothing, Opens, Switches, Waits}
 use Rattle.ca_model.specs.History as history
 use Rattle.ca_model.specs.Server.{Server}
-use Rattle.ca_model.specs.ServerCalls.{waiting}
 use Rattle.ca_model.specs.ServerSteps.{NeedsMemory, output_of}
-use Rattle.ca_model.specs.ServerEvents.{about}
+use Rattle.ca_model.specs.ServerEvents.{about, numbers_after}
 use Rattle.ca_model.specs.World.{Joined, RecordSide}
 use Rattle.ca_laws_parts.proofs.ServerEnds.{next-own, reaches-stays}
-use Rattle.ca_world.specs.declared.server_step.Counts.{Counts}
+use Rattle.ca_server_circuit.specs.Effects.{effect_due}
+use Rattle.ca_server_circuit.specs.declared.effect.Effect.{Effect}
+use Rattle.ca_world.specs.declared.server_step.Turn.{Turn}
+use Rattle.ca_world.specs.ServerStepping.{with_lists}
 use Rattle.ca_world.specs.StepParts.{IsHandled, MayStep, StandBehind}
 use Rattle.ca_world_data.specs.declared.history.Told.{Told}
 use Rattle.ca_world_data.specs.Seen.{told_of}
 use Rattle.ca_world_servers.specs.declared.ahead.Ahead.{Ahead}
-use Rattle.ca_world_servers.specs.declared.deeds.Deed.{Deed}
-use Rattle.ca_world_servers.specs.declared.deeds.Deed.TheVariants as deed
-use Rattle.ca_world_servers.specs.Deeds.{IsDeed, MayLackFor, busies_of, is_wait, wrote_in}
-use Rattle.ca_world_servers.proofs.Dealt.{deed-new, due-cases, waits-handled, wrote-handled}
+use Rattle.ca_world_servers.specs.Effects.{BeginsNew, MayLackFor, numbers_by}
+use Rattle.ca_world_servers.proofs.Dealt.{begins-new, due-cases, idle}
 
 -- ---- bytes behind others
 
@@ -106,88 +105,52 @@ opens-replies k m replies c due = due-cases k m replies (Opens c) (replies ≢ [
     put false name v slow is = cc
 
 -- memory lacks only for what needs it
-pub lacks-need : (k : Knows) (m : Fields) (replies : List Fields) (action : Action) (done : Deed) → Due k m replies action → IsDeed action done → MayLackFor done → NeedsMemory m replies action
-lacks-need k m replies action (deed.Opens sid) due is lacks = go action due is
-  where
-    go : (action : Action) → Due k m replies action → IsDeed action (deed.Opens sid) → NeedsMemory m replies action
-    go (Opens c) due is = inr (opens-replies k m replies c due)
-    go Nothing due is = absurd is
-    go Greets due is = absurd is
-    go (Names p) due is = absurd is
-    go (Clears other) due is = absurd is
-    go (Applies name value busies) due is = absurd is
-    go (Waits name value) due is = absurd is
-    go (Adds s) due is = absurd is
-    go (Drops key) due is = absurd is
-    go (Switches on) due is = absurd is
-lacks-need k m replies action (deed.Adds key) due is lacks = go action is
-  where
-    go : (action : Action) → IsDeed action (deed.Adds key) → NeedsMemory m replies action
-    go (Adds s) is = tt
-    go Nothing is = absurd is
-    go Greets is = absurd is
-    go (Names p) is = absurd is
-    go (Opens c) is = absurd is
-    go (Clears other) is = absurd is
-    go (Applies name value busies) is = absurd is
-    go (Waits name value) is = absurd is
-    go (Drops key) is = absurd is
-    go (Switches on) is = absurd is
-lacks-need k m replies action deed.Nothing due is lacks = absurd lacks
-lacks-need k m replies action (deed.Clears sid) due is lacks = absurd lacks
-lacks-need k m replies action (deed.Applies busies) due is lacks = absurd lacks
-lacks-need k m replies action deed.Waits due is lacks = absurd lacks
-lacks-need k m replies action (deed.Drops key) due is lacks = absurd lacks
-lacks-need k m replies action (deed.Switches on) due is lacks = absurd lacks
+lacks-need : (k : Knows) (m : Fields) (replies : List Fields) (action : Action) → Due k m replies action → MayLackFor (effect_due m action) → NeedsMemory m replies action
+lacks-need k m replies (Opens c) due lacks = inr (opens-replies k m replies c due)
+lacks-need k m replies (Adds s) due lacks = tt
+lacks-need k m replies (Applies name value busies) due lacks = tt
+lacks-need k m replies (Waits name value) due lacks = tt
+lacks-need k m replies Nothing due lacks = absurd (idle (λ (d : Effect). MayLackFor d → ⊥) m (λ x. x) (λ x. x) lacks)
+lacks-need k m replies Greets due lacks = absurd lacks
+lacks-need k m replies (Names p) due lacks = absurd lacks
+lacks-need k m replies (Clears sid) due lacks = absurd lacks
+lacks-need k m replies (Drops key) due lacks = absurd lacks
+lacks-need k m replies (Switches on) due lacks = absurd lacks
 
--- ---- replies
+-- ---- its circuit
 
-told-messages : (told : List Told) → map (λ (t : history.Told). t.message) (map told_of told) ≡ map (λ (t : Told). t.message) told
-told-messages [] = refl
-told-messages (t ∷ ts) = ap (λ (ms : List Fields). t.message ∷ ms) (told-messages ts)
-
-about-messages : (place : ℕ) (ms : List Fields) → map (λ (t : history.Told). t.message) (about place history.Reply ms) ≡ ms
-about-messages place [] = refl
-about-messages place (m ∷ ms) = ap (λ (ns : List Fields). m ∷ ns) (about-messages place ms)
-
-messages-are : (place : ℕ) (told : List Told) (ms : List Fields) → map told_of told ≡ about place history.Reply ms → map (λ (t : Told). t.message) told ≡ ms
-messages-are place told ms are = sym (told-messages told) ∙ ap (map (λ (t : history.Told). t.message)) are ∙ about-messages place ms
+-- what an effect tells of a circuit whose lists are aside is what was done there
+pub numbers-aside : (m : Fields) (action : Action) (place : ℕ) (j : Joined) → numbers_by (effect_due m action) place (with_lists [] [] j) ≡ with_lists [] [] (numbers_after place action j)
+numbers-aside m Nothing place j = idle (λ (d : Effect). numbers_by d place (with_lists [] [] j) ≡ with_lists [] [] j) m refl refl
+numbers-aside m (Applies name value true) place j = refl
+numbers-aside m (Applies name value false) place j = refl
+numbers-aside m (Waits name value) place j = refl
+numbers-aside m Greets place j = refl
+numbers-aside m (Names p) place j = refl
+numbers-aside m (Opens c) place j = refl
+numbers-aside m (Clears sid) place j = refl
+numbers-aside m (Adds s) place j = refl
+numbers-aside m (Drops key) place j = refl
+numbers-aside m (Switches on) place j = refl
 
 -- ---- the core after the step
 
-module _ (before core : Server) (i : ℕ) (j : Joined) (ks : List Joined) (rs : List RecordSide) (a : Ahead) (c : Counts) (m : MayStep i before j ks rs a c) (d : IsHandled before core j.at_server m.e) where
+module _ (before core : Server) (j : Joined) (ks : List Joined) (rs : List RecordSide) (a : Ahead) (t : Turn) (did : Effect) (m : MayStep t before j ks rs a) (d : IsHandled before core j.at_server m.e did) where
   -- the replies are behind what waited
-  pub handled-behind : StandBehind c.waited (output_of (under core.circuits j.at_server)) d.next.replies
+  pub handled-behind : StandBehind t.waited (output_of (under core.circuits t.at)) d.next.replies
   handled-behind =
       let own = next-own before j.at_server m.e m.has d.next in
       let on = reaches-stays d.next.action d.gone d.next.after core d.reaches j.at_server d.stays own.0 own.1 in
       record {
         begun = m.e.link.output;
-        long = m.counts.waited;
-        are = ap output_of on.1 ∙ on.3 ∙ append-nil own.0.link.output ∙ own.3;
+        long = m.turn.waited;
+        are = ap (λ (h : Handle). output_of (under core.circuits h)) m.turn.here ∙ ap output_of on.1 ∙ on.3 ∙ append-nil own.0.link.output ∙ own.3;
         good = m.good d.next;
       }
 
-  wrote-is : wrote_in core c.applied a.command a.write ≡ busies_of d.next.action
-  wrote-is =
-      let ahead = m.ahead d.next in
-      (λ t. wrote_in core (m.counts.applied t) (ahead.command t) a.write) ∙ wrote-handled before j.at_server m.e m.has m.counts.few d.next d.gone core d.reaches rs a.write a.parting ahead.foreseen
+  -- a subscription that began is new
+  pub handled-new : BeginsNew did j.queues
+  handled-new = subst (λ (e : Effect). BeginsNew e j.queues) (sym d.tells) (begins-new before m.e d.next.m d.next.replies d.next.action j d.next.handles.due m.own m.seated)
 
-  waits-is : nat_lt c.waiting (waiting core) ≡ is_wait d.next.action
-  waits-is = ap (λ (n : ℕ). nat_lt n (waiting core)) m.counts.waiting ∙ waits-handled before j.at_server m.e d.next d.gone core d.reaches
-
-  -- what the message did is read off the core
-  pub handled-deed : (place : ℕ) (told : List Told) (wrote : Option Bool) (waits : Bool) (done : Deed)
-      → wrote ≡ wrote_in core c.applied a.command a.write → waits ≡ nat_lt c.waiting (waiting core)
-      → ((k : Knows) (n : Fields) (due : List Fields) (action : Action) → Due k n due action → a.command ≡ n.command → a.key ≡ key_in n → map (λ (t : Told). t.message) told ≡ due → wrote ≡ busies_of action → waits ≡ is_wait action → IsDeed action done)
-      → map told_of told ≡ about place history.Reply d.next.replies → IsDeed d.next.action done
-  handled-deed place told wrote waits done wrote_is waits_is reads are =
-      let ahead = m.ahead d.next in
-      reads _ d.next.m d.next.replies d.next.action d.next.handles.due ahead.command ahead.key (messages-are place told d.next.replies are) (wrote_is ∙ wrote-is) (waits_is ∙ waits-is)
-
-  -- the key of a subscription that begins is new
-  pub handled-new : (done : Deed) → IsDeed d.next.action done → (key : SubKey) → done ≡ deed.Adds key → HasNone j.queues key
-  handled-new done did key is = deed-new before m.e d.next.m d.next.replies d.next.action done key j d.next.handles.due did is m.own m.seated
-
-  pub handled-need : (done : Deed) → IsDeed d.next.action done → MayLackFor done → NeedsMemory d.next.m d.next.replies d.next.action
-  handled-need done did lacks = lacks-need _ d.next.m d.next.replies d.next.action done d.next.handles.due did lacks
+  pub handled-need : MayLackFor did → NeedsMemory d.next.m d.next.replies d.next.action
+  handled-need lacks = lacks-need _ d.next.m d.next.replies d.next.action d.next.handles.due (subst MayLackFor d.tells lacks)

@@ -1,23 +1,18 @@
-ghost use Rattle.std.specs.Prelude.{ℕ, ◌≡◌, ◌+◌, ◌<◌, ◌≤◌, [], Bool, false, IfOk, List, OnErr, OnOk, Some, None, length, map, take, vec_capacity, vec_len};
-ghost use Rattle.ca_arena.specs.declared.handle.Handle as handle;
+ghost use Rattle.std.specs.Prelude.{ℕ, ◌≡◌, ◌+◌, ◌<◌, ◌≤◌, [], Bool, IfOk, List, None, OnErr, OnOk, Some, length, map, take, vec_capacity, vec_len};
 ghost use Rattle.ca_ids.specs.Table.{under};
-ghost use Rattle.ca_model.specs.Due.{Action};
-ghost use Rattle.ca_model.specs.Server.{Server, ServerEnd};
-ghost use Rattle.ca_model.specs.ServerCalls.{waiting};
-ghost use Rattle.ca_model.specs.ServerSteps.{HasEnd, NeedsMemory, output_of};
+ghost use Rattle.ca_model.specs.Server.{Server};
+ghost use Rattle.ca_model.specs.ServerSteps.{NeedsMemory, output_of};
 ghost use Rattle.ca_model.specs.Events as event;
 ghost use Rattle.ca_model.specs.World as model;
 ghost use Rattle.ca_model.specs.World.{log_length};
 ghost use Rattle.ca_text.specs.Place.{At};
 ghost use Rattle.ca_model.specs.History as history;
-ghost use Rattle.ca_model.specs.ServerEvents.{about, numbers_after};
-ghost use Rattle.ca_queue.specs.Circuit.{HasNone};
-ghost use Rattle.ca_queue.specs.declared.entry.SubKey as sub_key;
+ghost use Rattle.ca_model.specs.ServerEvents.{about};
 ghost use Rattle.ca_wire.specs.Fields.{Fields};
 ghost use Rattle.ca_world_servers.specs.Losing.{AreSeated};
 ghost use Rattle.ca_world.specs.Reported.{HasReported};
 ghost use Rattle.ca_world.specs.ServerStepping.{StepsAt, with_lists};
-ghost use Rattle.ca_world.specs.StepParts.{AreAside, ClosesWith, IsAheadOf, IsHandled, IsPrepared, MayBegin, MayStep, NotesAt, StandBehind, StepsServer, wrote_by};
+ghost use Rattle.ca_world.specs.StepParts.{AreAside, ClosesWith, IsAheadOf, IsHandled, IsPrepared, MayBegin, MayStep, NotesAt, StandBehind, StepsServer};
 ghost use Rattle.ca_world_data.specs.declared.joined.Joined as opened;
 ghost use Rattle.ca_world_data.specs.Does.{Does};
 ghost use Rattle.ca_world_data.specs.Numbering.{AllAlike, AllMayCount};
@@ -25,17 +20,15 @@ ghost use Rattle.ca_world_data.specs.Opening.{entries_in};
 ghost use Rattle.ca_world_data.specs.Reporting.{AreServed, Reports, waits};
 ghost use Rattle.ca_world_data.specs.Seen.{joined_of, queue_of, record_of, server_of, step_of, told_of};
 ghost use Rattle.ca_world_data.specs.ServerCuts.{HasRoomFor, IsServing, cut_core};
+ghost use Rattle.ca_world_servers.specs.declared.ahead.Ahead as known;
 ghost use Rattle.ca_world_servers.specs.declared.coming.Coming as coming;
-ghost use Rattle.ca_world_servers.specs.declared.deeds.Deed.TheVariants as did;
-ghost use Rattle.ca_world_servers.specs.Deeds.{IsDeed, MayLackFor, MayWaitFor, WasDone, wrote_in};
-ghost use Rattle.ca_world_servers.specs.EndsWith.{ReportsWith};
+ghost use Rattle.ca_world_servers.specs.Effects.{AreApart, BeginsNew, IsPartingOf, MayLackFor, MayWaitFor, numbers_by, wrote_by};
 ghost use Rattle.ca_world_servers.specs.Handling.{HasRoomToNote, with_handled};
 
 use crate::cut_server::cut_end;
 use crate::world::World;
 use ca_arena::Handle;
-use ca_queue::SubKey;
-use ca_server_core::{ServerCore, Step as Did};
+use ca_server_core::{Effect, ServerCore, Step as Did};
 use ca_text::{APPLIED_LIMIT, Refusal};
 use ca_wire::Pipe;
 use ca_world_data::ends::ends_at;
@@ -47,25 +40,27 @@ use ca_world_data::reporting::{report_ends, reserve_reports};
 use ca_world_data::server::{RecordSide, ServerSide};
 use ca_world_servers::ahead::{Ahead, look_at};
 use ca_world_servers::coming::Coming;
-use ca_world_servers::deeds::{Deed, deed_of, tell_on, wrote_of};
-use ca_world_servers::doing::tell_deed;
+use ca_world_servers::doing::{tell_effect, tell_write};
+use ca_world_servers::effects::{tell_on, wrote_by, wrote_of};
 use ca_world_servers::ends_with::report_ends_with;
 use ca_world_servers::handling::{note_handled, reserve_handled};
-use ca_world_servers::parting::Parting;
 use std::alloc::{AllocError, Global};
 
-// How many bytes waited on a circuit before a step of its end, how many writes were applied, and how many puts waited.
+// The end whose step it is: the numbers of its circuit and its server, and the handle by which that has it. How many bytes waited there before the
+// step, and how many writes were applied.
 #[derive(Clone, Copy)]
-struct Counts {
+struct Turn {
+    alloc: Global,
+    circuit: usize,
+    server: usize,
+    at: Handle,
     waited: usize,
     applied: u64,
-    waiting: u64,
 }
 
-// What a message did, with its replies, and the lists of its circuit, held aside with room for them.
+// The replies to a message, and the lists of its circuit, held aside with room for them.
 #[derive(Drop)]
 struct Prepared {
-    deed: Deed,
     told: Vec<Told>,
     down: Vec<Told>,
     handled: Vec<Step>,
@@ -131,12 +126,21 @@ fn step_at(
     let ahead = next_ahead(alloc, &side.core, &circuits[circuit], &mut side.records)?;
     check_write(circuits, &ahead.write)?;
     reserve_reports(logs, side.life, &side.records, 2)?;
-    let counts = counts_of(&side.core, &circuits[circuit]);
+    let applied = side.core.applied();
     // The count of writes stays at its limit, so that a step there would not tell whether it wrote.
-    if counts.applied >= APPLIED_LIMIT {
+    if applied >= APPLIED_LIMIT {
         return Err(Refusal::OutOfMemory);
     }
-    step_end(alloc, circuit, server, side, circuits, logs, ahead, counts);
+    let at = circuits[circuit].at_server;
+    let turn = Turn {
+        alloc,
+        circuit,
+        server,
+        at,
+        waited: side.core.out_bytes(at).len(),
+        applied,
+    };
+    step_end(&turn, side, circuits, logs, ahead);
     Ok(())
 }
 
@@ -147,20 +151,6 @@ fn check_write(circuits: &[Joined], write: &Option<Coming>) -> Result<(), AllocE
     match write {
         Some(_) => check_counts(circuits),
         None => Ok(()),
-    }
-}
-
-// How much waits on a circuit, and how much was applied and waits at its server.
-fn counts_of(core: &ServerCore, joined: &Joined) -> Counts
-    ensures waited { result.waited ≡ length (output_of
-        (under core.now.circuits joined.now.at_server)) }
-    ensures applied { result.applied ≡ core.now.applied }
-    ensures waits { result.waiting ≡ waiting core.now }
-{
-    Counts {
-        waited: core.out_bytes(joined.at_server).len(),
-        applied: core.applied(),
-        waiting: core.waiting(),
     }
 }
 
@@ -180,7 +170,6 @@ fn next_ahead(
     if place >= joined.lists.up.len() {
         return Ok(Ahead {
             command: 0,
-            key: SubKey { sid: 0, sub: 0 },
             write: None,
             parting: None,
         });
@@ -197,32 +186,30 @@ fn next_ahead(
 
 // The step itself, and what it leaves.
 fn step_end(
-    alloc: Global,
-    circuit: usize,
-    server: usize,
+    turn: &Turn,
     side: &mut ServerSide,
     circuits: &mut Vec<Joined>,
     logs: &mut Vec<Vec<Entry>>,
     ahead: Ahead,
-    counts: Counts,
 )
-    requires within { circuit < vec_len circuits.old }
+    requires within { turn.now.circuit < vec_len circuits.old }
     requires may { (j : model.Joined)
-        → At (map joined_of circuits.old.items) circuit j
-        → MayStep server side.old.core j (map joined_of circuits.old.items)
-        (map record_of side.old.records.items) ahead counts }
+        → At (map joined_of circuits.old.items) turn.now.circuit j
+        → MayStep turn.now side.old.core j (map joined_of circuits.old.items)
+        (map record_of side.old.records.items) ahead }
     requires served { AreServed
         side.old.circuits.items
         (map joined_of circuits.old.items)
-        server }
+        turn.now.server }
     requires counts { (w : coming.Coming) → ahead.write ≡ Some w → AllMayCount circuits.old.items }
-    requires notes { (j : opened.Joined) → At circuits.old.items circuit j → HasRoomToNote 0 j }
+    requires notes { (j : opened.Joined)
+        → At circuits.old.items turn.now.circuit j → HasRoomToNote 0 j }
     requires space { MayWaitFor ahead.write side.old.records.items }
     requires room { HasRoomFor (waits side.old.records.items + 2) side.old.life logs.old.items }
     ensures steps { (j : model.Joined)
-        → At (map joined_of circuits.old.items) circuit j
+        → At (map joined_of circuits.old.items) turn.now.circuit j
         → StepsAt
-        circuit
+        turn.now.circuit
         j
         (server_of side.old)
         (map joined_of circuits.old.items)
@@ -232,74 +219,48 @@ fn step_end(
         (entries_in logs.new.items) }
     ensures numbers { side.new.circuits.items ≡ side.old.circuits.items }
 {
-    let at = circuits[circuit].at_server;
-    match side.core.step(at) {
-        Did::Handled(_) => {
-            tell_step(
-                alloc, circuit, server, side, circuits, logs, ahead, counts, at,
-            );
-        }
+    match side.core.step(turn.at) {
+        Did::Handled(effect) => tell_step(turn, side, circuits, logs, ahead, effect),
         Did::Closed(_, left) => {
-            let Ahead {
-                command,
-                key: _key,
-                write,
-                parting,
-            } = ahead;
-            close_stepped(
-                alloc,
-                circuit,
-                server,
-                side,
-                circuits,
-                logs,
-                command,
-                write,
-                parting,
-                counts.applied,
-                at,
-                left,
-            );
+            let wrote = wrote_of(&side.core, turn.applied, ahead.command, &ahead.write);
+            close_stepped(turn, side, circuits, logs, wrote, ahead.write, left);
         }
         Did::NeedBytes => {}
         Did::OutputFull => {}
     }
 }
 
-// A message was handled. If there is no memory for what it leaves, its end closes.
+// A message was handled, with this effect. If there is no memory for what it leaves, its end closes.
 fn tell_step(
-    alloc: Global,
-    circuit: usize,
-    server: usize,
+    turn: &Turn,
     side: &mut ServerSide,
     circuits: &mut Vec<Joined>,
     logs: &mut Vec<Vec<Entry>>,
     ahead: Ahead,
-    counts: Counts,
-    at: Handle,
+    effect: Effect,
 )
-    requires within { circuit < vec_len circuits.old }
-    requires was { (before : Server) × (m : (j : model.Joined)
-        → At (map joined_of circuits.old.items) circuit j
-        → MayStep server before j (map joined_of circuits.old.items)
-        (map record_of side.old.records.items) ahead counts)
-        × ((j : model.Joined) (there : At (map joined_of circuits.old.items) circuit j)
-        → (at ≡ j.at_server) × IsHandled before side.old.core j.at_server (m j there).e) }
+    requires within { turn.now.circuit < vec_len circuits.old }
+    requires was { (before : Server) × ((j : model.Joined)
+        → At (map joined_of circuits.old.items) turn.now.circuit j
+        → (m : MayStep turn.now before j (map joined_of circuits.old.items)
+        (map record_of side.old.records.items) ahead)
+        × IsHandled before side.old.core j.at_server m.e effect) }
     requires served { AreServed
         side.old.circuits.items
         (map joined_of circuits.old.items)
-        server }
+        turn.now.server }
     requires counts { (w : coming.Coming) → ahead.write ≡ Some w → AllMayCount circuits.old.items }
-    requires notes { (j : opened.Joined) → At circuits.old.items circuit j → HasRoomToNote 0 j }
+    requires notes { (j : opened.Joined)
+        → At circuits.old.items turn.now.circuit j → HasRoomToNote 0 j }
     requires space { MayWaitFor ahead.write side.old.records.items }
     requires room { HasRoomFor (waits side.old.records.items + 2) side.old.life logs.old.items }
     ensures steps { (before : Server) (j : model.Joined)
-        → At (map joined_of circuits.old.items) circuit j
-        → (m : MayStep server before j (map joined_of circuits.old.items)
-        (map record_of side.old.records.items) ahead counts)
-        → IsHandled before side.old.core j.at_server m.e
+        → At (map joined_of circuits.old.items) turn.now.circuit j
+        → (m : MayStep turn.now before j (map joined_of circuits.old.items)
+        (map record_of side.old.records.items) ahead)
+        → IsHandled before side.old.core j.at_server m.e effect
         → StepsAt
-        circuit
+        turn.now.circuit
         j
         (record (server_of side.old) { core = before })
         (map joined_of circuits.old.items)
@@ -309,98 +270,70 @@ fn tell_step(
         (entries_in logs.new.items) }
     ensures numbers { side.new.circuits.items ≡ side.old.circuits.items }
 {
-    match prepare(alloc, &side.core, &mut circuits[circuit], &ahead, counts) {
-        Ok(prepared) => {
-            let Ahead {
-                command: _command,
-                key: _key,
-                write,
-                parting,
-            } = ahead;
-            note(
-                alloc, circuit, server, side, circuits, logs, write, parting, prepared,
-            );
-        }
+    match prepare(turn, &side.core, &mut circuits[turn.circuit], effect) {
+        Ok(prepared) => note(turn, side, circuits, logs, ahead, effect, prepared),
         Err(_) => {
-            let left = cut_short(alloc, &mut side.core, at, counts.waited);
-            let Ahead {
-                command,
-                key: _key,
-                write,
-                parting,
-            } = ahead;
+            let left = cut_short(turn, &mut side.core);
             close_stepped(
-                alloc,
-                circuit,
-                server,
+                turn,
                 side,
                 circuits,
                 logs,
-                command,
-                write,
-                parting,
-                counts.applied,
-                at,
+                wrote_by(effect),
+                ahead.write,
                 left,
             );
         }
     }
 }
 
-// Reads off the core what the message did, and begins that on its circuit. Without memory the circuit is as it was: its message needs some.
+// The replies to a message that was handled with this effect, which is begun on its circuit. Without memory the circuit is as it was: its message
+// needs some.
 fn prepare(
-    alloc: Global,
+    turn: &Turn,
     core: &ServerCore,
     joined: &mut Joined,
-    ahead: &Ahead,
-    counts: Counts,
+    effect: Effect,
 ) -> Result<Prepared, AllocError>
-    requires was { (before : Server) × (i : ℕ)
-        × (ks : List model.Joined) × (rs : List model.RecordSide)
-        × (m : MayStep i before (joined_of joined.old) ks rs ahead.now counts)
-        × IsHandled before core.now joined.old.at_server m.e }
+    requires was { (before : Server) × (ks : List model.Joined) × (rs : List model.RecordSide)
+        × (a : known.Ahead) × (m : MayStep turn.now before (joined_of joined.old) ks rs a)
+        × IsHandled before core.now joined.old.at_server m.e effect }
     requires room { HasRoomToNote 0 joined.old }
-    ensures ok { IfOk result (λ p. (before : Server) (i : ℕ)
-        (ks : List model.Joined) (rs : List model.RecordSide)
-        (m : MayStep i before (joined_of joined.old) ks rs ahead.now counts)
-        (d : IsHandled before core.now joined.old.at_server m.e)
+    ensures ok { IfOk result (λ p. (before : Server)
+        (ks : List model.Joined) (rs : List model.RecordSide) (a : known.Ahead)
+        (m : MayStep turn.now before (joined_of joined.old) ks rs a)
+        (d : IsHandled before core.now joined.old.at_server m.e effect)
         → IsPrepared before m.e (joined_of joined.old) d.next p (joined_of joined.new)) }
     ensures aside { IfOk result (λ p. AreAside (joined_of joined.old) p) }
     ensures err { OnErr result (joined_of joined.new ≡ joined_of joined.old) }
-    ensures needs { OnErr result ((before : Server) (i : ℕ)
-        (ks : List model.Joined) (rs : List model.RecordSide)
-        (m : MayStep i before (joined_of joined.old) ks rs ahead.now counts)
-        (d : IsHandled before core.now joined.old.at_server m.e)
+    ensures needs { OnErr result ((before : Server)
+        (ks : List model.Joined) (rs : List model.RecordSide) (a : known.Ahead)
+        (m : MayStep turn.now before (joined_of joined.old) ks rs a)
+        (d : IsHandled before core.now joined.old.at_server m.e effect)
         → NeedsMemory d.next.m d.next.replies d.next.action) }
 {
     let place = joined.lists.handled.len();
-    let told = replies_behind(alloc, core, joined.at_server, counts.waited, place)?;
+    let told = replies_behind(turn, core, place)?;
     reserve_replies(joined, told.len())?;
-    let deed = did_of(core, ahead, counts, &told);
-    let prepared = begin(alloc, joined, deed, told, place)?;
+    let prepared = begin(turn.alloc, joined, effect, told, place)?;
     Ok(prepared)
 }
 
-// The replies behind so many bytes that waited on a circuit, as those to the message at this place. Without replies no memory is needed.
-fn replies_behind(
-    alloc: Global,
-    core: &ServerCore,
-    at: Handle,
-    waited: usize,
-    place: usize,
-) -> Result<Vec<Told>, AllocError>
+// The replies behind the bytes that waited on a circuit, as those to the message at this place. Without replies no memory is needed.
+fn replies_behind(turn: &Turn, core: &ServerCore, place: usize) -> Result<Vec<Told>, AllocError>
     requires { (ms : List Fields)
-        × StandBehind waited (output_of (under core.now.circuits at)) ms }
+        × StandBehind turn.now.waited (output_of (under core.now.circuits turn.now.at)) ms }
     ensures all { IfOk result (λ all. (ms : List Fields)
-        → StandBehind waited (output_of (under core.now.circuits at)) ms
+        → StandBehind turn.now.waited (output_of (under core.now.circuits turn.now.at)) ms
         → map told_of all.items ≡ about place history.Reply ms) }
-    ensures some { OnErr result (waited < length (output_of (under core.now.circuits at))) }
+    ensures some { OnErr result (turn.now.waited
+        < length (output_of (under core.now.circuits turn.now.at))) }
 {
-    let bytes = core.out_bytes(at);
-    if bytes.len() <= waited {
-        return Ok(Vec::new(alloc));
+    let bytes = core.out_bytes(turn.at);
+    if bytes.len() <= turn.waited {
+        return Ok(Vec::new(turn.alloc));
     }
-    let all = replies_in(alloc, &bytes[waited..], place)?;
+    let all = replies_in(turn.alloc, &bytes[turn.waited..], place)?;
     Ok(all)
 }
 
@@ -418,47 +351,27 @@ fn reserve_replies(joined: &mut Joined, replies: usize) -> Result<(), AllocError
     Ok(())
 }
 
-// What the message did, by what is read off the core after its step.
-fn did_of(core: &ServerCore, ahead: &Ahead, counts: Counts, told: &[Told]) -> Deed
-    ensures { (before : Server) (i : ℕ) (j : model.Joined)
-        (ks : List model.Joined) (rs : List model.RecordSide)
-        (m : MayStep i before j ks rs ahead.now counts)
-        (d : IsHandled before core.now j.at_server m.e)
-        (place : ℕ)
-        → map told_of told.now ≡ about place history.Reply d.next.replies
-        → IsDeed d.next.action result }
-{
-    let wrote = wrote_of(core, counts.applied, ahead.command, &ahead.write);
-    let waits = core.waiting() > counts.waiting;
-    deed_of(ahead.command, ahead.key, told, wrote, waits)
-}
-
 // What the message did is begun on its circuit, whose lists are held aside. Without memory it is as it was.
 fn begin(
     alloc: Global,
     joined: &mut Joined,
-    deed: Deed,
+    effect: Effect,
     told: Vec<Told>,
     place: usize,
 ) -> Result<Prepared, AllocError>
     requires seated { AreSeated (joined_of joined.old) }
-    requires new { (key : sub_key.SubKey)
-        → deed ≡ did.Adds key → HasNone (map (λ q. queue_of q.0) joined.old.queues.items) key }
-    ensures ok { OnOk result ((action : Action)
-        → IsDeed action deed
-        → joined_of joined.new
-        ≡ with_lists [] [] (numbers_after place action (joined_of joined.old))) }
-    ensures deed { IfOk result (λ p. p.deed ≡ deed) }
+    requires new { BeginsNew effect (map (λ q. queue_of q.0) joined.old.queues.items) }
+    ensures ok { OnOk result (joined_of joined.new
+        ≡ numbers_by effect place (with_lists [] [] (joined_of joined.old))) }
     ensures told { IfOk result (λ p. p.told ≡ told) }
     ensures down { IfOk result (λ p. p.down ≡ joined.old.lists.down) }
     ensures handled { IfOk result (λ p. p.handled ≡ joined.old.lists.handled) }
     ensures err { OnErr result (joined_of joined.new ≡ joined_of joined.old) }
-    ensures lacks { OnErr result (MayLackFor deed) }
+    ensures lacks { OnErr result (MayLackFor effect) }
 {
     let (down, handled) = take_lists(alloc, joined);
-    match tell_on(joined, deed, place) {
+    match tell_on(joined, effect, place) {
         Ok(()) => Ok(Prepared {
-            deed,
             told,
             down,
             handled,
@@ -498,42 +411,36 @@ fn give_lists(joined: &mut Joined, down: Vec<Told>, handled: Vec<Step>)
 
 // What the message did is told, ends that ended by its write are reported, and it is noted on its circuit.
 fn note(
-    alloc: Global,
-    circuit: usize,
-    server: usize,
+    turn: &Turn,
     side: &mut ServerSide,
     circuits: &mut Vec<Joined>,
     logs: &mut Vec<Vec<Entry>>,
-    write: Option<Coming>,
-    parting: Option<Parting>,
+    ahead: Ahead,
+    effect: Effect,
     prepared: Prepared,
 )
-    requires within { circuit < vec_len circuits.old }
-    requires done { (before : Server) × (h : handle.Handle) × (action : Action)
-        × WasDone before h (map record_of side.old.records.items) prepared.deed write parting
-        action }
-    requires alike { (busies : Bool) → prepared.deed ≡ did.Applies busies
-        → AllAlike server side.old.core (map joined_of circuits.old.items) }
-    requires counts { (busies : Bool) → prepared.deed ≡ did.Applies busies
-        → AllMayCount circuits.old.items }
-    requires reported { wrote_by prepared.deed ≡ false → HasReported side.old.core }
+    requires within { turn.now.circuit < vec_len circuits.old }
+    requires alike { (busies : Bool) → wrote_by effect ≡ Some busies
+        → AllAlike turn.now.server side.old.core (map joined_of circuits.old.items) }
+    requires counts { (busies : Bool) (w : coming.Coming)
+        → wrote_by effect ≡ Some busies → ahead.write ≡ Some w → AllMayCount circuits.old.items }
+    requires apart { AreApart (map record_of side.old.records.items) }
+    requires parted { IsPartingOf ahead.parting (map record_of side.old.records.items) }
+    requires reported { wrote_by effect ≡ None → HasReported side.old.core }
     requires served { AreServed
         side.old.circuits.items
         (map joined_of circuits.old.items)
-        server }
-    requires space { MayWaitFor write side.old.records.items }
+        turn.now.server }
+    requires space { MayWaitFor ahead.write side.old.records.items }
     requires room { HasRoomFor (waits side.old.records.items + 2) side.old.life logs.old.items }
     requires down { vec_len prepared.down + length prepared.told.items
         ≤ vec_capacity prepared.down }
     requires handled { vec_len prepared.handled + 1 ≤ vec_capacity prepared.handled }
-    ensures { (before : Server) (h : handle.Handle) (action : Action)
-        → WasDone before h (map record_of side.old.records.items) prepared.deed write parting action
-        → NotesAt
-        circuit
-        server
-        before
-        h
-        action
+    ensures notes { NotesAt
+        turn.now.circuit
+        turn.now.server
+        effect
+        ahead
         prepared
         side.old
         (map joined_of circuits.old.items)
@@ -541,9 +448,9 @@ fn note(
         side.new
         (map joined_of circuits.new.items)
         (entries_in logs.new.items) }
+    ensures numbers { side.new.circuits.items ≡ side.old.circuits.items }
 {
     let Prepared {
-        deed,
         told,
         down,
         handled,
@@ -551,33 +458,43 @@ fn note(
     let sent = down.len();
     let place = handled.len();
     let logged = logged_of(logs, side.life);
-    tell_deed(
-        circuit, place, server, side, circuits, logs, deed, write, parting,
+    tell_effect(
+        turn.circuit,
+        place,
+        turn.server,
+        side,
+        circuits,
+        logs,
+        effect,
+        ahead.write,
+        ahead.parting,
     );
-    report_written(alloc, deed, server, side, circuits, logs);
+    report_written(turn, effect, side, circuits, logs);
     let after = logged_of(logs, side.life);
     let step = Step {
         sent,
         logged,
         after,
     };
-    note_on(&mut circuits[circuit], down, handled, step, told);
+    note_on(&mut circuits[turn.circuit], down, handled, step, told);
 }
 
 // Ends that ended by a write are reported. By another message none ended.
 fn report_written(
-    alloc: Global,
-    deed: Deed,
-    server: usize,
+    turn: &Turn,
+    effect: Effect,
     side: &mut ServerSide,
     circuits: &mut Vec<Joined>,
     logs: &mut Vec<Vec<Entry>>,
 )
-    requires reported { wrote_by deed ≡ false → HasReported side.old.core }
+    requires reported { wrote_by effect ≡ None → HasReported side.old.core }
     requires room { HasRoomFor (waits side.old.records.items) side.old.life logs.old.items }
-    requires served { AreServed side.old.circuits.items (map joined_of circuits.old.items) server }
+    requires served { AreServed
+        side.old.circuits.items
+        (map joined_of circuits.old.items)
+        turn.now.server }
     ensures { Reports
-        server
+        turn.now.server
         side.old
         (map joined_of circuits.old.items)
         (entries_in logs.old.items)
@@ -585,25 +502,10 @@ fn report_written(
         (map joined_of circuits.new.items)
         (entries_in logs.new.items) }
 {
-    if has_written(deed) {
-        report_ends(alloc, server, side, circuits, logs);
-    }
-}
-
-// Whether a write was applied at once.
-fn has_written(deed: Deed) -> bool
-    ensures { result ≡ wrote_by deed }
-{
-    match deed {
-        Deed::Applies(_) => true,
-        Deed::Nothing => false,
-        Deed::Opens(_) => false,
-        Deed::Clears(_) => false,
-        Deed::Waits => false,
-        Deed::Adds(_) => false,
-        Deed::Drops(_) => false,
-        Deed::Switches(_) => false,
-    }
+    let Some(_) = wrote_by(effect) else {
+        return;
+    };
+    report_ends(turn.alloc, turn.server, side, circuits, logs);
 }
 
 // The lists of the circuit are given back, and the message is noted as handled in this step, by these replies.
@@ -630,61 +532,35 @@ fn logged_of(logs: &[Vec<Entry>], life: usize) -> usize
     0
 }
 
-// The end under this handle has closed, with these bytes left. A write of its message is told, and all ends that ended are reported.
+// The end has closed, with these bytes left. Its message's write is told, if it wrote, and all ends that ended are reported.
 fn close_stepped(
-    alloc: Global,
-    circuit: usize,
-    server: usize,
+    turn: &Turn,
     side: &mut ServerSide,
     circuits: &mut Vec<Joined>,
     logs: &mut Vec<Vec<Entry>>,
-    command: u16,
+    wrote: Option<bool>,
     write: Option<Coming>,
-    parting: Option<Parting>,
-    applied: u64,
-    at: Handle,
     left: Pipe,
 )
-    requires within { circuit < vec_len circuits.old }
-    requires done { (busies : Bool) → wrote_in side.old.core applied command write ≡ Some busies
-        → (before : Server) × (h : handle.Handle) × (action : Action)
-        × WasDone before h (map record_of side.old.records.items)
-        (did.Applies busies) write parting action }
-    requires alike { (busies : Bool) → wrote_in side.old.core applied command write ≡ Some busies
-        → AllAlike server side.old.core (map joined_of circuits.old.items) }
-    requires counts { (busies : Bool) → wrote_in side.old.core applied command write ≡ Some busies
-        → AllMayCount circuits.old.items }
+    requires within { turn.now.circuit < vec_len circuits.old }
+    requires alike { (busies : Bool) → wrote ≡ Some busies
+        → AllAlike turn.now.server side.old.core (map joined_of circuits.old.items) }
+    requires counts { (busies : Bool) (w : coming.Coming)
+        → wrote ≡ Some busies → write ≡ Some w → AllMayCount circuits.old.items }
     requires served { AreServed
         side.old.circuits.items
         (map joined_of circuits.old.items)
-        server }
-    requires space { MayWaitFor write side.old.records.items }
+        turn.now.server }
     requires room { HasRoomFor (waits side.old.records.items + 2) side.old.life logs.old.items }
-    ensures none { wrote_in side.old.core applied command write ≡ None
-        → ReportsWith
-        at
-        left
-        server
-        side.old
-        (map joined_of circuits.old.items)
-        (entries_in logs.old.items)
-        side.new
-        (map joined_of circuits.new.items)
-        (entries_in logs.new.items) }
-    ensures some { (busies : Bool) (j : model.Joined)
-        → wrote_in side.old.core applied command write ≡ Some busies
-        → At (map joined_of circuits.old.items) circuit j
-        → (before : Server) (h : handle.Handle) (action : Action)
-        → WasDone before h (map record_of side.old.records.items)
-        (did.Applies busies) write parting action
+    ensures closes { (j : model.Joined)
+        → At (map joined_of circuits.old.items) turn.now.circuit j
         → ClosesWith
-        circuit
-        server
+        turn.now.circuit
+        turn.now.server
+        turn.now.at
         (length j.lists.handled)
-        before
-        h
-        at
-        action
+        wrote
+        write
         left
         side.old
         (map joined_of circuits.old.items)
@@ -692,76 +568,38 @@ fn close_stepped(
         side.new
         (map joined_of circuits.new.items)
         (entries_in logs.new.items) }
+    ensures numbers { side.new.circuits.items ≡ side.old.circuits.items }
 {
-    let place = circuits[circuit].lists.handled.len();
-    let Some(busies) = wrote_of(&side.core, applied, command, &write) else {
-        report_ends_with(alloc, server, side, circuits, logs, at, left);
-        return;
-    };
-    close_written(
-        alloc, circuit, place, server, side, circuits, logs, busies, write, parting, at, left,
+    let place = circuits[turn.circuit].lists.handled.len();
+    tell_write(
+        turn.circuit,
+        place,
+        turn.server,
+        side,
+        circuits,
+        logs,
+        wrote,
+        write,
+    );
+    report_ends_with(
+        turn.alloc,
+        turn.server,
+        side,
+        circuits,
+        logs,
+        turn.at,
+        left,
     );
 }
 
-// A write is told, whose end has closed with these bytes left, and all ends that ended are reported.
-fn close_written(
-    alloc: Global,
-    circuit: usize,
-    place: usize,
-    server: usize,
-    side: &mut ServerSide,
-    circuits: &mut Vec<Joined>,
-    logs: &mut Vec<Vec<Entry>>,
-    busies: bool,
-    write: Option<Coming>,
-    parting: Option<Parting>,
-    at: Handle,
-    left: Pipe,
-)
-    requires done { (before : Server) × (h : handle.Handle) × (action : Action)
-        × WasDone before h (map record_of side.old.records.items)
-        (did.Applies busies) write parting action }
-    requires alike { AllAlike server side.old.core (map joined_of circuits.old.items) }
-    requires counts { AllMayCount circuits.old.items }
-    requires served { AreServed
-        side.old.circuits.items
-        (map joined_of circuits.old.items)
-        server }
-    requires space { MayWaitFor write side.old.records.items }
-    requires room { HasRoomFor (waits side.old.records.items + 2) side.old.life logs.old.items }
-    ensures { (before : Server) (h : handle.Handle) (action : Action)
-        → WasDone before h (map record_of side.old.records.items)
-        (did.Applies busies) write parting action
-        → ClosesWith
-        circuit
-        server
-        place
-        before
-        h
-        at
-        action
-        left
-        side.old
-        (map joined_of circuits.old.items)
-        (entries_in logs.old.items)
-        side.new
-        (map joined_of circuits.new.items)
-        (entries_in logs.new.items) }
+// Cuts the end, of which only the bytes that waited count as left.
+fn cut_short(turn: &Turn, core: &mut ServerCore) -> Pipe
+    requires { IsServing core.old turn.now.at }
+    ensures left { result
+        ≡ take turn.now.waited (output_of (under core.old.circuits turn.now.at)) }
+    ensures core { core.new ≡ cut_core turn.now.at core.old }
 {
-    let deed = Deed::Applies(busies);
-    tell_deed(
-        circuit, place, server, side, circuits, logs, deed, write, parting,
-    );
-    report_ends_with(alloc, server, side, circuits, logs, at, left);
-}
-
-// Cuts the end under this handle, of which only so many bytes count as left.
-fn cut_short(alloc: Global, core: &mut ServerCore, at: Handle, waited: usize) -> Pipe
-    requires { IsServing core.old at }
-    ensures left { result ≡ take waited (output_of (under core.old.circuits at)) }
-    ensures core { core.new ≡ cut_core at core.old }
-{
-    let mut left = cut_end(alloc, core, at);
-    left.truncate(waited);
+    let mut left = cut_end(turn.alloc, core, turn.at);
+    left.truncate(turn.waited);
     left
 }

@@ -1,10 +1,9 @@
--- What a message that a server handled did, by what is read of the server before and after it.
+-- What a message did, by its effect; and whether it wrote, if its step closed its end, by what is read of the server before and after it.
 use Rattle.std.proofs.Common.{◌≡◌, ℕ, zero, suc, ◌+◌, ◌<◌, ◌≤◌, ◌⊎◌, inl, inr, Bool, true, false, cond, not, ◌&&◌, ◌||◌, eqb, eq-eqb, eqb-true, List, [], ◌∷◌, length, length-append, map, Option, Some, None, refl, sym, ap, subst, ◌∙◌, arith, rules}
-use Rattle.std.specs.Prelude.{◌%◌, ◌*◌, ◌==◌, filter, is_some, min, nat_lt, option_map, unwrap_or}
+use Rattle.std.specs.Prelude.{◌%◌, ◌*◌, ◌==◌, if◌then◌else◌, is_some, min, nat_lt, option_map, unwrap_or}
 use Rattle.std.specs.List.{list_any}
 use Rattle.std.specs.Str.{bytes_eq}
 use Rattle.std.proofs.lemmas.Bool.{both_ways, le-ltb, lt-ltb}
-use Rattle.std.proofs.lemmas.List.Sums.{sum_by-cons}
 use Rattle.ca_arena.specs.declared.handle.Handle.{Handle}
 use Rattle.ca_dbr.specs.Conversion.{converted}
 use Rattle.ca_dbr.specs.Elements.{Elements}
@@ -16,7 +15,7 @@ use Rattle.ca_queue.specs.declared.entry.SubKey.{SubKey}
 use Rattle.ca_queue.specs.Keys.{is_among}
 use Rattle.ca_records.specs.declared.puts.Put.{Put}
 use Rattle.ca_records.specs.Faults.{first_fault, lacks_conversion}
-use Rattle.ca_records.specs.Puts.{Record, WaitingPut, record_named, waiting_in, with_record, with_value, with_waiting, withdrawn, without_puts, written_meta}
+use Rattle.ca_records.specs.Puts.{Record, record_named, with_record, with_value, withdrawn, without_puts, written_meta}
 use Rattle.ca_records.specs.Record.{RecordState}
 use Rattle.ca_records.specs.Rules.{may_read}
 use Rattle.ca_text.specs.Command.{command_number}
@@ -32,17 +31,15 @@ use Rattle.ca_model.specs.Due.{Action, Adds, Applies, Clears, Drops, Due, Greets
 use Rattle.ca_model.specs.Ends.{Peer}
 use Rattle.ca_model.specs.Faults.{subscribed_count, subscription_fault, too_many, type_of}
 use Rattle.ca_model.specs.Server.{Server, ServerEnd, Subscription, key_of}
-use Rattle.ca_model.specs.ServerCalls.{waiting}
 use Rattle.ca_model.specs.ServerSteps.{Handles, HasEnd, LeftOf, Next, Reaches, Records, closed, is_write, known_record, knows}
 use Rattle.ca_model.specs.World.{Joined}
-use Rattle.ca_model.specs.World.{RecordSide}
+use Rattle.ca_server_circuit.specs.Effects.{effect_due}
+use Rattle.ca_server_circuit.specs.declared.effect.Effect.{Effect}
+use Rattle.ca_server_circuit.specs.declared.effect.Effect.TheVariants as effect
 use Rattle.ca_world_data.specs.Numbering.{AreAlike, keys_on}
 use Rattle.ca_world_servers.specs.declared.coming.Coming.{Coming}
-use Rattle.ca_world_servers.specs.declared.parting.Parting.{Parting}
 use Rattle.ca_world_servers.specs.Coming.{Foresees}
-use Rattle.ca_world_servers.specs.declared.deeds.Deed.{Deed}
-use Rattle.ca_world_servers.specs.declared.deeds.Deed.TheVariants as deed
-use Rattle.ca_world_servers.specs.Deeds.{IsDeed, IsForeseen, IsWrite, busies_of, is_busy_in, is_wait, wrote_in}
+use Rattle.ca_world_servers.specs.Effects.{BeginsNew, IsWrite, is_busy_in, wrote_by, wrote_in}
 use Rattle.ca_world_servers.specs.Losing.{AreSeated}
 
 -- ---- what is due, by what it does
@@ -149,21 +146,10 @@ due-cases k m replies did P due each =
     names-itself true p is = each.nothing is
     names-itself false p is = each.names p is
 
--- a message of no command that there is does nothing
-pub rests : (number : ℕ) (k : Knows) (m : Fields) (replies : List Fields) (did : Action) → ((c : Command) → command_number c ≡ number → ⊥) → number ≡ m.command → Due k m replies did → IsDeed did deed.Nothing
-rests number k m replies did none same due = due-cases k m replies did (IsDeed did deed.Nothing) due (record {
-  nothing = λ is. subst (λ (a : Action). IsDeed a deed.Nothing) (sym is) tt;
-  greets = λ is. subst (λ (a : Action). IsDeed a deed.Nothing) (sym is) tt;
-  names = λ p is. subst (λ (a : Action). IsDeed a deed.Nothing) (sym is) tt;
-  opens = λ n c is. absurd (none command.CreateChannel (sym (same ∙ n)));
-  clears = λ n is. absurd (none command.ClearChannel (sym (same ∙ n)));
-  adds = λ n c free is. absurd (none command.EventAdd (sym (same ∙ n)));
-  drops = λ n is. absurd (none command.EventCancel (sym (same ∙ n)));
-  off = λ n is. absurd (none command.EventsOff (sym (same ∙ n)));
-  on = λ n is. absurd (none command.EventsOn (sym (same ∙ n)));
-  writes = λ n c v taken is. absurd (none command.Write (sym (same ∙ n)));
-  puts = λ n c v taken is. absurd (none command.WriteNotify (sym (same ∙ n)));
-})
+-- whether an action is a write that is applied, and then whether that makes its record busy
+abbrev pub busies_of : Action → Option Bool
+busies_of (Applies name value busies) = Some busies
+busies_of did = None
 
 -- ---- records of a name
 
@@ -217,86 +203,24 @@ busy-with : (name : List ℕ) (f : Record → Record) (rs : List Record) (c : Re
 busy-with name f rs c same is =
     ap (λ (o : Option Record). unwrap_or (option_map (λ (r : Record). is_some r.busy) o) false) (named-with name f same rs ∙ ap (λ (o : Option Record). option_map f o) is)
 
--- ---- how many puts wait
-
-waits-cons : (r : Record) (rs : List Record) → waiting_in (r ∷ rs) ≡ length r.waiting + waiting_in rs
-waits-cons r rs = sum_by-cons (λ (q : Record). length q.waiting) r rs
-
-waits-fewer : (f : Record → Record) → ((r : Record) → length (f r).waiting ≤ length r.waiting) → (rs : List Record) → waiting_in (map f rs) ≤ waiting_in rs
-waits-fewer f fewer [] = omega arith
-waits-fewer f fewer (r ∷ rs) = omega (arith, waits-fewer f fewer rs, fewer r, waits-cons r rs, waits-cons (f r) (map f rs))
-
-filter-fewer : {A : Type 0} (t : A → Bool) (xs : List A) → length (filter t xs) ≤ length xs
-filter-fewer t [] = omega arith
-filter-fewer {A} t (x ∷ xs) = go (t x) (filter-fewer t xs)
-  where
-    go : (b : Bool) → length (filter t xs) ≤ length xs → length (cond b (x ∷ filter t xs) (filter t xs)) ≤ suc (length xs)
-    go true l = omega (arith, l)
-    go false l = omega (arith, l)
-
-waits-without : (which : Put → Bool) (rs : List Record) → waiting_in (withdrawn which rs) ≤ waiting_in rs
-waits-without which rs = waits-fewer (without_puts which) (λ r. filter-fewer (λ (p : WaitingPut). not (which p.put)) r.waiting) rs
-
-changed-fewer : (f : Record → Record) → ((r : Record) → length (f r).waiting ≤ length r.waiting) → (r : Record) (b : Bool) → length (cond b (f r) r).waiting ≤ length r.waiting
-changed-fewer f fewer r true = fewer r
-changed-fewer f fewer r false = omega arith
-
-waits-with : (name : List ℕ) (f : Record → Record) → ((r : Record) → length (f r).waiting ≤ length r.waiting) → (rs : List Record) → waiting_in (with_record name f rs) ≤ waiting_in rs
-waits-with name f fewer rs = waits-fewer (λ (r : Record). cond (bytes_eq r.state.name name) (f r) r) (λ r. changed-fewer f fewer r (bytes_eq r.state.name name)) rs
-
-changed-longer : (p : WaitingPut) (r : Record) (b : Bool) → length r.waiting ≤ length (cond b (with_waiting p r) r).waiting
-changed-longer p r true = (let more = length-append r.waiting (p ∷ []) in omega (arith, more))
-changed-longer p r false = omega arith
-
-waits-longer : (name : List ℕ) (p : WaitingPut) (rs : List Record) → waiting_in rs ≤ waiting_in (with_record name (with_waiting p) rs)
-waits-longer name p [] = omega arith
-waits-longer name p (r ∷ rs) =
-    let here : length r.waiting ≤ length (cond (bytes_eq r.state.name name) (with_waiting p r) r).waiting = changed-longer p r (bytes_eq r.state.name name) in
-    omega (arith, here, waits-longer name p rs, waits-cons r rs, waits-cons (cond (bytes_eq r.state.name name) (with_waiting p r) r) (with_record name (with_waiting p) rs))
-
--- one put more waits for a record that is there
-waits-more : (name : List ℕ) (p : WaitingPut) (rs : List Record) (c : Record) → record_named rs name ≡ Some c → waiting_in rs < waiting_in (with_record name (with_waiting p) rs)
-waits-more name p [] c is = absurd cc
-waits-more name p (r ∷ rs) c is = go (bytes_eq r.state.name name) is (λ there. waits-more name p rs c there)
-  where
-    go : (b : Bool) → named_or b r (record_named rs name) ≡ Some c → (record_named rs name ≡ Some c → waiting_in rs < waiting_in (with_record name (with_waiting p) rs)) → waiting_in (r ∷ rs) < waiting_in (cond b (with_waiting p r) r ∷ with_record name (with_waiting p) rs)
-    go true is rest =
-        omega (arith, waits-longer name p rs, waits-cons r rs, waits-cons (with_waiting p r) (with_record name (with_waiting p) rs), length-append r.waiting (p ∷ []))
-    go false is rest = omega (arith, rest is, waits-cons r rs, waits-cons r (with_record name (with_waiting p) rs))
-
 -- ---- what happens after the records were changed
 
--- As many writes were applied, the same records are busy, and no more puts wait.
+-- As many writes were applied, and the same records are busy.
 pub record Thins (mid new : Server) : Type 0 where
   pub applied : new.applied ≡ mid.applied
   pub busy : (name : List ℕ) → busy_named new.records name ≡ busy_named mid.records name
-  pub waits : waiting new ≤ waiting mid
 
 thins-same : (mid new : Server) → new ≡ mid → Thins mid new
-thins-same mid new is = subst (λ (y : Server). Thins mid y) (sym is) (record { applied = refl; busy = λ name. refl; waits = omega arith })
+thins-same mid new is = subst (λ (y : Server). Thins mid y) (sym is) (record { applied = refl; busy = λ name. refl })
 
 thins-then : (a b c : Server) → Thins a b → Thins b c → Thins a c
-thins-then a b c f g = record { applied = g.applied ∙ f.applied; busy = λ name. g.busy name ∙ f.busy name; waits = omega (arith, f.waits, g.waits) }
+thins-then a b c f g = record { applied = g.applied ∙ f.applied; busy = λ name. g.busy name ∙ f.busy name }
 
 thins-without : (which : Put → Bool) (mid new : Server) → new.applied ≡ mid.applied → new.records ≡ withdrawn which mid.records → Thins mid new
 thins-without which mid new same is = record {
   applied = same;
   busy = λ name. ap (λ (rs : List Record). busy_named rs name) is ∙ busy-without which name mid.records;
-  waits = (let fewer = waits-without which mid.records in let there : waiting new ≡ waiting_in (withdrawn which mid.records) = ap (λ (rs : List Record). waiting_in rs) is in omega (arith, fewer, there));
 }
-
--- nothing but a write reaches others
-still : (did : Action) (gone : Handle → Bool) (mid new : Server) → is_write did ≡ false → Reaches did gone mid new → new ≡ mid
-still (Applies name value busies) gone mid new none reaches = absurd cc
-still Nothing gone mid new none reaches = reaches.1
-still Greets gone mid new none reaches = reaches.1
-still (Names p) gone mid new none reaches = reaches.1
-still (Opens c) gone mid new none reaches = reaches.1
-still (Clears sid) gone mid new none reaches = reaches.1
-still (Waits name value) gone mid new none reaches = reaches.1
-still (Adds s) gone mid new none reaches = reaches.1
-still (Drops key) gone mid new none reaches = reaches.1
-still (Switches on) gone mid new none reaches = reaches.1
 
 thins-reached : (did : Action) (gone : Handle → Bool) (mid new : Server) → Reaches did gone mid new → Thins mid new
 thins-reached (Applies name value busies) gone mid new reaches =
@@ -316,7 +240,7 @@ module _ (y : Server) (h : Handle) (e : ServerEnd) (m : Fields) (replies : List 
   thins-handled : Thins handles.recorded core
   thins-handled =
       thins-then handles.recorded after core
-      (record { applied = ap (λ (x : Server). x.applied) handles.leaves; busy = λ name. ap (λ (x : Server). busy_named x.records name) handles.leaves; waits = (let same : waiting after ≡ waiting handles.recorded = ap (λ (x : Server). waiting_in x.records) handles.leaves in omega (arith, same)) })
+      (record { applied = ap (λ (x : Server). x.applied) handles.leaves; busy = λ name. ap (λ (x : Server). busy_named x.records name) handles.leaves })
       (thins-reached did gone after core reaches)
 
 thins-closed : (h : Handle) (mid new : Server) → new ≡ closed h mid → Thins mid new
@@ -434,118 +358,27 @@ module _ (y : Server) (h : Handle) (e : ServerEnd) (has : HasEnd y h e) (below :
           let sees : Foresees y h m write = foreseen (writes-only (knows y e) m replies name value busies applies) in
           busy-applied y h e left m replies recorded core thins (is_busy_in core write) (λ c v taken. foreseen-busy y h e m write core has sees c v taken) name value busies applies made
 
-  -- a step that handled it
-  wrote-did : (left : ServerEnd) (replies : List Fields) (did : Action) (after : Server) (gone : Handle → Bool) (core : Server) → Due (knows y e) m replies did → Handles y h left m replies did after → Reaches did gone after core → wrote_in core y.applied m.command write ≡ busies_of did
-  wrote-did left replies did after gone core due handles reaches =
-      wrote-thinned left replies did handles.recorded core due handles.records (thins-handled y h left m replies did after handles gone core reaches)
-
-  -- or applied its write alone, and closed the end
+  -- a step that applied its write alone, and closed the end
   wrote-closed : (left : ServerEnd) (replies : List Fields) (did : Action) (after : Server) (gone : Handle → Bool) (mid core : Server) → Due (knows y e) m replies did → Handles y h left m replies did after → Reaches did gone after mid → core ≡ closed h mid → wrote_in core y.applied m.command write ≡ busies_of did
   wrote-closed left replies did after gone mid core due handles reaches leaves =
       wrote-thinned left replies did handles.recorded core due handles.records
       (thins-then handles.recorded mid core (thins-handled y h left m replies did after handles gone mid reaches) (thins-closed h mid core leaves))
 
 -- or was not written, as its end closed
-lacks-none : (y : Server) (h : Handle) (mid core : Server) (number : ℕ) (write : Option Coming) → mid ≡ y → core ≡ closed h mid → (wrote_in core y.applied number write ≡ None) × (core.applied ≡ y.applied)
+lacks-none : (y : Server) (h : Handle) (mid core : Server) (number : ℕ) (write : Option Coming) → mid ≡ y → core ≡ closed h mid → wrote_in core y.applied number write ≡ None
 lacks-none y h mid core number write is leaves =
     let same : core.applied ≡ y.applied = ap (λ (x : Server). x.applied) leaves ∙ ap (λ (x : Server). x.applied) is in
-    (ap (λ (b : Bool). told_if b ((number == command_number command.WriteNotify) && is_busy_in core write)) (le-ltb y.applied core.applied (omega (arith, same))), same)
-
--- What is read off a core after the step of a message that was handled.
-pub wrote-handled : (y : Server) (h : Handle) (e : ServerEnd) → HasEnd y h e → y.applied < applied_limit → (next : Next y h e) (gone : Handle → Bool) (core : Server) → Reaches next.action gone next.after core → (records : List RecordSide) (write : Option Coming) (parting : Option Parting) → IsForeseen y h records next.m write parting → wrote_in core y.applied next.m.command write ≡ busies_of next.action
-wrote-handled y h e has below next gone core reaches records write parting foreseen =
-    wrote-did y h e has below next.m write foreseen.writes _ next.replies next.action next.after gone core next.handles.due next.handles reaches
+    ap (λ (b : Bool). told_if b ((number == command_number command.WriteNotify) && is_busy_in core write)) (le-ltb y.applied core.applied (omega (arith, same)))
 
 -- what an end that closed out of memory left of its message's write
 abbrev pub left_written : Option (Handle → Bool) → Action → Option Bool
 left_written None did = None
 left_written (Some gone) did = busies_of did
 
-pub wrote-lacks : (y : Server) (h : Handle) (e : ServerEnd) → HasEnd y h e → y.applied < applied_limit → (next : Next y h e) (written : Option (Handle → Bool)) (mid core : Server) → LeftOf next written mid → core ≡ closed h mid → (records : List RecordSide) (write : Option Coming) (parting : Option Parting) → IsForeseen y h records next.m write parting → wrote_in core y.applied next.m.command write ≡ left_written written next.action
-wrote-lacks y h e has below next None mid core left leaves records write parting foreseen = (lacks-none y h mid core next.m.command write left leaves).0
-wrote-lacks y h e has below next (Some gone) mid core left leaves records write parting foreseen =
-    wrote-closed y h e has below next.m write foreseen.writes _ next.replies next.action next.after gone mid core next.handles.due next.handles left.1 leaves
-
--- and if it left nothing, nothing was counted
-pub counted-lacks : (y : Server) (h : Handle) (e : ServerEnd) (next : Next y h e) (mid core : Server) → LeftOf next None mid → core ≡ closed h mid → core.applied ≡ y.applied
-counted-lacks y h e next mid core left leaves = (lacks-none y h mid core next.m.command None left leaves).1
-
--- ---- whether its put waits
-
--- a put that waits is that of a record which is there
-waits-there : (y : Server) (e : ServerEnd) (m : Fields) (replies : List Fields) (name : List ℕ) (value : Elements) → Due (knows y e) m replies (Waits name value) → (c : Record) × (record_named y.records name ≡ Some c)
-waits-there y e m replies name value due = due-cases (knows y e) m replies (Waits name value) ((c : Record) × (record_named y.records name ≡ Some c)) due (record {
-  nothing = λ is. absurd cc;
-  greets = λ is. absurd cc;
-  names = λ p is. absurd cc;
-  opens = λ n c is. absurd cc;
-  clears = λ n is. absurd cc;
-  adds = λ n c none is. absurd cc;
-  drops = λ n is. absurd cc;
-  off = λ n is. absurd cc;
-  on = λ n is. absurd cc;
-  writes = λ n c v taken is. absurd cc;
-  puts = λ n c v taken is. put (must_wait (knows y e) m c) c v is;
-})
-  where
-    put : (b : Bool) → (c : Serves (knows y e) m.p1) (v : Elements) → Waits name value ≡ cond b (Waits c.channel.name v) (Applies c.channel.name v c.known.state.slow) → (c : Record) × (record_named y.records name ≡ Some c)
-    put false c v is = absurd cc
-    put true c v is =
-        let one : name ≡ c.channel.name = cc in
-        let there = known-one y.records c.channel.name c.known c.named in
-        (there.0, ap (λ (x : List ℕ). record_named y.records x) one ∙ there.1)
-
-module _ (y : Server) (h : Handle) (e : ServerEnd) (m : Fields) (replies : List Fields) where
-  -- nothing but a put that waits makes more wait
-  waits-recorded : (did : Action) (recorded : Server) → Records y h e m did recorded → is_wait did ≡ false → waiting recorded ≤ waiting y
-  waits-recorded (Applies name value false) recorded makes none =
-      let fewer : waiting_in (with_record name (with_value value (written_meta y.stamp)) y.records) ≤ waiting_in y.records = waits-with name (with_value value (written_meta y.stamp)) (λ r. omega arith) y.records in
-      subst (λ (x : Server). waiting x ≤ waiting y) (sym makes) fewer
-  waits-recorded (Applies name value true) recorded makes none =
-      let fewer : waiting_in (with_record name (λ (r : Record). record (with_value value (written_meta y.stamp) r) { busy = Some makes.0 }) y.records) ≤ waiting_in y.records =
-      waits-with name (λ (r : Record). record (with_value value (written_meta y.stamp) r) { busy = Some makes.0 }) (λ r. omega arith) y.records in
-      subst (λ (x : Server). waiting x ≤ waiting y) (sym makes.2) fewer
-  waits-recorded (Waits name value) recorded makes none = absurd cc
-  waits-recorded (Clears sid) recorded makes none =
-      subst (λ (x : Server). waiting x ≤ waiting y) (sym makes) (waits-without (λ (p : Put). same_handle p.circuit h && wire_of p.channel == sid) y.records)
-  waits-recorded Nothing recorded makes none = subst (λ (x : Server). waiting x ≤ waiting y) (sym makes) (omega arith)
-  waits-recorded Greets recorded makes none = subst (λ (x : Server). waiting x ≤ waiting y) (sym makes) (omega arith)
-  waits-recorded (Names p) recorded makes none = subst (λ (x : Server). waiting x ≤ waiting y) (sym makes) (omega arith)
-  waits-recorded (Opens c) recorded makes none = subst (λ (x : Server). waiting x ≤ waiting y) (sym makes) (omega arith)
-  waits-recorded (Adds s) recorded makes none = subst (λ (x : Server). waiting x ≤ waiting y) (sym makes) (omega arith)
-  waits-recorded (Drops key) recorded makes none = subst (λ (x : Server). waiting x ≤ waiting y) (sym makes) (omega arith)
-  waits-recorded (Switches on) recorded makes none = subst (λ (x : Server). waiting x ≤ waiting y) (sym makes) (omega arith)
-
-  waits-did : (did : Action) (after : Server) (gone : Handle → Bool) (core : Server) → Handles y h e m replies did after → Reaches did gone after core → nat_lt (waiting y) (waiting core) ≡ is_wait did
-  waits-did did after gone core handles reaches = go did handles reaches
-    where
-      fewer : (did : Action) → Handles y h e m replies did after → Reaches did gone after core → is_wait did ≡ false → nat_lt (waiting y) (waiting core) ≡ is_wait did
-      fewer did handles reaches none =
-          let thins = thins-handled y h e m replies did after handles gone core reaches in
-          let most : waiting handles.recorded ≤ waiting y = waits-recorded did handles.recorded handles.records none in
-          le-ltb (waiting y) (waiting core) (omega (arith, most, thins.waits)) ∙ sym none
-
-      go : (did : Action) → Handles y h e m replies did after → Reaches did gone after core → nat_lt (waiting y) (waiting core) ≡ is_wait did
-      go (Waits name value) handles reaches =
-          let there = waits-there y e m replies name value handles.due in
-          let made = handles.records in
-          let more : waiting_in y.records < waiting_in (with_record name (with_waiting (record { put = made.0; value = value })) y.records) = waits-more name (record { put = made.0; value = value }) y.records there.0 there.1 in
-          let same : waiting core ≡ waiting_in (with_record name (with_waiting (record { put = made.0; value = value })) y.records) =
-          ap (λ (x : Server). waiting_in x.records) reaches.1 ∙ ap (λ (x : Server). waiting_in x.records) handles.leaves ∙ ap (λ (x : Server). waiting_in x.records) made.2 in
-          lt-ltb (waiting y) (waiting core) (omega (arith, more, same))
-      go (Applies name value busies) handles reaches = fewer (Applies name value busies) handles reaches refl
-      go (Clears sid) handles reaches = fewer (Clears sid) handles reaches refl
-      go Nothing handles reaches = fewer Nothing handles reaches refl
-      go Greets handles reaches = fewer Greets handles reaches refl
-      go (Names p) handles reaches = fewer (Names p) handles reaches refl
-      go (Opens c) handles reaches = fewer (Opens c) handles reaches refl
-      go (Adds s) handles reaches = fewer (Adds s) handles reaches refl
-      go (Drops key) handles reaches = fewer (Drops key) handles reaches refl
-      go (Switches on) handles reaches = fewer (Switches on) handles reaches refl
-
--- More puts wait after a message that was handled just if its put waits.
-pub waits-handled : (y : Server) (h : Handle) (e : ServerEnd) (next : Next y h e) (gone : Handle → Bool) (core : Server) → Reaches next.action gone next.after core → nat_lt (waiting y) (waiting core) ≡ is_wait next.action
-waits-handled y h e next gone core reaches = waits-did y h _ next.m next.replies next.action next.after gone core next.handles reaches
+pub wrote-lacks : (y : Server) (h : Handle) (e : ServerEnd) → HasEnd y h e → y.applied < applied_limit → (next : Next y h e) (written : Option (Handle → Bool)) (mid core : Server) → LeftOf next written mid → core ≡ closed h mid → (write : Option Coming) → (IsWrite next.m → Foresees y h next.m write) → wrote_in core y.applied next.m.command write ≡ left_written written next.action
+wrote-lacks y h e has below next None mid core left leaves write foreseen = lacks-none y h mid core next.m.command write left leaves
+wrote-lacks y h e has below next (Some gone) mid core left leaves write foreseen =
+    wrote-closed y h e has below next.m write foreseen _ next.replies next.action next.after gone mid core next.handles.due next.handles left.1 leaves
 
 -- ---- whether its subscription is new
 
@@ -599,31 +432,40 @@ news-new y e m replies s j due alike seated i q at = go (is_among (key_of s) q.s
     go false is = is
     go true is = absurd (both_ways (is_among (key_of s) (keys_on j)) none (seated.stand i q (key_of s) at is))
 
--- the key of the subscription that a deed begins, then, is new
-pub deed-new : (y : Server) (e : ServerEnd) (m : Fields) (replies : List Fields) (did : Action) (done : Deed) (key : SubKey) (j : Joined) → Due (knows y e) m replies did → IsDeed did done → done ≡ deed.Adds key → AreAlike e j → AreSeated j → HasNone j.queues key
-deed-new y e m replies did done key j due is adds same seated = go did due (subst (λ (d : Deed). IsDeed did d) adds is)
-  where
-    go : (did : Action) → Due (knows y e) m replies did → IsDeed did (deed.Adds key) → HasNone j.queues key
-    go (Adds s) due is = subst (λ (k : SubKey). HasNone j.queues k) is (news-new y e m replies s j due same seated)
-    go Nothing due is = absurd is
-    go Greets due is = absurd is
-    go (Names p) due is = absurd is
-    go (Opens c) due is = absurd is
-    go (Clears sid) due is = absurd is
-    go (Applies name value busies) due is = absurd is
-    go (Waits name value) due is = absurd is
-    go (Drops k) due is = absurd is
-    go (Switches on) due is = absurd is
+-- ---- by the effect
 
--- a write that is told is one that was made
-pub deed-written : (did : Action) (busies : Bool) → busies_of did ≡ Some busies → IsDeed did (deed.Applies busies)
-deed-written (Applies name value b) busies is = some_is b busies is
-deed-written Nothing busies is = absurd cc
-deed-written Greets busies is = absurd cc
-deed-written (Names p) busies is = absurd cc
-deed-written (Opens c) busies is = absurd cc
-deed-written (Clears sid) busies is = absurd cc
-deed-written (Waits name value) busies is = absurd cc
-deed-written (Adds s) busies is = absurd cc
-deed-written (Drops key) busies is = absurd cc
-deed-written (Switches on) busies is = absurd cc
+-- of what nothing was done for
+pub idle : (P : Effect → Type 0) (m : Fields) → P effect.Refused → P effect.Quiet → P (effect_due m Nothing)
+idle P m refused quiet = go (m.command == command_number command.CreateChannel)
+  where
+    go : (b : Bool) → P (if b then effect.Refused else effect.Quiet)
+    go true = refused
+    go false = quiet
+
+-- a subscription that begins is new
+pub begins-new : (y : Server) (e : ServerEnd) (m : Fields) (replies : List Fields) (did : Action) (j : Joined) → Due (knows y e) m replies did → AreAlike e j → AreSeated j → BeginsNew (effect_due m did) j.queues
+begins-new y e m replies (Adds s) j due alike seated = news-new y e m replies s j due alike seated
+begins-new y e m replies Nothing j due alike seated = idle (λ (d : Effect). BeginsNew d j.queues) m tt tt
+begins-new y e m replies Greets j due alike seated = tt
+begins-new y e m replies (Names p) j due alike seated = tt
+begins-new y e m replies (Opens c) j due alike seated = tt
+begins-new y e m replies (Clears sid) j due alike seated = tt
+begins-new y e m replies (Applies name value true) j due alike seated = tt
+begins-new y e m replies (Applies name value false) j due alike seated = tt
+begins-new y e m replies (Waits name value) j due alike seated = tt
+begins-new y e m replies (Drops key) j due alike seated = tt
+begins-new y e m replies (Switches on) j due alike seated = tt
+
+-- whether it wrote
+pub wrote-due : (m : Fields) (did : Action) → wrote_by (effect_due m did) ≡ busies_of did
+wrote-due m Nothing = idle (λ (d : Effect). wrote_by d ≡ None) m refl refl
+wrote-due m (Applies name value true) = refl
+wrote-due m (Applies name value false) = refl
+wrote-due m (Waits name value) = refl
+wrote-due m Greets = refl
+wrote-due m (Names p) = refl
+wrote-due m (Opens c) = refl
+wrote-due m (Clears sid) = refl
+wrote-due m (Adds s) = refl
+wrote-due m (Drops key) = refl
+wrote-due m (Switches on) = refl

@@ -3,5 +3,5 @@ pub mod Losing
 pub mod Removing
 pub mod Parting
 pub mod Coming
-pub mod Deeds
+pub mod Effects
 pub mod EndsWith

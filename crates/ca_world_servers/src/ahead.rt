@@ -5,24 +5,22 @@ ghost use Rattle.ca_text.specs.declared.command.Command.TheVariants as command;
 ghost use Rattle.ca_world_data.specs.Seen.{record_of};
 ghost use Rattle.ca_world_servers.specs.declared.parting.Parting as part;
 ghost use Rattle.ca_world_servers.specs.Coming.{Foresees};
-ghost use Rattle.ca_world_servers.specs.Deeds.{IsAhead, IsParting, IsWrite, MayWaitFor};
+ghost use Rattle.ca_world_servers.specs.Effects.{IsAhead, IsParting, IsPartingOf, IsWrite, MayWaitFor};
 
 use crate::coming::{Coming, coming_write};
 use crate::handling::reserve_waiting;
 use crate::parting::{Parting, part_puts};
 use ca_arena::Handle;
-use ca_queue::SubKey;
 use ca_server_core::ServerCore;
 use ca_text::Command;
 use ca_wire::Message;
 use ca_world_data::server::RecordSide;
 use std::alloc::{AllocError, Global};
 
-/// The next message: its command and ids, the write that it may be, and the puts of the channel that it clears.
+/// The next message: its command, the write that it may be, and the puts of the channel that it clears.
 #[derive(Drop)]
 pub struct Ahead {
     pub command: u16,
-    pub key: SubKey,
     pub write: Option<Coming>,
     pub parting: Option<Parting>,
 }
@@ -44,10 +42,6 @@ pub fn look_at(
     let parting = look_clear(alloc, core, circuit, message, records)?;
     Ok(Ahead {
         command: message.command(),
-        key: SubKey {
-            sid: message.p1(),
-            sub: message.p2(),
-        },
         write,
         parting,
     })
@@ -103,10 +97,11 @@ fn look_clear(
     message: &Message,
     records: &[RecordSide],
 ) -> Result<Option<Parting>, AllocError>
-    ensures { IfOk result (λ found.
+    ensures clears { IfOk result (λ found.
         message.now.command ≡ command_number command.ClearChannel
         → (p : part.Parting) × (found ≡ Some p)
         × IsParting core.now circuit message.now.p1 (map record_of records.now) p) }
+    ensures parted { IfOk result (λ found. IsPartingOf found (map record_of records.now)) }
 {
     if message.command() != Command::ClearChannel.number() {
         return Ok(None);

@@ -1,21 +1,18 @@
 //! What a message did is told of the records of its server, in the log of its life and in the numbers that wait on its circuits.
-ghost use Rattle.std.specs.Prelude.{ℕ, ◌≡◌, ◌+◌, Bool, map};
-ghost use Rattle.ca_arena.specs.declared.handle.Handle as handle;
-ghost use Rattle.ca_model.specs.Due.{Action};
-ghost use Rattle.ca_model.specs.Server.{Server};
+ghost use Rattle.std.specs.Prelude.{◌≡◌, ◌+◌, Bool, Some, map};
 ghost use Rattle.ca_world_data.specs.Numbering.{AllAlike, AllMayCount};
 ghost use Rattle.ca_world_data.specs.Opening.{entries_in};
 ghost use Rattle.ca_world_data.specs.Reporting.{waits};
 ghost use Rattle.ca_world_data.specs.Seen.{joined_of, record_of};
 ghost use Rattle.ca_world_data.specs.ServerCuts.{HasRoomFor};
-ghost use Rattle.ca_world_servers.specs.declared.deeds.Deed.TheVariants as did;
-ghost use Rattle.ca_world_servers.specs.Deeds.{IsPartingOf, MayWaitFor, TellsClear, TellsDeed, TellsWait, TellsWrite, WasDone, busy_after};
+ghost use Rattle.ca_world_servers.specs.declared.coming.Coming as coming;
+ghost use Rattle.ca_world_servers.specs.Effects.{AreApart, IsPartingOf, MayWaitFor, TellsClear, TellsMessage, TellsWait, TellsWrite, busy_after, wrote_by};
 
 use crate::coming::Coming;
-use crate::deeds::Deed;
 use crate::handling::{add_waiting, make_busy};
 use crate::parting::{Parting, keep_waiting};
 use ca_dbr::Meta;
+use ca_server_core::Effect;
 use ca_world_data::entries::{push_entry, push_some};
 use ca_world_data::history::{Entry, Stored};
 use ca_world_data::joined::Joined;
@@ -27,33 +24,31 @@ const WRITE_MASK: u16 = 3;
 
 /// What the message at this place of this circuit did is told of the records of its server, whose core has it, in the log of its life and in
 /// the numbers that wait. There is room for all of it.
-pub fn tell_deed(
+pub fn tell_effect(
     circuit: usize,
     place: usize,
     server: usize,
     side: &mut ServerSide,
     circuits: &mut Vec<Joined>,
     logs: &mut Vec<Vec<Entry>>,
-    deed: Deed,
+    effect: Effect,
     write: Option<Coming>,
     parting: Option<Parting>,
 )
-    requires done { (before : Server) × (h : handle.Handle) × (action : Action)
-        × WasDone before h (map record_of side.old.records.items) deed write parting action }
-    requires alike { (busies : Bool) → deed ≡ did.Applies busies
+    requires alike { (busies : Bool) → wrote_by effect ≡ Some busies
         → AllAlike server side.old.core (map joined_of circuits.old.items) }
-    requires counts { (busies : Bool) → deed ≡ did.Applies busies
-        → AllMayCount circuits.old.items }
+    requires counts { (busies : Bool) (w : coming.Coming)
+        → wrote_by effect ≡ Some busies → write ≡ Some w → AllMayCount circuits.old.items }
+    requires apart { AreApart (map record_of side.old.records.items) }
+    requires parted { IsPartingOf parting (map record_of side.old.records.items) }
     requires space { MayWaitFor write side.old.records.items }
     requires room { HasRoomFor (waits side.old.records.items + 2) side.old.life logs.old.items }
-    ensures tells { (before : Server) (h : handle.Handle) (action : Action)
-        → WasDone before h (map record_of side.old.records.items) deed write parting action
-        → TellsDeed
+    ensures tells { TellsMessage
         server
         (record { circuit = circuit; place = place })
-        before
-        h
-        action
+        effect
+        write
+        parting
         side.old
         (map joined_of circuits.old.items)
         (entries_in logs.old.items)
@@ -62,34 +57,44 @@ pub fn tell_deed(
         (entries_in logs.new.items) }
     ensures room { HasRoomFor (waits side.new.records.items) side.new.life logs.new.items }
 {
-    match deed {
-        Deed::Applies(busies) => {
-            tell_write(circuit, place, server, side, circuits, logs, write, busies);
+    match effect {
+        Effect::Wrote => {
+            tell_write(circuit, place, server, side, circuits, logs, Some(false), write);
         }
-        Deed::Waits => tell_wait(circuit, place, side, logs, write),
-        Deed::Clears(_) => tell_clear(side, logs, parting),
-        _ => {}
+        Effect::Busied(_) => {
+            tell_write(circuit, place, server, side, circuits, logs, Some(true), write);
+        }
+        Effect::Queued => tell_wait(circuit, place, side, logs, write),
+        Effect::Cleared(_) => tell_clear(side, logs, parting),
+        Effect::Quiet => {}
+        Effect::Refused => {}
+        Effect::Created(_) => {}
+        Effect::Subscribed(_, _) => {}
+        Effect::Cancelled(_, _) => {}
+        Effect::Switched(_) => {}
     }
 }
 
-// The write is in the log; it makes its record busy or not, and its numbers wait.
-fn tell_write(
+/// The write of the message at this place of this circuit, if it wrote, is in the log; it makes its record busy or not, and its numbers wait.
+pub fn tell_write(
     circuit: usize,
     place: usize,
     server: usize,
     side: &mut ServerSide,
     circuits: &mut Vec<Joined>,
     logs: &mut Vec<Vec<Entry>>,
+    wrote: Option<bool>,
     write: Option<Coming>,
-    busies: bool,
 )
-    requires alike { AllAlike server side.old.core (map joined_of circuits.old.items) }
-    requires counts { AllMayCount circuits.old.items }
-    requires room { HasRoomFor 1 side.old.life logs.old.items }
+    requires alike { (busies : Bool) → wrote ≡ Some busies
+        → AllAlike server side.old.core (map joined_of circuits.old.items) }
+    requires counts { (busies : Bool) (w : coming.Coming)
+        → wrote ≡ Some busies → write ≡ Some w → AllMayCount circuits.old.items }
+    requires room { HasRoomFor (waits side.old.records.items + 2) side.old.life logs.old.items }
     ensures tells { TellsWrite
         server
         (record { circuit = circuit; place = place })
-        busies
+        wrote
         write
         side.old
         (map joined_of circuits.old.items)
@@ -97,10 +102,11 @@ fn tell_write(
         side.new
         (map joined_of circuits.new.items)
         (entries_in logs.new.items) }
-    ensures room { (n : ℕ)
-        → HasRoomFor (n + 1) side.old.life logs.old.items
-        → HasRoomFor n side.old.life logs.new.items }
+    ensures room { HasRoomFor (waits side.new.records.items) side.new.life logs.new.items }
 {
+    let Some(busies) = wrote else {
+        return;
+    };
     let Some(write) = write else {
         return;
     };
@@ -141,8 +147,9 @@ fn tell_wait(
     logs: &mut Vec<Vec<Entry>>,
     write: Option<Coming>,
 )
+    requires apart { AreApart (map record_of side.old.records.items) }
     requires space { MayWaitFor write side.old.records.items }
-    requires room { HasRoomFor 1 side.old.life logs.old.items }
+    requires room { HasRoomFor (waits side.old.records.items + 2) side.old.life logs.old.items }
     ensures tells { TellsWait
         (record { circuit = circuit; place = place })
         write
@@ -150,9 +157,7 @@ fn tell_wait(
         (entries_in logs.old.items)
         side.new
         (entries_in logs.new.items) }
-    ensures room { (n : ℕ)
-        → HasRoomFor (n + 1) side.old.life logs.old.items
-        → HasRoomFor n side.old.life logs.new.items }
+    ensures room { HasRoomFor (waits side.new.records.items) side.new.life logs.new.items }
 {
     let Some(write) = write else {
         return;
@@ -173,7 +178,7 @@ fn tell_wait(
 
 // The puts of the channel that is cleared leave their records.
 fn tell_clear(side: &mut ServerSide, logs: &mut Vec<Vec<Entry>>, parting: Option<Parting>)
-    requires parts { IsPartingOf parting (map record_of side.old.records.items) }
+    requires parted { IsPartingOf parting (map record_of side.old.records.items) }
     requires room { HasRoomFor (waits side.old.records.items) side.old.life logs.old.items }
     ensures tells { TellsClear
         parting

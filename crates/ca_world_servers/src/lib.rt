@@ -4,8 +4,8 @@
 
 pub mod ahead;
 pub mod coming;
-pub mod deeds;
 pub mod doing;
+pub mod effects;
 pub mod ends_with;
 pub mod handling;
 pub mod losing;

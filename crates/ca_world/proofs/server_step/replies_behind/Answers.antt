@@ -9,7 +9,7 @@ use Rattle.ca_world.proofs.server_step.replies_behind.Goals as goal
 
 pub returns-then-bytes-waited-clause-all : goal.returns-then-bytes-waited-clause-all
 returns-then-bytes-waited-clause-all c ms behind =
-    let bytes : List ℕ = output_of (under c.args.core.now.circuits c.args.at) in
+    let bytes : List ℕ = output_of (under c.args.core.now.circuits c.args.turn.now.at) in
     let size = ap (λ (l : List ℕ). length l) c.out_bytes-bytes.ensures in
-    let few : length bytes ≤ c.args.waited = omega (arith, c.if-bytes-waited.true, size) in
-    ap (map told_of) c.new.ensures.items ∙ ap (about c.args.place history.Reply) (sym (none-behind c.args.waited bytes ms behind few))
+    let few : length bytes ≤ c.args.turn.now.waited = omega (arith, c.if-bytes-turn.true, size) in
+    ap (map told_of) c.new.ensures.items ∙ ap (about c.args.place history.Reply) (sym (none-behind c.args.turn.now.waited bytes ms behind few))

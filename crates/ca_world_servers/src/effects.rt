@@ -1,0 +1,89 @@
+//! What a message did beside its replies, by the effect that its step tells, is told of its circuit. A step that closed its end tells no effect:
+//! whether its message wrote is read off the core.
+ghost use Rattle.std.specs.Prelude.{◌≡◌, OnErr, OnOk, map};
+ghost use Rattle.ca_world_data.specs.Seen.{joined_of, queue_of};
+ghost use Rattle.ca_world_servers.specs.Effects.{BeginsNew, MayLackFor, is_busy_in, numbers_by, wrote_by, wrote_in};
+ghost use Rattle.ca_world_servers.specs.Losing.{AreSeated};
+
+use crate::coming::Coming;
+use crate::handling::{begin_channel, begin_standing, end_channel, end_standing, switch_events};
+use ca_queue::SubKey;
+use ca_server_core::{Effect, ServerCore};
+use ca_text::Command;
+use ca_world_data::joined::Joined;
+use std::alloc::AllocError;
+
+/// What the message at this place did, on the channels and subscriptions of its circuit. Without memory nothing changes.
+pub fn tell_on(joined: &mut Joined, effect: Effect, place: usize) -> Result<(), AllocError>
+    requires seated { AreSeated (joined_of joined.old) }
+    requires new { BeginsNew effect (map (λ q. queue_of q.0) joined.old.queues.items) }
+    ensures ok { OnOk result (joined_of joined.new
+        ≡ numbers_by effect place (joined_of joined.old)) }
+    ensures err { OnErr result (joined_of joined.new ≡ joined_of joined.old) }
+    ensures lacks { OnErr result (MayLackFor effect) }
+{
+    match effect {
+        Effect::Created(sid) => begin_channel(joined, sid, place),
+        Effect::Subscribed(sid, sub) => begin_standing(joined, SubKey { sid, sub }, place),
+        Effect::Cleared(sid) => {
+            end_channel(joined, sid);
+            Ok(())
+        }
+        Effect::Cancelled(sid, sub) => {
+            end_standing(joined, SubKey { sid, sub });
+            Ok(())
+        }
+        Effect::Switched(on) => {
+            switch_events(joined, on);
+            Ok(())
+        }
+        Effect::Quiet => Ok(()),
+        Effect::Refused => Ok(()),
+        Effect::Wrote => Ok(()),
+        Effect::Busied(_) => Ok(()),
+        Effect::Queued => Ok(()),
+    }
+}
+
+/// Whether a write was applied, and then whether it made its record busy.
+pub fn wrote_by(effect: Effect) -> Option<bool>
+    ensures { result ≡ wrote_by effect }
+{
+    match effect {
+        Effect::Wrote => Some(false),
+        Effect::Busied(_) => Some(true),
+        Effect::Quiet => None,
+        Effect::Refused => None,
+        Effect::Queued => None,
+        Effect::Created(_) => None,
+        Effect::Cleared(_) => None,
+        Effect::Subscribed(_, _) => None,
+        Effect::Cancelled(_, _) => None,
+        Effect::Switched(_) => None,
+    }
+}
+
+/// The same of a message of this command whose step closed its end, by the count of applied writes before it.
+pub fn wrote_of(
+    core: &ServerCore,
+    applied: u64,
+    command: u16,
+    write: &Option<Coming>,
+) -> Option<bool>
+    ensures { result ≡ wrote_in core.now applied command write.now }
+{
+    if core.applied() <= applied {
+        return None;
+    }
+    Some(command == Command::WriteNotify.number() && is_busy(core, write))
+}
+
+// Whether the record that the write names is busy.
+fn is_busy(core: &ServerCore, write: &Option<Coming>) -> bool
+    ensures { result ≡ is_busy_in core.now write.now }
+{
+    match write {
+        Some(write) => core.busy_value(&write.name).is_some(),
+        None => false,
+    }
+}
