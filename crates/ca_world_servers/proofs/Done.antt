@@ -1,5 +1,5 @@
 -- What a message did is told of its server, from what was known before its step.
-use Rattle.std.proofs.Common.{◌≡◌, ℕ, zero, suc, ◌+◌, ◌≤◌, ◌⊎◌, inl, inr, Bool, true, false, cond, not, ◌||◌, eqb, eqb-true, List, [], ◌∷◌, ◌++◌, Option, Some, None, length, map, refl, sym, ap, subst, ◌∙◌, arith}
+use Rattle.std.proofs.Common.{◌≡◌, ℕ, zero, suc, ◌+◌, ◌≤◌, inl, inr, Bool, true, false, cond, not, List, [], ◌∷◌, ◌++◌, Option, Some, None, length, map, refl, sym, ap, subst, ◌∙◌, arith}
 use Rattle.std.specs.Prelude.{Vec, if◌then◌else◌}
 use Rattle.std.specs.declared.alloc.Global.{Global}
 use Rattle.std.specs.Str.{bytes_eq}
@@ -20,7 +20,6 @@ use Rattle.ca_model.specs.Server.{Server, ServerEnd}
 use Rattle.ca_model.specs.ServerSteps.{HasEnd, is_write, knows, stored_now, write_mask}
 use Rattle.ca_model.specs.ServerEvents.{is_of_channel, logged_by, number_of, numbers_posted, places_where, records_after, with_record, write_numbers}
 use Rattle.ca_model.specs.World.{Joined, PutPlace, RecordSide, grown}
-use Rattle.ca_model.specs.World as model
 use Rattle.ca_server_circuit.specs.Effects.{effect_due}
 use Rattle.ca_server_circuit.specs.declared.effect.Effect.{Effect}
 use Rattle.ca_world_data.specs.declared.history.Entry.{Entry as Written}
@@ -33,7 +32,7 @@ use Rattle.ca_world_servers.specs.declared.ahead.Ahead.{Ahead}
 use Rattle.ca_world_servers.specs.declared.coming.Coming.{Coming}
 use Rattle.ca_world_servers.specs.declared.parting.Parting.{Parting}
 use Rattle.ca_world_servers.specs.Coming.{IsComing}
-use Rattle.ca_world_servers.specs.Effects.{AreApart, IsAhead, IsParting, IsPartingOf, IsTold, IsWrite, TellsAction, TellsClear, TellsMessage, TellsWait, TellsWrite, busy_after, written}
+use Rattle.ca_world_servers.specs.Effects.{AreApart, IsAhead, IsParting, IsPartingOf, IsWrite, TellsAction, TellsClear, TellsMessage, TellsWait, TellsWrite, busy_after, written}
 use Rattle.ca_world_servers.specs.Handling.{made_busy, with_waiting}
 use Rattle.ca_world_servers.specs.Parting.{AreBeside, all_gone, all_kept, gone_of, kept_of, places_in, puts_of, with_kept, withdrawn_at}
 use Rattle.ca_world_servers.proofs.Dealt.{busies_of, due-cases, idle}

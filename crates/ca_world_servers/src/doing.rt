@@ -59,10 +59,28 @@ pub fn tell_effect(
 {
     match effect {
         Effect::Wrote => {
-            tell_write(circuit, place, server, side, circuits, logs, Some(false), write);
+            tell_write(
+                circuit,
+                place,
+                server,
+                side,
+                circuits,
+                logs,
+                Some(false),
+                write,
+            );
         }
         Effect::Busied(_) => {
-            tell_write(circuit, place, server, side, circuits, logs, Some(true), write);
+            tell_write(
+                circuit,
+                place,
+                server,
+                side,
+                circuits,
+                logs,
+                Some(true),
+                write,
+            );
         }
         Effect::Queued => tell_wait(circuit, place, side, logs, write),
         Effect::Cleared(_) => tell_clear(side, logs, parting),

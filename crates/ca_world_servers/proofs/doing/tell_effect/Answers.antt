@@ -1,4 +1,4 @@
-use Rattle.std.proofs.Common.{◌≡◌, ap, ◌∙◌, sym}
+use Rattle.std.proofs.Common.{ap, ◌∙◌}
 use Rattle.ca_world_servers.specs.Effects.{wrote_by}
 use Rattle.ca_world_servers.proofs.doing.tell_effect.Goals as goal
 
