@@ -581,15 +581,7 @@ fn close_stepped(
         wrote,
         write,
     );
-    report_ends_with(
-        turn.alloc,
-        turn.server,
-        side,
-        circuits,
-        logs,
-        turn.at,
-        left,
-    );
+    report_ends_with(turn.alloc, turn.server, side, circuits, logs, turn.at, left);
 }
 
 // Cuts the end, of which only the bytes that waited count as left.

@@ -7,8 +7,8 @@ use Rattle.ca_world_data.specs.Seen.{told_of}
 use Rattle.ca_world.proofs.StepPrepared.{none-behind}
 use Rattle.ca_world.proofs.server_step.replies_behind.Goals as goal
 
-pub returns-then-bytes-waited-clause-all : goal.returns-then-bytes-waited-clause-all
-returns-then-bytes-waited-clause-all c ms behind =
+pub returns-then-bytes-turn-clause-all : goal.returns-then-bytes-turn-clause-all
+returns-then-bytes-turn-clause-all c ms behind =
     let bytes : List ℕ = output_of (under c.args.core.now.circuits c.args.turn.now.at) in
     let size = ap (λ (l : List ℕ). length l) c.out_bytes-bytes.ensures in
     let few : length bytes ≤ c.args.turn.now.waited = omega (arith, c.if-bytes-turn.true, size) in

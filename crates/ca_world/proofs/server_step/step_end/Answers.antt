@@ -40,6 +40,9 @@ close_stepped-requires-clause-alike c = λ busies is.
     (subst (λ (h : Handle). steps.Steps core h (steps.Closed (why_is c.in-Closed.field-0) c.in-Closed.left) c.step.new.self) m.turn.here c.in-Closed.ensures.steps) in
     closed-alike core c.step.new.self j (map joined_of items) (map record_of c.args.side.now.records.items) c.args.ahead t m c.in-Closed.left (why_is c.in-Closed.field-0) did busies (sym c.wrote_of-wrote.ensures ∙ is)
 
+pub close_stepped-requires-clause-counts : goal.close_stepped-requires-clause-counts
+close_stepped-requires-clause-counts c = λ busies w wrote is. c.requires.counts w is
+
 pub returns-in-Handled-clause-steps : goal.returns-in-Handled-clause-steps
 returns-in-Handled-clause-steps c = λ j here.
     let core : Server = c.args.side.now.core in
