@@ -1,4 +1,4 @@
-use Rattle.std.proofs.Common.{◌≡◌, ℕ, ◌<◌, List, length, subst, ◌∙◌}
+use Rattle.std.proofs.Common.{ℕ, ◌<◌, List, length, subst, ◌∙◌}
 use Rattle.std.specs.Prelude.{map}
 use Rattle.ca_text.specs.Place.{At}
 use Rattle.ca_world_data.specs.declared.joined.Joined.{Joined}

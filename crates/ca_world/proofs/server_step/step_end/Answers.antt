@@ -1,7 +1,6 @@
-use Rattle.std.proofs.Common.{◌≡◌, ℕ, ◌<◌, false, true, List, length, sym, subst, ◌∙◌}
+use Rattle.std.proofs.Common.{ℕ, ◌<◌, false, true, List, length, sym, subst, ◌∙◌}
 use Rattle.std.specs.Prelude.{map}
 use Rattle.ca_arena.specs.declared.handle.Handle.{Handle}
-use Rattle.ca_text.specs.Place.{At}
 use Rattle.ca_text.proofs.Places.{At-map}
 use Rattle.ca_model.specs.Server.{Server}
 use Rattle.ca_model.specs.ServerSteps as steps
