@@ -72,12 +72,13 @@ module _ (i : ℕ) (p : model.PutPlace) (y y' : ServerSide) (ks ks' : List model
   stays-clear (Some q) told circuits = stays-apart _ _ y y' ks ks' logs logs' told circuits
 
   pub stays-message : (did : Effect) (write : Option Coming) (parting : Option Parting) → TellsMessage i p did write parting y ks logs y' ks' logs' → Stays y ks y' ks'
-  stays-message effect.Queued write parting told = stays-wait write told.0 told.1
+  stays-message (effect.Queued sid) write parting told = stays-wait write told.0 told.1
   stays-message (effect.Cleared sid) write parting told = stays-clear parting told.0 told.1
-  stays-message effect.Wrote write parting told = stays-write (Some false) write told
+  stays-message (effect.Wrote sid) write parting told = stays-write (Some false) write told
   stays-message (effect.Busied sid) write parting told = stays-write (Some true) write told
   stays-message effect.Quiet write parting told = stays-write None write told
   stays-message effect.Refused write parting told = stays-write None write told
+  stays-message (effect.WriteRefused sid) write parting told = stays-write None write told
   stays-message (effect.Created sid) write parting told = stays-write None write told
   stays-message (effect.Subscribed sid sub) write parting told = stays-write None write told
   stays-message (effect.Cancelled sid sub) write parting told = stays-write None write told

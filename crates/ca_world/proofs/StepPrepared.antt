@@ -110,7 +110,7 @@ lacks-need k m replies (Opens c) due lacks = inr (opens-replies k m replies c du
 lacks-need k m replies (Adds s) due lacks = tt
 lacks-need k m replies (Applies name value busies) due lacks = tt
 lacks-need k m replies (Waits name value) due lacks = tt
-lacks-need k m replies Nothing due lacks = absurd (idle (λ (d : Effect). MayLackFor d → ⊥) m (λ x. x) (λ x. x) lacks)
+lacks-need k m replies Nothing due lacks = absurd (idle (λ (d : Effect). MayLackFor d → ⊥) m (λ x. x) (λ x. x) (λ x. x) lacks)
 lacks-need k m replies Greets due lacks = absurd lacks
 lacks-need k m replies (Names p) due lacks = absurd lacks
 lacks-need k m replies (Clears sid) due lacks = absurd lacks
@@ -121,7 +121,7 @@ lacks-need k m replies (Switches on) due lacks = absurd lacks
 
 -- what an effect tells of a circuit whose lists are aside is what was done there
 pub numbers-aside : (m : Fields) (action : Action) (place : ℕ) (j : Joined) → numbers_by (effect_due m action) place (with_lists [] [] j) ≡ with_lists [] [] (numbers_after place action j)
-numbers-aside m Nothing place j = idle (λ (d : Effect). numbers_by d place (with_lists [] [] j) ≡ with_lists [] [] j) m refl refl
+numbers-aside m Nothing place j = idle (λ (d : Effect). numbers_by d place (with_lists [] [] j) ≡ with_lists [] [] j) m refl refl refl
 numbers-aside m (Applies name value true) place j = refl
 numbers-aside m (Applies name value false) place j = refl
 numbers-aside m (Waits name value) place j = refl

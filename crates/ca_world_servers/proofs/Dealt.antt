@@ -33,6 +33,7 @@ use Rattle.ca_model.specs.Server.{Server, ServerEnd, Subscription, key_of}
 use Rattle.ca_model.specs.ServerSteps.{Handles, HasEnd, LeftOf, Next, Reaches, Records, closed, known_record, knows}
 use Rattle.ca_model.specs.World.{Joined}
 use Rattle.ca_server_circuit.specs.Effects.{effect_due}
+use Rattle.ca_server_circuit.specs.Peeking.{is_write}
 use Rattle.ca_server_circuit.specs.declared.effect.Effect.{Effect}
 use Rattle.ca_server_circuit.specs.declared.effect.Effect.TheVariants as effect
 use Rattle.ca_world_data.specs.Numbering.{AreAlike, keys_on}
@@ -434,17 +435,18 @@ news-new y e m replies s j due alike seated i q at = go (is_among (key_of s) q.s
 -- ---- by the effect
 
 -- of what nothing was done for
-pub idle : (P : Effect → Type 0) (m : Fields) → P effect.Refused → P effect.Quiet → P (effect_due m Nothing)
-idle P m refused quiet = go (m.command == command_number command.CreateChannel)
+pub idle : (P : Effect → Type 0) (m : Fields) → P effect.Refused → P (effect.WriteRefused m.p1) → P effect.Quiet → P (effect_due m Nothing)
+idle P m refused unwritten quiet = go (m.command == command_number command.CreateChannel) (is_write m.command)
   where
-    go : (b : Bool) → P (if b then effect.Refused else effect.Quiet)
-    go true = refused
-    go false = quiet
+    go : (a b : Bool) → P (if a then effect.Refused else if b then effect.WriteRefused m.p1 else effect.Quiet)
+    go true b = refused
+    go false true = unwritten
+    go false false = quiet
 
 -- a subscription that begins is new
 pub begins-new : (y : Server) (e : ServerEnd) (m : Fields) (replies : List Fields) (did : Action) (j : Joined) → Due (knows y e) m replies did → AreAlike e j → AreSeated j → BeginsNew (effect_due m did) j.queues
 begins-new y e m replies (Adds s) j due alike seated = news-new y e m replies s j due alike seated
-begins-new y e m replies Nothing j due alike seated = idle (λ (d : Effect). BeginsNew d j.queues) m tt tt
+begins-new y e m replies Nothing j due alike seated = idle (λ (d : Effect). BeginsNew d j.queues) m tt tt tt
 begins-new y e m replies Greets j due alike seated = tt
 begins-new y e m replies (Names p) j due alike seated = tt
 begins-new y e m replies (Opens c) j due alike seated = tt
@@ -457,7 +459,7 @@ begins-new y e m replies (Switches on) j due alike seated = tt
 
 -- whether it wrote
 pub wrote-due : (m : Fields) (did : Action) → wrote_by (effect_due m did) ≡ busies_of did
-wrote-due m Nothing = idle (λ (d : Effect). wrote_by d ≡ None) m refl refl
+wrote-due m Nothing = idle (λ (d : Effect). wrote_by d ≡ None) m refl refl refl
 wrote-due m (Applies name value true) = refl
 wrote-due m (Applies name value false) = refl
 wrote-due m (Waits name value) = refl

@@ -240,7 +240,7 @@ module _ (i : ℕ) (p : PutPlace) (before : Server) (h : Handle) (y : ServerSide
     tells-action Greets y' ks' logs' d told = tells-none Greets y' ks' logs' refl refl (λ j. refl) told
     tells-action Nothing y' ks' logs' d told =
         tells-none Nothing y' ks' logs' refl refl (λ j. refl)
-        (idle (λ (e : Effect). TellsMessage i p e a.write a.parting y ks logs y' ks' logs' → (y' ≡ y) × (ks' ≡ ks) × (logs' ≡ logs)) m (λ t. t) (λ t. t) told)
+        (idle (λ (e : Effect). TellsMessage i p e a.write a.parting y ks logs y' ks' logs' → (y' ≡ y) × (ks' ≡ ks) × (logs' ≡ logs)) m (λ t. t) (λ t. t) (λ t. t) told)
 
 -- ---- room
 

@@ -35,7 +35,7 @@ use Rattle.ca_world_servers.specs.Parting.{all_gone, all_kept, places_in, with_k
 
 -- whether a write was applied, and then whether it made its record busy
 abbrev pub wrote_by : Effect → Option Bool
-wrote_by Wrote = Some false
+wrote_by (Wrote sid) = Some false
 wrote_by (Busied sid) = Some true
 wrote_by did = None
 
@@ -149,6 +149,6 @@ TellsClear None y logs y' logs' = (y' ≡ y) × (logs' ≡ logs)
 
 -- what a message with this effect did is told
 abbrev pub TellsMessage : (i : ℕ) → PutPlace → Effect → Option Coming → Option Parting → ServerSide → List Joined → List (List Entry) → ServerSide → List Joined → List (List Entry) → Type 0
-TellsMessage i p Queued write parting y ks logs y' ks' logs' = TellsWait p write y logs y' logs' × (ks' ≡ ks)
+TellsMessage i p (Queued sid) write parting y ks logs y' ks' logs' = TellsWait p write y logs y' logs' × (ks' ≡ ks)
 TellsMessage i p (Cleared sid) write parting y ks logs y' ks' logs' = TellsClear parting y logs y' logs' × (ks' ≡ ks)
 TellsMessage i p did write parting y ks logs y' ks' logs' = TellsWrite i p (wrote_by did) write y ks logs y' ks' logs'

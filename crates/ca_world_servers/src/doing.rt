@@ -58,7 +58,7 @@ pub fn tell_effect(
     ensures room { HasRoomFor (waits side.new.records.items) side.new.life logs.new.items }
 {
     match effect {
-        Effect::Wrote => {
+        Effect::Wrote(_) => {
             tell_write(
                 circuit,
                 place,
@@ -82,10 +82,11 @@ pub fn tell_effect(
                 write,
             );
         }
-        Effect::Queued => tell_wait(circuit, place, side, logs, write),
+        Effect::Queued(_) => tell_wait(circuit, place, side, logs, write),
         Effect::Cleared(_) => tell_clear(side, logs, parting),
         Effect::Quiet => {}
         Effect::Refused => {}
+        Effect::WriteRefused(_) => {}
         Effect::Created(_) => {}
         Effect::Subscribed(_, _) => {}
         Effect::Cancelled(_, _) => {}

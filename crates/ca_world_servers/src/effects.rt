@@ -39,9 +39,10 @@ pub fn tell_on(joined: &mut Joined, effect: Effect, place: usize) -> Result<(), 
         }
         Effect::Quiet => Ok(()),
         Effect::Refused => Ok(()),
-        Effect::Wrote => Ok(()),
+        Effect::WriteRefused(_) => Ok(()),
+        Effect::Wrote(_) => Ok(()),
         Effect::Busied(_) => Ok(()),
-        Effect::Queued => Ok(()),
+        Effect::Queued(_) => Ok(()),
     }
 }
 
@@ -50,11 +51,12 @@ pub fn wrote_by(effect: Effect) -> Option<bool>
     ensures { result ≡ wrote_by effect }
 {
     match effect {
-        Effect::Wrote => Some(false),
+        Effect::Wrote(_) => Some(false),
         Effect::Busied(_) => Some(true),
         Effect::Quiet => None,
         Effect::Refused => None,
-        Effect::Queued => None,
+        Effect::WriteRefused(_) => None,
+        Effect::Queued(_) => None,
         Effect::Created(_) => None,
         Effect::Cleared(_) => None,
         Effect::Subscribed(_, _) => None,
