@@ -1,8 +1,9 @@
 /* cuvezhin.hpp: the objects of cuvezhin.h as types of C++17 that own them.
  *
- * What a call does, and what you promise, is in cuvezhin.h: each member is the call of that name, and throws Refusal where that refuses. Numbers that
- * a call answers are those of cuvezhin.h (CVZ_HANDLED, CVZ_BUSIED). An object is freed with its Server, Client or Repeater, which can be moved and not
- * copied; each call on one that was moved from throws CVZ_NO_OBJECT. std::bad_alloc too says that memory is out. */
+ * What a call does, and what you promise, is in cuvezhin.h: each member is the call of that name, and throws Refusal if that refuses. Numbers that
+ * a call returns are those of cuvezhin.h (CVZ_HANDLED, CVZ_BUSIED). An object is freed with its Server, Client or Repeater, which can be moved and not
+ * copied; each call on one that was moved from throws Refusal with CVZ_NO_OBJECT. Out of memory, a call throws CVZ_OUT_OF_MEMORY, or std::bad_alloc
+ * for what this header allocates. */
 #ifndef CUVEZHIN_HPP
 #define CUVEZHIN_HPP
 
@@ -20,7 +21,7 @@
 
 namespace cuvezhin {
 
-/* Handles: what a struct of cuvezhin.h has as a number becomes one by Circuit{wanted.circuit}. */
+/* Handles. The number in a struct of cuvezhin.h becomes a handle as in Circuit{wanted.circuit}. */
 enum class Circuit : std::uint64_t {};
 enum class Channel : std::uint64_t {};
 enum class Request : std::uint64_t {};
@@ -111,7 +112,7 @@ private:
 
 namespace detail {
 
-/* What a call answered, if it is no refusal. */
+/* What a call returned, if that is no refusal. */
 inline std::int32_t unrefused(std::int32_t answer)
 {
     if (answer < 0)
@@ -141,7 +142,7 @@ private:
     std::unique_ptr<Struct, Free> held;
 };
 
-/* Copies an image by a call that takes the room and writes the size, whatever that is, and returns what the call answered. */
+/* Copies an image of any size, by a call that takes the room and writes the size, and returns what the call returned. */
 template <class Call>
 std::int32_t copied(std::vector<std::uint8_t> &image, Call call)
 {
@@ -155,7 +156,7 @@ std::int32_t copied(std::vector<std::uint8_t> &image, Call call)
     return answer;
 }
 
-/* A text by a call that takes the room and says how long the text is. */
+/* A text, by a call that takes the room and returns how long the text is. */
 template <class Call>
 std::string text(Call call)
 {
@@ -176,7 +177,7 @@ std::uint64_t number(Handle handle)
 
 } // namespace detail
 
-/* A server of a TCP port, from a moment on: see "a server" in cuvezhin.h. */
+/* A server at a TCP port: see "a server" in cuvezhin.h. */
 class Server : detail::Owner<cvz_server, cvz_server_free> {
 public:
     Server(std::uint16_t port, std::uint64_t now) { detail::unrefused(cvz_server_new(at(), port, now)); }
@@ -228,7 +229,7 @@ public:
         return image;
     }
 
-    /* The image of the record's value, with its count. */
+    /* The image of the record's value; its count is written. */
     std::vector<std::uint8_t> value(std::string_view name, std::uint16_t type, std::uint32_t &count)
     {
         const Bytes its(name);
@@ -239,6 +240,7 @@ public:
         return image;
     }
 
+    /* The circuit of the put that finish applies next, or nothing if none waits. */
     std::optional<Circuit> first(std::string_view name)
     {
         const Bytes its(name);
@@ -267,6 +269,7 @@ public:
         return detail::text([&](std::uint8_t *room, std::size_t size) { return cvz_server_name(at(), detail::number(circuit), sid, room, size); });
     }
 
+    /* Empty if the client gave none; so is the host. */
     std::string user(Circuit circuit)
     {
         return detail::text([&](std::uint8_t *room, std::size_t size) { return cvz_server_user(at(), detail::number(circuit), room, size); });

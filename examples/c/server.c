@@ -1,10 +1,10 @@
-/* A server of Channel Access on poll. Clients may read, write and monitor its records: TEMP; COUNT, which goes up by one each second; and MOVE, which
- * is slow: a put to it is done 100 ms later, and MOVED, which may only be read, goes up by its value.
+/* A server of Channel Access on poll. Clients may read and monitor its records, and write TEMP and MOVE. COUNT goes up by one each second. MOVE is
+ * slow: a put to it is done 100 ms later, and MOVED goes up by its value.
  *
  *     cc server.c $(pkg-config --cflags --libs cuvezhin) -o server && ./server 5064 [RECORDS]
  *
- * With port 0 the system chooses one, which is printed. RECORDS is a file of records and rules to serve in place of these. It ends at the end of its
- * standard input. */
+ * With port 0 the system chooses one, which is printed. RECORDS is a file of records and rules, of 65,536 bytes at most, to serve in place of these.
+ * It ends at the end of its standard input. It sends no beacons: see cvz_server_beacon. */
 #define _POSIX_C_SOURCE 200809L
 #include <cuvezhin.h>
 
@@ -30,7 +30,7 @@ static struct {
     uint8_t name[60];
     size_t size;
     uint64_t due;
-} busy[PLACES];                        /* the slow records that a put makes busy, and when that is to be done: the first one first */
+} busy[PLACES];                        /* the slow records that a put makes busy, and when that put is to be done: the earliest first */
 static size_t busies;
 static uint32_t moved;
 
@@ -49,7 +49,7 @@ static uint64_t milliseconds(void)
     return (uint64_t)now.tv_sec * 1000 + (uint64_t)now.tv_nsec / 1000000;
 }
 
-/* Writes of clients get the time that they came, in seconds since 1990. */
+/* Writes of clients that are applied from now on have this time, in seconds since 1990. */
 static void stamp(cvz_server *server)
 {
     struct timespec now;

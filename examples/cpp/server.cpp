@@ -1,10 +1,10 @@
-/* The server of examples/c/server.c over cuvezhin.hpp: clients may read, write and monitor TEMP; COUNT, which goes up by one each second; and MOVE,
- * which is slow: a put to it is done 100 ms later, and MOVED, which may only be read, goes up by its value.
+/* The server of examples/c/server.c over cuvezhin.hpp. Clients may read and monitor its records, and write TEMP and MOVE. COUNT goes up by one each
+ * second. MOVE is slow: a put to it is done 100 ms later, and MOVED goes up by its value.
  *
  *     c++ -std=c++17 server.cpp $(pkg-config --cflags --libs cuvezhin) -o server && ./server 5064 [RECORDS]
  *
  * With port 0 the system chooses one, which is printed. RECORDS is a file of records and rules to serve in place of these. It ends at the end of its
- * standard input. */
+ * standard input. It sends no beacons: see Server::beacon. */
 #include <cuvezhin.hpp>
 
 #include <arpa/inet.h>
@@ -81,7 +81,7 @@ private:
     int file;
 };
 
-/* One that has this port, or one that the system chooses and `address` tells then. */
+/* A socket at this port. If it is 0 the system chooses one, which is written into `address`. */
 Socket bound(int kind, sockaddr_in &address)
 {
     Socket made(socket(AF_INET, kind, 0));
@@ -93,7 +93,7 @@ Socket bound(int kind, sockaddr_in &address)
     return made;
 }
 
-/* A slow record that a put makes busy, and when that is to be done. */
+/* A slow record that a put makes busy, and when that put is to be done. */
 struct Busy {
     std::string name;
     std::uint64_t due;
