@@ -15,7 +15,7 @@
  *      sequentially consistent atomic: the library has no global state, so calls on different objects may be made at once.
  *   6. No call is made from a signal handler, nor in the child of a fork of a process with threads.
  *   7. malloc, realloc and free are of one allocator, which aligns to 16.
- *   8. The program was compiled with the header of the library that it runs with (see cvz_version).
+ *   8. The library that the program runs with serves the header that it was compiled with (see cvz_version).
  *
  * What you need not promise: that an object is there, or that a handle still names something. Each call tests that, and answers
  * CVZ_NO_OBJECT, a refusal or 0.
@@ -201,8 +201,8 @@ int32_t cvz_server_accept(cvz_server *server, uint64_t *circuit);
 /* These bytes came on the circuit. 0, CVZ_CIRCUIT_CLOSED or CVZ_OUT_OF_MEMORY. */
 int32_t cvz_server_give(cvz_server *server, uint64_t circuit, const uint8_t *bytes, size_t size);
 
-/* Handles the circuit's next message, and writes what it did. CVZ_NEEDS_BYTES: none has come whole. CVZ_STEP_OUTPUT_FULL: 262,144 bytes or
- * more wait to be sent. CVZ_CLOSED: the end has ended; cvz_server_left has what is left to be sent, and the handle names nothing from now on.
+/* Handles the circuit's next message, and writes what it did. CVZ_NEEDS_BYTES: no complete message is there. CVZ_STEP_OUTPUT_FULL: 262,144 bytes or
+ * more wait to be sent. CVZ_CLOSED: the circuit has ended; cvz_server_left has what is left to be sent, and the handle names nothing from now on.
  * So does a handle that names nothing, with CVZ_CAUSE_CUT and nothing left. */
 int32_t cvz_server_step(cvz_server *server, uint64_t circuit, cvz_step *did);
 
@@ -339,7 +339,7 @@ int32_t cvz_client_connected(cvz_client *client, uint64_t circuit, uint32_t *cau
 /* These bytes came on the circuit, and whether more are there to be read. 0, CVZ_CIRCUIT_CLOSED or CVZ_OUT_OF_MEMORY. */
 int32_t cvz_client_give(cvz_client *client, uint64_t circuit, const uint8_t *bytes, size_t size, bool more);
 
-/* Reads the circuit's next message. CVZ_NEEDS_BYTES: none has come whole. CVZ_HANDLED: it reports. CVZ_CLOSED, with the cause: it reports, and
+/* Reads the circuit's next message. CVZ_NEEDS_BYTES: no complete message is there. CVZ_HANDLED: it reports. CVZ_CLOSED, with the cause: it reports, and
  * cvz_client_left has what is left to be sent. */
 int32_t cvz_client_step(cvz_client *client, uint64_t circuit, uint32_t *cause);
 

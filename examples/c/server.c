@@ -110,6 +110,7 @@ static void process(cvz_server *server)
         moved += ntohl(value);
         post_long(server, "MOVED", (int32_t)moved);
     }
+    stamp(server);                     /* of the put that waits, if one does: it is applied now */
     cvz_server_finish(server, name, size);
     begin(server, name, size);
 }
@@ -219,6 +220,10 @@ int main(int argc, char **argv)
             return 1;
         }
         size = fread(records, 1, sizeof records, file);
+        if (!feof(file) && (ferror(file) || getc(file) != EOF)) {
+            fprintf(stderr, "server: %s cannot be read, or is too long\n", argv[2]);
+            return 1;
+        }
         fclose(file);
     }
     polled[LISTENER] = (struct pollfd){.fd = socket_on(SOCK_STREAM, &address), .events = POLLIN};

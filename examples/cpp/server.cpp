@@ -242,7 +242,11 @@ private:
         const ssize_t size = recvfrom(searches.number(), room.data(), room.size(), 0, reinterpret_cast<sockaddr *>(&from), &from_size);
         if (size < 0)
             return;
-        server.datagram({room.data(), static_cast<std::size_t>(size)});
+        try {
+            server.datagram({room.data(), static_cast<std::size_t>(size)});
+        } catch (const cuvezhin::Refusal &) {   /* no memory: the client searches again */
+            return;
+        }
         for (std::size_t answer; (answer = server.answer(room)) > 0;)
             sendto(searches.number(), room.data(), answer, 0, reinterpret_cast<sockaddr *>(&from), from_size);
     }
@@ -258,6 +262,8 @@ private:
         if (const auto image = server.busy(name)) {
             if (name == "MOVE")
                 post("MOVED", moved += long_of(*image));
+            const auto [seconds, nanoseconds] = moment();
+            server.stamp(seconds, nanoseconds);   /* of the put that waits, if one does: it is applied now */
             server.finish(name);
         }
         if (server.busy(name))

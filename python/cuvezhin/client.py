@@ -157,7 +157,8 @@ class Client:
         """Writes a channel, and waits until that is done; with `wait=False` until it is handed to the socket alone.
 
         A number or an array goes as the channel's own type; a text goes as a STRING, which the server converts, but for a decimal to FLOAT or
-        DOUBLE. Raises as `read`, and ValueError if the value does not fit the type. After TimedOut or Lost it may be done all the same."""
+        DOUBLE, and for a text to an array of CHAR. Raises as `read`, and ValueError if the value does not fit the type. After TimedOut or Lost it
+        may be done all the same."""
         channel, limit, core = self._channel(name), self._limit(timeout), self._core
         await self._ready(channel, limit)
         kind, count, image = _written(channel, value, type)

@@ -9,7 +9,7 @@ from typing import Any, Optional
 
 from . import _library as lib
 from . import addresses
-from .errors import Error, Refused
+from .errors import Refused
 from .record import Put, Record, RefusedPut, Waiting, now
 from .values import EPOCH, elements, stamped
 
@@ -119,7 +119,7 @@ class Server:
             lib.checked(self._core.call_load(self._core.at, self.port, 0, text, len(text)), "rules")
             for record in self._given:
                 self.add(record)
-        except Error:
+        except BaseException:
             await self.close()
             raise
         self._wait = FIRST_BEACON
