@@ -1,5 +1,6 @@
 /*
- * The server's circuits, the updating thread that pumps those that are idle, the processing threads, and the end: crates/ca_serve/src.
+ * The server's circuits, each of which pumps for itself, the bells by which they wake one another, the ringing thread, the processing threads, and the end:
+ * crates/ca_serve/src.
  *
  * Each block names the function that it follows, in the function's own order; threads take turns between statements. What is done under the mutex is one step with
  * the taking of the mutex, since nobody else can look meanwhile; the letting go, and what follows, are steps of their own.
@@ -8,32 +9,39 @@
  * to be sent; `line`, bytes that the thread took out and has not written; `room`, whether the socket takes bytes. Edges (`edge`, `bell`) are kept until a poll takes
  * them. No wait of the server ends by time, but for the pauses of a thread without memory and of what a closed circuit left, which are left out.
  *
- * A message is a put. On a quick record it is applied at once, and is an update for each circuit. On a slow one it makes the record busy, or waits for it; a
- * processing thread finishes it: that is a late reply to its circuit, and the next put that waits is applied. One message a turn stands for 64, one circuit under a
- * hold of the updating thread for some.
+ * A message is a put. On a quick record it is applied at once, and is an update for each circuit that watches. On a slow one it makes the record busy, or waits for
+ * it; a processing thread finishes it: that is a late reply to its circuit, and the next put that waits is applied. One message a turn stands for 64. Whoever applied
+ * or finished a put takes the bells of the idle circuits that it reached under the mutex (`rings`), and rings them one by one once it has let go; or with HANDS it hands
+ * them over to the ringing thread (`handed`), as is done where there are many.
  *
- * The number of rounds has no end: `dirty` is whether it is another than the updating thread saw. A wait for a condition looks at the number of notifications under
- * the mutex, lets go, and sleeps unless that changed (`unseen`).
+ * A wait for a condition looks at the number of notifications under the mutex, lets go, and sleeps unless that changed (`unseen`).
  *
  * -D switches:
  *   C=2         circuits (the last is accepted late with LATE)
  *   PUTS=1      messages of each client that sends
  *   SENDERS=1   how many clients send, from the first on; all, if it is not said
+ *   WATCHERS=1  how many circuits watch, from the last on; all, if it is not said
  *   SLOW        puts may be on the slow record
  *   FULL        a client may stop reading for a time
  *   CLOSES      the client of circuit 0 may close it
  *   LATE        the last circuit is accepted at any time
+ *   LACKS       there may be no memory for an update, which ends its circuit
+ *   HANDS       all bells are handed over to the ringing thread
  *   ENDS        the server ends at some time
  *   P=1         processing threads
  *   PLANT=n     a wrong form, which is to be found
  *     1  a circuit says that it is idle before the pump, which is made under another hold
- *     2  a write is stirred after the lock was let go, and notified before that
- *     3  the updating thread reads the number of rounds after its round, and not before it
+ *     2  bells are taken and rung before the put is applied, which is done under another hold
+ *     3  a circuit says that it is idle after it has let the lock go
  *     4  a circuit's thread waits at its socket before it reads (FULL)
- *     5  a finish does not stir (SLOW)
+ *     5  a finish does not ring the circuit of its put (SLOW)
  *     6  `end` rings no bell (ENDS)
- *     7  the updating thread goes from the first place to the last (C=3, CLOSES)
+ *     7  the last of those that a put reached is left out
  *     8  a record that a finish makes busy again is not handed on (SLOW)
+ *     9  a finish does not ring those that its next put reached (SLOW)
+ *    10  a circuit's thread that is about to wait forgets that its bell was rung
+ *    11  a circuit that its update ended is not rung (LACKS)
+ *    12  the ringing thread is told of bells before it is handed them (HANDS)
  */
 #ifndef C
 #define C 2
@@ -44,11 +52,24 @@
 #ifndef SENDERS
 #define SENDERS C
 #endif
+#ifndef WATCHERS
+#define WATCHERS C
+#endif
 #ifndef P
 #define P 1
 #endif
 #ifndef PLANT
 #define PLANT 0
+#endif
+#ifdef SLOW
+#define PROCESSORS P
+#else
+#define PROCESSORS 0
+#endif
+#ifdef HANDS
+#define HELPERS (PROCESSORS + 1)
+#else
+#define HELPERS PROCESSORS
 #endif
 #define OUTPUT 2        /* the core's output is full with so much */
 #define MOST_DUE 2      /* a newer update takes the place of the newest */
@@ -62,18 +83,18 @@ byte due[C];
 byte output[C];
 bit open[C];
 bit is_idle[C];
-byte places[C];         /* the bells: which circuit is at which place */
-byte bells;
+bit has_bell[C];
 bit busy;               /* the slow record */
 byte busy_of;
 byte waits[C];
 bit given;              /* its name is in Locked.busy */
-bit dirty;
 bit ending;
 
-/* The conditions. 0: stirred, 1: given. */
-bit unseen[2];
-bit sleeps[2];
+bit handed[C];          /* Locked.rings */
+
+/* The conditions that a record became busy, and that there are bells for the ringing thread. */
+bit unseen, sleeps;
+bit unseen_rung, sleeps_rung;
 
 /* Sockets and wakers. */
 byte rx[C];
@@ -98,16 +119,108 @@ byte ended_threads;
 inline let_go() { lock = 0 }
 
 /* Condvar::notify_all. */
-inline notify(which) { d_step { unseen[which] = 1; sleeps[which] = 0 } }
+inline notify() { d_step { unseen = 1; sleeps = 0 } }
+inline notify_rung() { d_step { unseen_rung = 1; sleeps_rung = 0 } }
 
-/* A write is applied. */
-inline post() {
+#if C == 2
+#define NO_BELLS (handed[0] == 0 && handed[1] == 0)
+#else
+#define NO_BELLS (handed[0] == 0 && handed[1] == 0 && handed[2] == 0)
+#endif
+#define WATCHES(c) ((c) + WATCHERS >= C)
+#ifdef LACKS
+#define MAY_END(c) if :: open[c] = 0; due[c] = 0; output[c] = 0; input[c] = 0; waits[c] = 0 :: true fi
+#else
+#define MAY_END(c) skip
+#endif
+#if PLANT == 7
+#define LAST C - 2
+#else
+#define LAST C - 1
+#endif
+#if PLANT == 11
+#define IS_RUNG(c) (is_idle[c] && open[c])
+#else
+#define IS_RUNG(c) is_idle[c]
+#endif
+
+/* A put of circuit c is applied, or one by a processing thread, for which c is C. The updates of c are its own matter: it is in its turn. */
+inline post(c) {
     for (k : 0 .. C - 1) {
         if
-        :: open[k] && due[k] < MOST_DUE -> due[k]++
+        :: open[k] && WATCHES(k) ->
+            if
+            :: due[k] < MOST_DUE -> due[k]++
+            :: else
+            fi;
+            if
+            :: k != c -> MAY_END(k)
+            :: else
+            fi
         :: else
         fi
     };
+    k = 0
+}
+
+/* Locked::reach: the bells of those that the put reached are taken. */
+inline reach(c) {
+    for (k : 0 .. LAST) {
+        if
+        :: WATCHES(k) && k != c && has_bell[k] && IS_RUNG(k) -> is_idle[k] = 0; rings[k] = 1
+        :: else
+        fi
+    };
+    k = 0
+}
+
+/* Rings::hand_over, in the same hold. */
+inline hand_over() {
+#if defined(HANDS) && PLANT != 12
+    for (k : 0 .. C - 1) {
+        if
+        :: rings[k] -> rings[k] = 0; handed[k] = 1; is_handed = 1
+        :: else
+        fi
+    };
+    k = 0
+#else
+    skip
+#endif
+}
+
+/* Rings::ring_all. */
+inline ring_all() {
+#ifdef HANDS
+#if PLANT == 12
+    d_step { for (k : 0 .. C - 1) { is_handed = is_handed || rings[k] }; k = 0 };
+    if
+    :: is_handed ->
+        is_handed = 0;
+        notify_rung();
+        atomic {
+            lock == 0 -> lock = 1;
+            d_step { for (k : 0 .. C - 1) { handed[k] = handed[k] || rings[k]; rings[k] = 0 }; k = 0 }
+        };
+        let_go()
+    :: else
+    fi;
+#else
+    if
+    :: is_handed -> is_handed = 0; notify_rung()
+    :: else
+    fi;
+#endif
+#endif
+    do
+    :: k < C ->
+        if
+        :: rings[k] -> d_step { rings[k] = 0; bell[k] = 1 }
+        :: else
+        fi;
+        k++
+    :: else -> break
+    od;
     k = 0
 }
 
@@ -129,28 +242,25 @@ inline cut(c) {
     waits[c] = 0
 }
 
-inline drop_bell(c) {
-    for (k : 0 .. C - 1) {
-        if
-        :: k < bells && places[k] == c ->
-            bells--;
-            places[k] = places[bells];
-            places[bells] = 0
-        :: else
-        fi
-    };
-    k = 0
-}
-
 /* A circuit's thread: Circuit::run. */
 proctype Circuit(byte c) {
     mtype moved = LATER, turn = IDLE;
-    bit is_stirred, is_given, slow, all, again;
+    bit is_given, is_handed, slow, all, again, has_no_room;
+    bit rings[C];
     byte k, steps;
 
     entered[c];
     do
     ::  /* turned */
+#if PLANT == 2
+        if
+        :: moved == COUNT || input[c] != 0 ->
+            atomic { lock == 0 -> lock = 1; d_step { reach(c) } };
+            let_go();
+            ring_all()
+        :: else
+        fi;
+#endif
         atomic {
             lock == 0 -> lock = 1;
             /* take_in */
@@ -161,7 +271,6 @@ proctype Circuit(byte c) {
             fi;
             moved = LATER;
             steps = 0;
-            is_stirred = 0;
             /* steps */
             if
             :: !open[c] -> turn = CLOSED
@@ -180,10 +289,18 @@ proctype Circuit(byte c) {
                 :: slow = 0
                 fi;
 #endif
+                /* Locked::step */
                 if
-                :: !slow -> d_step { post() }; is_stirred = 1
-                :: slow && !busy -> d_step { busy = 1; busy_of = c; given = 1; post() }; is_stirred = 1
                 :: slow && busy -> waits[c]++
+                :: else ->
+                    if
+                    :: slow -> busy = 1; busy_of = c; given = 1
+                    :: else
+                    fi;
+                    post(c);
+#if PLANT != 2
+                    d_step { reach(c) }
+#endif
                 fi;
                 slow = 0;
                 d_step { pump(c) }
@@ -191,7 +308,7 @@ proctype Circuit(byte c) {
             /* take_out */
             d_step {
                 if
-                :: turn == CLOSED -> drop_bell(c)
+                :: turn == CLOSED -> has_bell[c] = 0
                 :: else ->
                     all = 1;
                     if
@@ -199,36 +316,29 @@ proctype Circuit(byte c) {
                     :: else
                     fi;
                     all = output[c] == 0;
-                    is_idle[c] = turn == IDLE && all && open[c];
                     if
-                    :: turn == IDLE && !is_idle[c] -> turn = BUSY
+                    :: turn == IDLE && !(all && open[c]) -> turn = BUSY
                     :: else
-                    fi
+                    fi;
+#if PLANT != 3
+                    is_idle[c] = turn == IDLE
+#else
+                    is_idle[c] = 0
+#endif
                 fi;
                 all = 0
             };
-#if PLANT != 2
-            if
-            :: is_stirred -> dirty = 1
-            :: else
-            fi;
-#endif
-            is_given = given
+            is_given = given;
+            d_step { hand_over() }
         };
         let_go();
         if
-        :: is_given -> is_given = 0; notify(1)
+        :: is_given -> is_given = 0; notify()
         :: else
         fi;
-        if
-        :: is_stirred ->
-            is_stirred = 0;
-            notify(0);
-#if PLANT == 2
-            dirty = 1
+#if PLANT == 3
+        d_step { is_idle[c] = turn == IDLE };
 #endif
-        :: else
-        fi;
 #if PLANT == 1
         if
         :: turn == IDLE ->
@@ -238,18 +348,26 @@ proctype Circuit(byte c) {
         fi;
 #endif
         if
-        :: turn == CLOSED -> line[c] = 0; break       /* write_left, which ends by itself */
+        :: turn == CLOSED -> ring_all(); line[c] = 0; break       /* write_left, which ends by itself */
         :: else
         fi;
-        /* go_on, Line::write */
+        /* Line::write */
+        has_no_room = 0;
         if
         :: line[c] != 0 && shut[c] -> line[c] = 0; moved = OVER
         :: line[c] != 0 && !shut[c] && room[c] -> d_step { line[c] = 0 }; FILL(c)
-        :: line[c] != 0 && !shut[c] && !room[c] ->
+        :: line[c] != 0 && !shut[c] && !room[c] -> has_no_room = 1
+        :: line[c] == 0
+        fi;
+        ring_all();
+        /* go_on */
+        if
+        :: has_no_room ->
+            has_no_room = 0;
 end_full:
             d_step { edge[c] || bell[c] -> edge[c] = 0; bell[c] = 0 };
             goto turned_again
-        :: line[c] == 0
+        :: else
         fi;
         if
         :: moved == OVER || turn == BUSY
@@ -271,6 +389,9 @@ reading:
             :: moved == LATER && again ->
 waiting:
                 again = 0;
+#if PLANT == 10
+                bell[c] = 0;
+#endif
 end_idle:
                 d_step { edge[c] || bell[c] -> edge[c] = 0; bell[c] = 0 };
                 goto reading
@@ -287,114 +408,72 @@ turned_again:
     let_go()
 }
 
-/* The updating thread: Updater::run. */
-proctype Updater() {
-    byte left, c;
+#ifdef HANDS
+/* The ringing thread: Ringer::run. */
+proctype Ringer() {
+    bit rings[C];
+    byte k;
 
     do
     ::  atomic { lock == 0 -> lock = 1 };
         do
-        :: !dirty && !ending ->
-            d_step { unseen[0] = 0; lock = 0 };
+        :: NO_BELLS && !ending ->
+            d_step { unseen_rung = 0; lock = 0 };
             d_step {
                 if
-                :: !unseen[0] -> sleeps[0] = 1
+                :: !unseen_rung -> sleeps_rung = 1
                 :: else
                 fi
             };
 end_asleep:
-            !sleeps[0];
+            !sleeps_rung;
             atomic { lock == 0 -> lock = 1 }
         :: else -> break
         od;
         if
         :: ending -> let_go(); break
-        :: else
+        :: else ->
+            d_step {
+                for (k : 0 .. C - 1) { rings[k] = handed[k]; handed[k] = 0 };
+                k = 0;
+                lock = 0
+            }
         fi;
-        d_step {
-#if PLANT != 3
-            dirty = 0;
-#endif
-            left = bells;
-            lock = 0
-        };
-        /* go_round */
-#if PLANT == 7
-        c = left;
-        left = 0;
         do
-        :: left < c ->
-            atomic {
-                lock == 0 -> lock = 1;
-                d_step {
-                    if
-                    :: left < bells && is_idle[places[left]] ->
-                        pump(places[left]);
-                        if
-                        :: output[places[left]] != 0 || !open[places[left]] -> is_idle[places[left]] = 0; bell[places[left]] = 1
-                        :: else
-                        fi
-                    :: else
-                    fi;
-                    left++
-                }
-            };
-            let_go()
+        :: k < C ->
+            if
+            :: rings[k] -> d_step { rings[k] = 0; bell[k] = 1 }
+            :: else
+            fi;
+            k++
         :: else -> break
         od;
-        left = 0;
-        c = 0;
-#else
-        do
-        :: left > 0 ->
-            atomic {
-                lock == 0 -> lock = 1;
-                d_step {
-                    left--;
-                    /* Locked::look_after */
-                    if
-                    :: left < bells && is_idle[places[left]] ->
-                        c = places[left];
-                        pump(c);
-                        if
-                        :: output[c] != 0 || !open[c] -> is_idle[c] = 0; bell[c] = 1
-                        :: else
-                        fi;
-                        c = 0
-                    :: else
-                    fi
-                }
-            };
-            let_go()
-        :: else -> break
-        od;
-#endif
-#if PLANT == 3
-        dirty = 0
-#endif
+        k = 0
     od;
     ended_threads++
 }
+#endif
 
 #ifdef SLOW
 /* A processing thread: Processor::run. */
 proctype Processor() {
-    bit work;
+    bit work, next, is_handed;
+    bit rings[C];
     byte k;
 
     do
     ::  atomic { lock == 0 -> lock = 1 };
         do
         :: !given && !ending ->
-            d_step { unseen[1] = 0; lock = 0 };
+            d_step { unseen = 0; lock = 0 };
             d_step {
                 if
-                :: !unseen[1] -> sleeps[1] = 1
+                :: !unseen -> sleeps = 1
                 :: else
                 fi
             };
 end_asleep:
-            !sleeps[1];
+            !sleeps;
             atomic { lock == 0 -> lock = 1 }
         :: else -> break
         od;
@@ -407,37 +486,48 @@ end_asleep:
         if
         :: work ->
             /* The device processes, with no lock held. Then Locked::finish. */
-            d_step {
+            atomic {
                 lock == 0 -> lock = 1;
-                if
-                :: open[busy_of] -> output[busy_of]++       /* the late reply */
-                :: else
-                fi;
-                busy = 0;
-                busy_of = 0;
-                for (k : 0 .. C - 1) {
+#if PLANT != 5
+                d_step {
                     if
-                    :: waits[k] != 0 && !busy -> waits[k]--; busy = 1; busy_of = k
+                    :: has_bell[busy_of] && is_idle[busy_of] -> is_idle[busy_of] = 0; rings[busy_of] = 1
                     :: else
                     fi
                 };
-                k = 0;
-                if
-                :: busy ->
-                    post();
-#if PLANT != 8
-                    given = 1
 #endif
+                d_step {
+                    if
+                    :: open[busy_of] -> output[busy_of]++       /* the late reply */
+                    :: else
+                    fi;
+                    busy = 0;
+                    busy_of = 0;
+                    for (k : 0 .. C - 1) {
+                        if
+                        :: waits[k] != 0 && !busy -> waits[k]--; busy = 1; busy_of = k
+                        :: else
+                        fi
+                    };
+                    k = 0;
+                    next = busy
+                };
+                if
+                :: next ->
+                    post(C);
+#if PLANT != 9
+                    d_step { reach(C) };
+#endif
+#if PLANT != 8
+                    given = 1;
+#endif
+                    next = 0
                 :: else
                 fi;
-#if PLANT != 5
-                dirty = 1
-#endif
+                d_step { hand_over() }
             };
             let_go();
-#if PLANT != 5
-            notify(0)
-#endif
+            ring_all()
         :: else
         fi;
         work = 0
@@ -467,7 +557,7 @@ proctype Main() {
     byte k;
 
 #ifdef LATE
-    atomic { lock == 0 -> lock = 1; d_step { open[C - 1] = 1; places[bells] = C - 1; bells++ } };
+    atomic { lock == 0 -> lock = 1; d_step { open[C - 1] = 1; has_bell[C - 1] = 1 } };
     let_go();
     entered[C - 1] = 1;
 #endif
@@ -478,7 +568,7 @@ proctype Main() {
 #if PLANT != 6
         for (k : 0 .. C - 1) {
             if
-            :: k < bells -> bell[places[k]] = 1
+            :: has_bell[k] -> bell[k] = 1
             :: else
             fi
         };
@@ -486,17 +576,13 @@ proctype Main() {
 #endif
     };
     let_go();
-    notify(1);
-    notify(0);
+    notify();
+    notify_rung();
     do
     :: k < C -> gone[k]; k++
     :: else -> break
     od;
-#ifdef SLOW
-    ended_threads == 1 + P;
-#else
-    ended_threads == 1;
-#endif
+    ended_threads == HELPERS;
 #endif
     skip
 }
@@ -510,11 +596,13 @@ init {
             run Client(c)
         };
 #ifdef LATE
-        for (c : 0 .. C - 2) { open[c] = 1; entered[c] = 1; places[c] = c; bells++ };
+        for (c : 0 .. C - 2) { open[c] = 1; entered[c] = 1; has_bell[c] = 1 };
 #else
-        for (c : 0 .. C - 1) { open[c] = 1; entered[c] = 1; places[c] = c; bells++ };
+        for (c : 0 .. C - 1) { open[c] = 1; entered[c] = 1; has_bell[c] = 1 };
 #endif
-        run Updater();
+#ifdef HANDS
+        run Ringer();
+#endif
 #ifdef SLOW
         for (c : 1 .. P) { run Processor() };
 #endif
@@ -534,6 +622,7 @@ end:
             assert(!open[c] || !PENDING(c));
             assert(!open[c] || input[c] == 0 && rx[c] == 0);
             assert(!open[c] || !shut[c]);
+            assert(open[c] || !entered[c] || gone[c]);
             c++
         :: else -> break
         od;
@@ -545,5 +634,5 @@ end:
 /* Under weak fairness, with no more than the messages that clients send. */
 ltl written { [] (PENDING(1) -> <> !PENDING(1)) }
 #ifdef ENDS
-ltl joined { <> (gone[0] && gone[1] && ended_threads == 1) }
+ltl joined { <> (gone[0] && gone[1] && ended_threads == HELPERS) }
 #endif

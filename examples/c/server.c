@@ -4,7 +4,7 @@
  *     cc server.c $(pkg-config --cflags --libs cuvezhin) -o server && ./server 5064 [RECORDS]
  *
  * With port 0 the system chooses one, which is printed. RECORDS is a file of records and rules, of 65,536 bytes at most, to serve in place of these.
- * It ends at the end of its standard input. It sends no beacons: see cvz_server_beacon. */
+ * It ends at the end of its standard input. */
 #define _POSIX_C_SOURCE 200809L
 #include <cuvezhin.h>
 
@@ -190,6 +190,17 @@ static void answer(cvz_server *server)
         sendto(polled[SEARCHES].fd, bytes, (size_t)size, 0, (struct sockaddr *)&from, from_size);
 }
 
+/* Sends the beacon that is due, if one is, to the repeater of this host, so that clients hear of the server. */
+static void beacon(cvz_server *server, uint64_t now)
+{
+    uint8_t bytes[16];
+    size_t size = cvz_server_beacon(server, now, bytes, sizeof bytes);
+    const char *port = size > 0 ? getenv("EPICS_CA_REPEATER_PORT") : NULL;
+    struct sockaddr_in repeater = {.sin_family = AF_INET, .sin_port = htons((uint16_t)(port ? atoi(port) : 5065)), .sin_addr.s_addr = htonl(INADDR_LOOPBACK)};
+    if (size > 0)
+        sendto(polled[SEARCHES].fd, bytes, size, 0, (struct sockaddr *)&repeater, sizeof repeater);
+}
+
 static void accept_one(cvz_server *server)
 {
     int made = accept(polled[LISTENER].fd, NULL, NULL), yes = 1;
@@ -240,6 +251,7 @@ int main(int argc, char **argv)
     next = milliseconds() + 1000;
     for (;;) {
         uint64_t now = milliseconds();
+        beacon(&server, now);
         if (now >= next) {
             post_long(&server, "COUNT", ++count);
             next += 1000;

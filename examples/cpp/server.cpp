@@ -4,7 +4,7 @@
  *     c++ -std=c++17 server.cpp $(pkg-config --cflags --libs cuvezhin) -o server && ./server 5064 [RECORDS]
  *
  * With port 0 the system chooses one, which is printed. RECORDS is a file of records and rules to serve in place of these. It ends at the end of its
- * standard input. It sends no beacons: see Server::beacon. */
+ * standard input. */
 #include <cuvezhin.hpp>
 
 #include <arpa/inet.h>
@@ -118,6 +118,7 @@ public:
     {
         for (std::uint64_t next = milliseconds() + 1000;;) {
             const std::uint64_t now = milliseconds();
+            beacon(now);
             if (now >= next) {
                 post("COUNT", ++count);
                 next += 1000;
@@ -249,6 +250,20 @@ private:
         }
         for (std::size_t answer; (answer = server.answer(room)) > 0;)
             sendto(searches.number(), room.data(), answer, 0, reinterpret_cast<sockaddr *>(&from), from_size);
+    }
+
+    /* Sends the beacon that is due, if one is, to the repeater of this host, so that clients hear of the server. */
+    void beacon(std::uint64_t now)
+    {
+        const std::size_t size = server.beacon(now, room);
+        if (size == 0)
+            return;
+        const char *port = std::getenv("EPICS_CA_REPEATER_PORT");
+        sockaddr_in repeater{};
+        repeater.sin_family = AF_INET;
+        repeater.sin_port = htons(static_cast<std::uint16_t>(port ? std::atoi(port) : 5065));
+        repeater.sin_addr.s_addr = htonl(INADDR_LOOPBACK);
+        sendto(searches.number(), room.data(), size, 0, reinterpret_cast<const sockaddr *>(&repeater), sizeof repeater);
     }
 
     /* A put makes the record busy: the device has something to do. */

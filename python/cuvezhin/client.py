@@ -190,8 +190,7 @@ class Client:
             raise ValueError("a monitor has room for one update at least")
         channel = next((it for it in self._names.get(name, []) if not it.feed), None) or self._open_channel(name)
         channel.feed = Feed(channel, type, count, mask, follow, limit)
-        if channel.is_live:
-            self._subscribe(channel)
+        self._subscribe(channel)
         return Monitor(self, channel.feed, timeout)
 
     def forget(self, name: str) -> None:
@@ -301,15 +300,34 @@ class Client:
     # ---- subscriptions
 
     def _subscribe(self, channel: Channel) -> None:
+        """Subscribes for the feed of a channel, if that is live and not done yet, once there is room on its circuit."""
         feed = channel.feed
-        assert feed
-        kind = channel.type if feed.kind is None else feed.kind
-        try:
-            feed.subscription = self._core.handle(channel.name, self._core.call_subscribe, channel.handle, lib.TIME + kind, feed.count, feed.mask)
-        except Refused as refusal:
-            feed.fail(refusal)
+        if not feed or feed.error or feed.subscription is not None or not channel.is_live:
             return
-        self._feeds[feed.subscription] = feed
+        kind = channel.type if feed.kind is None else feed.kind
+        answer = self._ask(channel, self._core.call_subscribe, lib.TIME + kind, feed.count, feed.mask, self._core.number)
+        if answer == OUTPUT_IS_FULL:
+            self._later(channel, self._subscribe, channel)
+        elif answer < 0:
+            feed.fail(Refused(-answer, channel.name))
+        else:
+            feed.subscription = self._core.number.value
+            self._feeds[feed.subscription] = feed
+            channel.flush_soon()
+
+    def _unsubscribe(self, channel: Channel, subscription: int) -> None:
+        """Ends a subscription, if it is there still, once there is room on its channel's circuit."""
+        if self._core.call_unsubscribe(self._core.at, subscription) == OUTPUT_IS_FULL:
+            self._later(channel, self._unsubscribe, channel, subscription)
+        else:
+            channel.flush_soon()
+
+    def _later(self, channel: Channel, call: Callable[..., None], *given: Any) -> None:
+        """Makes a call when a live channel's circuit has been written out, or has ended."""
+        assert channel.circuit
+        waiter = self._loop.create_future()
+        waiter.add_done_callback(lambda _: call(*given))
+        channel.circuit.room.append(waiter)
         channel.flush_soon()
 
     def _unfeed(self, feed: Feed) -> None:
@@ -317,14 +335,14 @@ class Client:
         if not self._is_open or channel.feed is not feed or channel.handle not in self._channels:
             return
         channel.feed = None
-        if feed.subscription is not None and self._feeds.pop(feed.subscription, None):
-            self._core.call_unsubscribe(self._core.at, feed.subscription)
         its = self._names.get(channel.name, [])
+        subscription = feed.subscription if self._feeds.pop(feed.subscription or 0, None) else None
         if channel in its[1:]:
+            # That ends its subscription too.
             its.remove(channel)
             self._clear(channel)
-        else:
-            channel.flush_soon()
+        elif subscription is not None:
+            self._unsubscribe(channel, subscription)
 
     # ---- what the library reports
 
@@ -379,8 +397,7 @@ class Client:
         channel.is_live, channel.circuit = True, circuit
         self._unsettled -= 1
         wake(channel.waiters)
-        if channel.feed and not channel.feed.error:
-            self._subscribe(channel)
+        self._subscribe(channel)
 
     def _gone(self, channel: Channel) -> None:
         channel.is_live, channel.circuit = False, None

@@ -30,7 +30,7 @@ EPICS_CA_NAME_SERVERS and EPICS_CA_SERVER_PORT. The status is 0 if all was done,
 """
 
 
-def decimal(value: Any, kind: Type) -> str:
+def decimal(value: Any, kind: Optional[Type]) -> str:
     """An element as a decimal that reads back as the same: as few digits as that takes."""
     if kind == Type.FLOAT and math.isfinite(value):
         return next(text for text in (f"{value:.{digits}g}" for digits in range(1, 10)) if digits_are(text, value))
@@ -53,7 +53,7 @@ def stamp(seconds: int, nanoseconds: int) -> str:
     return time.strftime("%Y-%m-%dT%H:%M:%S", time.gmtime(seconds)) + f".{nanoseconds:09d}Z"
 
 
-def for_json(value: Any, kind: Type) -> Any:
+def for_json(value: Any, kind: Optional[Type]) -> Any:
     """A value as JSON has it: FLOATs in as few digits as they take, and what is no number as a text."""
     if isinstance(value, (list, memoryview)):
         return [for_json(it, kind) for it in plain(value)]
@@ -198,14 +198,16 @@ def record_of(path: str, name: str, row: Any) -> Record:
 
 
 def logged(it: Union[Put, RefusedPut], log: TextIO) -> None:
-    """A put as a line of JSON. Of one that was refused, what was to be written is not known."""
-    moment = stamp(*divmod(int(it.time * 1_000_000) * 1000, 1_000_000_000))
-    line: dict[str, Any] = {"time": moment, "user": it.user, "host": it.host, "host_name": it.host_name, "record": None, "old": None, "new": None, "outcome": "refused"}
+    """A put as a line of JSON."""
+    record, moment = it.record, stamp(*divmod(int(it.time * 1_000_000) * 1000, 1_000_000_000))
+    old: Optional[Value]
+    kind: Optional[Type]
     if isinstance(it, Put):
-        kind = it.record.type
-        line |= {"record": it.record.name, "old": for_json(it.old, kind), "new": for_json(it.value, kind), "outcome": "done"}
-    elif it.record:
-        line |= {"record": it.record.name, "old": for_json(it.record.value, it.record.type)}
+        old, kind, outcome = it.old, it.record.type, "done"
+    else:
+        old, kind, outcome = record.value if record else None, it.type, "refused"
+    line = {"time": moment, "user": it.user, "host": it.host, "host_name": it.host_name, "record": record.name if record else None,
+            "old": for_json(old, record.type if record else None), "new": for_json(it.value, kind), "outcome": outcome}
     log.write(json.dumps(line, ensure_ascii=False) + "\n")
     log.flush()
 
@@ -213,7 +215,7 @@ def logged(it: Union[Put, RefusedPut], log: TextIO) -> None:
 async def serve(words: argparse.Namespace) -> int:
     host, port = words.listen or (None, None)
     with contextlib.ExitStack() as files:
-        log = files.enter_context(open(words.log, "a", encoding="utf-8")) if words.log else None
+        log = files.enter_context(open(words.log, "a", encoding="utf-8", errors="backslashreplace")) if words.log else None
         told = (lambda it: logged(it, log)) if log else None
         records, rules = records_of(words.file)
         async with Server(records, host=host, port=port, on_put=told, on_refused=told, rules=rules) as server:

@@ -83,4 +83,7 @@ class Monitor(AsyncIterator[Reading]):
         self.close()
 
     def __del__(self) -> None:
-        self.close()
+        # The collector calls it in the middle of anything, also while notices of the library are taken, and in any thread.
+        loop = self._client._loop
+        if not self._is_closed and not loop.is_closed():
+            loop.call_soon_threadsafe(self._client._unfeed, self._feed)

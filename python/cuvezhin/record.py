@@ -25,9 +25,13 @@ class Put(NamedTuple):
 
 
 class RefusedPut(NamedTuple):
-    """What a client wanted to write, and was refused. The library does not tell the value."""
+    """What a client wanted to write, and was refused."""
     #: The record; None if the client's channel was not open.
     record: Optional["Record"]
+    #: What was to be written; None if what came is no value of a type from STRING to DOUBLE.
+    value: Optional[Value]
+    #: The type in which it came; None if it is none of these.
+    type: Optional[Type]
     host: str
     user: str
     host_name: str

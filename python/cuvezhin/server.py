@@ -9,6 +9,7 @@ from typing import Any, Optional
 
 from . import _library as lib
 from . import addresses
+from ._unhandled import Unhandled
 from .errors import Refused
 from .record import Put, Record, RefusedPut, Waiting, now
 from .values import EPOCH, elements, stamped
@@ -28,6 +29,8 @@ class _Peer(asyncio.Protocol):
         self.is_paused = self.is_full = self.is_over = False
         self.records: dict[int, Record] = {}
         self.subscribed: dict[int, set[int]] = {}
+        # Kept only if somebody wants to know what is refused.
+        self.unhandled = Unhandled() if server.on_refused else None
 
     def connection_made(self, transport: asyncio.BaseTransport) -> None:
         assert isinstance(transport, asyncio.Transport)
@@ -228,8 +231,9 @@ class Server:
                 asyncio.ensure_future(answer)
 
     def _refused(self, record: Optional[Record], peer: _Peer) -> None:
-        if self.on_refused:
-            self._called(record, self.on_refused, RefusedPut(record, peer.host, *self._names(peer), time.time()))
+        if self.on_refused and peer.unhandled:
+            kind, value = peer.unhandled.put(record is None or record.count == 1)
+            self._called(record, self.on_refused, RefusedPut(record, value, kind, peer.host, *self._names(peer), time.time()))
 
     def _names(self, peer: _Peer) -> tuple[str, str]:
         """The user and the host that a client says it is."""
@@ -294,6 +298,8 @@ class Server:
         self._flush(peer)
 
     def _came(self, peer: _Peer, data: bytes) -> None:
+        if peer.unhandled:
+            peer.unhandled.came(data)
         if self._core.call_give(self._core.at, peer.handle, data, len(data)) < 0:
             self._core.call_cut(self._core.at, peer.handle)
         self._serve(peer)
@@ -307,6 +313,8 @@ class Server:
             if answer == lib.HANDLED:
                 if did.effect:
                     self._follow(peer, did)
+                if peer.unhandled:
+                    peer.unhandled.handled()
             elif answer == lib.NEEDS_BYTES:
                 self._flush(peer)
                 return

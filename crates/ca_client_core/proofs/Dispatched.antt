@@ -32,9 +32,30 @@ use Rattle.ca_client_core.proofs.Quoted.{error-none, error-quotes}
 
 -- ---- a message of none of the commands that a client understands
 
-pub of-none : (n : ℕ) → n ≢ 6 → n ≢ 22 → n ≢ 18 → n ≢ 26 → n ≢ 12 → n ≢ 27 → n ≢ 15 → n ≢ 19 → n ≢ 1 → n ≢ 11 → list_any (λ (k : Command). n == command_number k) understood ≡ false
+of-none : (n : ℕ) → n ≢ 6 → n ≢ 22 → n ≢ 18 → n ≢ 26 → n ≢ 12 → n ≢ 27 → n ≢ 15 → n ≢ 19 → n ≢ 1 → n ≢ 11 → list_any (λ (k : Command). n == command_number k) understood ≡ false
 of-none n a b c d e f g h i j =
     rw (ne_eqb n 6 a, ne_eqb n 22 b, ne_eqb n 18 c, ne_eqb n 26 d, ne_eqb n 12 e, ne_eqb n 27 f, ne_eqb n 15 g, ne_eqb n 19 h, ne_eqb n 1 i, ne_eqb n 11 j) refl
+
+pub of-no-command : (n : ℕ) → ((k : Command) → command_number k ≡ n → ⊥) → list_any (λ (k : Command). n == command_number k) understood ≡ false
+of-no-command n none =
+    of-none n (λ e. none command.Search (sym e)) (λ e. none command.AccessRights (sym e)) (λ e. none command.CreateChannel (sym e)) (λ e. none command.CreateChannelFail (sym e)) (λ e. none command.ClearChannel (sym e))
+    (λ e. none command.ServerDisconnect (sym e)) (λ e. none command.ReadNotify (sym e)) (λ e. none command.WriteNotify (sym e)) (λ e. none command.EventAdd (sym e)) (λ e. none command.Error (sym e))
+
+pub of-other : (k : Command)
+    → (k ≡ command.Search → ⊥) → (k ≡ command.AccessRights → ⊥) → (k ≡ command.CreateChannel → ⊥) → (k ≡ command.CreateChannelFail → ⊥) → (k ≡ command.ClearChannel → ⊥)
+    → (k ≡ command.ServerDisconnect → ⊥) → (k ≡ command.ReadNotify → ⊥) → (k ≡ command.WriteNotify → ⊥) → (k ≡ command.EventAdd → ⊥) → (k ≡ command.Error → ⊥)
+    → list_any (λ (j : Command). command_number k == command_number j) understood ≡ false
+of-other command.Search a b d f g h i j e r = absurd (a refl)
+of-other command.AccessRights a b d f g h i j e r = absurd (b refl)
+of-other command.CreateChannel a b d f g h i j e r = absurd (d refl)
+of-other command.CreateChannelFail a b d f g h i j e r = absurd (f refl)
+of-other command.ClearChannel a b d f g h i j e r = absurd (g refl)
+of-other command.ServerDisconnect a b d f g h i j e r = absurd (h refl)
+of-other command.ReadNotify a b d f g h i j e r = absurd (i refl)
+of-other command.WriteNotify a b d f g h i j e r = absurd (j refl)
+of-other command.EventAdd a b d f g h i j e r = absurd (e refl)
+of-other command.Error a b d f g h i j e r = absurd (r refl)
+of-other _ a b d f g h i j e r = refl
 
 -- ---- each message has an effect
 

@@ -1,5 +1,5 @@
 -- Working: what is made of a message that was read. No clause of a caller needs it.
-use Rattle.std.specs.Prelude.{◌≡◌, ◌⊎◌, List, Option, Result, Ok, Err}
+use Rattle.std.specs.Prelude.{◌≡◌, ◌⊎◌, List, Result, Ok, Err}
 use Rattle.std.specs.declared.alloc.AllocError.{AllocError}
 use Rattle.ca_text.specs.declared.command.Command.TheVariants as command
 use Rattle.ca_arena.specs.declared.handle.Handle.{Handle}
@@ -9,8 +9,6 @@ use Rattle.ca_model.specs.Client.{Client}
 use Rattle.ca_model.specs.ClientEnds.{TakesMemory}
 use Rattle.ca_model.specs.Hears.{Effect, Hears}
 use Rattle.ca_model.specs.Speech.{Is}
-use Rattle.ca_client_core.specs.declared.notice.Notice.{Notice}
-use Rattle.ca_client_core.specs.Notices.{noticed}
 
 abbrev pub IsReply : Fields → Type 0
 IsReply m = Is command.ReadNotify m ⊎ Is command.WriteNotify m
@@ -19,7 +17,3 @@ IsReply m = Is command.ReadNotify m ⊎ Is command.WriteNotify m
 abbrev pub HearsOr : Client → Handle → Fields → Result (List notice.Notice) AllocError → Client → Type 0
 HearsOr old c m (Ok told) new = (e : Effect) × Hears old c m e × (told ≡ e.notices) × (new ≡ e.core)
 HearsOr old c m (Err _) new = (e : Effect) × Hears old c m e × TakesMemory old m e × (new ≡ old)
-
--- one that does not allocate
-abbrev pub HearsAs : Client → Handle → Fields → Option Notice → Client → Type 0
-HearsAs old c m told new = (e : Effect) × Hears old c m e × (noticed told ≡ e.notices) × (new ≡ e.core)

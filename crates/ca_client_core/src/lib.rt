@@ -3,18 +3,21 @@
 //! A caller moves the bytes, and hands in the moment. What is reported comes as answers of the calls.
 #![tactic(auto)]
 
+mod access_rights;
 mod asking;
 mod beginning;
 mod channel_state;
+mod clear_channel;
 mod clearing;
 mod client;
 mod closing;
 mod connecting;
-mod creating;
+mod create_channel;
+mod create_channel_fail;
 mod cutting;
 mod dispatching;
-mod errors;
-mod finding;
+mod error;
+mod event_add;
 mod first;
 pub mod for_accepts;
 pub mod for_datagrams;
@@ -22,10 +25,8 @@ pub mod for_histories;
 pub mod for_moments;
 mod foreseeing;
 mod foretelling;
-mod hearing;
 mod input;
 mod issuing;
-mod leaving;
 mod letting_go;
 mod live;
 mod marks;
@@ -34,16 +35,19 @@ mod notice;
 mod notices;
 mod opening;
 mod output;
+mod phases;
 mod queue;
 mod reading;
 mod receiving;
+mod reply;
+mod search;
 mod searches;
+mod server_disconnect;
 mod silences;
 mod stepping;
 mod subscribing;
 mod ticking;
 mod unsubscribing;
-mod updates;
 mod wanted;
 mod writing;
 

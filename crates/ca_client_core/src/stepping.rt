@@ -77,7 +77,7 @@ impl ClientCore {
                     return Advanced::Begun(First::Message(message));
                 }
                 know_message(&message);
-                let told = self.hear_reply(circuit, &message);
+                let told = self.complete(circuit, &message);
                 self.recycle(circuit, message);
                 begun_by(told)
             }

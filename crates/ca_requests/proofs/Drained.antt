@@ -1,5 +1,5 @@
 -- The requests of a list are over, one after another: of those on a channel that are open, all are.
-use Rattle.std.proofs.Common.{◌≡◌, ℕ, zero, suc, ◌==◌, ◌&&◌, inl, inr, Bool, true, false, List, [], ◌∷◌, map, Option, Some, None, if◌then◌else◌, option_map, refl, sym, ap, ◌∙◌, subst, filter, slice_set}
+use Rattle.std.proofs.Common.{◌≡◌, ℕ, zero, suc, ◌==◌, ◌&&◌, inl, inr, Bool, true, false, List, [], ◌∷◌, map, Option, Some, None, if◌then◌else◌, option_map, refl, sym, ap, ◌∙◌, filter, slice_set}
 use Rattle.std.proofs.Math.Seq.{map-set_same}
 use Rattle.std.proofs.lemmas.Bool.{cases_eq, eq-eqb}
 use Rattle.std.proofs.lemmas.List.{get_or-set_other, get_or-set_same}
@@ -14,7 +14,7 @@ use Rattle.ca_requests.specs.Layout.{drained, each_drained}
 use Rattle.ca_requests.specs.Lines.{AreRequests, Line}
 use Rattle.ca_requests.specs.Requests.{Draining, Open, Request, Stage, asks_on, channel_over, is_open, is_open_in, over_on}
 use Rattle.ca_requests.proofs.Lined.{at-filter, filter-at, one-handle, other-index, same-itself}
-use Rattle.ca_requests.proofs.Tables.{and-false, any, by_value, first_of, opens, opens-any, true_or_false}
+use Rattle.ca_requests.proofs.Tables.{and-false, by_value, first_of, opens, opens-any, true_or_false}
 
 -- ---- what is found once one is over
 

@@ -39,14 +39,17 @@ pub record MayIssue (channel circuit : Handle) (x : Issued) : Type 0 where
 abbrev pub issued_last : Handle → Request → Issued → Issued
 issued_last q r x = record { table = with_held q r x.table; order = x.order ++ q ∷ [] }
 
+-- why no request is issued under a handle: it is not the one that `vacant` tells; or it is, and there is no memory
+abbrev pub WhyNot : Table Request → Handle → Refusal → Type 0
+WhyNot t q e =
+    ((e ≡ refusal.StaleHandle) × (told : Option Handle) × IsVacant t told × (told ≢ Some q))
+    ⊎ ((e ≡ refusal.OutOfMemory) × MayGive t q)
+
 -- From old, this request was issued under the handle that was told, with this answer, and left new. Refused, all is as before: another
 -- handle may be told, or none, and this one is stale; or this one may be given, and there is no memory.
 abbrev pub Issues : Issued → Handle → Request → Result (Unit {0}) Refusal → Issued → Type 0
 Issues old q r (Ok _) new = MayGive old.table q × (new ≡ issued_last q r old)
-Issues old q r (Err e) new =
-    (new ≡ old)
-    × (((e ≡ refusal.StaleHandle) × (told : Option Handle) × IsVacant old.table told × (told ≢ Some q))
-    ⊎ ((e ≡ refusal.OutOfMemory) × MayGive old.table q))
+Issues old q r (Err e) new = (new ≡ old) × WhyNot old.table q e
 
 -- nothing has the IOID of this request
 abbrev pub without : Handle → Issued → Issued

@@ -65,7 +65,8 @@ impl Line {
         }
     }
 
-    /// Makes room for one more request of this owner.
+    /// Makes room for one more request of this owner. Each request is issued through it.
+    #[inline(always)]
     pub(crate) fn prepare(
         &mut self,
         table: &HeldTable<Request>,

@@ -1,6 +1,7 @@
-ghost use Rattle.std.specs.Prelude.{◌≡◌, [], true};
+ghost use Rattle.std.specs.Prelude.{◌≡◌, [], OnErr, OnOk, true};
 ghost use Rattle.ca_ids.specs.Holding.{IsVacant};
-ghost use Rattle.ca_requests.specs.Calls.{Answers, Issues, MayIssue, failed_in, new_request, open_of, with_table, without, without_if};
+ghost use Rattle.ca_ids.specs.Table.{MayGive};
+ghost use Rattle.ca_requests.specs.Calls.{Answers, Issues, MayIssue, WhyNot, failed_in, issued_last, new_request, open_of, with_table, without, without_if};
 ghost use Rattle.ca_requests.specs.Forms.{asked_of};
 ghost use Rattle.ca_requests.specs.Layout.{named};
 ghost use Rattle.ca_requests.specs.Requests.{answered_by, asks_on, channel_gone, channel_over, circuit_gone, in_order_of_issue, is_open, was_sent_on};
@@ -100,12 +101,27 @@ impl Requests {
             result
             self.new }
     {
-        let Some(next) = self.vacant() else {
-            return Err(Refusal::StaleHandle);
-        };
-        if !is_same(next, vacant) {
-            return Err(Refusal::StaleHandle);
+        match self.open(vacant, channel, circuit, asked) {
+            Ok(()) => Ok(()),
+            Err(_) => Err(self.why_not(vacant)),
         }
+    }
+
+    // Issues a request, if the handle is the next and there is memory.
+    #[inline(always)]
+    fn open(
+        &mut self,
+        vacant: Handle,
+        channel: Handle,
+        circuit: Handle,
+        asked: Asked,
+    ) -> Result<(), AllocError>
+        requires { MayIssue channel circuit self.old }
+        ensures may { OnOk result (MayGive self.old.table vacant) }
+        ensures ok { OnOk result (self.new
+            ≡ issued_last vacant (new_request channel circuit (asked_of asked)) self.old) }
+        ensures err { OnErr result (self.new ≡ self.old) }
+    {
         self.tidy();
         let alloc = *self.listed.allocator();
         prepare(alloc, &mut self.circuits, &self.table, circuit)?;
@@ -124,7 +140,19 @@ impl Requests {
                 note(&mut self.channels, channel, vacant);
                 Ok(())
             }
-            Err(_) => Err(Refusal::OutOfMemory),
+            Err(_) => Err(AllocError),
+        }
+    }
+
+    // Why no request is issued under this handle.
+    #[cold]
+    #[inline(never)]
+    fn why_not(&self, vacant: Handle) -> Refusal
+        ensures { WhyNot self.now.table vacant result }
+    {
+        match self.vacant() {
+            Some(next) if is_same(next, vacant) => Refusal::OutOfMemory,
+            _ => Refusal::StaleHandle,
         }
     }
 

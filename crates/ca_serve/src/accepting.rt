@@ -3,8 +3,9 @@ ghost use Rattle.indexmap.specs.IndexMap.{index_map_len};
 
 use crate::circuit::{Circuit, Gathered};
 use crate::line::{Line, ROOM};
-use crate::locked::{Bell, Shared};
+use crate::locked::Shared;
 use crate::processing::Device;
+use crate::ringing::Bell;
 use crate::work::started_or_ended;
 use ca_arena::Handle;
 use ca_text::Refusal;
@@ -206,7 +207,7 @@ fn merge<L: Ledger, R: Threads>(rt: &R, handle: JoinHandle<Gathered<L>>, all: &m
 fn entered<L: Ledger, D: Device, R: Wait>(
     rt: &R,
     shared: &Shared<L, D>,
-    waker: Waker,
+    waker: Arc<Waker>,
     running: usize,
     is_to_end: &AtomicBool,
 ) -> Option<Handle> {
@@ -235,7 +236,7 @@ fn prepared<L: Ledger, D: Device, R: Net>(
     shared: &Arc<Shared<L, D>>,
     number: u64,
     stream: TcpStream,
-) -> Result<(Accepted<L, D>, Waker), Refusal> {
+) -> Result<(Accepted<L, D>, Arc<Waker>), Refusal> {
     let shared = Arc::try_clone(shared)?;
     let is_to_end = Arc::new(alloc, AtomicBool::new(false))?;
     let (line, waker) = new_line(rt, alloc, stream)?;
@@ -246,7 +247,7 @@ fn prepared<L: Ledger, D: Device, R: Net>(
         ends: Arc::try_clone(&is_to_end)?,
         is_to_end,
     };
-    Ok((accepted, waker))
+    Ok((accepted, Arc::new(alloc, waker)?))
 }
 
 fn new_line<R: Net>(

@@ -1,8 +1,9 @@
 ghost use Rattle.std.specs.Prelude.{◌≡◌, ◌<◌, ◌≤◌, length};
 
 use crate::line::{Line, Moved, Written};
-use crate::locked::{Locked, Shared, ring};
+use crate::locked::{Locked, Shared};
 use crate::processing::Device;
+use crate::ringing::{Rings, ring};
 use crate::work::Work;
 use ca_arena::Handle;
 use ca_server_core::Step;
@@ -89,14 +90,23 @@ impl<L: Ledger, D: Device> Work<Gathered<L>> for Circuit<L, D> {
         } else {
             Moved::Later
         };
+        let mut rings = Rings::new(shared.alloc);
         for _ in rt.forever() {
-            match turned(rt, &shared, circuit, moved, &mut line, &mut share) {
+            let turn = turned(
+                rt, &shared, circuit, moved, &mut line, &mut share, &mut rings,
+            );
+            match turn {
                 Turn::Closed(left) => {
+                    rings.ring_all(&shared.rung);
                     ring(&shared.accepting);
                     write_left(rt, &shared, &mut line, &left);
                     break;
                 }
-                turn => moved = go_on(rt, &turn, &mut line),
+                turn => {
+                    let written = line.write();
+                    rings.ring_all(&shared.rung);
+                    moved = go_on(rt, &turn, written, &mut line);
+                }
             }
         }
         note_gone(rt, &shared, number);
@@ -124,34 +134,28 @@ fn turned<L: Ledger, D: Device, R: Wait + Clock>(
     moved: Moved,
     line: &mut Line,
     share: &mut Share<L>,
+    rings: &mut Rings,
 ) -> Turn
     requires { 0 < share.old.parts }
     ensures { share.new.parts ≡ share.old.parts }
 {
     let mut guard = shared.locked.lock(rt);
     let locked = &mut *guard;
-    let applied = locked.state.applied();
     take_in(locked, circuit, moved, line.input.as_slice());
-    let turn = steps(rt, locked, &shared.slow, circuit, share);
+    let turn = steps(rt, locked, &shared.slow, circuit, share, rings);
     let turn = take_out(locked, circuit, turn, line);
-    let is_stirred = locked.state.applied() != applied;
-    if is_stirred {
-        locked.stir();
-    }
     let is_given = !locked.busy.is_empty();
+    rings.hand_over(&mut locked.rings);
     drop(guard);
     if is_given {
         shared.given.notify_all();
     }
-    if is_stirred {
-        shared.stirred.notify_all();
-    }
     turn
 }
 
-// After a turn, with no lock held: writes, and reads if nothing else is to be done.
-fn go_on<R: Clock>(rt: &R, turn: &Turn, line: &mut Line) -> Moved {
-    match line.write() {
+// After a turn and a write, with no lock held: reads if nothing else is to be done.
+fn go_on<R: Clock>(rt: &R, turn: &Turn, written: Written, line: &mut Line) -> Moved {
+    match written {
         Written::Failed => Moved::Ended,
         Written::Some => {
             line.wait(rt);
@@ -192,6 +196,7 @@ fn steps<L: Ledger, R: Clock>(
     slow: &IndexSet<Vec<u8>>,
     circuit: Handle,
     share: &mut Share<L>,
+    rings: &mut Rings,
 ) -> Turn
     requires { 0 < share.old.parts }
     ensures { share.new.parts ≡ share.old.parts }
@@ -200,7 +205,7 @@ fn steps<L: Ledger, R: Clock>(
         if locked.state.may_write(circuit) {
             locked.stamp(rt);
         }
-        match locked.step(slow, circuit, share) {
+        match locked.step(slow, circuit, share, rings) {
             Step::Handled(_) => {}
             Step::NeedBytes => {
                 locked.state.pump(circuit);

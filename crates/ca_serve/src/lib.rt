@@ -1,5 +1,5 @@
-//! A server of Channel Access in threads: one for each circuit, one that looks after circuits with nothing to do,
-//! two that have a device process what was put, and one for datagrams.
+//! A server of Channel Access in threads: one for each circuit, one that wakes the threads of many circuits, two that have a device process
+//! what was put, and one for datagrams.
 //!
 //! What lies under the lock, and what each call makes of it, is `ca_server`. The device is called with no lock held, so that a record that is
 //! slow keeps no circuit from its answers. No proof speaks of the threads: that they go on is shown by tests.
@@ -12,8 +12,8 @@ mod datagrams;
 mod line;
 mod locked;
 mod processing;
+mod ringing;
 mod serving;
-mod updating;
 mod work;
 
 pub use processing::Device;

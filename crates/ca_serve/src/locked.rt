@@ -2,6 +2,7 @@ ghost use Rattle.std.specs.Prelude.{◌≡◌, ◌<◌};
 
 use crate::clock::{parts_of, stamp_after};
 use crate::processing::Device;
+use crate::ringing::{Bell, Rings, ring};
 use ca_arena::Handle;
 use ca_server::{State, locked_finish, locked_step};
 use ca_server_core::{Cause, Effect, Step};
@@ -14,21 +15,6 @@ use std::sync::ledger::{Ledger, Share};
 use std::sync::{Condvar, Mutex, Wait};
 use std::time::Clock;
 
-// Circuits that are looked after under one hold of the lock, at most.
-const CIRCUITS: usize = 32;
-
-// A hold of the lock ends once so many bytes were pumped.
-const PUMPED: usize = 65_536;
-
-/// How the thread of a circuit is woken.
-#[derive(Drop)]
-pub(crate) struct Bell {
-    pub(crate) circuit: Handle,
-    pub(crate) waker: Waker,
-    /// The thread waits for bytes, and nothing waits to be sent on its circuit.
-    pub(crate) is_idle: bool,
-}
-
 /// What lies under the lock.
 #[derive(Drop)]
 pub(crate) struct Locked<L: Ledger> {
@@ -39,8 +25,8 @@ pub(crate) struct Locked<L: Ledger> {
     pub(crate) in_hand: Vec<bool>,
     /// The bells of the circuits that have a thread, by the index of their handle.
     pub(crate) bells: IndexMap<u16, Bell>,
-    /// How often something was done that may leave bytes to be sent on other circuits.
-    pub(crate) rounds: u64,
+    /// The bells that the ringing thread is to ring.
+    pub(crate) rings: Rings,
     /// The time stamp that was handed in last, in nanoseconds since 1990-01-01 00:00:00 UTC.
     pub(crate) stamped: u64,
     /// How many circuits were closed.
@@ -57,8 +43,8 @@ pub(crate) struct Shared<L: Ledger, D: Device> {
     pub(crate) locked: Mutex<Locked<L>>,
     /// A record became busy, or the server is to end.
     pub(crate) given: Condvar,
-    /// There may be bytes to be sent on circuits whose threads are idle, or the server is to end.
-    pub(crate) stirred: Condvar,
+    /// There are bells for the ringing thread, or the server is to end.
+    pub(crate) rung: Condvar,
     /// Wakes the thread that accepts circuits.
     pub(crate) accepting: Waker,
     /// Wakes the thread that answers datagrams.
@@ -88,14 +74,14 @@ impl<L: Ledger, D: Device> Shared<L, D> {
                 busy,
                 in_hand,
                 bells: IndexMap::new(alloc),
-                rounds: 0,
+                rings: Rings::new(alloc),
                 stamped: 0,
                 closed: 0,
                 gone: Vec::new(alloc),
                 ending: false,
             }),
             given: Condvar::new(),
-            stirred: Condvar::new(),
+            rung: Condvar::new(),
             accepting,
             answering,
             device,
@@ -114,32 +100,35 @@ impl<L: Ledger, D: Device> Shared<L, D> {
         }
         drop(guard);
         self.given.notify_all();
-        self.stirred.notify_all();
+        self.rung.notify_all();
         ring(&self.accepting);
         ring(&self.answering);
     }
 }
 
-/// Wakes a thread. A wake that fails was of a thread that is at its end.
-pub(crate) fn ring(waker: &Waker) {
-    let _gone = waker.wake();
-}
-
 impl<L: Ledger> Locked<L> {
-    /// One step of a circuit. A record that it makes busy is handed on.
+    /// One step of a circuit. A record that it makes busy is handed on, and idle circuits that its write may have reached are to be rung.
     pub(crate) fn step(
         &mut self,
         slow: &IndexSet<Vec<u8>>,
         circuit: Handle,
         share: &mut Share<L>,
+        rings: &mut Rings,
     ) -> Step
         requires { 0 < share.old.parts }
         ensures { share.new.parts ≡ share.old.parts }
     {
         let step = locked_step(&mut self.state, circuit, share);
         match &step {
-            Step::Handled(Effect::Busied(sid)) => self.hand_on_of(slow, circuit, *sid),
-            Step::Closed(Cause::OutOfMemory, _) => self.hand_on_all(slow),
+            Step::Handled(Effect::Wrote(sid)) => self.reach_by(circuit, *sid, rings),
+            Step::Handled(Effect::Busied(sid)) => {
+                self.hand_on_of(slow, circuit, *sid);
+                self.reach_by(circuit, *sid, rings);
+            }
+            Step::Closed(Cause::OutOfMemory, _) => {
+                self.hand_on_all(slow);
+                self.reach_all(rings);
+            }
             _ => {}
         }
         step
@@ -152,6 +141,21 @@ impl<L: Ledger> Locked<L> {
         };
         if let Some(place) = slow.get_index_of(name) {
             self.hand_on(place);
+        }
+    }
+
+    // The other circuits that may have updates of a write on this channel are to be rung: the circuit that wrote is in its turn.
+    fn reach_by(&mut self, circuit: Handle, sid: u32, rings: &mut Rings) {
+        let Locked { state, bells, .. } = self;
+        if let Some(name) = state.served_name(circuit, Sid::new(sid)) {
+            reach(state, bells, name, Some(circuit), rings);
+        }
+    }
+
+    // All idle circuits are to be rung: a circuit that had no memory for the update of its own write does not tell of the record that it wrote.
+    fn reach_all(&mut self, rings: &mut Rings) {
+        for (_, bell) in &mut self.bells {
+            rings.take(bell);
         }
     }
 
@@ -186,12 +190,24 @@ impl<L: Ledger> Locked<L> {
     }
 
     /// Finishes the put that makes the record of this name busy. If a put that waited makes it busy again, it goes to the end of those that wait to be
-    /// processed, so that no record keeps others waiting.
-    pub(crate) fn finish<R: Clock>(&mut self, rt: &R, place: usize, name: &[u8]) {
+    /// processed, so that no record keeps others waiting. The circuit of the put is to be rung, and those that the next put may have reached.
+    pub(crate) fn finish<R: Clock>(
+        &mut self,
+        rt: &R,
+        place: usize,
+        name: &[u8],
+        rings: &mut Rings,
+    ) {
         self.stamp(rt);
+        if let Some(circuit) = self.state.busy_circuit(name) {
+            take(&mut self.bells, circuit, rings);
+        }
+        let applied = self.state.applied();
         // Nobody else finishes it, so that this is not refused.
         let _refused = locked_finish(&mut self.state, name);
-        self.stir();
+        if self.state.applied() != applied {
+            reach(&self.state, &mut self.bells, name, None, rings);
+        }
         if let Some(is_in_hand) = self.in_hand.get_mut(place) {
             *is_in_hand = false;
         }
@@ -200,48 +216,38 @@ impl<L: Ledger> Locked<L> {
         }
     }
 
-    /// Something was done that may leave bytes to be sent on other circuits.
-    pub(crate) fn stir(&mut self) {
-        self.rounds = self.rounds.wrapping_add(1);
-    }
-
     /// Whether a circuit's thread is idle from now on.
     pub(crate) fn rest(&mut self, circuit: Handle, is_idle: bool) {
         if let Some(bell) = self.bells.get_mut(&circuit.index) {
             bell.is_idle = is_idle;
         }
     }
+}
 
-    /// Looks after circuits at the places below this one, the last first, until some were or many bytes were pumped. It tells how many places are left.
-    pub(crate) fn look_after_some(&mut self, places: usize) -> usize {
-        let mut left = places;
-        let mut pumped = 0usize;
-        for _ in 0..CIRCUITS {
-            if left == 0 || pumped >= PUMPED {
-                break;
-            }
-            left -= 1;
-            pumped = pumped.saturating_add(self.look_after(left));
+// The circuits that may have subscriptions on the record of this name are to be rung, but for this one.
+fn reach<L: Ledger>(
+    state: &State<L>,
+    bells: &mut IndexMap<u16, Bell>,
+    name: &[u8],
+    but: Option<Handle>,
+    rings: &mut Rings,
+) {
+    let Some(line) = state.watching(name) else {
+        return;
+    };
+    for place in 0..line.len() {
+        match line.at(place) {
+            Some(circuit) if Some(circuit) != but => take(bells, circuit, rings),
+            _ => {}
         }
-        left
     }
+}
 
-    /// Pumps the updates of the circuit at this place among the bells, if its thread is idle, and tells how many bytes there are to be sent. The thread is woken
-    /// if there are some, or if the circuit has ended.
-    fn look_after(&mut self, place: usize) -> usize {
-        let Some(bell) = self.bells.get_index_mut(place) else {
-            return 0;
-        };
-        if !bell.is_idle {
-            return 0;
+// This circuit is to be rung, if it has a bell.
+fn take(bells: &mut IndexMap<u16, Bell>, circuit: Handle, rings: &mut Rings) {
+    if let Some(bell) = bells.get_mut(&circuit.index) {
+        if bell.circuit == circuit {
+            rings.take(bell);
         }
-        self.state.pump(bell.circuit);
-        let waiting = self.state.out_bytes(bell.circuit).len();
-        if waiting == 0 && self.state.is_open(bell.circuit) {
-            return 0;
-        }
-        bell.is_idle = false;
-        ring(&bell.waker);
-        waiting
     }
 }

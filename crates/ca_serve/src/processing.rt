@@ -1,4 +1,5 @@
 use crate::locked::{Locked, Shared};
+use crate::ringing::Rings;
 use crate::work::Work;
 use ca_dbr::Value;
 use ca_text::Refusal;
@@ -61,12 +62,27 @@ fn process<L: Ledger, D: Device, R: Wait + Clock>(
             Some(Err(_)) => thread::sleep(rt, Duration::from_millis(1)),
             Some(Ok(value)) => {
                 shared.device.process(name, &value);
-                shared.locked.lock(rt).finish(rt, place, name);
-                shared.stirred.notify_all();
+                finish(rt, shared, place, name);
                 break;
             }
         }
     }
+}
+
+// The put of the record of this name was processed: whoever is to hear of it is woken.
+fn finish<L: Ledger, D: Device, R: Wait + Clock>(
+    rt: &R,
+    shared: &Shared<L, D>,
+    place: usize,
+    name: &[u8],
+) {
+    let mut rings = Rings::new(shared.alloc);
+    let mut guard = shared.locked.lock(rt);
+    let locked = &mut *guard;
+    locked.finish(rt, place, name, &mut rings);
+    rings.hand_over(&mut locked.rings);
+    drop(guard);
+    rings.ring_all(&shared.rung);
 }
 
 // What was put to the record of this name, unless the server is to end.

@@ -5,7 +5,7 @@ use crate::clock::moment_now;
 use crate::datagrams::{Datagrams, Desk};
 use crate::locked::Shared;
 use crate::processing::{Device, Processor};
-use crate::updating::Updater;
+use crate::ringing::Ringer;
 use crate::work::started;
 use ca_records::{Records, Rule};
 use ca_server::State;
@@ -205,7 +205,7 @@ fn open_desk<R: Net>(
     Ok((desk, waker))
 }
 
-// Starts the thread for datagrams, the one for updates and two processing threads.
+// Starts the thread for datagrams, the ringing thread and two processing threads.
 fn start_helpers<
     L: Ledger + Send + Sync + 'static,
     D: Device + Send + Sync + 'static,
@@ -218,7 +218,7 @@ fn start_helpers<
 ) -> Result<(), Refusal> {
     helpers.reserve(4)?;
     helpers.push_reserved(start_datagrams(rt, shared, desk)?);
-    helpers.push_reserved(start_updater(rt, shared)?);
+    helpers.push_reserved(start_ringer(rt, shared)?);
     helpers.push_reserved(start_processor(rt, shared)?);
     helpers.push_reserved(start_processor(rt, shared)?);
     Ok(())
@@ -242,13 +242,13 @@ fn start_datagrams<
     started(rt, Datagrams { shared, desk })
 }
 
-fn start_updater<
+fn start_ringer<
     L: Ledger + Send + Sync + 'static,
     D: Device + Send + Sync + 'static,
     R: Threads + Wait + Clock + Copy + Send + 'static,
 >(rt: R, shared: &Arc<Shared<L, D>>) -> Result<JoinHandle<()>, Refusal> {
     let shared = Arc::try_clone(shared)?;
-    started(rt, Updater { shared })
+    started(rt, Ringer { shared })
 }
 
 fn join_helpers<R: Threads>(rt: &R, helpers: &mut Vec<JoinHandle<()>>) {

@@ -1,4 +1,4 @@
-ghost use Rattle.std.specs.Prelude.{◌≡◌, ◌≤◌, Bool, Err, IfErr, IfOk, List, Ok, false, length, map, option_map, ℕ};
+ghost use Rattle.std.specs.Prelude.{◌≡◌, ◌≤◌, Bool, Err, IfErr, IfOk, List, Ok, [], false, length, map, option_copied, option_map, unwrap_or, ℕ};
 ghost use Rattle.ca_arena.specs.declared.handle.Handle.{Handle};
 ghost use Rattle.ca_dbr.specs.Elements.{elements};
 ghost use Rattle.ca_ids.specs.Table.{has_free, under};
@@ -7,11 +7,12 @@ ghost use Rattle.ca_model.specs.ServerSteps.{Accepts, Cuts, Gives, Pumps, Sends,
 ghost use Rattle.ca_records.specs.Record.{unset};
 ghost use Rattle.ca_text.specs.declared.refusal.Refusal.TheVariants.{OutOfMemory};
 ghost use Rattle.ca_server_circuit.specs.Circuits.{is_open};
-ghost use Rattle.ca_server_core.specs.Asking.{MayWrite, NamesUnder, busy_value};
+ghost use Rattle.ca_server_core.specs.Asking.{AreAllAmong, MayWrite, NamesUnder, busy_circuit, busy_value};
 
 use crate::state::State;
 use ca_arena::Handle;
 use ca_dbr::{Meta, Value};
+use ca_server_core::Line;
 use ca_text::Refusal;
 use ca_wire::Sid;
 use std::sync::ledger::Ledger;
@@ -102,6 +103,25 @@ impl<L: Ledger> State<L> {
         ensures { option_map (λ v. elements v.now) result ≡ busy_value self.now.core name.now }
     {
         self.core.busy_value(name)
+    }
+
+    /// The circuit of the put that makes the record of this name busy, which gets the reply of the next finish. None if no put does, or no
+    /// record has the name.
+    pub fn busy_circuit(&self, name: &[u8]) -> Option<Handle>
+        ensures { result ≡ busy_circuit self.now.core name.now }
+    {
+        self.core.busy_circuit(name)
+    }
+
+    /// The circuits that a write, a post or a finish of the record of this name may have left updates on: each that has a subscription on
+    /// the record is among them. None if nobody has one.
+    ///
+    /// Others may be among them. Right after such a call those are, too, whose ends it ended, as there was no memory for their updates.
+    pub fn watching(&self, name: &[u8]) -> Option<&Line>
+        ensures { AreAllAmong self.now.core name.now
+            (unwrap_or (option_copied result) []) }
+    {
+        self.core.watching(name)
     }
 
     /// The datagrams that answer a datagram: a reply for each search in it for a record that is served, in their order.

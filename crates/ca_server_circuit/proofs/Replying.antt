@@ -36,6 +36,11 @@ pub if-then : {T E : Type 0} {P Q : T → Type 0} (r : Result T E) → ((x : T) 
 if-then (Ok x) f p = f x p
 if-then (Err e) f p = tt
 
+-- what is told if the call went well, of which this holds then
+pub if-told : {T E P : Type 0} (Q : T → Type 0) (r : Result T E) (w : T) → IfOk r (λ x. x ≡ w) → (P → Q w) → OnOk r P → IfOk r Q
+if-told Q (Ok x) w told f p = subst Q (sym told) (f p)
+if-told Q (Err e) w told f p = tt
+
 -- the same for two facts
 pub ok-both : {T E P Q R : Type 0} (r : Result T E) → (P → Q → R) → OnOk r P → OnOk r Q → OnOk r R
 ok-both (Ok x) f p q = f p q

@@ -9,7 +9,6 @@ use Rattle.ca_records.specs.declared.puts.Stamp.{Stamp}
 use Rattle.ca_records.specs.Puts.{Record, record_named, with_record, with_value, with_waiting, withdrawn, written_meta}
 use Rattle.ca_records.specs.Store.{HasAt, Store, records_of}
 use Rattle.ca_text.specs.Command.{command_number}
-use Rattle.ca_text.specs.declared.command.Command.{Command}
 use Rattle.ca_text.specs.declared.command.Command.TheVariants as command
 use Rattle.ca_text.specs.Status.{bad_channel}
 use Rattle.ca_wire.specs.Fields.{Fields}
@@ -72,18 +71,6 @@ Fits rs e m (Waits name value) = (c : Handle × OpenChannel) × (by_wire e.chann
 Fits rs e m (Adds x) =
     (c : Handle × OpenChannel) × (by_wire e.channels m.p1 ≡ Some c) × (c.1.name ≡ x.name) × (c.1.retired ≡ false) × (x.wanted.sid ≡ m.p1)
 Fits rs e m action = Unit {0}
-
--- the message is of this command, of which a server has to know nothing
-pub record IsQuiet (c : Command) (m : Fields) : Type 0 where
-  pub is : m.command ≡ command_number c
-  pub no_write : c ≡ command.Write → ⊥
-  pub no_put : c ≡ command.WriteNotify → ⊥
-  pub no_event : c ≡ command.EventAdd → ⊥
-  pub no_creation : c ≡ command.CreateChannel → ⊥
-  pub no_clear : c ≡ command.ClearChannel → ⊥
-  pub no_cancel : c ≡ command.EventCancel → ⊥
-  pub no_off : c ≡ command.EventsOff → ⊥
-  pub no_on : c ≡ command.EventsOn → ⊥
 
 -- whether a write was applied
 abbrev pub is_wrote : FollowUp → Bool

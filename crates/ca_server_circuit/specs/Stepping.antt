@@ -1,5 +1,5 @@
 -- Working: what one step of an open end comes to.
-use Rattle.std.specs.Prelude.{ℕ, ◌≡◌, ◌+◌, ◌<◌, ◌≤◌, ◌++◌, List, [], drop, length, replicate, take}
+use Rattle.std.specs.Prelude.{ℕ, ◌≡◌, ◌+◌, ◌<◌, ◌≤◌, ◌++◌, List, Option, None, Some, drop, length, replicate, take}
 use Rattle.ca_arena.specs.declared.handle.Handle.{Handle}
 use Rattle.ca_dbr.specs.Octets.{AreBytes}
 use Rattle.ca_link.specs.Link.{TakesFirst, with_rest}
@@ -77,6 +77,11 @@ after_short e = record e { link = with_rest (drop 24 e.link.input.bytes) e.link 
 abbrev pub DoesShort : (Knows → Fields → List Fields → Action → Type 0) → Command → Wanted → Handle → Store → ServerEnd → FollowUp → Store → ServerEnd → Type 0
 DoesShort D c w h s e did t new =
     (port : ℕ) → Does (D (known port s (after_short e)) (short_in e.link.input.bytes c w)) s h (after_short e) (short_in e.link.input.bytes c w) did t new
+
+-- What a fast path answers: none, and then nothing has changed; or what it did, which is a step as any other.
+abbrev pub IsFast : Handle → ServerEnd → Store → Option EndStep → ServerEnd → Store → Type 0
+IsFast h e s None new t = (new ≡ e) × (t ≡ s)
+IsFast h e s (Some did) new t = (port : ℕ) → EndSteps port h e s did new t
 
 -- the reply to a WRITE_NOTIFY of one element that names this
 abbrev pub done_for : Wanted → Done

@@ -1,17 +1,22 @@
 ghost use Rattle.std.specs.Prelude.{◌≡◌, IfOk, OnErr, OnOk, [], false, if◌then◌else◌};
 ghost use Rattle.ca_wire.specs.Messages.{text_in};
 ghost use Rattle.ca_wire.specs.Reading.{IsWhole};
+ghost use Rattle.ca_server_circuit.specs.declared.effect.Effect.TheVariants as told;
+ghost use Rattle.ca_server_circuit.specs.declared.step.FollowUp.TheVariants.{Quiet};
 ghost use Rattle.ca_server_circuit.specs.Stepping.{first_at};
 
+use crate::effect::Effect;
 use crate::end::End;
+use crate::step::FollowUp;
 use ca_wire::Head;
 use std::alloc::{AllocError, Global};
 
 impl End {
     /// CLIENT_NAME: it counts until a channel was created.
     #[inline(never)]
-    pub(crate) fn client_name(&mut self, head: &Head) -> Result<(), AllocError>
+    pub(crate) fn client_name(&mut self, head: &Head) -> Result<FollowUp, AllocError>
         requires { IsWhole self.old.link.input.bytes head.now }
+        ensures tells { IfOk result (λ did. did ≡ Quiet told.Quiet) }
         ensures ok { OnOk result (self.new
             ≡ (if self.old.settled then self.old
             else record self.old {
@@ -26,16 +31,17 @@ impl End {
         ensures channels { OnErr result (self.new.channels ≡ self.old.channels) }
     {
         if self.settled {
-            return Ok(());
+            return Ok(FollowUp::Quiet(Effect::Quiet));
         }
         self.user = own(self.alloc, self.text(head))?;
-        Ok(())
+        Ok(FollowUp::Quiet(Effect::Quiet))
     }
 
     /// HOST_NAME: it counts until a channel was created.
     #[inline(never)]
-    pub(crate) fn host_name(&mut self, head: &Head) -> Result<(), AllocError>
+    pub(crate) fn host_name(&mut self, head: &Head) -> Result<FollowUp, AllocError>
         requires { IsWhole self.old.link.input.bytes head.now }
+        ensures tells { IfOk result (λ did. did ≡ Quiet told.Quiet) }
         ensures ok { OnOk result (self.new
             ≡ (if self.old.settled then self.old
             else record self.old {
@@ -50,10 +56,10 @@ impl End {
         ensures channels { OnErr result (self.new.channels ≡ self.old.channels) }
     {
         if self.settled {
-            return Ok(());
+            return Ok(FollowUp::Quiet(Effect::Quiet));
         }
         self.host = own(self.alloc, self.text(head))?;
-        Ok(())
+        Ok(FollowUp::Quiet(Effect::Quiet))
     }
 }
 

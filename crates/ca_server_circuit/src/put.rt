@@ -1,10 +1,6 @@
-ghost use Rattle.std.specs.Prelude.{◌≡◌, IfOk, OnErr, Option, Some, false, is_some, true};
+ghost use Rattle.std.specs.Prelude.{◌≡◌, IfOk, OnErr};
 ghost use Rattle.ca_dbr.specs.Reading.{least_size};
-ghost use Rattle.ca_records.specs.declared.puts.Begun.TheVariants.{Applied};
-ghost use Rattle.ca_records.specs.declared.puts.Put.{Put};
 ghost use Rattle.ca_records.specs.Store.{IsThere};
-ghost use Rattle.ca_text.specs.declared.command.Command.{Command};
-ghost use Rattle.ca_wire.specs.Messages.{on_channel};
 ghost use Rattle.ca_server_circuit.specs.Putting.{IsGiven, WritesTo, asked};
 
 use ca_arena::Handle;
@@ -21,51 +17,6 @@ pub(crate) enum Given {
     Elements(Value),
     /// They are not read: the put is refused by this status.
     Fault(Status),
-}
-
-/// Writes the one element of this payload to the record at this place under these rights, as a put with notification or as none, if it is
-/// applied at once and takes no memory, as most are. False, and nothing changes, if `begin` has to judge it.
-#[inline(always)]
-pub(crate) fn write_one(
-    records: &mut ServedRecords,
-    place: usize,
-    rights: u32,
-    is_put: bool,
-    wanted: &Wanted,
-    payload: &[u8],
-) -> bool
-    requires { IsThere records.old place }
-    ensures written { result ≡ true → (c : Command) (put : Option Put) → is_some put ≡ is_put
-        → WritesTo records.old place rights put (on_channel c wanted.now payload.now)
-        (Applied false) records.new }
-    ensures stays { result ≡ false → records.new ≡ records.old }
-{
-    if wanted.count != 1 || rights / 2 % 2 != 1 {
-        return false;
-    }
-    records.write_one(place, is_put, wanted.data_type, payload)
-}
-
-/// The same of a put that makes its record busy.
-#[inline(always)]
-pub(crate) fn put_one(
-    records: &mut ServedRecords,
-    place: usize,
-    rights: u32,
-    put: Put,
-    wanted: &Wanted,
-    payload: &[u8],
-) -> bool
-    requires { IsThere records.old place }
-    ensures put { result ≡ true → (c : Command)
-        → WritesTo records.old place rights (Some put) (on_channel c wanted.now payload.now)
-        (Applied true) records.new }
-    ensures stays { result ≡ false → records.new ≡ records.old }
-{
-    if rights / 2 % 2 != 1 || wanted.count != 1 {
-        return false;
-    }
-    records.put_one(place, put, wanted.data_type, payload)
 }
 
 /// The put with notification on this channel that names this.

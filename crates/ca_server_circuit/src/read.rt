@@ -1,23 +1,30 @@
-ghost use Rattle.std.specs.Prelude.{ℕ, ◌≡◌, IfOk, IfSome, MatchOption, OnErr, OnOk, [], ◌∷◌};
+ghost use Rattle.std.specs.Prelude.{ℕ, ◌≡◌, IfOk, MatchOption, OnErr, OnOk, [], ◌∷◌};
 ghost use Rattle.ca_text.specs.declared.refusal.Refusal.TheVariants.{OutOfMemory};
 ghost use Rattle.ca_link.specs.Calls.{IsOpen};
 ghost use Rattle.ca_link.specs.Link.{with_sent};
 ghost use Rattle.ca_records.specs.Record.{IsRecord};
 ghost use Rattle.ca_records.specs.Store.{records_of};
 ghost use Rattle.ca_wire.specs.Fields.{Fields};
-ghost use Rattle.ca_wire.specs.Messages.{alone, read_request, status_reply};
+ghost use Rattle.ca_wire.specs.Messages.{read_request, status_reply};
 ghost use Rattle.ca_model.specs.Faults.{read_count};
+ghost use Rattle.ca_server_circuit.specs.declared.effect.Effect.TheVariants as told;
+ghost use Rattle.ca_server_circuit.specs.declared.step.FollowUp.TheVariants.{Quiet};
 ghost use Rattle.ca_server_circuit.specs.Handling.{AreServed, Reads, Replies, known};
-ghost use Rattle.ca_server_circuit.specs.Showing.{AnswersRead, IsInOrder, IsWanted, ShowsRead, answer_alone, status_for};
+ghost use Rattle.ca_server_circuit.specs.Showing.{AnswersRead, IsInOrder, IsWanted, ShowsRead, status_for};
+ghost use Rattle.ca_server_circuit.specs.Stepping.{named_by};
 
+use crate::effect::Effect;
 use crate::end::{End, send};
+use crate::fast::read::{send_alone, shown_alone};
+use crate::in_place::named_by;
 use crate::seek::Sought;
 use crate::shown::Shown;
+use crate::step::FollowUp;
 use ca_dbr::image_size;
 use ca_link::Link;
 use ca_records::{Record, ServedRecords};
-use ca_text::{Command, PAYLOAD_LIMIT, Refusal, Status};
-use ca_wire::{Alone, Wanted, read_head, read_status};
+use ca_text::{PAYLOAD_LIMIT, Refusal, Status};
+use ca_wire::{Head, Wanted, read_head, read_status};
 use std::alloc::{AllocError, Global};
 
 /// What a read asks for: how many elements, and the bytes of their image.
@@ -28,7 +35,26 @@ pub(crate) struct Asked {
 }
 
 impl End {
-    /// READ_NOTIFY: answered from the record of its channel.
+    /// READ_NOTIFY.
+    pub(crate) fn read_notify(
+        &mut self,
+        records: &ServedRecords,
+        head: &Head,
+    ) -> Result<FollowUp, AllocError>
+        requires open { IsOpen self.old.link }
+        requires served { AreServed (records_of records.now) self.old.channels }
+        ensures tells { IfOk result (λ did. did ≡ Quiet told.Quiet) }
+        ensures ok { OnOk result ((port : ℕ)
+            → Replies (Reads (known port records.now self.old)
+            (read_request (named_by head.now.header))) self.old self.new) }
+        ensures output { OnErr result (self.new.link.output ≡ self.old.link.output) }
+        ensures channels { OnErr result (self.new.channels ≡ self.old.channels) }
+    {
+        self.read(records, &named_by(&head.header))?;
+        Ok(FollowUp::Quiet(Effect::Quiet))
+    }
+
+    /// Answers a read of what this names, from the record of its channel.
     pub(crate) fn read(
         &mut self,
         records: &ServedRecords,
@@ -83,38 +109,6 @@ fn answer(
             show(alloc, link, of, asked, wanted)?;
             Ok(())
         }
-    }
-}
-
-/// What shows the record to this read in eight bytes, if it has one element, of the type that is asked for.
-#[inline(always)]
-fn shown_alone(of: &Record, rights: u32, wanted: &Wanted) -> Option<u64>
-    ensures { IfSome result (λ n.
-        AnswersRead of.now rights (read_request wanted.now) (alone (answer_alone wanted.now n))) }
-{
-    if rights % 2 != 1 || wanted.count > 1 {
-        return None;
-    }
-    of.value().alone(wanted.data_type)
-}
-
-/// Answers a read by one element.
-#[inline(always)]
-fn send_alone(link: &mut Link, wanted: &Wanted, payload: u64) -> Result<(), AllocError>
-    requires { IsOpen link.old }
-    ensures ok { OnOk result (link.new
-        ≡ with_sent (alone (answer_alone wanted.now payload) ∷ []) link.old) }
-    ensures err { OnErr result (link.new ≡ link.old) }
-{
-    let said = Alone {
-        command: Command::ReadNotify,
-        data_type: wanted.data_type,
-        id: wanted.id,
-        payload,
-    };
-    match link.queue_alone(said) {
-        Ok(()) => Ok(()),
-        Err(_) => Err(AllocError),
     }
 }
 

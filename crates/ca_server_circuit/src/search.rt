@@ -1,12 +1,16 @@
-ghost use Rattle.std.specs.Prelude.{◌≡◌, OnErr, OnOk, []};
+ghost use Rattle.std.specs.Prelude.{◌≡◌, IfOk, OnErr, OnOk, []};
 ghost use Rattle.ca_link.specs.Calls.{IsOpen};
 ghost use Rattle.ca_wire.specs.Reading.{IsWhole};
 ghost use Rattle.ca_model.specs.Due.{search_due};
+ghost use Rattle.ca_server_circuit.specs.declared.effect.Effect.TheVariants as told;
+ghost use Rattle.ca_server_circuit.specs.declared.step.FollowUp.TheVariants.{Quiet};
 ghost use Rattle.ca_server_circuit.specs.Handling.{known, replied};
 ghost use Rattle.ca_server_circuit.specs.Stepping.{first_at};
 
+use crate::effect::Effect;
 use crate::end::{End, send};
 use crate::in_place::bare_of;
+use crate::step::FollowUp;
 use ca_records::ServedRecords;
 use ca_wire::{Head, not_found_reply, search_reply};
 use std::alloc::AllocError;
@@ -22,9 +26,10 @@ impl End {
         port: u16,
         records: &ServedRecords,
         head: &Head,
-    ) -> Result<(), AllocError>
+    ) -> Result<FollowUp, AllocError>
         requires open { IsOpen self.old.link }
         requires whole { IsWhole self.old.link.input.bytes head.now }
+        ensures tells { IfOk result (λ did. did ≡ Quiet told.Quiet) }
         ensures ok { OnOk result (self.new
             ≡ replied (search_due (known port records.now self.old)
             (first_at self.old.link.input.bytes head.now)) self.old) }
@@ -37,11 +42,11 @@ impl End {
         if records.has(self.text(head)) {
             let reply = search_reply(self.alloc, port, &request)?;
             send(&mut self.link, &reply)?;
-            return Ok(());
+            return Ok(FollowUp::Quiet(Effect::Quiet));
         }
         if head.header.data_type == REPLY_WANTED {
             send(&mut self.link, &not_found_reply(self.alloc, &request))?;
         }
-        Ok(())
+        Ok(FollowUp::Quiet(Effect::Quiet))
     }
 }

@@ -1,9 +1,12 @@
-ghost use Rattle.std.specs.Prelude.{◌≡◌};
+ghost use Rattle.std.specs.Prelude.{◌≡◌, ◌<◌, IfOk, OnErr, length};
+ghost use Rattle.ca_text.specs.Limits.{output_limit};
 ghost use Rattle.ca_link.specs.Calls.{IsOpen};
 ghost use Rattle.ca_records.specs.Store.{records_of};
+ghost use Rattle.ca_wire.specs.Reading.{IsWhole};
+ghost use Rattle.ca_model.specs.Due.{Due};
 ghost use Rattle.ca_server_circuit.specs.Clearing.{ArePuts};
-ghost use Rattle.ca_server_circuit.specs.Handling.{AreServed, effect_of, is_wrote};
-ghost use Rattle.ca_server_circuit.specs.Stepping.{EndSteps};
+ghost use Rattle.ca_server_circuit.specs.Handling.{AllStay, AreServed, Does, MayLack, effect_of, is_wrote, known};
+ghost use Rattle.ca_server_circuit.specs.Stepping.{EndSteps, cause_for, first_at};
 
 use crate::bytes::know_bytes;
 use crate::cause::Cause;
@@ -11,7 +14,9 @@ use crate::effect::Effect;
 use crate::end::End;
 use ca_arena::Handle;
 use ca_records::ServedRecords;
-use ca_text::Command;
+use ca_text::{Command, Refusal};
+use ca_wire::{Head, One, read_one};
+use std::alloc::AllocError;
 
 /// What a message that was handled leaves its server to do.
 #[derive(Clone, Copy, Debug, PartialEq, Eq)]
@@ -66,7 +71,7 @@ impl FollowUp {
 }
 
 impl End {
-    /// Handles the next message of this circuit, unless 262,144 bytes wait to be sent.
+    /// Handles the next message of this circuit where it came, unless 262,144 bytes wait to be sent, and drops it.
     #[inline(always)]
     pub(crate) fn step(
         &mut self,
@@ -82,14 +87,93 @@ impl End {
         if self.link.is_full() {
             return EndStep::OutputFull;
         }
+        match self.step_fast(circuit, records) {
+            Some(step) => step,
+            None => self.step_plain(port, circuit, records),
+        }
+    }
+
+    /// Handles the first message, whatever it is, and drops it.
+    #[inline(always)]
+    fn step_plain(&mut self, port: u16, circuit: Handle, records: &mut ServedRecords) -> EndStep
+        requires open { IsOpen self.old.link }
+        requires room { length self.old.link.output < output_limit }
+        requires served { AreServed (records_of records.old) self.old.channels }
+        requires puts { ArePuts circuit (records_of records.old) self.old.channels }
+        ensures { EndSteps port circuit self.old records.old result self.new records.new }
+    {
         know_bytes(self.link.in_bytes());
-        // A read is what comes most often, and has no payload that takes memory.
-        match self.link.next_bare(Command::ReadNotify) {
-            Some(wanted) => match self.read(records, &wanted) {
-                Ok(()) => EndStep::Handled(FollowUp::Quiet(Effect::Quiet)),
+        match read_one(self.link.in_bytes()) {
+            One::Whole(head) => match self.handle(port, circuit, records, &head) {
+                Ok(left) => {
+                    self.link.drop_front(head.start + head.header.size as usize);
+                    EndStep::Handled(left)
+                }
                 Err(_) => EndStep::Breaks(Cause::OutOfMemory),
             },
-            None => self.step_by_write(port, circuit, records),
+            One::More => EndStep::NeedBytes,
+            One::Bad(refusal) => EndStep::Breaks(cause_of(refusal)),
         }
+    }
+
+    /// Handles the first message of this circuit, which has this header, at a server of this TCP port, and says what it leaves the server
+    /// to do. The message stays where it came.
+    ///
+    /// If there is no memory for it the records and what waits to be sent are as they were, and the end is to be closed.
+    // What is rare is out of line, also from each other, so that a common message does not pay for its locals.
+    #[inline(never)]
+    fn handle(
+        &mut self,
+        port: u16,
+        circuit: Handle,
+        records: &mut ServedRecords,
+        head: &Head,
+    ) -> Result<FollowUp, AllocError>
+        requires open { IsOpen self.old.link }
+        requires served { AreServed (records_of records.old) self.old.channels }
+        requires puts { ArePuts circuit (records_of records.old) self.old.channels }
+        requires whole { IsWhole self.old.link.input.bytes head.now }
+        ensures ok { IfOk result (λ effect.
+            Does (Due (known port records.old self.old)
+            (first_at self.old.link.input.bytes head.now)) records.old circuit self.old
+            (first_at self.old.link.input.bytes head.now) effect records.new self.new) }
+        ensures err { OnErr result (records.new ≡ records.old) }
+        ensures output { OnErr result (self.new.link.output ≡ self.old.link.output) }
+        ensures channels { OnErr result (AllStay self.old.channels self.new.channels) }
+        ensures memory { OnErr result (MayLack (known port records.old self.old)
+            (first_at self.old.link.input.bytes head.now)) }
+    {
+        let Some(command) = Command::of(head.header.command) else {
+            return Ok(FollowUp::Quiet(Effect::Quiet));
+        };
+        match command {
+            Command::Version => self.version(),
+            Command::ClientName => self.client_name(head),
+            Command::HostName => self.host_name(head),
+            Command::Echo => self.echo(),
+            Command::Search => self.search(port, records, head),
+            Command::CreateChannel => self.create_chan(records, head),
+            Command::ClearChannel => self.clear_channel(circuit, records, &head.header),
+            Command::ReadNotify => self.read_notify(records, head),
+            Command::Write => self.write(records, head),
+            Command::WriteNotify => self.write_notify(circuit, records, head),
+            Command::EventAdd => self.event_add(records, head),
+            Command::EventCancel => self.event_cancel(&head.header),
+            Command::EventsOff => Ok(self.events_off()),
+            Command::EventsOn => Ok(self.events_on()),
+            // Another is ignored.
+            _ => Ok(FollowUp::Quiet(Effect::Quiet)),
+        }
+    }
+}
+
+/// Why an end is to be closed whose next header is refused for this.
+fn cause_of(refusal: Refusal) -> Cause
+    ensures { result ≡ cause_for refusal }
+{
+    match refusal {
+        Refusal::Misaligned => Cause::Misaligned,
+        Refusal::TooLarge => Cause::TooLarge,
+        _ => Cause::OutOfMemory,
     }
 }

@@ -23,7 +23,7 @@ use std::alloc::{AllocError, Global};
 
 impl End {
     /// WRITE: applied at once, with no reply; a refused one is answered by ERROR.
-    #[inline(always)]
+    #[inline(never)]
     pub(crate) fn write(
         &mut self,
         records: &mut ServedRecords,

@@ -29,7 +29,7 @@ impl End {
     ///
     /// The reply of a quick one goes first, so that none is applied for whose reply there is no memory. It is taken back if the put is
     /// refused, or if there is no memory for the put itself.
-    #[inline(always)]
+    #[inline(never)]
     pub(crate) fn write_notify(
         &mut self,
         circuit: Handle,

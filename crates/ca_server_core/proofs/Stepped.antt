@@ -253,6 +253,15 @@ step-sound port s u t after h did (inl g) i = by g.0 g.1 g.2 g.3 g.4
     by (Ended w left) new there d changed = not-some (step.Handled did) d.0
 
 -- the end of a circuit that handled a message is open, so that nothing is to be taken out
+pub handled-open : (port : ℕ) (s u : Store) (t after : Table ServerCircuit) (h : Handle) (did : FollowUp) → StepsIn port t h s (Some (step.Handled did)) after u → is_open (under after h) ≡ true
+handled-open port s u t after h did (inr none) = not-some (step.Handled did) none.1
+handled-open port s u t after h did (inl g) = by g.0 g.1 g.2 g.3 g.4
+  where
+    by : (c new : ServerCircuit) → under t h ≡ Some c → CircuitSteps port h c s (Some (step.Handled did)) new u → after ≡ with_changed (λ (x : ServerCircuit). new) h t → is_open (under after h) ≡ true
+    by (Open e) new there d changed =
+        ap (λ (z : Table ServerCircuit). is_open (under z h)) (became t after h new (Open d.0) changed d.4) ∙ ap is_open (changed-own (λ (z : ServerCircuit). Open d.0) t h (Open e) there)
+    by (Ended w left) new there d changed = not-some (step.Handled did) d.0
+
 pub handled-settles : (port : ℕ) (s u : Store) (t after : Table ServerCircuit) (h : Handle) (did : FollowUp) (waited : ℕ) → StepsIn port t h s (Some (step.Handled did)) after u → Settles after h waited (own.Handled told.Quiet) after
 handled-settles port s u t after h did waited (inr none) = not-some (step.Handled did) none.1
 handled-settles port s u t after h did waited (inl g) = by g.0 g.1 g.2 g.3 g.4

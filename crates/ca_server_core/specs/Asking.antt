@@ -1,12 +1,15 @@
 -- Vocabulary: what a caller asks of a server between its calls.
-use Rattle.std.specs.Prelude.{ℕ, ◌≡◌, Bool, true, false, List, [], ◌∷◌, Option, Some, None, if◌then◌else◌, is_some}
+use Rattle.std.specs.Prelude.{ℕ, ◌≡◌, Bool, true, false, List, [], ◌∷◌, Option, Some, None, if◌then◌else◌, is_some, option_map}
 use Rattle.ca_arena.specs.declared.handle.Handle.{Handle}
 use Rattle.ca_dbr.specs.Elements.{Elements}
+use Rattle.ca_records.specs.declared.puts.Put.{Put}
 use Rattle.ca_records.specs.Puts.{Record, WaitingPut, record_named}
 use Rattle.ca_records.specs.Record.{RecordState}
 use Rattle.ca_model.specs.Ends.{Peer}
-use Rattle.ca_model.specs.Server.{Server, ServerCircuit, ServerEnd}
+use Rattle.ca_model.specs.Server.{Server, ServerCircuit, ServerEnd, Subscription}
 use Rattle.ca_model.specs.ServerSteps.{HasEnd}
+use Rattle.ca_model.specs.Speech.{In}
+use Rattle.ca_server_watchers.specs.Watching.{IsAmong}
 use Rattle.ca_server_circuit.specs.Peeking.{FirstWritesNothing, NamesAt, may_write, peer_on}
 
 -- the circuit of the put that waits longest
@@ -22,6 +25,19 @@ circuit_next (Some r) = first_circuit r.waiting
 -- `first_waiting`: the circuit of the put that waits longest for the record of this name
 abbrev pub first_waiting : Server → List ℕ → Option Handle
 first_waiting y name = circuit_next (record_named y.records name)
+
+-- the circuit of the put that makes a record busy
+abbrev pub circuit_busy : Option Record → Option Handle
+circuit_busy None = None
+circuit_busy (Some r) = option_map (λ (p : Put). p.circuit) r.busy
+
+-- `busy_circuit`: the circuit of the put that makes the record of this name busy
+abbrev pub busy_circuit : Server → List ℕ → Option Handle
+busy_circuit y name = circuit_busy (record_named y.records name)
+
+-- `watching`: each circuit that has a subscription on the record of this name is one of these
+abbrev pub AreAllAmong : Server → List ℕ → List Handle → Type 0
+AreAllAmong y name hs = (h : Handle) (e : ServerEnd) (s : Subscription) → HasEnd y h e → In e.subscriptions s → s.name ≡ name → IsAmong hs h
 
 -- the value of a record that a put makes busy
 abbrev pub value_busy : Option Record → Option Elements

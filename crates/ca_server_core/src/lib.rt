@@ -19,6 +19,7 @@ mod next_write;
 mod peer;
 mod posting;
 mod pumping;
+mod reaching;
 mod removing;
 mod server;
 mod serving;
@@ -26,5 +27,6 @@ mod stepping;
 mod through;
 
 pub use ca_server_circuit::{Cause, Effect};
+pub use ca_server_watchers::Line;
 pub use server::ServerCore;
 pub use stepping::Step;

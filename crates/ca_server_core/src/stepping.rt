@@ -1,4 +1,4 @@
-ghost use Rattle.std.specs.Prelude.{◌≡◌, false, length, take};
+ghost use Rattle.std.specs.Prelude.{◌≡◌, false, length, take, true};
 ghost use Rattle.ca_ids.specs.Table.{under};
 ghost use Rattle.ca_model.specs.ServerSteps.{Steps, output_of};
 ghost use Rattle.ca_records.specs.Store.{records_of};
@@ -61,7 +61,7 @@ impl ServerCore {
                     return Step::Handled(left.effect());
                 }
                 self.applied = more_applied(self.applied, left.is_write());
-                follow(
+                let may_have_ended = follow(
                     &mut self.circuits,
                     &mut self.records,
                     &mut self.watchers,
@@ -70,7 +70,14 @@ impl ServerCore {
                     left,
                 );
                 let effect = left.effect();
-                settle(self.alloc, &mut self.circuits, circuit, waited, effect)
+                settle(
+                    self.alloc,
+                    &mut self.circuits,
+                    circuit,
+                    waited,
+                    effect,
+                    may_have_ended,
+                )
             }
             Some(EndStep::NeedBytes) => Step::NeedBytes,
             Some(EndStep::OutputFull) => Step::OutputFull,
@@ -113,17 +120,22 @@ pub(crate) fn is_quiet(effect: FollowUp) -> bool
 }
 
 /// What a step of a circuit answers that handled a message with this effect. If its end has ended since, out of memory, nothing is left of its replies:
-/// these come after the first bytes that waited, and these alone are left.
+/// these come after the first bytes that waited, and these alone are left. Where it may not have ended its circuit is not looked up again.
 pub(crate) fn settle(
     alloc: Global,
     circuits: &mut HeldTable<Circuit>,
     circuit: Handle,
     waited: usize,
     effect: Effect,
+    may_have_ended: bool,
 ) -> Step
+    requires { may_have_ended ≡ false → is_open (under circuits.old circuit) ≡ true }
     ensures settles { Settles circuits.old circuit waited result circuits.new }
     ensures tells { (did : Effect) → result ≡ Handled did → did ≡ effect }
 {
+    if !may_have_ended {
+        return Step::Handled(effect);
+    }
     if is_open(circuits, circuit) {
         return Step::Handled(effect);
     }

@@ -10,4 +10,5 @@
 mod line;
 mod watchers;
 
+pub use line::Line;
 pub use watchers::Watchers;

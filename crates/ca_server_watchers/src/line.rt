@@ -8,7 +8,7 @@ use std::marker::Model;
 
 /// The circuits that watch one record.
 #[derive(Drop)]
-pub(crate) struct Line {
+pub struct Line {
     // The generations of their handles, by index.
     circuits: IndexMap<u16, u32>,
 }
@@ -34,16 +34,16 @@ impl Line {
         }
     }
 
-    // How many watch.
-    pub(crate) fn len(&self) -> usize
+    /// How many watch.
+    pub fn len(&self) -> usize
         ensures count { result ≡ length self.now }
         ensures apart { AreApart self.now }
     {
         self.circuits.len()
     }
 
-    // The one at this place.
-    pub(crate) fn at(&self, place: usize) -> Option<Handle>
+    /// The one at this place.
+    pub fn at(&self, place: usize) -> Option<Handle>
         ensures { result ≡ slice_get self.now place }
     {
         match self.circuits.get_index(place) {

@@ -1,4 +1,4 @@
-ghost use Rattle.std.specs.Prelude.{◌≡◌, ◌-◌, ◌↔◌, true, IfSome, OnErr, OnOk, [], length, slice_get};
+ghost use Rattle.std.specs.Prelude.{◌≡◌, ◌-◌, ◌↔◌, true, IfSome, OnErr, OnOk, [], length, option_copied, slice_get, unwrap_or};
 ghost use Rattle.ca_server_watchers.specs.Watching.{AreApart, Clears, LeavesAt, Watches, watching};
 
 use crate::line::Line;
@@ -118,21 +118,21 @@ impl Watchers {
         None
     }
 
+    /// The circuits that watch the record of this name. None if it has no list: then nobody does.
+    pub fn line(&self, name: &[u8]) -> Option<&Line>
+        ensures { unwrap_or (option_copied result) [] ≡ watching self.now name.now }
+    {
+        match self.recent_line(name) {
+            Some(line) => Some(line),
+            None => self.lines.get(name),
+        }
+    }
+
     /// The one at this place among them.
     pub fn at(&self, name: &[u8], place: usize) -> Option<Handle>
         ensures { result ≡ slice_get (watching self.now name.now) place }
     {
-        match self.recent_line(name) {
-            Some(line) => line.at(place),
-            None => self.hashed_at(name, place),
-        }
-    }
-
-    // The same by the hash of the name.
-    fn hashed_at(&self, name: &[u8], place: usize) -> Option<Handle>
-        ensures { result ≡ slice_get (watching self.now name.now) place }
-    {
-        match self.lines.get(name) {
+        match self.line(name) {
             Some(line) => line.at(place),
             None => None,
         }

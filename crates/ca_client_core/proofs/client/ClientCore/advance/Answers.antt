@@ -10,5 +10,5 @@ returns-else-not-is_reply c =
     let x = c.args.self.now in
     let yes : c.is_reply.result ≡ true = search rules in
     subst (λ (y : Client). HasAdvanced x c.args.circuit c.begun_by.result y) (sym c.recycle.ensures)
-    (subst (λ (a : Advanced). HasAdvanced x c.args.circuit a c.hear_reply-told.new.self) (sym c.begun_by.ensures)
-    (advances c.self.inside.user x c.args.circuit c.in-Message.message c.take_first.new.self c.hear_reply-told.new.self c.hear_reply-told.result c.in-Message.ensures (c.is_reply.ensures yes) c.know_message.ensures.count c.know_message.ensures.bytes c.hear_reply-told.ensures))
+    (subst (λ (a : Advanced). HasAdvanced x c.args.circuit a c.complete-told.new.self) (sym c.begun_by.ensures)
+    (advances c.self.inside.user x c.args.circuit c.in-Message.message c.take_first.new.self c.complete-told.new.self c.complete-told.result c.in-Message.ensures (c.is_reply.ensures yes) c.know_message.ensures.count c.know_message.ensures.bytes c.complete-told.ensures))

@@ -1,4 +1,4 @@
-use Rattle.std.proofs.Common.{◌-◌, ◌∙◌, sym, vec_capacity, vec_len, refl}
+use Rattle.std.proofs.Common.{◌-◌, ◌∙◌, sym, vec_capacity, vec_len}
 use Rattle.ca_requests.specs.Lines.{room_beside, with_last}
 use Rattle.ca_requests.proofs.Lined.{readies-emptied}
 use Rattle.ca_requests.proofs.line.Line.own.Goals as goal

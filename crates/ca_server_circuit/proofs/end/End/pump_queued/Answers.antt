@@ -3,7 +3,6 @@ use Rattle.ca_text.specs.Limits.{output_limit}
 use Rattle.ca_model.specs.Server.{ServerEnd}
 use Rattle.ca_model.specs.Speech.{Stored}
 use Rattle.ca_server_circuit.proofs.Pumps.{lacks-any, lacks-one, leaves-one}
-use Rattle.ca_server_circuit.specs.Subscribing.{events_of}
 use Rattle.ca_server_subscriptions.specs.Pumping.{GivesUpdate}
 use Rattle.ca_wire.specs.declared.requests.Wanted.{Wanted}
 use Rattle.ca_server_circuit.proofs.end.End.pump_queued.Goals as goal

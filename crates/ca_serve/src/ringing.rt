@@ -1,0 +1,115 @@
+use crate::locked::Shared;
+use crate::processing::Device;
+use crate::work::Work;
+use ca_arena::Handle;
+use mio::Waker;
+use std::alloc::Global;
+use std::mem;
+use std::sync::ledger::Ledger;
+use std::sync::{Arc, Condvar, Wait};
+use std::time::Clock;
+
+// A thread rings so many bells by itself, at most: each ring is a call of the system.
+const FEW: usize = 8;
+
+/// How the thread of a circuit is woken.
+#[derive(Drop)]
+pub(crate) struct Bell {
+    pub(crate) circuit: Handle,
+    pub(crate) waker: Arc<Waker>,
+    /// The thread waits for bytes, nothing waits to be sent on its circuit, and nobody is about to wake it.
+    pub(crate) is_idle: bool,
+}
+
+/// Bells that are rung once the lock is let go.
+#[derive(Drop)]
+pub(crate) struct Rings {
+    wakers: Vec<Arc<Waker>>,
+    // The ringing thread has got some.
+    are_handed_over: bool,
+}
+
+impl Rings {
+    pub(crate) fn new(alloc: Global) -> Rings {
+        Rings {
+            wakers: Vec::new(alloc),
+            are_handed_over: false,
+        }
+    }
+
+    pub(crate) fn is_empty(&self) -> bool {
+        self.wakers.is_empty()
+    }
+
+    /// The bell is to ring, if its thread is idle. Without memory for that it rings at once.
+    pub(crate) fn take(&mut self, bell: &mut Bell) {
+        if !bell.is_idle {
+            return;
+        }
+        bell.is_idle = false;
+        match Arc::try_clone(&bell.waker) {
+            Ok(waker) => self.add(waker),
+            Err(_) => ring(&bell.waker),
+        }
+    }
+
+    fn add(&mut self, waker: Arc<Waker>) {
+        if let Err(refused) = self.wakers.push(waker) {
+            ring(&refused.value);
+        }
+    }
+
+    /// If these are more than a few, all go to those of the ringing thread.
+    pub(crate) fn hand_over(&mut self, others: &mut Rings) {
+        if self.wakers.len() <= FEW {
+            return;
+        }
+        while let Some(waker) = self.wakers.pop() {
+            others.add(waker);
+        }
+        self.are_handed_over = true;
+    }
+
+    /// Rings them, or has the ringing thread ring those that it has got.
+    pub(crate) fn ring_all(&mut self, rung: &Condvar) {
+        if self.are_handed_over {
+            self.are_handed_over = false;
+            rung.notify_all();
+        }
+        while let Some(waker) = self.wakers.pop() {
+            ring(&waker);
+        }
+    }
+}
+
+/// Wakes a thread. A wake that fails was of a thread that is at its end.
+pub(crate) fn ring(waker: &Waker) {
+    let _gone = waker.wake();
+}
+
+/// The thread that rings bells where there are many, so that whoever wrote goes on.
+#[derive(Drop)]
+pub(crate) struct Ringer<L: Ledger, D: Device> {
+    pub(crate) shared: Arc<Shared<L, D>>,
+}
+
+impl<L: Ledger, D: Device> Work<()> for Ringer<L, D> {
+    // Rings what was handed over, with no lock held. At the end all bells are rung by whoever ends the server.
+    fn run<R: Wait + Clock>(self, rt: &R) {
+        let Ringer { shared } = self;
+        let mut rings = Rings::new(shared.alloc);
+        for _ in rt.forever() {
+            let mut guard = shared.rung.wait_while(
+                rt,
+                shared.locked.lock(rt),
+                |l| l.rings.is_empty() && !l.ending,
+            );
+            if guard.ending {
+                break;
+            }
+            mem::swap(&mut guard.rings, &mut rings);
+            drop(guard);
+            rings.ring_all(&shared.rung);
+        }
+    }
+}

@@ -1,0 +1,45 @@
+ghost use Rattle.std.specs.Prelude.{◌≡◌, [], option_copied, unwrap_or};
+ghost use Rattle.ca_records.specs.Puts.{record_named};
+ghost use Rattle.ca_records.specs.Store.{records_of};
+ghost use Rattle.ca_server_core.specs.Asking.{AreAllAmong, busy_circuit, circuit_busy};
+
+use crate::server::ServerCore;
+use ca_arena::Handle;
+use ca_records::ServedRecords;
+use ca_records::for_histories::busy_put;
+use ca_server_watchers::Line;
+
+// Which circuits a call of the server reaches, beside the one that it is of.
+impl ServerCore {
+    /// The circuits that a write, a post or a finish of the record of this name may have left updates on: each that has a subscription on
+    /// the record is among them. None if nobody has one.
+    ///
+    /// Others may be among them. Right after such a call those are, too, whose ends it ended, as there was no memory for their updates.
+    pub fn watching(&self, name: &[u8]) -> Option<&Line>
+        ensures { AreAllAmong self.now name.now
+            (unwrap_or (option_copied result) []) }
+    {
+        self.watchers.line(name)
+    }
+
+    /// The circuit of the put that makes the record of this name busy, which gets the reply of the next finish. None if no put does, or no
+    /// record has the name.
+    pub fn busy_circuit(&self, name: &[u8]) -> Option<Handle>
+        ensures { result ≡ busy_circuit self.now name.now }
+    {
+        circuit_of_busy(&self.records, name)
+    }
+}
+
+/// The circuit of the put that makes the record of this name busy.
+fn circuit_of_busy(records: &ServedRecords, name: &[u8]) -> Option<Handle>
+    ensures { result ≡ circuit_busy (record_named (records_of records.now) name.now) }
+{
+    let Some(place) = records.find(name) else {
+        return None;
+    };
+    match busy_put(records.at(place)) {
+        Some(put) => Some(put.circuit),
+        None => None,
+    }
+}
