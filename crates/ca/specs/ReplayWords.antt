@@ -26,12 +26,14 @@ abbrev pub IsMeant : (given_file given_seed : Option Text) → Option ReplayLine
 IsMeant given_file given_seed (Some line) = Means given_file given_seed line.file.now line.seed
 IsMeant given_file given_seed None = (file : Text) (seed : Option ℕ) → Means given_file given_seed file seed → ⊥
 
--- The words after `replay` name this file and this seed: clap finds no fault in them, and it is what they give.
+-- The words after `replay` name this file and this seed: clap finds no fault in them, and
+-- it is what they give.
 abbrev pub Names : List Text → Text → Option ℕ → Type 0
 Names words file seed =
     (has_escape words ≡ false) × (fault_of replay_app words ≡ []) × Means (given (codes "file") words) (given (codes "seed") words) file seed
 
--- What was read of the words after `replay`: the line that they name, or nothing where they name none.
+-- What was read of the words after `replay`: the line that they name, or nothing
+-- where they name none.
 abbrev pub IsNamed : List Text → Option ReplayLine → Type 0
 IsNamed words (Some line) = Names words line.file.now line.seed
 IsNamed words None = (file : Text) (seed : Option ℕ) → Names words file seed → ⊥

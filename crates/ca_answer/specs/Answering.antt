@@ -11,8 +11,8 @@ use Rattle.ca_records.specs.Record.{RecordState}
 use Rattle.ca_records.specs.Rules.{Rule}
 use Rattle.ca_model.specs.Answer.{Answered}
 
--- The bytes are readings of these messages, then the rest; the messages are answered by a text; and what the sink took since k0, with what
--- waits after it, is that text.
+-- The bytes are readings of these messages, then the rest; the messages are answered by a text; and
+-- what the sink took since k0, with what waits after it, is that text.
 pub record Written {K : Type 0} (takes : K → List ℕ → K → Type 0) (rules : List Rule) (states : List RecordState) (k0 : K) (bytes : List ℕ) (k : K) (rest waits : List ℕ) : Type 0 where
   pub ms : List Fields
   pub begins : Begins bytes ms rest
@@ -22,7 +22,8 @@ pub record Written {K : Type 0} (takes : K → List ℕ → K → Type 0) (rules
   pub wrote : Moves takes k0 writes k
   pub parts : concat writes ++ waits ≡ text
 
--- From s0 to s the source gave these chunks, and from k0 to k the sink took the answers, but for those that wait.
+-- From s0 to s the source gave these chunks, and from k0 to k the sink took the answers, but
+-- for those that wait.
 pub record Turned {S K : Type 0} (gives : S → List ℕ → S → Type 0) (takes : K → List ℕ → K → Type 0) (rules : List Rule) (states : List RecordState) (s0 s : S) (k0 k : K) (chunks : List (List ℕ)) (rest waits : List ℕ) : Type 0 where
   pub came : Moves gives s0 chunks s
   pub written : Written takes rules states k0 (concat chunks) k rest waits

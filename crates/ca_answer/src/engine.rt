@@ -20,7 +20,8 @@ use ca_text::{ENGINE_TURNS, OUTPUT_LIMIT, Refusal, SERVER_PORT};
 use ca_wire::Pipe;
 use std::marker::Model;
 
-/// A server with one circuit, and how many bytes wait on it to be handed to the sink: the answers to the messages that were handled.
+/// A server with one circuit, and how many bytes wait on it to be handed to the sink: the answers
+/// to the messages that were handled.
 #[derive(Drop)]
 pub(crate) struct Engine {
     core: ServerCore,
@@ -59,7 +60,8 @@ impl Engine {
         self.core.give(self.circuit, bytes)
     }
 
-    // Answers the messages that came, and hands the answers to the sink: as soon as many bytes wait, and before it ends.
+    // Answers the messages that came, and hands the answers to the sink: as soon as many bytes
+    // wait, and before it ends.
     pub(crate) fn drain<K: Sink>(&mut self, sink: &mut K, turns: &mut u64) -> Result<(), Refusal>
         requires few { self.old.waiting < output_limit }
         requires within { turns.old ≤ engine_turns }
@@ -111,7 +113,8 @@ impl Engine {
         }
     }
 
-    // Handles the next message, finishes the record that it made busy, and pumps once. So many bytes wait then.
+    // Handles the next message, finishes the record that it made busy, and pumps once. So
+    // many bytes wait then.
     fn serve_next(&mut self, waiting: &mut usize) -> Step
         ensures served { ServesAndPumps self.old.core self.old.circuit (stepped result) waiting.new
             self.new.core }
@@ -120,8 +123,8 @@ impl Engine {
         self.core.serve_and_pump(self.circuit, waiting)
     }
 
-    // So many bytes wait after a message and a pump, which was made as if nothing had waited before. Then so little waits that the next message
-    // is handled.
+    // So many bytes wait after a message and a pump, which was made as if nothing had waited
+    // before. Then so little waits that the next message is handled.
     fn keep<K: Sink>(
         &mut self,
         waiting: usize,
@@ -145,12 +148,14 @@ impl Engine {
         if waiting >= OUTPUT_LIMIT {
             return self.make_room(sink, turns);
         }
-        // Fewer bytes than before wait where the end has ended, without memory for an update. Then it left them.
+        // Fewer bytes than before wait where the end has ended, without memory for an
+        // update. Then it left them.
         self.waiting = self.waiting.max(waiting);
         Ok(())
     }
 
-    // So much waits that a pump had to stop. Hands over what waited before the message, pumps on, and hands over the rest.
+    // So much waits that a pump had to stop. Hands over what waited before the message, pumps on,
+    // and hands over the rest.
     #[inline(never)]
     fn make_room<K: Sink>(&mut self, sink: &mut K, turns: &mut u64) -> Result<(), Refusal>
         requires within { turns.old ≤ engine_turns }
@@ -176,8 +181,9 @@ impl Engine {
         Ok(())
     }
 
-    // Hands what waited to the sink, of what an end has left. What it left after that belongs to a message that was not answered whole. In line, since
-    // for a call each step would be put into memory, where it is large.
+    // Hands what waited to the sink, of what an end has left. What it left after that belongs to a
+    // message that was not answered whole. In line, since for a call each step would be put into
+    // memory, where it is large.
     #[inline(always)]
     fn hand_left<K: Sink>(&self, left: &Pipe, sink: &mut K, turns: &mut u64) -> Result<(), Refusal>
         requires within { turns.old ≤ engine_turns }

@@ -22,11 +22,13 @@ module _ {T : Type 0} where
   freed_end slots zero index = index
   freed_end slots (suc count) index = freed_end slots count (link_read (slice_get slots index))
 
-  -- what the fields stand for: the slots, how many indices are free again, and which one was freed last
+  -- what the fields stand for: the slots, how many indices are free again, and
+  -- which one was freed last
   abbrev pub contents_of : List (Slot T) → ℕ → ℕ → Contents T
   contents_of slots freed first = record { given = map place_of slots; freed = freed_from slots freed first }
 
-  -- the fields stand for something sound; each index has a value, is free or is retired; and after the last of the free ones comes none
+  -- the fields stand for something sound; each index has a value, is free or is retired; and after
+  -- the last of the free ones comes none
   pub record IsLaidOut (slots : List (Slot T)) (freed first retired : ℕ) : Type 0 where
     pub sound : IsSound (contents_of slots freed first)
     pub counted : live_count (map place_of slots) + freed + retired ≡ length slots

@@ -95,7 +95,8 @@ impl<T> Blocks<T> {
 
     // Makes blocks until there is room for so many more items. It changes no item.
     //
-    // Inlined, its loop would have the compiler clear the room for what `append` returns at each `insert`: 7 % of a round.
+    // Inlined, its loop would have the compiler clear the room for what `append` returns at each
+    // `insert`: 7 % of a round.
     #[inline(never)]
     pub(crate) fn make_room(&mut self, more: usize) -> Result<(), AllocError>
         requires { length self.old.items + more ≤ arena_slots }

@@ -7,7 +7,8 @@ use ca_dbr::Outcome;
 use ca_text::Refusal;
 use std::alloc::Global;
 
-/// A ticket's outcome is there once it is filled, for the first that collects it; and then its cell is free once.
+/// A ticket's outcome is there once it is filled, for the first that collects it; and then
+/// its cell is free once.
 pub(crate) fn outcome_is_given_once(alloc: Global) -> Result<bool, Refusal> {
     let (board, mut core) = Board::new(alloc)?;
     let mut caller = board.caller(&mut core);
@@ -90,7 +91,8 @@ fn ends_by_give_up(
     found && freed
 }
 
-// Whether the old ticket gives nothing once the new one is filled, and the new one gives its outcome.
+// Whether the old ticket gives nothing once the new one is filled, and the new
+// one gives its outcome.
 fn is_stale(
     board: &Board,
     core: &mut CoreSeat,
@@ -107,7 +109,8 @@ fn is_stale(
     gone && fresh
 }
 
-/// A cell again and again, more often than 16 bits count: how many generations gave their outcome, and then nothing.
+/// A cell again and again, more often than 16 bits count: how many generations gave their
+/// outcome, and then nothing.
 pub(crate) fn each_generation(alloc: Global) -> Result<usize, Refusal> {
     let (board, mut core) = Board::new(alloc)?;
     let mut caller = board.caller(&mut core);
@@ -135,7 +138,8 @@ fn is_given(
     Ok(ticket.generation == generation && given && freed)
 }
 
-/// The outcome of a ticket that was given up comes back to the core, also where the cell was freed before.
+/// The outcome of a ticket that was given up comes back to the core, also where the
+/// cell was freed before.
 pub(crate) fn fill_after_give_up(alloc: Global) -> Result<bool, Refusal> {
     let (board, mut core) = Board::new(alloc)?;
     let mut caller = board.caller(&mut core);
@@ -178,7 +182,8 @@ fn comes_back_late(
     gone && freed && back && none
 }
 
-/// A ticket that is taken back gives nothing, and its cell is free, also where a caller gave it up before.
+/// A ticket that is taken back gives nothing, and its cell is free, also where a
+/// caller gave it up before.
 pub(crate) fn taken_back_is_free(alloc: Global) -> Result<bool, Refusal> {
     let (board, mut core) = Board::new(alloc)?;
     let mut caller = board.caller(&mut core);

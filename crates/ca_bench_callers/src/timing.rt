@@ -16,7 +16,8 @@ use std::time::{Clock, Instant};
 /// Waits for at most so many turns.
 const TURNS: u64 = 1_000_000;
 
-/// What is measured: at this port, by so many callers, so many reads of TEMP each, with so many outstanding at each.
+/// What is measured: at this port, by so many callers, so many reads of TEMP each, with so many
+/// outstanding at each.
 #[derive(Clone, Copy)]
 pub(crate) struct Course {
     pub(crate) port: u16,

@@ -1,4 +1,5 @@
--- Vocabulary: what each call of C does to a client: the contract of the call of `ClientCore` that it makes, with the number that it answers.
+-- Vocabulary: what each call of C does to a client: the contract of the call of `ClientCore` that
+-- it makes, with the number that it answers.
 use Rattle.std.specs.Prelude.{ℕ, ℤ, pos, ◌≡◌, ◌<◌, ◌≢◌, ◌⊎◌, ◌++◌, ◌+◌, Bool, List, [], ◌∷◌, Option, Some, None, Result, Ok, Err, drop, if◌then◌else◌, is_some, length, map, min, option_map, slice_get, take}
 use Rattle.ca_arena.specs.declared.handle.Handle.{Handle}
 use Rattle.ca_client_core.specs.Forms.{stated}

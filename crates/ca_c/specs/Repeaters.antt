@@ -1,4 +1,5 @@
--- Vocabulary: what each call of C does to a repeater: the contract of the call of `RepeaterCore` that it makes, with the number that it answers.
+-- Vocabulary: what each call of C does to a repeater: the contract of the call of `RepeaterCore`
+-- that it makes, with the number that it answers.
 use Rattle.std.specs.Prelude.{ℕ, ℤ, pos, ◌≡◌, ◌⊎◌, ◌+◌, List, [], Option, Some, None, Result, Ok, Err, Vec, filter, if◌then◌else◌, is_some, not, slice_get}
 use Rattle.std.specs.declared.alloc.Global.{Global}
 use Rattle.ca_repeat.specs.Addresses.{same}

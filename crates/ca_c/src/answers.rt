@@ -65,7 +65,8 @@ pub(crate) fn copied(bytes: &[u8], room: &mut [u8]) -> usize
     bytes.len()
 }
 
-/// Copies the image of a value in this type, as far as there is room for it, and writes how long it is. Refused as BadType, then as OutOfMemory.
+/// Copies the image of a value in this type, as far as there is room for it, and writes how long it
+/// is. Refused as BadType, then as OutOfMemory.
 pub(crate) fn shown(
     alloc: Global,
     data_type: u16,

@@ -189,7 +189,8 @@ fn step(core: &mut ClientCore, mut words: Words<'_>, answer: &mut Answer) -> Res
     }
 }
 
-/// `hear CIRCUIT BYTES`: gives the bytes, steps until more are needed, and takes what is to be sent.
+/// `hear CIRCUIT BYTES`: gives the bytes, steps until more are needed, and
+/// takes what is to be sent.
 fn hear(
     alloc: Global,
     core: &mut ClientCore,

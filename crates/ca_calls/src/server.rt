@@ -107,7 +107,8 @@ fn on(word: &str, ids: &[u32], answer: &mut Answer) -> Result<(), Refusal> {
     Ok(())
 }
 
-/// `handle CIRCUIT BYTES`: gives the bytes, steps until no message is handled, pumps, and takes what is to be sent.
+/// `handle CIRCUIT BYTES`: gives the bytes, steps until no message is handled, pumps, and
+/// takes what is to be sent.
 fn handle(
     alloc: Global,
     core: &mut ServerCore,

@@ -18,7 +18,8 @@ abbrev pub IsOther : Answer → Type 0
 IsOther answer.Filled = ⊥
 IsOther r = Unit {0}
 
--- As many steps read a reply as may; or fewer did, and then one did something else, and was the last.
+-- As many steps read a reply as may; or fewer did, and then one did something
+-- else, and was the last.
 abbrev pub HasSteppedOn : Handle → ℕ → StateView → Steps → StateView → Type 0
 HasSteppedOn c most old r new =
     ((r.replies ≡ most) × (r.answer ≡ answer.Filled) × Replies c most old new)

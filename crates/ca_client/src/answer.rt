@@ -6,7 +6,8 @@ use ca_text::Refusal;
 pub enum Answer {
     /// It read a message, or cleared the channel, with these notices.
     Notices(Notices),
-    /// It read a reply, which completed one request, or which none awaited: there is no other notice.
+    /// It read a reply, which completed one request, or which none awaited:
+    /// there is no other notice.
     Filled,
     /// No complete message is there.
     NeedBytes,

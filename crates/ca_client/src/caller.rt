@@ -40,7 +40,8 @@ impl Caller {
         self.board.give_up(&mut self.seat, ticket)
     }
 
-    /// Whether a ticket has ended, so that no outcome comes of it. It waits for nobody, and changes nothing.
+    /// Whether a ticket has ended, so that no outcome comes of it. It waits for nobody,
+    /// and changes nothing.
     pub fn has_ended(&mut self, ticket: Ticket) -> bool
         ensures ended { IsTrue result → HasFoundEnded self.old ticket self.new }
         ensures open { IsFalse result → HasFoundOpen self.old ticket self.new }

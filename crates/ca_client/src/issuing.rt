@@ -12,7 +12,8 @@ use ca_text::{BOARD_CELLS, Refusal};
 
 /// Arms a cell for a request, makes it, and keeps its ticket.
 ///
-/// Refused as NoCell if every cell is in use, and then as the core refuses it; then the ticket is taken back, and its cell is free again.
+/// Refused as NoCell if every cell is in use, and then as the core refuses it; then the ticket is
+/// taken back, and its cell is free again.
 pub fn issue_under_lock(
     state: &mut ClientState,
     request: &Request,

@@ -19,8 +19,8 @@ use ca_board::{Board, CoreSeat, Ticket};
 use ca_client_core::{Advanced, Closing, Stepped};
 use ca_client_tables::First;
 
-/// Makes one call of the core, hands the outcome of each request that it completes to the request's ticket, and hands back the other
-/// notices.
+/// Makes one call of the core, hands the outcome of each request that it completes to the request's
+/// ticket, and hands back the other notices.
 pub fn step_under_lock(state: &mut ClientState, asked: Ask) -> Answer
     ensures { HasSteppedUnderLock state.old asked result state.new }
 {
@@ -30,7 +30,8 @@ pub fn step_under_lock(state: &mut ClientState, asked: Ask) -> Answer
     step_any(state, asked)
 }
 
-// The same. Most calls are steps, and a function pays for the locals of all that it takes into itself: so the other calls stand out of line.
+// The same. Most calls are steps, and a function pays for the locals of all that it takes into
+// itself: so the other calls stand out of line.
 #[inline(never)]
 fn step_any(state: &mut ClientState, asked: Ask) -> Answer
     ensures { HasSteppedUnderLock state.old asked result state.new }

@@ -27,8 +27,9 @@ enum Turned {
     Cut(Closing),
 }
 
-/// Moves bytes between a circuit and its socket, by at most 16 reads and writes. A fault of the socket cuts the circuit, and so do bytes
-/// for which there is no memory: then it answers as a step with `Ask::Cut`.
+/// Moves bytes between a circuit and its socket, by at most 16 reads and writes. A fault of the
+/// socket cuts the circuit, and so do bytes for which there is no memory: then it answers as a
+/// step with `Ask::Cut`.
 pub fn turn_over<S: Socket>(
     state: &mut ClientState,
     circuit: Handle,

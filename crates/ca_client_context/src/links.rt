@@ -39,7 +39,8 @@ struct Watched<S: Socket + Drop> {
     came: bool,
     // Nothing more is read in this turn: the last read left nothing, or a caller sends.
     //
-    // What came is handled before the next read, which may find that the server has closed the circuit.
+    // What came is handled before the next read, which may find that the server
+    // has closed the circuit.
     drained: bool,
     // The last write left something, and the system may have room for it.
     behind: bool,
@@ -88,7 +89,8 @@ impl<S: Socket + Drop> Socket for Watched<S> {
     }
 }
 
-// When each circuit was last tried, at the index of its handle: that of a name server is wanted again under the same handle.
+// When each circuit was last tried, at the index of its handle: that of a name server is wanted
+// again under the same handle.
 #[derive(Drop)]
 pub(crate) struct Tries {
     last: Vec<Option<(Handle, u64)>>,
@@ -204,7 +206,8 @@ pub(crate) struct Brought {
     pub(crate) any: bool,
     // Messages, or bytes, are left for the next turn, or may be.
     pub(crate) more: bool,
-    // Messages came that complete no request, or circuits ended: so there may be something to do for the thread of input and output.
+    // Messages came that complete no request, or circuits ended: so there may be something to do
+    // for the thread of input and output.
     pub(crate) news: bool,
 }
 
@@ -265,7 +268,8 @@ pub(crate) fn is_any_behind(links: &[Link]) -> bool {
     links.iter().any(|link| link.wire.behind)
 }
 
-// Sends what waits on all circuits, as far as that can be now. It says whether all went and no circuit ended.
+// Sends what waits on all circuits, as far as that can be now. It says whether all went
+// and no circuit ended.
 pub(crate) fn send_all(
     state: &mut ClientState,
     links: &mut Vec<Link>,
@@ -369,7 +373,8 @@ fn serve_one(state: &mut ClientState, link: &mut Link, told: &mut Vec<Heard>) ->
 }
 
 impl Link {
-    // What is left to be moved after a turn, and may be: after bytes that make no message there may be the end of the stream, of which nothing tells again.
+    // What is left to be moved after a turn, and may be: after bytes that make no message there may
+    // be the end of the stream, of which nothing tells again.
     fn left(&self, brought: Brought) -> Brought {
         let is_behind = !self.wire.drained || self.wire.behind;
         Brought {

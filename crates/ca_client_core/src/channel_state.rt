@@ -18,7 +18,8 @@ pub enum ChannelState {
     Connecting,
     /// It is being created.
     Creating,
-    /// It is live: its native type, its greatest count, and its access rights, the bits 1 to read and 2 to write.
+    /// It is live: its native type, its greatest count, and its access rights, the bits 1 to
+    /// read and 2 to write.
     Live(u16, u32, u32),
     /// Its record was removed.
     Leaving,

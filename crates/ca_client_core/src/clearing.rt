@@ -17,10 +17,11 @@ use ca_text::Refusal;
 use ca_wire::{Cid, Sid, clear_request};
 
 impl ClientCore {
-    /// Clears a channel: its handle names nothing from now on, and each of its open requests is complete with Disconnected, in
-    /// order of issue.
+    /// Clears a channel: its handle names nothing from now on, and each of its open requests is
+    /// complete with Disconnected, in order of issue.
     ///
-    /// Refused as StaleHandle if the handle is stale, then as OutOfMemory, only for the CLEAR_CHANNEL of a live channel.
+    /// Refused as StaleHandle if the handle is stale, then as OutOfMemory, only for the
+    /// CLEAR_CHANNEL of a live channel.
     pub fn clear(&mut self, channel: Handle) -> Result<Notices, Refusal>
         ensures { (sent : List Sending)
             × ClientClears self.old channel result sent self.new }
@@ -91,7 +92,8 @@ impl ClientCore {
         }
     }
 
-    // The requests and subscriptions of a channel that was live are over, and it waits for the answer to its clear.
+    // The requests and subscriptions of a channel that was live are over, and it waits for the
+    // answer to its clear.
     fn end_all(&mut self, circuit: Handle, channel: Handle) -> Notices
         requires { WasLiveOn channel circuit self.old }
         ensures told { result ≡ disconnections (asks_on channel) self.old }

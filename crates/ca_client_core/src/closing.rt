@@ -8,7 +8,8 @@ use std::marker::Model;
 pub struct Closing {
     /// Why.
     pub why: Why,
-    /// Its open requests complete with Disconnected, in order of issue, and then its live channels are lost, in order of index.
+    /// Its open requests complete with Disconnected, in order of issue, and then its live channels
+    /// are lost, in order of index.
     pub notices: Notices,
     /// The bytes that waited to be sent.
     pub left: Pipe,

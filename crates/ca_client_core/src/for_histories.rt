@@ -21,7 +21,8 @@ pub enum Aim {
     Subscribe(Handle, Handle),
 }
 
-/// A message that a client is about to send without being called for it, on which circuit, and what it is for.
+/// A message that a client is about to send without being called for it, on which
+/// circuit, and what it is for.
 #[derive(Debug, Drop)]
 pub struct Sending {
     pub circuit: Handle,
@@ -51,8 +52,8 @@ pub fn live_on(core: &ClientCore, channel: Handle) -> Option<LiveOn>
     }
 }
 
-/// Why a read or a subscription of so many elements of this type is refused while an id is free for it. Both may be greater than any that a
-/// message carries.
+/// Why a read or a subscription of so many elements of this type is refused while an id is free for
+/// it. Both may be greater than any that a message carries.
 pub fn ask_refusal(
     core: &ClientCore,
     channel: Handle,
@@ -103,8 +104,8 @@ pub fn flow_of(core: &ClientCore, circuit: Handle, more: bool) -> Option<Command
     }
 }
 
-/// What the next message of a circuit will make the client send, as it is now, if a step reads one; nothing, if no complete message waits
-/// to be read. Only a message to send takes memory.
+/// What the next message of a circuit will make the client send, as it is now, if a step reads one;
+/// nothing, if no complete message waits to be read. Only a message to send takes memory.
 pub fn sent_by_step(core: &ClientCore, circuit: Handle) -> Result<Vec<Sending>, AllocError>
     ensures { TellsNext core.now circuit result }
 {

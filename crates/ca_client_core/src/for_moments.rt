@@ -1,4 +1,5 @@
-//! What a moment will make a client send, for whoever records histories. No client needs these calls.
+//! What a moment will make a client send, for whoever records histories. No
+//! client needs these calls.
 ghost use Rattle.std.specs.Prelude.{◌≡◌, ◌≢◌, [], true, Err, IfOk, List, OnErr, OnOk};
 ghost use Rattle.ca_text.specs.declared.refusal.Refusal.TheVariants.{OutOfMemory};
 ghost use Rattle.ca_wire.specs.Fields.{Fields};

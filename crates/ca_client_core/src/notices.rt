@@ -8,7 +8,8 @@ use ca_dbr::Outcome;
 use std::alloc::Global;
 use std::marker::Model;
 
-/// What a call reports, in order: first the requests that are complete without an answer, then the channels that were lost, then anything else.
+/// What a call reports, in order: first the requests that are complete without an answer, then the
+/// channels that were lost, then anything else.
 ///
 /// To make it does not allocate, since its handles were listed before.
 #[derive(Debug, Drop)]

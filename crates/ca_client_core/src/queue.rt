@@ -13,7 +13,8 @@ use ca_wire::Message;
 use std::alloc::AllocError;
 
 impl ClientCore {
-    // Its requests and subscriptions are where its channels are, and these on circuits that are connected or wanted.
+    // Its requests and subscriptions are where its channels are, and these on circuits that are
+    // connected or wanted.
     pub(crate) fn know(&self)
         ensures { IsPlaced self.now }
     {

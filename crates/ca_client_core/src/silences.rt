@@ -99,7 +99,8 @@ impl ClientCore {
         Ok(())
     }
 
-    // An ECHO waits on a circuit whose silence asks for it, and for no other until bytes come. Without memory nothing changes.
+    // An ECHO waits on a circuit whose silence asks for it, and for no other until bytes come.
+    // Without memory nothing changes.
     fn echo(&mut self, circuit: Handle) -> Result<(), AllocError>
         ensures ok { OnOk result (self.new ≡ echoed circuit self.old) }
         ensures err { OnErr result (self.new ≡ self.old) }

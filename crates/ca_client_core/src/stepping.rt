@@ -29,7 +29,8 @@ pub enum Stepped {
     Closed(Closing),
 }
 
-/// How a step began. Most messages are replies, for which that is all; what else a step tells is large.
+/// How a step began. Most messages are replies, for which that is all; what else a
+/// step tells is large.
 #[derive(Debug, Drop)]
 pub enum Advanced {
     /// It read a reply, which completed this request with this outcome. The step is over.
@@ -45,8 +46,9 @@ pub enum Advanced {
 impl ClientCore {
     /// Reads the next message of a circuit, if a complete one is there.
     ///
-    /// The end closes at a header that is refused, and out of memory if there is none for the message, which does nothing then. A circuit
-    /// that is not connected is reported as cut, and nothing changes.
+    /// The end closes at a header that is refused, and out of memory if there is none for the
+    /// message, which does nothing then. A circuit that is not connected is reported as cut,
+    /// and nothing changes.
     pub fn step(&mut self, circuit: Handle) -> Stepped
         ensures { (sent : List Sending)
             × ClientSteps self.old circuit (stepped_as result) sent self.new }
@@ -62,7 +64,8 @@ impl ClientCore {
         }
     }
 
-    /// Begins a step, which is over if the next message is a reply, or is not complete. Else `finish` is to do the rest, before any other call.
+    /// Begins a step, which is over if the next message is a reply, or is not complete. Else
+    /// `finish` is to do the rest, before any other call.
     #[inline(always)]
     pub fn advance(&mut self, circuit: Handle) -> Advanced
         ensures { HasAdvanced self.old circuit result self.new }
@@ -113,9 +116,11 @@ impl ClientCore {
         }
     }
 
-    /// A circuit that is wanted was connected: its set-up waits to be sent, and then the channels that waited for it are created.
+    /// A circuit that is wanted was connected: its set-up waits to be sent, and then the channels
+    /// that waited for it are created.
     ///
-    /// Without memory the end has ended at once. A circuit that is not wanted, or is connected, is reported as cut, and nothing changes.
+    /// Without memory the end has ended at once. A circuit that is not wanted, or is connected, is
+    /// reported as cut, and nothing changes.
     pub fn connected(&mut self, circuit: Handle) -> Option<Closing>
         ensures { (sent : List Sending)
             × ClientConnects self.old circuit result sent self.new }

@@ -17,8 +17,8 @@ use ca_wire::{Ioid, Sid, Wanted, event_cancel_request};
 impl ClientCore {
     /// Cancels a subscription: none of its updates is reported from now on.
     ///
-    /// Refused as StaleHandle if the handle is stale, as OutputFull if too much waits for an EVENT_CANCEL, then as OutOfMemory, only for
-    /// that message.
+    /// Refused as StaleHandle if the handle is stale, as OutputFull if too much waits for an
+    /// EVENT_CANCEL, then as OutOfMemory, only for that message.
     pub fn unsubscribe(&mut self, subscription: Handle) -> Result<(), Refusal>
         ensures { (sent : List Sending)
             × ClientUnsubscribes self.old subscription result sent self.new }

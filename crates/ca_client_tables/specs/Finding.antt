@@ -61,7 +61,8 @@ tables_of x = record { channels = x.channels; circuits = x.circuits; order = x.o
 abbrev pub with_tables : Tables → Client → Client
 with_tables t x = record x { channels = t.channels; circuits = t.circuits; order = t.order }
 
--- the same while messages are received: some circuits are still to be opened, each with the handle that it will have
+-- the same while messages are received: some circuits are still to be opened, each with the
+-- handle that it will have
 pub record Halfway : Type 0 where
   pub channels : Table Channel
   pub circuits : Table ClientCircuit
@@ -114,7 +115,8 @@ undone (Some f) t = found_undone f t
 abbrev pub unopened : Halfway → Tables
 unopened t = record { channels = t.channels; circuits = t.circuits; order = t.order }
 
--- A search reply that came from this address had its effect, but that this channel is searched for still.
+-- A search reply that came from this address had its effect, but that this channel
+-- is searched for still.
 abbrev pub HasFound : Tables → Address → Fields → Option Handle → Tables → Type 0
 HasFound old from m found new =
     (x : Client) → tables_of x ≡ old
@@ -129,7 +131,8 @@ abbrev pub FindsIn : Tables → Address → Fields → Result (Option Handle) Al
 FindsIn old from m (Ok found) new = HasFound old from m found new
 FindsIn old from m (Err _) new = (new ≡ old) × TakesSome old from m
 
--- It had once the circuits are opened, and can be undone; or there was no memory for it, which changed nothing.
+-- It had once the circuits are opened, and can be undone; or there was no memory for it,
+-- which changed nothing.
 abbrev pub FindsOne : Halfway → Address → Fields → Result (Option Found) AllocError → Halfway → Type 0
 FindsOne old from m (Ok found) new =
     HasFound (opened old) from m (channel_of found) (opened new)

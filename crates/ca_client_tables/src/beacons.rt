@@ -10,7 +10,8 @@ use ca_wire::Message;
 use std::alloc::AllocError;
 use std::net::Ipv4Addr;
 
-/// A beacon that was heard: its server, the last number of that before, and whether it is an anomaly.
+/// A beacon that was heard: its server, the last number of that before, and
+/// whether it is an anomaly.
 #[derive(Clone, Copy, Debug)]
 pub struct Beacon {
     /// The address of its server.
@@ -23,8 +24,8 @@ pub struct Beacon {
     pub anomaly: bool,
 }
 
-// A beacon of the server at this port was heard; if it is an anomaly, all searches are still to begin again. Without memory nothing
-// changes.
+// A beacon of the server at this port was heard; if it is an anomaly, all searches are still to
+// begin again. Without memory nothing changes.
 pub(crate) fn hear_beacon(
     beacons: &mut BeaconTable,
     from: Address,

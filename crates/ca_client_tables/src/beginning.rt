@@ -53,7 +53,8 @@ pub(crate) fn is_same(a: Address, b: Address) -> bool
     a.host == b.host && a.port == b.port
 }
 
-/// The circuits of the name servers at these addresses, one for each address, and their order. It takes memory only if there is one.
+/// The circuits of the name servers at these addresses, one for each address, and their order. It
+/// takes memory only if there is one.
 pub fn name_circuits(
     alloc: Global,
     names: &[Address],

@@ -2,7 +2,8 @@
 ghost use Rattle.std.specs.Prelude.{◌≡◌, ◌<◌, length, slice_index_or};
 ghost use Rattle.ca_client_tables.specs.OnCircuits.{indices_of};
 
-/// The indices at which the channels of a circuit are, in order, and maybe some at which there is none.
+/// The indices at which the channels of a circuit are, in order, and maybe some at
+/// which there is none.
 #[derive(Clone, Copy, Debug)]
 pub enum Candidates<'a> {
     /// These.

@@ -15,7 +15,8 @@ use ca_wire::{Cid, Message, create_request};
 use std::alloc::{AllocError, Global};
 use std::marker::Model;
 
-/// What the reply to a CREATE_CHAN says of a channel: its SID, its native type and its greatest count.
+/// What the reply to a CREATE_CHAN says of a channel: its SID, its native type
+/// and its greatest count.
 #[derive(Clone, Copy, Debug, PartialEq, Eq)]
 pub struct Native {
     /// The id by which messages to its server name it.

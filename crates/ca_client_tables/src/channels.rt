@@ -27,7 +27,8 @@ use indexmap::IndexMap;
 use std::alloc::Global;
 use std::marker::Model;
 
-/// The channels of a client, by their handles and by their CIDs. Those on a circuit are found without a look at the others.
+/// The channels of a client, by their handles and by their CIDs. Those on a circuit are found
+/// without a look at the others.
 #[derive(Drop)]
 pub struct Channels {
     table: HeldTable<Channel>,
@@ -124,7 +125,8 @@ impl Channels {
         self.table.by_wire(wire)
     }
 
-    /// Takes the channel of this handle out. The handle is stale from then on, and its CID is free. No memory is asked for.
+    /// Takes the channel of this handle out. The handle is stale from then on, and its CID is free.
+    /// No memory is asked for.
     pub fn free(&mut self, handle: Handle) -> Option<Channel>
         ensures value { result ≡ under self.old handle }
         ensures after { self.new ≡ with_freed handle self.old }
@@ -236,7 +238,8 @@ pub fn set_standing(channels: &mut Channels, handle: Handle, standing: Standing)
     channels.leave(before, handle.index);
 }
 
-// The index is listed for the circuit to which a channel comes, if it comes to one. Whether there was memory for it.
+// The index is listed for the circuit to which a channel comes, if it comes to one. Whether
+// there was memory for it.
 fn list(circuits: &mut IndexLists, standing: Standing, index: u16) -> bool
     ensures kept { (t : Table client.Channel) → AreListed circuit_of t circuits.old
         → AreListed circuit_of t circuits.new }
@@ -262,7 +265,8 @@ pub(crate) fn put(table: &mut HeldTable<Channel>, handle: Handle, standing: Stan
     }
 }
 
-/// The channels of a circuit that has ended: those that were cleared are gone, the others are searched for again.
+/// The channels of a circuit that has ended: those that were cleared are gone, the others
+/// are searched for again.
 pub fn end_channels(
     channels: &mut Channels,
     searches: &mut IndexMap<u32, Place>,

@@ -27,7 +27,8 @@ impl Model for Connection {
     ghost invariant = { λ c. c.link.input.closed ≡ false };
 }
 
-/// A circuit to an address, under a priority: it is a name server's, or channels want it. It has an end once it is connected.
+/// A circuit to an address, under a priority: it is a name server's, or channels want it. It has an
+/// end once it is connected.
 #[derive(Debug, Drop)]
 pub struct Circuit {
     /// Where its server is.

@@ -67,7 +67,8 @@ fn let_go_at(
     searches.shift_remove(&WireId::of(handle).number());
 }
 
-/// The others that were on this circuit are searched for again, as from the beginning. All on it are at these indices.
+/// The others that were on this circuit are searched for again, as from the beginning. All on it
+/// are at these indices.
 pub(crate) fn search_again(
     channels: &mut HeldTable<Channel>,
     searches: &mut IndexMap<u32, Place>,

@@ -28,7 +28,8 @@ pub enum First {
 }
 
 impl Circuit {
-    /// Takes the first message, if it is connected. After a header that is refused nothing is left on its link.
+    /// Takes the first message, if it is connected. After a header that is refused nothing
+    /// is left on its link.
     #[inline(always)]
     pub fn take_first(&mut self, alloc: Global) -> First
         ensures { FirstAt self.old result self.new }

@@ -12,8 +12,8 @@ use std::alloc::{AllocError, Global};
 impl Circuit {
     /// Takes bytes of a read at this moment, and whether the read left more waiting.
     ///
-    /// Refused as CircuitClosed if it is not connected, then as OutOfMemory, only if there are bytes or a message to send. Nothing changes
-    /// then.
+    /// Refused as CircuitClosed if it is not connected, then as OutOfMemory, only if there are
+    /// bytes or a message to send. Nothing changes then.
     pub fn give(
         &mut self,
         alloc: Global,

@@ -10,7 +10,8 @@ use ca_ids::HeldTable;
 use ca_wire::Pipe;
 use std::alloc::Global;
 
-/// Of a circuit that has ended nothing is kept, but a name server's is wanted again: the bytes that waited.
+/// Of a circuit that has ended nothing is kept, but a name server's is wanted again:
+/// the bytes that waited.
 pub fn let_go(
     alloc: Global,
     circuits: &mut HeldTable<Circuit>,

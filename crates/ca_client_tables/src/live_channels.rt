@@ -1,4 +1,5 @@
-//! The channels that are live on each circuit, so that its end can tell without memory which were lost.
+//! The channels that are live on each circuit, so that its end can tell without
+//! memory which were lost.
 ghost use Rattle.std.specs.Prelude.{[], ◌≡◌, ◌≢◌, ◌+◌, ◌<◌, ◌≤◌, ◌++◌, ℕ, OnOk, length, vec_capacity, vec_len};
 ghost use Rattle.ca_model.specs.Client.{is_live};
 ghost use Rattle.ca_client_tables.specs.Ending.{named_at, named_in};
@@ -14,7 +15,8 @@ use std::mem;
 // So many are listed before any is taken out.
 const LEAST_LIMIT: usize = 16;
 
-/// The channels that are live on a circuit, and some that were. At the limit each that is live is listed once.
+/// The channels that are live on a circuit, and some that were. At the limit each that is
+/// live is listed once.
 #[derive(Debug, Drop)]
 pub struct LiveChannels {
     listed: Vec<Handle>,
@@ -94,7 +96,8 @@ impl Channel {
     }
 }
 
-/// Lists a channel for this circuit. Those that are live and were listed stay listed, also without memory; others may be taken out.
+/// Lists a channel for this circuit. Those that are live and were listed stay listed, also without
+/// memory; others may be taken out.
 pub fn note_live(
     alloc: Global,
     lists: &mut Vec<LiveChannels>,
@@ -151,7 +154,8 @@ pub fn list_live(channels: &Channels, circuit: Handle, room: &mut Vec<Handle>)
     }
 }
 
-// Puts the channel at this index after the others, if it is live on this circuit. There is room for it.
+// Puts the channel at this index after the others, if it is live on this circuit.
+// There is room for it.
 fn push_live(channels: &Channels, circuit: Handle, index: usize, room: &mut Vec<Handle>)
     requires { length (named_at is_live circuit index channels.now) + vec_len room.old
         ≤ vec_capacity room.old }

@@ -16,7 +16,8 @@ use ca_beacon::BeaconTable;
 use ca_ids::HeldTable;
 use std::alloc::AllocError;
 
-// The circuits that are to be opened are. Without memory what was received is undone, the last message first.
+// The circuits that are to be opened are. Without memory what was received is undone,
+// the last message first.
 pub(crate) fn open_or_undo(
     channels: &mut Channels,
     circuits: &mut HeldTable<Circuit>,

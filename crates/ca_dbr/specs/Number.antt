@@ -43,7 +43,8 @@ clipped (negsuc n) = negsuc (min n (2 ^ 32 - 1))
 abbrev pub spaces : ℕ → List ℕ
 spaces n = replicate n 32
 
--- a text that is a number: spaces, an optional minus, decimal digits, spaces, and the number that they write
+-- a text that is a number: spaces, an optional minus, decimal digits, spaces, and the
+-- number that they write
 pub record IsNumberText (text : List ℕ) (z : ℤ) : Type 0 where
   pub before : ℕ
   pub minus : Bool

@@ -1,4 +1,5 @@
--- Types of values (section "Payload Data Types"): a base type, plain or with metadata before the elements.
+-- Types of values (section "Payload Data Types"): a base type, plain or with metadata
+-- before the elements.
 use Rattle.std.specs.Prelude.{ℕ, ◌+◌, ◌*◌, ◌/◌, ◌%◌, ◌==◌, if◌then◌else◌}
 use Rattle.ca_dbr.specs.declared.data_type.BaseType.{BaseType}
 use Rattle.ca_dbr.specs.declared.data_type.BaseType.TheVariants as base

@@ -88,7 +88,8 @@ impl BaseType {
 }
 
 impl DataType {
-    /// The number in a message's field: 0 to 6 plain, 7 to 13 with status, 14 to 20 with a time stamp.
+    /// The number in a message's field: 0 to 6 plain, 7 to 13 with status, 14 to
+    /// 20 with a time stamp.
     pub fn number(self) -> u16
         ensures { result ≡ type_number self }
     {

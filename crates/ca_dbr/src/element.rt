@@ -48,7 +48,8 @@ pub(crate) fn put_bytes(bytes: &[u8], out: &mut Vec<u8>)
     }
 }
 
-/// Puts these two bytes at the end, where room was made for them. One by one, since no room is to be asked for again.
+/// Puts these two bytes at the end, where room was made for them. One by one, since no room is
+/// to be asked for again.
 fn put_two(bytes: [u8; 2], out: &mut Vec<u8>)
     requires { vec_len out.old + 2 ≤ vec_capacity out.old }
     ensures after { out.new.items ≡ out.old.items ++ bytes }
@@ -345,7 +346,8 @@ fn emptied<E: Element>(room: Vec<E>, count: usize) -> Result<Vec<E>, AllocError>
     grown(items, count)
 }
 
-/// This empty room, grown to have place for n elements. It takes the room and hands it back, so that whoever has it keeps it in registers.
+/// This empty room, grown to have place for n elements. It takes the room and hands it back, so
+/// that whoever has it keeps it in registers.
 #[inline(never)]
 fn grown<E: Element>(room: Vec<E>, count: usize) -> Result<Vec<E>, AllocError>
     requires empty { room.items ≡ [] }

@@ -90,8 +90,9 @@ fn put_elements(value: &Value, out: &mut Vec<u8>)
     }
 }
 
-/// Writes the image of a value at the end of the bytes. Refused as BadType if the type does not exist or is not
-/// the value's own, then as OutOfMemory, only if there is no room for it; the bytes are then as before.
+/// Writes the image of a value at the end of the bytes. Refused as BadType if the type does not
+/// exist or is not the value's own, then as OutOfMemory, only if there is no room for it; the
+/// bytes are then as before.
 pub fn write_value(
     number: u16,
     value: &Value,

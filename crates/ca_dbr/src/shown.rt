@@ -47,7 +47,8 @@ fn put_converted<S: Copy + Drop, T: Element, C: Conversion<S, T>>(
     Ok(())
 }
 
-/// Puts the elements of these numbers in a type other than STRING at the end, where room was made for them.
+/// Puts the elements of these numbers in a type other than STRING at the end, where
+/// room was made for them.
 fn put_numbers<S: Source>(items: &[S], base: BaseType, out: &mut Vec<u8>) -> Result<(), Refusal>
     requires other { base ≢ base_type.String }
     requires room { vec_len out.old + length items.now * element_size base ≤ vec_capacity out.old }
@@ -201,10 +202,11 @@ fn put_shown(
 
 /// Writes the image of a read at the end of the bytes: n elements of a value, in a type.
 ///
-/// A count below the present one takes the first elements, before they are converted; after the present ones
-/// elements of zero bytes follow. Refused as BadType if the type does not exist, as NoConvert if the value does not
-/// convert to it, then as BadText or OutOfRange by the first element at fault, then as OutOfMemory, only if there is no room for it; the bytes are
-/// then as before.
+/// A count below the present one takes the first elements, before they are converted; after
+/// the present ones elements of zero bytes follow. Refused as BadType if the type does not
+/// exist, as NoConvert if the value does not convert to it, then as BadText or OutOfRange by
+/// the first element at fault, then as OutOfMemory, only if there is no room for it; the
+/// bytes are then as before.
 pub fn write_shown(
     number: u16,
     count: u32,

@@ -26,8 +26,10 @@ pub struct Addition {
     pub value: Value,
 }
 
-/// What may happen to a world. What few events carry is in a box, so that all the others are small. Clients, servers and circuits are counted from 0, circuits in the order in which they were accepted; channels,
-/// requests and subscriptions by their client's accepted calls in its present life.
+/// What may happen to a world. What few events carry is in a box, so that all the others are
+/// small. Clients, servers and circuits are counted from 0, circuits in the order in which
+/// they were accepted; channels, requests and subscriptions by their client's accepted calls
+/// in its present life.
 #[derive(Drop)]
 pub enum Event {
     /// A client opens a channel.

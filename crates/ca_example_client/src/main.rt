@@ -1,5 +1,5 @@
-//! A complete client, and a server of one circuit for it in a thread: the client reads a record, writes it, waits until that is done, and
-//! reads it again.
+//! A complete client, and a server of one circuit for it in a thread: the client reads a record,
+//! writes it, waits until that is done, and reads it again.
 #![tactic(auto)]
 
 use ca_client_context::{Context, Engine, Nobody, Setting, start};

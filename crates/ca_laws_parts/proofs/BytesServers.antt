@@ -1,4 +1,5 @@
--- What an event at a server does to the ends of its circuits, and that bytes are as messages after it.
+-- What an event at a server does to the ends of its circuits, and that bytes are
+-- as messages after it.
 use Rattle.std.proofs.Common.{◌≡◌, ℕ, ◌+◌, ◌⊎◌, inl, inr, Bool, true, false, ◌&&◌, ne_eqb, cond, eqb, List, [], ◌++◌, Option, Some, None, refl, sym, ap, ◌∙◌, subst, append_assoc}
 use Rattle.std.specs.Prelude.{is_some, length, map, option_map, unwrap_or}
 use Rattle.std.proofs.lemmas.Bool.{both_ways, cases_Bool, eq-eqb}

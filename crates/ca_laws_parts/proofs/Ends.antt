@@ -1,4 +1,5 @@
--- The end of a circuit, and what else a client does on one circuit: other circuits see no difference.
+-- The end of a circuit, and what else a client does on one circuit: other
+-- circuits see no difference.
 use Rattle.std.proofs.Common.{◌≡◌, ℕ, suc, inl, inr, Bool, true, false, ◌&&◌, List, [], ◌∷◌, Option, Some, None, refl, sym, ap, ◌∙◌, subst}
 use Rattle.std.specs.Prelude.{fold, not, option_map, unwrap_or}
 use Rattle.std.proofs.lemmas.Bool.{both_ways, cases_Bool, or_cases, and_parts}

@@ -1,4 +1,5 @@
--- A client's names, as its tables change: what they name stays what was given, and each channel keeps its number.
+-- A client's names, as its tables change: what they name stays what was given, and each
+-- channel keeps its number.
 use Rattle.std.proofs.Common.{◌≡◌, ℕ, zero, suc, ◌+◌, ◌≤◌, inl, inr, Bool, true, false, cond, List, [], ◌∷◌, ◌++◌, length, Option, Some, refl, sym, ap, ◌∙◌, subst, arith}
 use Rattle.std.specs.Prelude.{find, option_map, unwrap_or}
 use Rattle.ca_text.specs.Limits.{arena_slots}

@@ -53,7 +53,8 @@ none-sent-to kept i n now x y j h keeps stays = go (eqb j.client i && j.lists.cl
     go true = as-was
     go false = as-was
 
--- One message is sent: on its circuit it may be, and what is held stays so; what is held of the others stays so too.
+-- One message is sent: on its circuit it may be, and what is held stays so; what is held of the
+-- others stays so too.
 pub one-sent : (kept : List ℕ) (i : ℕ) (n now : Names) (x y : Client) (j : Joined) (s : Sending) → HeldOn kept n x j → j.client ≡ i → KeepNames n now
     → ((channel : ℕ) → (stamped now s).intent ≡ On channel Create → (h : Handle) × At now.channels channel h × (s.message.p1 ≡ wire_of h))
     → (j.lists.client_open ≡ true → s.circuit ≡ j.at_client → Holds (Awaits j.lists kept) j.at_client n x j.lists

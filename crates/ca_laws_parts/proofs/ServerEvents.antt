@@ -1,4 +1,5 @@
--- Events at a server keep bytes as messages: posts, removals, additions, pumps, cuts, and a new life.
+-- Events at a server keep bytes as messages: posts, removals, additions, pumps,
+-- cuts, and a new life.
 use Rattle.std.proofs.Common.{◌≡◌, ℕ, suc, zero, inl, inr, Bool, true, false, ◌&&◌, cond, eqb, List, [], ◌∷◌, ◌++◌, Option, Some, None, refl, sym, ap, ◌∙◌, subst}
 use Rattle.std.specs.Prelude.{filter, length, map, not, option_map, slice_get, slice_set, take, unwrap_or}
 use Rattle.std.specs.List.{fold, list_any}

@@ -1,4 +1,5 @@
--- The events of a server keep what holds of all clients: none of them changes, and ends of circuits there stay as they are.
+-- The events of a server keep what holds of all clients: none of them changes, and ends of circuits
+-- there stay as they are.
 use Rattle.std.proofs.Common.{◌≡◌, ℕ, inl, inr, Bool, true, false, ◌&&◌, cond, eqb, List, [], ◌∷◌, ◌++◌, length, Option, Some, None, refl, sym, ◌∙◌, subst}
 use Rattle.std.specs.List.{list_any}
 use Rattle.ca_ids.specs.Wire.{wire_of}

@@ -1,4 +1,5 @@
--- How the meaning of SIDs is kept as the lists grow, and that a message is handled on the channel that was meant.
+-- How the meaning of SIDs is kept as the lists grow, and that a message is handled on the
+-- channel that was meant.
 use Rattle.std.proofs.Common.{◌≡◌, ℕ, zero, suc, ◌+◌, ◌<◌, ◌≤◌, inl, inr, List, [], ◌∷◌, ◌++◌, length, take, sym, ap, ◌∙◌, subst, arith}
 use Rattle.ca_text.specs.Place.{At}
 use Rattle.ca_text.proofs.Places.{At-append, At-one, At-snoc, At-within}

@@ -9,7 +9,8 @@ use Rattle.ca_model.specs.Speech.{Stored}
 use Rattle.ca_model.specs.History.{Cause, Update}
 use Rattle.ca_model.specs.World.{Joined, Standing}
 
--- an update that waits: the value that it carries, the place of its EVENT_ADD, and the number of its post
+-- an update that waits: the value that it carries, the place of its EVENT_ADD, and
+-- the number of its post
 pub record Numbered : Type 0 where
   pub value : Stored
   pub place : ℕ

@@ -200,8 +200,8 @@ pub fn what_a_reply_says_stays_so()
 
 /// What holds of the writes of a world (each server's records are what the log of its life tells,
 /// and each log has each write once) holds before any event. It stays so while servers and logs
-/// stay as they are and circuits go on, as is meant for events at a client; as a record is added; and as
-/// a server begins a new life.
+/// stay as they are and circuits go on, as is meant for events at a client; as a record is added;
+/// and as a server begins a new life.
 pub fn writes_stay_as_a_world_goes_on()
     ensures begins { (s : Setting) → IsSetting s → Writes (opening s) }
     ensures stays { (w new : World) → new.servers ≡ w.servers → new.server_logs ≡ w.server_logs

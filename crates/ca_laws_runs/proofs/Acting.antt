@@ -1,4 +1,5 @@
--- On which record a message acted does not change as the lists of its circuit and the log of its server grow.
+-- On which record a message acted does not change as the lists of its circuit and the
+-- log of its server grow.
 use Rattle.std.proofs.Common.{◌≡◌, ℕ, zero, suc, ◌<◌, ◌≤◌, inl, inr, List, [], ◌∷◌, ◌++◌, length, sym, ap, subst, ◌∙◌, append-nil, append_assoc, arith}
 use Rattle.std.specs.Prelude.{take}
 use Rattle.ca_text.specs.Place.{At}

@@ -56,7 +56,8 @@ use Rattle.ca_laws_runs.proofs.Stood.{IsStood}
 abbrev pub IsNoAdd : Sent → Type 0
 IsNoAdd s = (a m : ℕ) → s.intent ≡ history.On a (history.Subscribe m) → ⊥
 
--- The EVENT_ADD of a subscription that stands on a live channel in the new world, sent on its circuit since the other.
+-- The EVENT_ADD of a subscription that stands on a live channel in the new world, sent on its
+-- circuit since the other.
 pub record IsAdding (w new : World) (n k : ℕ) (s : Sent) : Type 0 where
   pub c : Joined
   pub y : ClientSide
@@ -73,7 +74,8 @@ pub record IsAdding (w new : World) (n k : ℕ) (s : Sent) : Type 0 where
 abbrev pub AddingBack : (w new : World) → Type 0
 AddingBack w new = (n : ℕ) (d : Joined) (k : ℕ) (s : Sent) → At new.circuits n d → At d.lists.up k s → IsNoAdd s ⊎ (((c : Joined) × At w.circuits n c × At c.lists.up k s) ⊎ IsAdding w new n k s)
 
--- Each of these that is for a subscription is for one that stands on a channel that is live on its circuit.
+-- Each of these that is for a subscription is for one that stands on a channel that is
+-- live on its circuit.
 abbrev AllStood : Client → List Sending → Type 0
 AllStood y sent = (i : ℕ) (s : Sending) → At sent i s → (h g : Handle) → s.aim ≡ aim.Subscribe h g → IsStood y s.circuit g h
 

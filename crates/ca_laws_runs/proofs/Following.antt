@@ -1,5 +1,5 @@
--- From what is known of a circuit, the statement's clause of updates: of each EVENT_ADD that was accepted, also one whose subscription or
--- circuit has ended.
+-- From what is known of a circuit, the statement's clause of updates: of each EVENT_ADD that was
+-- accepted, also one whose subscription or circuit has ended.
 use Rattle.std.proofs.Common.{◌≡◌, ℕ, inl, inr, Bool, true, false, List, ◌++◌, refl, sym, ap, subst, ◌∙◌}
 use Rattle.std.specs.Prelude.{map}
 use Rattle.ca_queue.specs.declared.entry.SubKey.{SubKey}

@@ -1,4 +1,5 @@
--- Each notice of a client tells what the message that it read means, of what was meant by the message that this is about.
+-- Each notice of a client tells what the message that it read means, of what was meant by the
+-- message that this is about.
 use Rattle.std.proofs.Common.{◌≡◌, ℕ, zero, suc, ◌≤◌, ◌⊎◌, inl, inr, Bool, true, false, cond, eqb, List, [], ◌∷◌, length, Option, Some, None, refl, sym, ap, ◌∙◌, subst, arith}
 use Rattle.std.proofs.lemmas.Bool.{eqb-true}
 use Rattle.ca_text.specs.Command.{command_number}

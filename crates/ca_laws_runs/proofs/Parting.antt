@@ -1,4 +1,5 @@
--- What an event adds to the logs of clients, but for a message that is read: nothing that is told, or that something is lost as an end of a circuit ended or a channel was cleared.
+-- What an event adds to the logs of clients, but for a message that is read: nothing that is told,
+-- or that something is lost as an end of a circuit ended or a channel was cleared.
 use Rattle.std.proofs.Common.{◌≡◌, ℕ, zero, suc, ◌+◌, ◌<◌, ◌⊎◌, inl, inr, Bool, true, false, ◌&&◌, cond, eqb, List, [], ◌∷◌, ◌++◌, length, Option, Some, None, refl, sym, ap, ◌∙◌, subst, arith}
 use Rattle.std.specs.Prelude.{find, is_none, map, option_and_then, option_map, slice_set, take, unwrap_or}
 use Rattle.std.proofs.lemmas.Bool.{and_from, both_ways, eq-eqb}

@@ -1,4 +1,5 @@
--- Each change of an open end, its circuit and its server's log keeps its subscriptions beside the posts that they see.
+-- Each change of an open end, its circuit and its server's log keeps its subscriptions beside the
+-- posts that they see.
 use Rattle.std.proofs.Common.{◌≡◌, ℕ, zero, suc, ◌≤◌, inl, inr, Bool, true, false, cond, not, ◌&&◌, eqb, eq-eqb, ne_eqb, List, [], ◌∷◌, ◌++◌, length, Option, Some, None, refl, sym, ap, subst, ◌∙◌, append-nil, append_assoc, arith}
 use Rattle.std.specs.Prelude.{◌%◌, drop, filter, filter_map, option_map, option_to_list, take, unwrap_or}
 use Rattle.std.specs.List.{cons_option}

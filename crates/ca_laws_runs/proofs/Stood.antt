@@ -1,4 +1,5 @@
--- A subscription that stands on a live channel: what each change of a client leaves of that. None is new but with its EVENT_ADD.
+-- A subscription that stands on a live channel: what each change of a client leaves of that. None
+-- is new but with its EVENT_ADD.
 use Rattle.std.proofs.Common.{◌≡◌, ℕ, ◌⊎◌, inl, inr, Bool, true, false, ◌&&◌, cond, eqb, List, [], ◌∷◌, ◌++◌, Option, Some, None, refl, sym, ap, ◌∙◌, subst}
 use Rattle.std.specs.Prelude.{◌==◌, Ok, filter, fold, is_some, length, not, option_map, unwrap_or}
 use Rattle.std.proofs.lemmas.Bool.{and_from, both_ways}

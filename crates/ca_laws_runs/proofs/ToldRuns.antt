@@ -1,4 +1,5 @@
--- After every run each update in a client's log was told when a message was read, and so was each notice of a channel or a subscription that does not tell Disconnected.
+-- After every run each update in a client's log was told when a message was read, and so was each
+-- notice of a channel or a subscription that does not tell Disconnected.
 use Rattle.std.proofs.Common.{◌∙◌, ◌≡◌, ℕ, suc, ◌⊎◌, inl, inr, List, [], ◌∷◌, ◌++◌, Option, Some, None, refl, sym, ap, subst}
 use Rattle.std.specs.List.{FoldsTo}
 use Rattle.ca_dbr.specs.declared.value.Outcome.{Outcome}

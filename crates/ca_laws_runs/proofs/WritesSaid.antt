@@ -1,4 +1,5 @@
--- Each put and each plain write that a client sends is that of the call that sends it, with the value that was given: what each event sends.
+-- Each put and each plain write that a client sends is that of the call that sends it, with the
+-- value that was given: what each event sends.
 use Rattle.std.proofs.Common.{◌≡◌, ℕ, zero, suc, ◌+◌, ◌⊎◌, inl, inr, Bool, true, false, ◌&&◌, cond, eqb, List, [], ◌∷◌, ◌++◌, length, Option, Some, None, refl, sym, ap, ◌∙◌, subst}
 use Rattle.std.specs.Prelude.{drop, is_none, map, option_map, slice_set, unwrap_or}
 use Rattle.std.specs.List.{FoldsTo}

@@ -7,7 +7,8 @@ use std::io::Write;
 /// The exit status of a line that is not understood.
 const NOT_UNDERSTOOD: u8 = 2;
 
-/// The exit status of an outcome, whose refusal is told on `err`: `refused: `, its number, its name.
+/// The exit status of an outcome, whose refusal is told on `err`: `refused: `,
+/// its number, its name.
 pub fn report<W: Write>(outcome: Result<(), Refusal>, err: &mut W) -> u8
     ensures { result ≡ status_of outcome }
 {

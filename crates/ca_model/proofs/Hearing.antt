@@ -1,4 +1,5 @@
--- What the messages that a client reads keep of its channels' places, and its search replies, and a circuit that is connected.
+-- What the messages that a client reads keep of its channels' places, and its search replies, and a
+-- circuit that is connected.
 use Rattle.std.proofs.Common.{◌≡◌, ℕ, inl, inr, Bool, true, false, ◌&&◌, cond, eqb, List, [], ◌∷◌, Option, Some, None, refl, sym, ap, ◌∙◌, subst}
 use Rattle.std.specs.Prelude.{is_none, option_and_then, option_map, unwrap_or}
 use Rattle.std.proofs.lemmas.Bool.{and_from, both_ways}

@@ -313,7 +313,8 @@ module _ {E : Type 0} where
 
 -- ---- whether an entry may be taken
 
--- of these subscriptions no more have an entry than there are entries, and some have two or more where fewer do
+-- of these subscriptions no more have an entry than there are entries, and some have two
+-- or more where fewer do
 both-tell : (d : SubKey → ℕ) (ks : List SubKey) → (count_by (λ k. ltb 0 (d k)) ks ≤ sum_by d ks) × (list_any (λ k. ltb 1 (d k)) ks ≡ ltb (count_by (λ k. ltb 0 (d k)) ks) (sum_by d ks))
 both-tell d [] = (omega arith, refl)
 both-tell d (k ∷ ks) =

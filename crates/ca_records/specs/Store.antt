@@ -8,7 +8,8 @@ use Rattle.ca_records.specs.Puts.{Record, new_record, record_named, with_record}
 use Rattle.ca_records.specs.Record.{RecordState}
 use Rattle.ca_records.specs.Rules.{Rule}
 
--- The places from 0 on, each with a record or free; the rules of access; and the stamp of the writes that are applied now.
+-- The places from 0 on, each with a record or free; the rules of access; and the stamp of the
+-- writes that are applied now.
 pub record Store : Type 0 where
   pub slots : List (Option Record)
   pub rules : List Rule

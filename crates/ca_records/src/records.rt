@@ -12,7 +12,8 @@ use std::alloc::{AllocError, Global};
 use std::collections::BTreeMap;
 use std::marker::Model;
 
-/// The records that a server serves, each under a name of its own, in the order in which they were defined.
+/// The records that a server serves, each under a name of its own, in the order in
+/// which they were defined.
 ///
 /// A name is looked up in a map, by as many comparisons as the logarithm of the number of records.
 #[derive(Debug, Drop)]

@@ -32,8 +32,8 @@ registers (Registration end) = true
 registers BlankBeacon = false
 registers Other = false
 
--- What is handed on of a datagram from this address: what stands after a registration; a beacon with no address
--- with its sender's in place of the second parameter; any other datagram as it is.
+-- What is handed on of a datagram from this address: what stands after a registration; a beacon
+-- with no address with its sender's in place of the second parameter; any other datagram as it is.
 abbrev pub passed : First → ℕ → List ℕ → List ℕ
 passed (Registration end) ip bytes = drop end bytes
 passed BlankBeacon ip bytes = take 12 bytes ++ (number32 ip ++ drop 16 bytes)

@@ -89,7 +89,8 @@ fn confirmation(alloc: Global, answered: bool, to: Address) -> Result<Vec<Outgoi
     Ok(sends)
 }
 
-/// Writes what is handed on of the datagram, where there is any of it, for each member but the sender.
+/// Writes what is handed on of the datagram, where there is any of it, for each
+/// member but the sender.
 fn hand_on(
     alloc: Global,
     members: &[Address],

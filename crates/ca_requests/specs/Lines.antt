@@ -1,4 +1,5 @@
--- Working: the requests of each circuit, and those of each channel, beside those of all. No clause of a caller needs it.
+-- Working: the requests of each circuit, and those of each channel, beside those of all. No clause
+-- of a caller needs it.
 use Rattle.std.specs.Prelude.{ℕ, ◌≡◌, ◌≢◌, ◌⊎◌, ◌<◌, ◌++◌, Bool, false, true, List, [], ◌∷◌, Option, Some, None, if◌then◌else◌, length, slice_index_or}
 use Rattle.std.specs.List.{AllByRecursion}
 use Rattle.ca_arena.specs.declared.handle.Handle.{Handle}

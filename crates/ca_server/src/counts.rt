@@ -11,7 +11,8 @@ ghost use Rattle.ca_text.specs.Limits.{applied_limit};
 ghost use Rattle.ca_text.specs.declared.refusal.Refusal.{Refusal};
 ghost use Rattle.ca_wire.specs.Fields.{Fields};
 
-/// By a step one write at most is applied or comes to wait, as long as the names of records are apart.
+/// By a step one write at most is applied or comes to wait, as long as the names
+/// of records are apart.
 pub fn a_step_counts_one_write()
     ensures { (old : Server) (h : Handle) (did : Stepped) (new : Server)
         → old.applied ≤ applied_limit → AreApart old.records → Steps old h did new

@@ -17,14 +17,16 @@ pub struct State<L: Ledger> {
     pub(crate) core: ServerCore,
     // How many applied writes the circuits' shares have together.
     pub(crate) count: u64,
-    // For each index of a circuit's handle: how many of its puts that waited were applied since its last step.
+    // For each index of a circuit's handle: how many of its puts that waited were applied
+    // since its last step.
     pub(crate) credits: Vec<u64>,
     pub(crate) book: Book<L>,
     ghost counted: { IsCounted core count book.total credits.items },
 }
 
 impl<L: Ledger> State<L> {
-    /// A server of this TCP port that begins at this moment with these records, under these rules. It has no circuit, and nothing is counted.
+    /// A server of this TCP port that begins at this moment with these records, under these rules.
+    /// It has no circuit, and nothing is counted.
     pub fn new(
         book: Book<L>,
         port: u16,
@@ -47,7 +49,8 @@ impl<L: Ledger> State<L> {
         })
     }
 
-    /// The count and all credits together are the writes that were applied, and with the puts that wait they are at most 2^63.
+    /// The count and all credits together are the writes that were applied, and with the puts that
+    /// wait they are at most 2^63.
     pub fn know(&self)
         ensures applied { self.now.count + sum self.now.credits.items ≡ self.now.core.applied }
         ensures most { self.now.count + sum self.now.credits.items + waiting self.now.core

@@ -7,7 +7,8 @@ use indexmap::IndexMap;
 use std::alloc::{AllocError, Global};
 use std::marker::Model;
 
-/// The open channels of a circuit by the names of their records, but for those whose record was removed.
+/// The open channels of a circuit by the names of their records, but for those
+/// whose record was removed.
 #[derive(Drop)]
 pub(crate) struct ByName {
     lines: IndexMap<Vec<u8>, Line>,
@@ -68,8 +69,8 @@ impl ByName {
         Ok(())
     }
 
-    // This channel leads to the record of this name no more. A line that has none left goes, so that names which come and go fill no
-    // memory.
+    // This channel leads to the record of this name no more. A line that has none left goes, so
+    // that names which come and go fill no memory.
     pub(crate) fn take_out(&mut self, name: &[u8], channel: Handle)
         ensures goes { Goes name.now channel self.old self.new }
         ensures gone { channels_in self.new name.now ≡ [] → line_of self.new name.now ≡ None }

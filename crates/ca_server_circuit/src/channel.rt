@@ -5,7 +5,8 @@ use ca_wire::Cid;
 use std::alloc::{AllocError, Global};
 use std::marker::Model;
 
-/// An open channel of a circuit. It takes 16 bytes in its table: most circuits have few channels, and a table takes memory for 64.
+/// An open channel of a circuit. It takes 16 bytes in its table: most circuits have few channels,
+/// and a table takes memory for 64.
 #[derive(Debug, Drop)]
 pub(crate) struct Channel {
     kept: Box<Kept>,
@@ -19,7 +20,8 @@ pub(crate) struct Kept {
     retired: bool,
     // The name of its record.
     name: Name,
-    // Where its record was as the channel was created. The record is mostly there still; its name decides.
+    // Where its record was as the channel was created. The record is mostly there
+    // still; its name decides.
     place: usize,
 }
 

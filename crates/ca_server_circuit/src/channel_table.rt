@@ -127,7 +127,8 @@ impl ChannelTable {
     }
 }
 
-// The channel under this handle is in no line any more: it is to be closed, or its record was removed.
+// The channel under this handle is in no line any more: it is to be closed, or
+// its record was removed.
 fn forget(by_name: &mut ByName, table: &HeldTable<Channel>, channel: Handle)
     requires { AreByName by_name.old table.now }
     ensures { AreByName by_name.new (with_freed channel table.now) }

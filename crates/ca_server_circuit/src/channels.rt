@@ -16,10 +16,12 @@ use std::alloc::{AllocError, Global};
 use std::collections::HashSet;
 use std::marker::Model;
 
-/// The open channels of a circuit, by their SIDs, each of which is the wire id of its channel's handle.
+/// The open channels of a circuit, by their SIDs, each of which is the wire id of
+/// its channel's handle.
 #[derive(Drop)]
 pub(crate) struct Channels {
-    // One of the channels once more, mostly the only one: with many circuits a message is handled in fewer cache lines so.
+    // One of the channels once more, mostly the only one: with many circuits a message is handled
+    // in fewer cache lines so.
     front: Option<(Handle, Kept)>,
     table: ChannelTable,
     // The CIDs in use.
@@ -186,7 +188,8 @@ impl Channels {
         leave(&mut self.front, handle);
     }
 
-    // The record of the channel under this handle was removed. Its SID and its CID are in use still.
+    // The record of the channel under this handle was removed. Its SID and its
+    // CID are in use still.
     pub(crate) fn retire(&mut self, channel: Handle)
         ensures { self.new ≡ with_changed without_record channel self.old }
     {

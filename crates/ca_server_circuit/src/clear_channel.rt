@@ -22,8 +22,8 @@ use ca_wire::{Cid, Header, Sid, clear_request};
 use std::alloc::AllocError;
 
 impl End {
-    /// CLEAR_CHANNEL on this circuit: always answered, and the SID alone decides what is cleared. The puts of the channel that wait are
-    /// never applied.
+    /// CLEAR_CHANNEL on this circuit: always answered, and the SID alone decides what is cleared.
+    /// The puts of the channel that wait are never applied.
     #[inline(never)]
     pub(crate) fn clear_channel(
         &mut self,

@@ -17,7 +17,8 @@ pub enum Effect {
     Switched(bool),
     /// A record was written on the channel of this SID, and is not to be processed for it.
     Wrote(u32),
-    /// A record was written by a put with notification on the channel of this SID, which makes it busy: it is to be processed, and finished then.
+    /// A record was written by a put with notification on the channel of this SID, which makes it
+    /// busy: it is to be processed, and finished then.
     Busied(u32),
     /// A subscription of this SID and subscription id began.
     Subscribed(u32, u32),

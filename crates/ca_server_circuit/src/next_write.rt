@@ -6,7 +6,8 @@ use ca_text::Command;
 use ca_wire::Sid;
 
 impl End {
-    // Whether the next message may be a WRITE or a WRITE_NOTIFY, by the low byte of its command: so no header is read.
+    // Whether the next message may be a WRITE or a WRITE_NOTIFY, by the low byte of its command:
+    // so no header is read.
     pub(crate) fn may_write(&self) -> bool
         ensures { result ≡ may_write self.now.link.input.bytes }
     {

@@ -39,8 +39,8 @@ pub(crate) fn put_from(circuit: Handle, channel: Handle, wanted: &Wanted) -> Put
     }
 }
 
-/// Begins the write of this payload to the record at this place under these rights: a put with notification, or a plain write,
-/// which has none. Without memory nothing changes.
+/// Begins the write of this payload to the record at this place under these rights: a put with
+/// notification, or a plain write, which has none. Without memory nothing changes.
 #[inline(always)]
 pub(crate) fn begin(
     alloc: Global,
@@ -73,8 +73,8 @@ pub(crate) fn begin(
     }
 }
 
-/// The elements of a put to this record under these rights, or its first fault before they are read. They may take the memory of a value that
-/// is used no more.
+/// The elements of a put to this record under these rights, or its first fault before they are
+/// read. They may take the memory of a value that is used no more.
 #[inline(always)]
 fn read_elements(
     alloc: Global,

@@ -83,7 +83,8 @@ impl End {
     }
 }
 
-/// Answers a read of this record under these rights: by the status of its first fault, or the value.
+/// Answers a read of this record under these rights: by the status of its first
+/// fault, or the value.
 fn answer(
     alloc: Global,
     link: &mut Link,
@@ -160,7 +161,8 @@ fn count_of(of: &Record, wanted: &Wanted) -> u32
     if count == 0 { present } else { count }
 }
 
-/// Answers a read by the elements that it is shown, whose image is made in its place, or by the status of the first that has no place in its type.
+/// Answers a read by the elements that it is shown, whose image is made in its place, or by the
+/// status of the first that has no place in its type.
 fn show(
     alloc: Global,
     link: &mut Link,

@@ -23,7 +23,8 @@ use std::alloc::AllocError;
 pub enum FollowUp {
     /// Nothing: the message did this.
     Quiet(Effect),
-    /// The write to the record at this place was applied, and is to reach its subscriptions; whether it made the record busy, and the SID of its channel.
+    /// The write to the record at this place was applied, and is to reach its subscriptions;
+    /// whether it made the record busy, and the SID of its channel.
     Wrote(usize, bool, u32),
     /// A subscription to the record at this place began; its SID, and its subscription id.
     Began(usize, u32, u32),
@@ -71,7 +72,8 @@ impl FollowUp {
 }
 
 impl End {
-    /// Handles the next message of this circuit where it came, unless 262,144 bytes wait to be sent, and drops it.
+    /// Handles the next message of this circuit where it came, unless 262,144 bytes wait to
+    /// be sent, and drops it.
     #[inline(always)]
     pub(crate) fn step(
         &mut self,
@@ -116,11 +118,13 @@ impl End {
         }
     }
 
-    /// Handles the first message of this circuit, which has this header, at a server of this TCP port, and says what it leaves the server
-    /// to do. The message stays where it came.
+    /// Handles the first message of this circuit, which has this header, at a server of this TCP
+    /// port, and says what it leaves the server to do. The message stays where it came.
     ///
-    /// If there is no memory for it the records and what waits to be sent are as they were, and the end is to be closed.
-    // What is rare is out of line, also from each other, so that a common message does not pay for its locals.
+    /// If there is no memory for it the records and what waits to be sent are as they were, and the
+    /// end is to be closed.
+    // What is rare is out of line, also from each other, so that a common message does
+    // not pay for its locals.
     #[inline(never)]
     fn handle(
         &mut self,

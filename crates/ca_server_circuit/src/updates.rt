@@ -24,8 +24,9 @@ use ca_wire::{Alone, Answered, Ioid, Wanted, update_head};
 use std::alloc::{AllocError, Global};
 
 impl End {
-    /// A post to this record: each subscription that it concerns gets an update, in their order. It says whether one is on the record. Without
-    /// memory for one some have it, and the end is to be closed.
+    /// A post to this record: each subscription that it concerns gets an update, in their
+    /// order. It says whether one is on the record. Without memory for one some have it, and
+    /// the end is to be closed.
     #[inline(always)]
     pub(crate) fn post(&mut self, of: &Record, mask: u16) -> Result<bool, AllocError>
         ensures ok { OnOk result (self.new ≡ with_post of.now.name mask
@@ -43,8 +44,9 @@ impl End {
         Ok(on)
     }
 
-    /// A post to this record and then a pump, if they leave no more than one update in the output, for which nothing need go through the
-    /// queues: it is shown at once. If it says false, all is as it was.
+    /// A post to this record and then a pump, if they leave no more than one update in the
+    /// output, for which nothing need go through the queues: it is shown at once. If it says
+    /// false, all is as it was.
     #[inline(always)]
     pub(crate) fn show_at_once(&mut self, of: &Record, mask: u16) -> bool
         requires { IsOpen self.old.link }
@@ -63,8 +65,8 @@ impl End {
         }
     }
 
-    /// Puts updates into the output until none may go. Without memory for the next the end is to be closed, and the output has those
-    /// before it.
+    /// Puts updates into the output until none may go. Without memory for the next the end is to be
+    /// closed, and the output has those before it.
     #[inline(always)]
     pub(crate) fn pump(&mut self) -> Result<(), AllocError>
         requires { IsOpen self.old.link }
@@ -126,7 +128,8 @@ impl End {
     }
 }
 
-/// Shows an update to whoever asked so: GETFAIL and zero bytes if its elements have no place in that type.
+/// Shows an update to whoever asked so: GETFAIL and zero bytes if its elements have
+/// no place in that type.
 #[inline(always)]
 fn show(alloc: Global, link: &mut Link, wanted: &Wanted, shown: &Update) -> Result<(), AllocError>
     requires open { IsOpen link.old }
@@ -142,7 +145,8 @@ fn show(alloc: Global, link: &mut Link, wanted: &Wanted, shown: &Update) -> Resu
     }
 }
 
-/// The eight bytes that show an update to whoever asked so, if it has one element, of the type that is asked for.
+/// The eight bytes that show an update to whoever asked so, if it has one element, of the
+/// type that is asked for.
 #[inline(always)]
 fn shown_alone(wanted: &Wanted, shown: &Update) -> Option<u64>
     ensures { IfSome result (λ n.
@@ -166,8 +170,9 @@ fn value_alone(wanted: &Wanted, of: &Record) -> Option<u64>
     of.value().alone(wanted.data_type)
 }
 
-/// Puts an update of one element after what waits on an open link. Without memory the link is as it was. As a call of its own it writes the
-/// message in its place; taken in line, after so many tests, it was made aside and copied by another call.
+/// Puts an update of one element after what waits on an open link. Without memory the link is as it
+/// was. As a call of its own it writes the message in its place; taken in line, after so many
+/// tests, it was made aside and copied by another call.
 #[inline(never)]
 fn send_alone(link: &mut Link, wanted: &Wanted, payload: u64) -> Result<(), AllocError>
     requires { IsOpen link.old }
@@ -237,7 +242,8 @@ fn show_image(
     }
 }
 
-/// Puts an update with n zero bytes after what waits on an open link. Without memory the link is as it was.
+/// Puts an update with n zero bytes after what waits on an open link. Without memory
+/// the link is as it was.
 #[inline(never)]
 fn send_zeros(
     alloc: Global,

@@ -24,11 +24,11 @@ use ca_wire::{Head, Wanted, put_status};
 use std::alloc::AllocError;
 
 impl End {
-    /// WRITE_NOTIFY on this circuit: refused in its reply, or applied at once, or it waits until the record is free. On a slow
-    /// record its reply comes as it is finished.
+    /// WRITE_NOTIFY on this circuit: refused in its reply, or applied at once, or it waits until
+    /// the record is free. On a slow record its reply comes as it is finished.
     ///
-    /// The reply of a quick one goes first, so that none is applied for whose reply there is no memory. It is taken back if the put is
-    /// refused, or if there is no memory for the put itself.
+    /// The reply of a quick one goes first, so that none is applied for whose reply there is no
+    /// memory. It is taken back if the put is refused, or if there is no memory for the put itself.
     #[inline(never)]
     pub(crate) fn write_notify(
         &mut self,

@@ -4,7 +4,8 @@ use crate::server::ServerCore;
 use ca_dgram::beacon;
 
 impl ServerCore {
-    /// The beacon that is due at this moment, once: 16 bytes, to be sent in a datagram of their own. None if none is due.
+    /// The beacon that is due at this moment, once: 16 bytes, to be sent in a datagram of their
+    /// own. None if none is due.
     ///
     /// A moment before one that was given counts as that one.
     pub fn beacon(&mut self, now: u64) -> Option<[u8; 16]>

@@ -12,8 +12,9 @@ use ca_ids::HeldTable;
 use ca_records::ServedRecords;
 use ca_server_circuit::{Circuit, EndStep};
 
-/// One step of a circuit's end, as `step_on`. If nothing is left to do then, its end is pumped: so a read takes one look-up of its circuit.
-/// Else it says whether the end is idle. So many bytes wait on it in the end.
+/// One step of a circuit's end, as `step_on`. If nothing is left to do then, its end is pumped: so
+/// a read takes one look-up of its circuit. Else it says whether the end is idle. So many bytes
+/// wait on it in the end.
 #[inline(always)]
 pub(crate) fn step_counting_on(
     port: u16,

@@ -11,8 +11,8 @@ use ca_records::ServedRecords;
 use ca_server_circuit::{Cause, Circuit};
 
 impl ServerCore {
-    /// Cuts a circuit: its end ends, if it is open, and its puts that wait are never applied. A step reports that, with the bytes that
-    /// are left to send. It does not allocate.
+    /// Cuts a circuit: its end ends, if it is open, and its puts that wait are never applied. A
+    /// step reports that, with the bytes that are left to send. It does not allocate.
     pub fn cut(&mut self, circuit: Handle)
         ensures { Cuts self.old circuit self.new }
     {

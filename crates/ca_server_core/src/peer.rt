@@ -6,7 +6,8 @@ use crate::server::ServerCore;
 use ca_arena::Handle;
 
 impl ServerCore {
-    /// The user's name that the client on a circuit gave: empty if it gave none. None if its end is not open.
+    /// The user's name that the client on a circuit gave: empty if it gave none. None if
+    /// its end is not open.
     pub fn user(&self, circuit: Handle) -> Option<&[u8]>
         ensures { option_map (λ t. t.now) result
             ≡ option_map (λ p. p.user) (peer_under (under self.now.circuits circuit)) }

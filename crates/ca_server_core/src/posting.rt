@@ -18,11 +18,13 @@ use ca_server_watchers::Watchers;
 use ca_text::Refusal;
 
 impl ServerCore {
-    /// The record of this name has this value from now on, with its alarm and its time stamp. It reaches all subscriptions on the record
-    /// whose mask shares a bit with this one, on all circuits. A circuit's end without memory for an update has ended.
+    /// The record of this name has this value from now on, with its alarm and its time stamp. It
+    /// reaches all subscriptions on the record whose mask shares a bit with this one, on all
+    /// circuits. A circuit's end without memory for an update has ended.
     ///
-    /// Refused as UnknownRecord if no record has the name, as BadType if the value is not of its type, and as BadCount if it has no element
-    /// or more than the greatest count. A refusal changes nothing.
+    /// Refused as UnknownRecord if no record has the name, as BadType if the value is not of
+    /// its type, and as BadCount if it has no element or more than the greatest count. A
+    /// refusal changes nothing.
     pub fn post(&mut self, name: &[u8], value: Value, meta: Meta, mask: u16) -> Result<(), Refusal>
         ensures { (gone : Handle → Bool)
             × Posts self.old name.now (record { value = elements value; meta = meta }) mask gone
@@ -40,9 +42,10 @@ impl ServerCore {
     }
 }
 
-/// The value of the record at this place reaches all subscriptions on it whose mask shares a bit with this one, on all circuits. An end
-/// without memory for an update has ended. The circuits in the record's list are visited, and no other. A list may have some that watch the
-/// record no more: these are taken out, and get nothing. It says whether there may be any.
+/// The value of the record at this place reaches all subscriptions on it whose mask shares a bit
+/// with this one, on all circuits. An end without memory for an update has ended. The circuits in
+/// the record's list are visited, and no other. A list may have some that watch the record no more:
+/// these are taken out, and get nothing. It says whether there may be any.
 #[inline(always)]
 pub(crate) fn post_to_all(
     circuits: &mut HeldTable<Circuit>,
@@ -121,7 +124,8 @@ fn post_to_one(
     post_to_this(circuits, records, watchers, place, mask, watcher, circuit);
 }
 
-/// The same for this circuit, which is at this place of the list. It is taken out if it watches the record no more.
+/// The same for this circuit, which is at this place of the list. It is taken out if it
+/// watches the record no more.
 #[inline(always)]
 fn post_to_this(
     circuits: &mut HeldTable<Circuit>,

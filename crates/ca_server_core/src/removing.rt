@@ -14,9 +14,10 @@ use ca_server_watchers::Watchers;
 use ca_text::Refusal;
 
 impl ServerCore {
-    /// Serves the record of this name no more. Its puts go with it: those that wait are never applied. On all circuits each channel to it gets a
-    /// SERVER_DISCONN, loses its subscriptions with their updates, and is retired: its SID stands for nothing until it is cleared. A circuit's
-    /// end without memory for a SERVER_DISCONN has ended.
+    /// Serves the record of this name no more. Its puts go with it: those that wait are never
+    /// applied. On all circuits each channel to it gets a SERVER_DISCONN, loses its subscriptions
+    /// with their updates, and is retired: its SID stands for nothing until it is cleared. A
+    /// circuit's end without memory for a SERVER_DISCONN has ended.
     ///
     /// Refused as UnknownRecord if no record has the name. A refusal changes nothing.
     pub fn remove_record(&mut self, name: &[u8]) -> Result<(), Refusal>
@@ -36,8 +37,8 @@ impl ServerCore {
     }
 }
 
-/// The record of this name was removed, and all circuits lose it. An end without memory for a SERVER_DISCONN has ended. Those that lead to the
-/// record are visited, and no other.
+/// The record of this name was removed, and all circuits lose it. An end without memory for a
+/// SERVER_DISCONN has ended. Those that lead to the record are visited, and no other.
 fn lose_on_all(
     circuits: &mut HeldTable<Circuit>,
     records: &mut ServedRecords,

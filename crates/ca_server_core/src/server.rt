@@ -17,8 +17,8 @@ use ca_text::Refusal;
 use std::alloc::{AllocError, Global};
 use std::marker::Model;
 
-/// A server: its records, and its ends of circuits. It does no input and no output: bytes that came are given to it, and
-/// those that wait to be sent are asked of it.
+/// A server: its records, and its ends of circuits. It does no input and no output: bytes that came
+/// are given to it, and those that wait to be sent are asked of it.
 #[derive(Drop)]
 pub struct ServerCore {
     pub(crate) alloc: Global,
@@ -62,8 +62,8 @@ impl Model for ServerCore {
 }
 
 impl ServerCore {
-    /// A server of this TCP port that begins at this moment with these records, under these rules. It has no circuit. It is refused only
-    /// if there are records, since these are copied.
+    /// A server of this TCP port that begins at this moment with these records, under these rules.
+    /// It has no circuit. It is refused only if there are records, since these are copied.
     pub fn new(
         port: u16,
         now: u64,
@@ -90,7 +90,8 @@ impl ServerCore {
         })
     }
 
-    /// A circuit is accepted, and gets a handle. Refused as ArenaFull if none may be given, then as OutOfMemory. A refusal changes nothing.
+    /// A circuit is accepted, and gets a handle. Refused as ArenaFull if none may be given, then as
+    /// OutOfMemory. A refusal changes nothing.
     ///
     /// Memory is asked for only where no index is free again.
     pub fn accept(&mut self) -> Result<Handle, Refusal>
@@ -104,7 +105,8 @@ impl ServerCore {
         open_on(&mut self.circuits, circuit)
     }
 
-    /// Takes bytes that came on a circuit. Refused as CircuitClosed if its end is not open, then as OutOfMemory. A refusal changes nothing.
+    /// Takes bytes that came on a circuit. Refused as CircuitClosed if its end is not open, then as
+    /// OutOfMemory. A refusal changes nothing.
     pub fn give(&mut self, circuit: Handle, bytes: &[u8]) -> Result<(), Refusal>
         ensures { Gives self.old circuit bytes.now result self.new }
     {
@@ -135,7 +137,8 @@ impl ServerCore {
         sent_on(&mut self.circuits, &mut self.spares, circuit, n);
     }
 
-    /// Writes that are applied from now on have this time stamp: seconds since 1990-01-01 00:00:00 UTC, and nanoseconds.
+    /// Writes that are applied from now on have this time stamp: seconds since 1990-01-01 00:00:00
+    /// UTC, and nanoseconds.
     pub fn stamp(&mut self, seconds: u32, nanos: u32)
         ensures { self.new ≡ stamped (record { seconds = seconds; nanos = nanos }) self.old }
     {

@@ -30,19 +30,22 @@ pub enum Step {
     NeedBytes,
     /// So many bytes wait to be sent that no message is handled.
     OutputFull,
-    /// The end has ended for this cause, and these bytes are left to be sent. Nothing of it is kept.
+    /// The end has ended for this cause, and these bytes are left to be sent.
+    /// Nothing of it is kept.
     Closed(Cause, Pipe),
 }
 
 impl ServerCore {
-    /// Handles the next message of a circuit, unless 262,144 bytes wait to be sent on it. A write that it applies reaches all subscriptions on
-    /// its record, on all circuits. An end without memory for an update has ended.
+    /// Handles the next message of a circuit, unless 262,144 bytes wait to be sent on it. A write
+    /// that it applies reaches all subscriptions on its record, on all circuits. An end without
+    /// memory for an update has ended.
     ///
-    /// The end closes at a header that is refused, and out of memory if there is none for the message, which changes nothing then, or
-    /// for its own update of its write, which is applied then, though no effect tells it; its replies are not sent. The puts of the circuit
-    /// that wait are never applied.
-    /// The end of a circuit is reported once, whichever call ended it. From then on, and under a handle without a circuit, a step reports a
-    /// cut.
+    /// The end closes at a header that is refused, and out of memory if there is none for the
+    /// message, which changes nothing then, or for its own update of its write, which is applied
+    /// then, though no effect tells it; its replies are not sent. The puts of the circuit that
+    /// wait are never applied.
+    /// The end of a circuit is reported once, whichever call ended it. From then on, and under a
+    /// handle without a circuit, a step reports a cut.
     pub fn step(&mut self, circuit: Handle) -> Step
         ensures steps { Steps self.old circuit (stepped result) self.new }
         ensures closes { Closes self.old circuit (stepped result) self.new }
@@ -87,8 +90,8 @@ impl ServerCore {
     }
 }
 
-/// One step of a circuit's end, which has ended if it broke, and how many bytes waited to be sent before it. None if there is no circuit, or its
-/// end had ended.
+/// One step of a circuit's end, which has ended if it broke, and how many bytes waited to be sent
+/// before it. None if there is no circuit, or its end had ended.
 #[inline(always)]
 pub(crate) fn step_on(
     port: u16,
@@ -119,8 +122,10 @@ pub(crate) fn is_quiet(effect: FollowUp) -> bool
     }
 }
 
-/// What a step of a circuit answers that handled a message with this effect. If its end has ended since, out of memory, nothing is left of its replies:
-/// these come after the first bytes that waited, and these alone are left. Where it may not have ended its circuit is not looked up again.
+/// What a step of a circuit answers that handled a message with this effect. If its end has
+/// ended since, out of memory, nothing is left of its replies: these come after the first
+/// bytes that waited, and these alone are left. Where it may not have ended its circuit is
+/// not looked up again.
 pub(crate) fn settle(
     alloc: Global,
     circuits: &mut HeldTable<Circuit>,

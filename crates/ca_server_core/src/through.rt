@@ -16,8 +16,9 @@ use ca_records::ServedRecords;
 use ca_server_circuit::{Circuit, FollowUp};
 use ca_server_watchers::Watchers;
 
-/// Does what a message of this circuit leaves to do, and pumps the circuit, if the message is a write to a record that is not busy, and either
-/// nobody watches it while the circuit is idle, or this circuit alone does, and its update is shown at once. So many bytes wait then. False, and
+/// Does what a message of this circuit leaves to do, and pumps the circuit, if the message is a
+/// write to a record that is not busy, and either nobody watches it while the circuit is idle, or
+/// this circuit alone does, and its update is shown at once. So many bytes wait then. False, and
 /// nothing changed, if more is to be done.
 #[inline(always)]
 pub(crate) fn go_through(
@@ -96,7 +97,8 @@ fn is_sole(last: Handle, before: usize, circuit: Handle) -> bool
     before == 0 && last.index == circuit.index && last.generation == circuit.generation
 }
 
-/// A post of the value of the record at this place to this circuit, and a pump of it, if its update is shown at once.
+/// A post of the value of the record at this place to this circuit, and a pump of it, if its
+/// update is shown at once.
 #[inline(always)]
 fn show_on(
     circuits: &mut HeldTable<Circuit>,

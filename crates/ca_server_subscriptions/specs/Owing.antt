@@ -48,7 +48,8 @@ module _ {E : Type 0} where
   abbrev pub HasAlone : List (Queue E) → ℕ → SubKey → Type 0
   HasAlone qs place key = HasAt qs place key × ((i : ℕ) → HasAt qs i key → i ≡ place)
 
-  -- What holds of the queues: whether events are on, whether nothing waits in them, and whom the update beside them is for.
+  -- What holds of the queues: whether events are on, whether nothing waits in them, and whom the
+  -- update beside them is for.
   pub record IsOwing (on empty : Bool) (owed : List Addressee) (qs : List (Queue E)) : Type 0 where
     pub switched : AreSwitched on qs
     pub quiet : empty ≡ true → AreEmpty qs

@@ -72,7 +72,8 @@ impl ByChannel {
         Ok(())
     }
 
-    // The last one of its channel, which `add` put there, is gone again. A line that has none left goes, as in `take_out`.
+    // The last one of its channel, which `add` put there, is gone again. A line that has none left
+    // goes, as in `take_out`.
     pub(crate) fn take_back(&mut self, key: SubKey)
         ensures back { (ids : Ids) → ids_in self.old ≡ with_id key ids → ids_in self.new ≡ ids }
         ensures gone { ids_in self.new key.sid ≡ [] → line_of self.new key.sid ≡ None }
@@ -91,8 +92,8 @@ impl ByChannel {
         line.pop();
     }
 
-    // This one, which is at this place of all of the end, is gone. A line that has none left goes, so that SIDs which come and go fill no
-    // memory.
+    // This one, which is at this place of all of the end, is gone. A line that has none left goes,
+    // so that SIDs which come and go fill no memory.
     pub(crate) fn take_out(
         &mut self,
         standing: &IndexMap<SubKey, Standing>,
@@ -146,8 +147,8 @@ impl ByChannel {
     }
 }
 
-// Where the one at this place of all of the end is in the line of its channel. Both lists are in the order of EVENT_ADDs, so that those
-// which are before it in the one come first in the other.
+// Where the one at this place of all of the end is in the line of its channel. Both lists are in
+// the order of EVENT_ADDs, so that those which are before it in the one come first in the other.
 fn place_in_channel(
     line: &[u32],
     standing: &IndexMap<SubKey, Standing>,

@@ -114,8 +114,8 @@ impl ByRecord {
         Ok(())
     }
 
-    // The subscription at this place of all of the end, on the record of this name, is gone. A line that has none left goes, so that names
-    // which come and go fill no memory.
+    // The subscription at this place of all of the end, on the record of this name, is gone. A line
+    // that has none left goes, so that names which come and go fill no memory.
     pub(crate) fn take_out(
         &mut self,
         name: &[u8],

@@ -56,7 +56,8 @@ impl Update {
         }
     }
 
-    // It is one of this value from now on, which it copies, into its own memory if that is of this type.
+    // It is one of this value from now on, which it copies, into its own memory if
+    // that is of this type.
     #[inline(always)]
     pub(crate) fn renew(
         &mut self,
@@ -87,7 +88,8 @@ impl Update {
     }
 }
 
-// This value is the same as the other from now on. Its memory is kept if both are of one type. Without memory it has no elements, or is as it was.
+// This value is the same as the other from now on. Its memory is kept if both are of one type.
+// Without memory it has no elements, or is as it was.
 #[inline(always)]
 fn copy_over(alloc: Global, room: &mut Value, value: &Value) -> Result<(), AllocError>
     requires { count_of (elements room.old) ≤ element_limit }

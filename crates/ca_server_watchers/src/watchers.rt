@@ -8,7 +8,8 @@ use indexmap::IndexMap;
 use std::alloc::{AllocError, Global};
 use std::marker::Model;
 
-/// For each record that is watched, the circuits that watch it. A server has one for its subscriptions, and one for its channels.
+/// For each record that is watched, the circuits that watch it. A server has one for its
+/// subscriptions, and one for its channels.
 #[derive(Drop)]
 pub struct Watchers {
     lines: IndexMap<Vec<u8>, Line>,
@@ -164,7 +165,8 @@ impl Watchers {
         Ok(())
     }
 
-    /// The circuit at this place of the list of this record watches it no more. The last of the list comes there.
+    /// The circuit at this place of the list of this record watches it no more. The last of
+    /// the list comes there.
     pub fn forget(&mut self, name: &[u8], place: usize)
         ensures { LeavesAt name.now place self.old self.new }
     {

@@ -101,7 +101,8 @@ fn ended(alloc: Global, rest: &str, events: &[Event]) -> Result<(Stopped, usize)
     Ok((ran.world, ran.done))
 }
 
-/// Which ends of circuits these events of one client and one server leave open, the server's first: those that they neither cut nor restart.
+/// Which ends of circuits these events of one client and one server leave open, the server's first:
+/// those that they neither cut nor restart.
 fn open_after(alloc: Global, events: &[Event]) -> Result<Vec<[bool; 2]>, Refusal> {
     let mut open: Vec<[bool; 2]> = Vec::new(alloc);
     for event in events {

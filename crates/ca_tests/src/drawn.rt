@@ -63,7 +63,8 @@ fn take<Q: Queues<u64>>(queue: &mut Q, given: &mut Vec<u64>) -> Result<(), Refus
     Ok(())
 }
 
-/// One call, by the number that was drawn: of sixteen nine are posts, five takes, one is a cancel and one turns events on or off.
+/// One call, by the number that was drawn: of sixteen nine are posts, five takes, one is a cancel
+/// and one turns events on or off.
 fn call<Q: Queues<u64>>(
     queue: &mut Q,
     drawn: u32,

@@ -1,5 +1,6 @@
-//! A client whose callers are four threads. All 1,024 tickets are outstanding at once, 256 for each caller: one request more is refused, and each
-//! caller collects the outcomes of its own tickets, once.
+//! A client whose callers are four threads. All 1,024 tickets are outstanding at once, 256
+//! for each caller: one request more is refused, and each caller collects the outcomes of
+//! its own tickets, once.
 
 use crate::client::setting;
 use crate::server::{bound, start_server};
@@ -117,7 +118,8 @@ fn one_more<R: Wait, W: Write>(
     }
 }
 
-/// A caller with its tickets: the first asked for `first` elements, the next for one more, and so on.
+/// A caller with its tickets: the first asked for `first` elements, the next for
+/// one more, and so on.
 #[derive(Drop)]
 struct Part {
     context: Arc<Context<Nobody>>,

@@ -1,5 +1,6 @@
-//! Listeners that take their time. One waits for a reply, which its own thread would read: its wait ends, and hangs no other caller. Another takes three seconds, and
-//! holds up no call that waits for nobody.
+//! Listeners that take their time. One waits for a reply, which its own thread would read: its
+//! wait ends, and hangs no other caller. Another takes three seconds, and holds up no call
+//! that waits for nobody.
 
 use crate::client::setting;
 use crate::moments::{began, is_within};

@@ -85,7 +85,8 @@ impl Peer {
         Err(Refusal::Device)
     }
 
-    /// The CID of the next search for this name, of up to 8 bytes, and who asks. Those for others are left out.
+    /// The CID of the next search for this name, of up to 8 bytes, and who asks. Those for
+    /// others are left out.
     pub(crate) fn searched(&self, name: [u8; 8]) -> Result<(u32, SocketAddr), Refusal> {
         for _ in 0..LOOKED_THROUGH {
             let mut bytes = [0u8; 2_048];
@@ -119,7 +120,8 @@ impl Peer {
         Some(stream)
     }
 
-    /// Answers the next search for TEMP, and has the channel created on a new circuit, which it tells with its first message.
+    /// Answers the next search for TEMP, and has the channel created on a new circuit, which it
+    /// tells with its first message.
     pub(crate) fn live<R: Clock>(
         &self,
         rt: &R,
@@ -140,7 +142,8 @@ impl Peer {
     }
 }
 
-/// The CID of a search for this name in a datagram: the name comes right after the CID, which stands there twice.
+/// The CID of a search for this name in a datagram: the name comes right after the CID,
+/// which stands there twice.
 fn cid_of(datagram: &[u8], name: [u8; 8]) -> Option<u32> {
     let mut cid = 0u32;
     for part in datagram.chunks(8) {
@@ -191,7 +194,8 @@ pub(crate) fn heard(stream: &TcpStream) -> Result<Message, Refusal> {
     })
 }
 
-/// Sends a message with this payload, of a multiple of 8 bytes up to 48, in one write: so it is there as a whole.
+/// Sends a message with this payload, of a multiple of 8 bytes up to 48, in one write: so it
+/// is there as a whole.
 pub(crate) fn tell_message(
     stream: &TcpStream,
     message: Message,

@@ -1,5 +1,5 @@
-//! A client with 10,000 channels of one server and a subscription on each, which `open_spread` spreads over circuits of 288; and one that opens as many channels as there
-//! is room for.
+//! A client with 10,000 channels of one server and a subscription on each, which `open_spread`
+//! spreads over circuits of 288; and one that opens as many channels as there is room for.
 
 use crate::client::setting;
 use crate::server::{bound, start_server};
@@ -201,7 +201,8 @@ fn counted<R: Clock>(rt: &R, count: &AtomicU64, wanted: u64) -> u64 {
     count.load(Ordering::SeqCst)
 }
 
-/// A client with as many channels as there is room for. Its engine is not started, so that it searches for none.
+/// A client with as many channels as there is room for. Its engine is not started, so that
+/// it searches for none.
 fn show_full<
     R: Threads
         + Wait

@@ -2,8 +2,8 @@ ghost use Rattle.std.specs.Prelude.{◌≡◌, ◌+◌, ◌≤◌, drop, length,
 ghost use Rattle.std.specs.Int.{from_le_bytes, w32, w64};
 ghost use Rattle.std.specs.Str.{bytes_eq};
 
-/// Whether two names are the same. Names are compared with each message, and most are short: one of 4 to 16 bytes is compared by
-/// its first and its last four or eight bytes, which may overlap.
+/// Whether two names are the same. Names are compared with each message, and most are short: one of
+/// 4 to 16 bytes is compared by its first and its last four or eight bytes, which may overlap.
 #[inline(always)]
 pub fn is_same_name(a: &[u8], b: &[u8]) -> bool
     ensures { result ≡ bytes_eq a.now b.now }

@@ -1,7 +1,8 @@
 use std::fmt;
 
-/// The status of a reply or an update: a message number times 8, plus a severity, which is 0 for a warning,
-/// 1 for success, 2 for an error, 3 for information and 6 for a fatal error (section "Status Codes").
+/// The status of a reply or an update: a message number times 8, plus a severity, which is 0
+/// for a warning, 1 for success, 2 for an error, 3 for information and 6 for a fatal error
+/// (section "Status Codes").
 ///
 /// A peer may send any number.
 #[derive(Clone, Copy, Debug, PartialEq, Eq)]

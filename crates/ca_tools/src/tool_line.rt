@@ -26,8 +26,8 @@ pub enum Task<'a> {
     Monitor(u64),
 }
 
-/// `get NAME`, `put NAME --value=V` or `monitor NAME --count N`, each with `--server A:P` and, if it is to be another number of turns than 1,000,
-/// `--turns N`.
+/// `get NAME`, `put NAME --value=V` or `monitor NAME --count N`, each with `--server A:P` and, if
+/// it is to be another number of turns than 1,000, `--turns N`.
 #[derive(Clone, Copy, Debug, PartialEq, Eq)]
 pub struct ToolLine<'a> {
     pub task: Task<'a>,

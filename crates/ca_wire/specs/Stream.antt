@@ -12,7 +12,8 @@ use Rattle.ca_wire.specs.Message.{Spells}
 abbrev pub NoneBegins : List ℕ → Type 0
 NoneBegins bytes = (m : Fields) (front back : List ℕ) → Spells front m → bytes ≡ front ++ back → ⊥
 
--- A header earns refusal 2 where its size is no multiple of 8, else 3 where its size is over the limit.
+-- A header earns refusal 2 where its size is no multiple of 8, else 3 where its
+-- size is over the limit.
 abbrev pub Faults : Header → Refusal → Type 0
 Faults h e = ((e ≡ Misaligned) × (h.size % 8 ≢ 0)) ⊎ ((e ≡ TooLarge) × (h.size % 8 ≡ 0) × (payload_limit < h.size))
 
@@ -38,7 +39,8 @@ pub record IsStream (bytes : List ℕ) (ms : List Fields) (rest : List ℕ) : Ty
   pub reads : Begins bytes ms rest
   pub partial : NoneBegins rest
 
--- What a reader of a stream holds: the bytes that came and were not given out, and whether a bad header was met.
+-- What a reader of a stream holds: the bytes that came and were not given out, and whether
+-- a bad header was met.
 pub record Held : Type 0 where
   pub bytes : List ℕ
   pub closed : Bool

@@ -22,7 +22,8 @@ pub enum One {
     Whole(Head),
     /// Less than one.
     More,
-    /// A whole header that is refused: as Misaligned for a size that is no multiple of 8, else as TooLarge for one over the limit.
+    /// A whole header that is refused: as Misaligned for a size that is no multiple of 8, else as
+    /// TooLarge for one over the limit.
     Bad(Refusal),
 }
 
@@ -88,7 +89,8 @@ pub(crate) fn head_at(bytes: &[u8]) -> Option<Head>
     Some(Head { header, start: 24 })
 }
 
-/// What the message at the front names, if it is of this command and its header, in 16 bytes, is all of it.
+/// What the message at the front names, if it is of this command and its header, in 16
+/// bytes, is all of it.
 #[inline(always)]
 pub(crate) fn bare_at(bytes: &[u8], command: Command) -> Option<Wanted>
     ensures { MatchOption result (NoBare bytes.now command) (BeginsBare bytes.now command) }
@@ -116,7 +118,8 @@ pub(crate) fn bare_at(bytes: &[u8], command: Command) -> Option<Wanted>
     })
 }
 
-/// What the message at the front names, if it is of this command, and is a header in 16 bytes and a payload of eight.
+/// What the message at the front names, if it is of this command, and is a header in 16 bytes
+/// and a payload of eight.
 #[inline(always)]
 pub(crate) fn short_at(bytes: &[u8], command: Command) -> Option<Wanted>
     ensures { MatchOption result (NoShort bytes.now command) (BeginsShort bytes.now command) }

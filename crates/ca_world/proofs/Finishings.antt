@@ -357,7 +357,8 @@ replied-there : (p : PutPlace) (sent : List (Handle × Fields)) (ks : List model
     → replied_in p sent ks ≡ slice_set ks p.circuit (with_down (j.lists.down ++ about p.place history.Reply (map (λ (s : Handle × Fields). s.1) sent)) j)
 replied-there p sent ks j at = ap (λ (o : Option model.Joined). unwrap_or (option_map (λ (c : model.Joined). slice_set ks p.circuit (with_down (c.lists.down ++ about p.place history.Reply (map (λ (s : Handle × Fields). s.1) sent)) c)) o) ks) at
 
--- Numbers wait on circuits, of which one has its messages held aside; it has them again, and the reply.
+-- Numbers wait on circuits, of which one has its messages held aside; it has them
+-- again, and the reply.
 pub set-aside : (waits : Bool) (i : ℕ) (core : Server) (name : List ℕ) (p : PutPlace) (sent : List (Handle × Fields)) (ks bare after last : List model.Joined) (j c : model.Joined) (told : List history.Told) → At ks p.circuit j
     → bare ≡ slice_set ks p.circuit (with_down [] j) → after ≡ numbered waits i core name bare → At after p.circuit c → told ≡ j.lists.down ++ about p.place history.Reply (map (λ (s : Handle × Fields). s.1) sent)
     → last ≡ slice_set after p.circuit (with_down told c) → last ≡ replied_in p sent (numbered waits i core name ks)

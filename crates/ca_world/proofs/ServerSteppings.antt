@@ -1,4 +1,5 @@
--- What a step leaves of a server whose end is closed then: as if no step had been taken, unless that wrote.
+-- What a step leaves of a server whose end is closed then: as if no step had been
+-- taken, unless that wrote.
 use Rattle.std.proofs.Common.{◌≡◌, ℕ, ◌==◌, ◌&&◌, Bool, true, false, not, List, [], ◌∷◌, ◌++◌, filter, refl, sym, ap, ◌∙◌}
 use Rattle.std.specs.Prelude.{if◌then◌else◌}
 use Rattle.std.specs.Str.{bytes_eq}

@@ -45,7 +45,8 @@ pub record Pumped (y : Server) (j new : model.Joined) : Type 0 where
 abbrev pub over_core : Handle → (left : List ℕ) → Server → Server
 over_core h left y = closed h (ended h why.OutOfMemory left y)
 
--- The end was pumped until it rests; or it ended out of memory for the next update, and left these bytes.
+-- The end was pumped until it rests; or it ended out of memory for the next update,
+-- and left these bytes.
 abbrev pub PumpsUntil : Server → model.Joined → Option (List ℕ) → Server → model.Joined → Type 0
 PumpsUntil y j None y' new = (p : Pumped y j new) × Rests p.after × (y' ≡ with_end j.at_server p.after y)
 PumpsUntil y j (Some left) y' new =

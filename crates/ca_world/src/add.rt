@@ -20,7 +20,8 @@ use ca_world_data::server::{RecordSide, ServerSide};
 use std::alloc::{AllocError, Global};
 
 impl World {
-    /// A record is added to those of a server, with a number that none of this life had. What the server refuses changes nothing.
+    /// A record is added to those of a server, with a number that none of this life had. What the
+    /// server refuses changes nothing.
     pub fn add(
         &mut self,
         server: usize,

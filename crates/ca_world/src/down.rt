@@ -17,8 +17,8 @@ use ca_world_data::server::ServerSide;
 use std::alloc::Global;
 
 impl World {
-    /// The first n bytes that wait at a server, or that its end left, reach the client of a circuit: it may ask for a pause of
-    /// updates, or for their return.
+    /// The first n bytes that wait at a server, or that its end left, reach the client of a
+    /// circuit: it may ask for a pause of updates, or for their return.
     pub fn down(&mut self, circuit: usize, n: usize) -> Result<(), Refusal>
         ensures { Does self.old (event.Down circuit n) result self.new }
     {

@@ -1,4 +1,5 @@
-//! The put that waits first for a record: its value, as the log of its server's life has it, and the records once it makes its record busy.
+//! The put that waits first for a record: its value, as the log of its server's life has it, and
+//! the records once it makes its record busy.
 ghost use Rattle.std.specs.Prelude.{◌≡◌, IfOk, if◌then◌else◌, map, option_map};
 ghost use Rattle.std.specs.Str.{bytes_eq};
 ghost use Rattle.ca_dbr.specs.Elements.{elements};

@@ -39,7 +39,8 @@ step_at j logged after = record { sent = length j.lists.up; logged = logged; aft
 abbrev pub IsHeard : (k logged after : ℕ) → List Joined → List Joined → Type 0
 IsHeard k logged after ks ks' = (j : Joined) → At ks k j → ks' ≡ slice_set ks k (heard_in (step_at j logged after) j)
 
--- what the end is about to send is known, and there is room for that, for its step, and for so many lines
+-- what the end is about to send is known, and there is room for that, for its step,
+-- and for so many lines
 pub record IsReadyToStep (i k : ℕ) (x : real.ClientSide) (lines : ℕ) (sent : List Foretold) (ks : List Opened) (logs : List (Vec Written Global)) : Type 0 where
   pub foretold : (j : Opened) → At ks k j → SendsNext x.core j.at_client sent
   pub logs_room : HasRoom lines x.life logs

@@ -35,7 +35,8 @@ ToldAt log meant None = (place : ℕ) (o : Outcome) → At log place (line.Notic
 abbrev pub log_of : ℕ → List (List history.Line) → List history.Line
 log_of life logs = unwrap_or (slice_get logs life) []
 
--- the request of this number has this line that may be handed out, or none, and there is room for a line more
+-- the request of this number has this line that may be handed out, or none, and there is
+-- room for a line more
 pub record IsReadyToHand (n : ℕ) (x : real.ClientSide) (logs : List (Vec Line Global)) (place : Option ℕ) : Type 0 where
   pub q : Handle × Intent
   pub named : At x.names.requests.items n q

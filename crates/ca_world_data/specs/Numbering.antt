@@ -61,7 +61,8 @@ abbrev pub keys_at : (name : List ℕ) → (mask : ℕ) → (p : ℕ) → Option
 keys_at name mask p (Some (Open e)) = map key_of (filter (concerns name mask) (option_to_list (slice_get e.subscriptions p)))
 keys_at name mask p c = []
 
--- a subscription stands at this place, whose key the queue at that place has, and one more post may be counted
+-- a subscription stands at this place, whose key the queue at that place has, and one
+-- more post may be counted
 pub record IsPlaced (p n : ℕ) (j : Joined) : Type 0 where
   pub s : Standing
   pub at : At j.standing p s

@@ -36,7 +36,8 @@ IsServing y h = (e : ServerEnd) × HasEnd y h e
 abbrev pub cut_core : Handle → Server → Server
 cut_core h y = closed h (ended h why.Cut (output_of (under y.circuits h)) y)
 
--- The end at the server of circuit k is cut: it leaves what waited, and its puts that wait are withdrawn.
+-- The end at the server of circuit k is cut: it leaves what waited, and its puts
+-- that wait are withdrawn.
 abbrev pub CutsServer : (k : ℕ) → ServerSide → Joined → List (List history.Entry) → Result (Unit {0}) Refusal → ServerSide → Joined → List (List history.Entry) → Type 0
 CutsServer k y j logs (Ok _) y' j' logs' =
     (server_of y' ≡ record (server_of y) { core = cut_core j.at_server y.core; records = map (without_puts (λ n. n == k)) (map record_of y.records.items) })

@@ -48,7 +48,8 @@ abbrev pub GoesBy : Option ℕ → List Joined → (i : ℕ) → Handle → Type
 GoesBy None ks i c = IsNowhere ks i c
 GoesBy (Some k) ks i c = IsAt ks i c k
 
--- where messages on this channel go, if it is live: on which circuit, under which SID, and with how many elements at most
+-- where messages on this channel go, if it is live: on which circuit, under which SID, and with how
+-- many elements at most
 abbrev pub IsWay : Client → List Joined → (i : ℕ) → Handle → Way → Type 0
 IsWay x ks i h w = (l : LiveChannel) → IsLive x h l → (w.sid ≡ l.native.sid) × (w.count ≡ l.native.count) × GoesBy w.circuit ks i l.circuit
 

@@ -11,8 +11,8 @@ use crate::history::{Intent, Line};
 use crate::logs::reserve_lines;
 use ca_text::Refusal;
 
-/// The place of the line that tells what became of the request of this number, if it may be handed out: if there is one, and it was neither
-/// handed out nor given up. There is room for a line more.
+/// The place of the line that tells what became of the request of this number, if it may be handed
+/// out: if there is one, and it was neither handed out nor given up. There is room for a line more.
 ///
 /// Refused as BadEvent if no request has this number, then as OutOfMemory.
 pub fn prepare_handing(

@@ -1,4 +1,5 @@
-//! What a client sends without being called for it: each message goes up the circuit that is open at the client under its handle.
+//! What a client sends without being called for it: each message goes up the circuit that is open
+//! at the client under its handle.
 ghost use Rattle.std.specs.Prelude.{◌≡◌, ◌+◌, ◌≤◌, OnOk, map, vec_capacity, vec_len};
 ghost use Rattle.ca_client_core.specs.ForHistories.{aim_of, sending_of};
 ghost use Rattle.ca_ids.specs.Table.{same_handle};
@@ -88,7 +89,8 @@ fn is_same(a: Handle, b: Handle) -> bool
     a.index == b.index && a.generation == b.generation
 }
 
-// Makes room for so many more messages of the client on a circuit, if there is one. No circuit has less room than before.
+// Makes room for so many more messages of the client on a circuit, if there is one. No circuit has
+// less room than before.
 fn reserve_on(
     circuits: &mut Vec<Joined>,
     circuit: Option<usize>,
@@ -118,7 +120,8 @@ fn reserve_in(joined: &mut Joined, messages: usize) -> Result<(), AllocError>
     reserve_list(&mut joined.lists.up, messages)
 }
 
-/// Puts these messages behind those of the client on its circuits, which it has by these numbers. There is room for them.
+/// Puts these messages behind those of the client on its circuits, which it has by these numbers.
+/// There is room for them.
 pub fn push_sendings(
     client: usize,
     numbers: &[usize],

@@ -12,7 +12,8 @@ use crate::history::{Intent, Line};
 use crate::naming::{line_for, line_heard};
 use ca_client_core::Notices;
 
-/// Puts these notices into the log, where the message that the client read was about one that was meant so.
+/// Puts these notices into the log, where the message that the client read was about
+/// one that was meant so.
 pub fn tell_all(
     logs: &mut Vec<Vec<Line>>,
     life: usize,
@@ -34,7 +35,8 @@ pub fn tell_all(
     }
 }
 
-/// The same of a client whose handles mean what stands beside them: what the message was about is looked at first.
+/// The same of a client whose handles mean what stands beside them: what the message was
+/// about is looked at first.
 pub fn tell_heard(
     logs: &mut Vec<Vec<Line>>,
     life: usize,

@@ -19,7 +19,8 @@ use ca_text::Refusal;
 use ca_wire::{Ioid, Sid, Wanted};
 use std::alloc::AllocError;
 
-/// Where messages on a channel go: on which circuit of the world, under which SID, and with how many elements at most.
+/// Where messages on a channel go: on which circuit of the world, under which SID, and with how
+/// many elements at most.
 #[derive(Clone, Copy)]
 pub struct Way {
     pub circuit: Option<usize>,

@@ -28,7 +28,8 @@ abbrev pub live_text : Outcome → List ℕ
 live_text outcome.Done = codes " live "
 live_text o = codes " lost "
 
--- the outcome of an intent: of a channel's creation, of a plain write, of another request, and of a subscription
+-- the outcome of an intent: of a channel's creation, of a plain write, of another request,
+-- and of a subscription
 abbrev pub noticed_text : Intent → Outcome → List ℕ
 noticed_text (history.On channel history.Create) o = counted (live_text o) channel
 noticed_text (history.On channel (history.Request history.Write n)) o = counted (codes " write_refused ") channel ++ status_text o

@@ -14,7 +14,8 @@ pub fn circuit_drawn(drawn: u32, circuits: u64) -> Option<u64>
     Some(u64::from(drawn / 8) % circuits)
 }
 
-/// The event that a number is on this circuit, where so many bytes wait for the server and for the client.
+/// The event that a number is on this circuit, where so many bytes wait for the
+/// server and for the client.
 pub fn event_drawn(drawn: u32, circuit: u64, up: u64, down: u64) -> Event
     ensures { event_of result ≡ event_drawn drawn circuit up down }
 {

@@ -25,7 +25,8 @@ pub(crate) fn lives_of(
     Ok(lives)
 }
 
-// The restart of this client begins this life: it is put at the end, if it is that of the one that is asked for.
+// The restart of this client begins this life: it is put at the end, if it is that of the
+// one that is asked for.
 fn push_life(
     lives: &mut Vec<usize>,
     client: usize,

@@ -1,4 +1,5 @@
--- Working: what a message that a server handled leaves on its circuit and in the records, as the statement's functions of its action.
+-- Working: what a message that a server handled leaves on its circuit and in the records, as the
+-- statement's functions of its action.
 use Rattle.std.specs.Prelude.{ℕ, ◌≡◌, ◌+◌, ◌≤◌, ◌++◌, ◌==◌, Bool, true, List, [], ◌∷◌, Some, filter, length, map, nat_le, not, vec_capacity, vec_len}
 use Rattle.std.specs.Str.{bytes_eq}
 use Rattle.ca_queue.specs.declared.entry.SubKey.{SubKey}

@@ -1,5 +1,6 @@
-//! What a message that a server handled leaves: its replies and its step on the circuit, the channels and subscriptions there, and the
-//! puts of the records. Where memory is needed, a call that lacks it changes nothing.
+//! What a message that a server handled leaves: its replies and its step on the circuit, the
+//! channels and subscriptions there, and the puts of the records. Where memory is needed, a call
+//! that lacks it changes nothing.
 ghost use Rattle.std.specs.Prelude.{◌≡◌, ◌+◌, ◌++◌, ◌≤◌, OnErr, OnOk, false, true, if◌then◌else◌, length, map, vec_capacity, vec_len};
 ghost use Rattle.std.specs.Str.{bytes_eq};
 ghost use Rattle.ca_queue.specs.Circuit.{HasNone};
@@ -80,8 +81,8 @@ fn switch_all(queues: &mut [ListQueue<(usize, Cause)>], on: bool)
     }
 }
 
-/// A subscription, which no queue has, began by the message at this place: it stands, and its first number waits in the first queue with
-/// room.
+/// A subscription, which no queue has, began by the message at this place: it stands, and its first
+/// number waits in the first queue with room.
 pub fn begin_standing(joined: &mut Joined, key: SubKey, place: usize) -> Result<(), AllocError>
     requires { HasNone (map (λ q. queue_of q.0) joined.old.queues.items) key }
     ensures ok { OnOk result (joined_of joined.new ≡ with_standing key place

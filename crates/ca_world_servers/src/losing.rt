@@ -1,4 +1,5 @@
-//! A record of a server is removed: the circuits with channels to it lose them, and it is served no more.
+//! A record of a server is removed: the circuits with channels to it lose them, and
+//! it is served no more.
 ghost use Rattle.std.specs.Prelude.{ℕ, ◌≡◌, ◌≤◌, ◌+◌, ◌++◌, ◌<◌, IfOk, true, OnOk, filter, if◌then◌else◌, length, map, not, take, vec_capacity, vec_len};
 ghost use Rattle.std.specs.Str.{bytes_eq};
 ghost use Rattle.ca_queue.specs.Queue.{cancelled};
@@ -17,14 +18,16 @@ use ca_world_data::room::reserve_list;
 use ca_world_data::server::{PutPlace, RecordSide};
 use std::alloc::{AllocError, Global};
 
-/// The channels to a record at a circuit's open end at its server, each as its SID and its CID, and how many bytes wait to be sent there.
+/// The channels to a record at a circuit's open end at its server, each as its SID and its CID, and
+/// how many bytes wait to be sent there.
 #[derive(Drop)]
 pub struct Leading {
     pub channels: Vec<(u32, u32)>,
     pub waited: usize,
 }
 
-/// What each circuit has to lose if the record of this name is removed at this server, with room for its SERVER_DISCONNs.
+/// What each circuit has to lose if the record of this name is removed at this server, with room
+/// for its SERVER_DISCONNs.
 pub fn prepare_losses(
     alloc: Global,
     server: usize,
@@ -83,7 +86,8 @@ fn leading_on(
     })
 }
 
-/// The record was removed at this server, whose core this is: each circuit loses the channels whose SERVER_DISCONNs were sent.
+/// The record was removed at this server, whose core this is: each circuit loses the channels whose
+/// SERVER_DISCONNs were sent.
 pub fn lose_all(
     alloc: Global,
     server: usize,

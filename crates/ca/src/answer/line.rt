@@ -9,7 +9,8 @@ use clap::error::ErrorKind;
 use clap::{Arg, Command};
 use std::alloc::{AllocError, Global};
 
-/// `answer [--records FILE]`: the file of the records that are served, if they are not the standing ones.
+/// `answer [--records FILE]`: the file of the records that are served, if they are
+/// not the standing ones.
 #[derive(Clone, Copy, Debug, PartialEq, Eq)]
 pub struct AnswerLine<'a> {
     pub records: Option<&'a str>,

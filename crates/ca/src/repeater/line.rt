@@ -10,8 +10,8 @@ use clap::error::ErrorKind;
 use clap::{Arg, Command};
 use std::alloc::{AllocError, Global};
 
-/// `repeater [--port P] [--datagrams N]`: the port of the host's repeater, and how many datagrams it takes, where it
-/// ends at all.
+/// `repeater [--port P] [--datagrams N]`: the port of the host's repeater, and how many datagrams
+/// it takes, where it ends at all.
 #[derive(Clone, Copy, Debug, PartialEq, Eq)]
 pub struct RepeaterLine {
     pub port: u16,

@@ -10,7 +10,8 @@ use clap::error::ErrorKind;
 use clap::{Arg, Command};
 use std::alloc::{AllocError, Global};
 
-/// `replay FILE [--seed N]`: the file of a script, and the seed that draws further events, if there is one.
+/// `replay FILE [--seed N]`: the file of a script, and the seed that draws further
+/// events, if there is one.
 #[derive(Clone, Copy, Debug, PartialEq, Eq)]
 pub struct ReplayLine<'a> {
     pub file: &'a str,

@@ -21,8 +21,9 @@ use ca_records::{Put, ServedRecords};
 use ca_wire::{Done, Wanted};
 
 impl End {
-    /// WRITE_NOTIFY of eight bytes, if it is such a one. On a slow record its reply comes as it is finished. On a quick one it goes
-    /// first, so that none is applied for whose reply there is no memory; it is taken back if the put is another.
+    /// WRITE_NOTIFY of eight bytes, if it is such a one. On a slow record its reply comes as it is
+    /// finished. On a quick one it goes first, so that none is applied for whose reply there is no
+    /// memory; it is taken back if the put is another.
     #[inline(never)]
     pub(crate) fn put_short(
         &mut self,
@@ -114,7 +115,8 @@ fn put_one(
     records.put_one(place, put, wanted.data_type, payload)
 }
 
-/// Puts the reply to a put of one element after what waits on an open link. False, and the link is as it was, without memory.
+/// Puts the reply to a put of one element after what waits on an open link. False, and the link is
+/// as it was, without memory.
 #[inline(always)]
 fn send_done(link: &mut Link, wanted: &Wanted) -> bool
     requires { IsOpen link.old }

@@ -42,7 +42,8 @@ impl End {
     }
 }
 
-/// What shows the record to this read in eight bytes, if it has one element, of the type that is asked for.
+/// What shows the record to this read in eight bytes, if it has one element, of the
+/// type that is asked for.
 #[inline(always)]
 pub(crate) fn shown_alone(of: &Record, rights: u32, wanted: &Wanted) -> Option<u64>
     ensures { IfSome result (λ n.

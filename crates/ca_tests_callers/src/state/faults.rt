@@ -8,8 +8,8 @@ use ca_dbr::Outcome;
 use ca_text::Refusal;
 use std::alloc::Global;
 
-/// The channel is live on a circuit whose socket has so many VERSIONs to give, and fails after so many calls. How many requests complete with Disconnected
-/// then.
+/// The channel is live on a circuit whose socket has so many VERSIONs to give, and fails after so
+/// many calls. How many requests complete with Disconnected then.
 pub(crate) fn lost_at(
     alloc: Global,
     state: &mut ClientState,

@@ -10,7 +10,8 @@ use std::alloc::Global;
 /// More than the board has cells.
 pub(crate) const MANY: usize = 1_100;
 
-/// The requests that are made: one for a channel that there is not, which the core refuses as 10, and two that it accepts.
+/// The requests that are made: one for a channel that there is not, which the core refuses as 10,
+/// and two that it accepts.
 #[derive(Drop)]
 pub(crate) struct Requests {
     pub(crate) stale: Request,
@@ -63,7 +64,8 @@ fn answered_put(
     Ok(ticket)
 }
 
-/// The reply to a put of one LONG: status 1, and the request's id, which is its generation and its index.
+/// The reply to a put of one LONG: status 1, and the request's id, which is its
+/// generation and its index.
 pub(crate) fn done_reply(request: Handle) -> [u8; 16] {
     let [_, _, g, h] = request.generation.to_be_bytes();
     let [i, j] = request.index.to_be_bytes();
