@@ -21,7 +21,7 @@ pub fn arenas(alloc: Global, live: u32, rounds: u32) -> Result<(), Refusal> {
     Ok(())
 }
 
-/// The same on a slab.
+/// Rounds on a slab of n values, as `arenas` does them on an arena.
 pub fn slabs(alloc: Global, live: u32, rounds: u32) -> Result<(), Refusal> {
     let mut slab = Slab::new(alloc);
     let mut keys = Vec::new(alloc);

@@ -54,7 +54,7 @@ fn go_round(
     Ok(())
 }
 
-/// The same round through a queue under a lock: put in and take out.
+/// Rounds through a queue under a lock, to compare: each puts an outcome in and takes it out.
 fn queue_rounds(rt: &impl Wait, alloc: Global, rounds: u32) -> Result<(), Refusal> {
     let queue = Mutex::new(VecDeque::new(alloc));
     for _round in 0..rounds {

@@ -23,7 +23,7 @@ pub fn on_queue(alloc: Global, count: u32, rounds: u32, takes: u32) -> Result<()
     Ok(())
 }
 
-/// The same on a plain ring, which knows no subscription.
+/// Rounds of 100 posts and then that many takes on a plain ring, which knows no subscription.
 pub fn on_ring(alloc: Global, count: u32, rounds: u32, takes: u32) -> Result<(), Refusal> {
     let count = count.max(1);
     let mut ring = HeapCircularBuffer::with_capacity(alloc, QUEUE_PLACES)?;

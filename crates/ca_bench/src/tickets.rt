@@ -165,7 +165,8 @@ fn comes_back(board: &Board, core: &mut CoreSeat, caller: &mut CallerSeat, ticke
     gone && back && freed
 }
 
-// The same where the cell is freed before the outcome comes; and nobody collects it.
+// Whether the outcome of a ticket that was given up comes back after its cell is free, and
+// nobody collects it.
 fn comes_back_late(
     board: &Board,
     core: &mut CoreSeat,

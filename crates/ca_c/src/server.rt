@@ -522,7 +522,8 @@ pub extern "C" fn cvz_server_user(
     answer
 }
 
-/// The same of its host's name.
+/// The host's name that the client on a circuit gave: copies it, as far as there is room for it,
+/// and says how long it is: 0 if there is none.
 #[unsafe(no_mangle)]
 pub extern "C" fn cvz_server_host(
     alloc: Global,

@@ -30,8 +30,8 @@ pub fn step_under_lock(state: &mut ClientState, asked: Ask) -> Answer
     step_any(state, asked)
 }
 
-// The same. Most calls are steps, and a function pays for the locals of all that it takes into
-// itself: so the other calls stand out of line.
+// Makes one call of the core, as `step_under_lock`. Most calls are steps, and a function pays for
+// the locals of all that it takes into itself: so the other calls are out of line.
 #[inline(never)]
 fn step_any(state: &mut ClientState, asked: Ask) -> Answer
     ensures { HasSteppedUnderLock state.old asked result state.new }

@@ -324,8 +324,8 @@ impl<L: Listener> Context<L> {
         self.wait_on(rt, caller, ticket, most)
     }
 
-    // The same, of an outcome that was not there. Most are there, once one was waited for, and a
-    // function pays for the locals of all that it takes into itself: so this stands out of line.
+    // Waits for an outcome that was not there yet. Most are there, once one was waited for, and a
+    // function pays for the locals of all that it takes into itself: so this is out of line.
     #[inline(never)]
     fn wait_on<R: Wait + Clock>(
         &self,

@@ -29,7 +29,8 @@ impl ClientCore {
         self.askable_wide(channel, u64::from(data_type), u64::from(count))
     }
 
-    // The same of a type and a count that may be greater than any that a message carries.
+    // The live channel on which a read or a subscription may go out, of a type and a count that may
+    // be greater than any that a message carries.
     pub(crate) fn askable_wide(
         &self,
         channel: Handle,

@@ -138,7 +138,7 @@ impl ClientCore {
         Ok(())
     }
 
-    // The same on one circuit, if it is one for them.
+    // These searches go out on this circuit, if it is one for them, and are noted.
     fn note_searched(
         &mut self,
         circuit: Handle,

@@ -37,7 +37,7 @@ impl ClientCore {
         Ok(())
     }
 
-    // The same on one circuit.
+    // These searches wait on this circuit, after a mark, if it is one for them.
     fn search_name(
         &mut self,
         circuit: Handle,

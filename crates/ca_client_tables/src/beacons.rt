@@ -66,7 +66,7 @@ fn beacon_address(from: Address, message: &Message) -> Ipv4Addr
     Ipv4Addr::from_bits(beacon_host(from, message))
 }
 
-// The same, as a number.
+// The address of a beacon's server as a number.
 fn beacon_host(from: Address, message: &Message) -> u32
     ensures { result ≡ beacon_host from message.now }
 {

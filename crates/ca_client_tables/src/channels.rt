@@ -88,7 +88,7 @@ impl Channels {
         self.table.at(index)
     }
 
-    /// The same of any index.
+    /// What has a CID of this index, and its handle, if any does.
     pub(crate) fn any_at(&self, index: usize) -> Option<(Handle, &Channel)>
         ensures { option_map (λ e. (e.0, e.1.now)) result
             ≡ held_at index (place_at self.now index) }

@@ -60,7 +60,7 @@ fn put_two(bytes: [u8; 2], out: &mut Vec<u8>)
     out.push_reserved(bytes[1]);
 }
 
-/// The same with four.
+/// Puts these four bytes at the end, where room was made for them.
 fn put_four(bytes: [u8; 4], out: &mut Vec<u8>)
     requires { vec_len out.old + 4 ≤ vec_capacity out.old }
     ensures after { out.new.items ≡ out.old.items ++ bytes }

@@ -73,7 +73,7 @@ impl Record {
         }
     }
 
-    // The same record again.
+    // A copy of the record.
     pub(crate) fn copy(&self, alloc: Global) -> Result<Record, AllocError>
         ensures { IfOk result (λ copy. copy ≡ self.now) }
     {

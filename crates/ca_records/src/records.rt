@@ -139,7 +139,7 @@ impl Records {
         Ok(())
     }
 
-    /// The same records once more. None take no memory.
+    /// A copy of the records. It does not allocate if there are none.
     pub fn copy(&self) -> Result<Records, AllocError>
         ensures copy { IfOk result (λ copy. copy ≡ self.now) }
         ensures some { OnErr result (length self.now ≢ 0) }

@@ -136,7 +136,8 @@ impl ServedRecord {
         self.record.read_over(number, bytes, stamp.meta())
     }
 
-    // The same of a put that makes the record busy.
+    // Writes one element over its value and makes the record busy with this put. False, and nothing
+    // changes, if the put would wait or the record is quick, or the element is another.
     #[inline(always)]
     pub(crate) fn put_one(&mut self, put: Put, number: u16, bytes: &[u8], stamp: Stamp) -> bool
         ensures { PutsOver stamp self.old put number bytes.now result self.new }

@@ -58,8 +58,8 @@ impl ServedRecords {
             .write_one(is_put, number, bytes, stamp)
     }
 
-    /// The same of a put with notification that makes its record busy. False, and nothing changes,
-    /// also if the record is busy, or is quick.
+    /// Writes one element, as `write_one`, by a put with notification that makes its record busy.
+    /// False, and nothing changes, also if the record is busy, or is quick.
     #[inline(always)]
     pub fn put_one(&mut self, place: usize, put: Put, number: u16, bytes: &[u8]) -> bool
         requires { IsThere self.old place }
@@ -100,7 +100,8 @@ impl ServedRecords {
         }
     }
 
-    /// The same of the record at this place: none if it is not busy.
+    /// Ends the busy put of the record at this place, and applies the next one that waits:
+    /// none if it is not busy.
     #[inline(always)]
     pub fn finish_at(&mut self, place: usize) -> Option<Finished>
         requires { IsThere self.old place }

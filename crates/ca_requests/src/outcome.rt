@@ -18,8 +18,8 @@ pub fn image_outcome(alloc: Global, message: &Message) -> Result<Outcome, AllocE
     image_outcome_into(alloc, None, message)
 }
 
-/// The same, into the memory of a value that is used no more, if there is one and its
-/// elements are of that type.
+/// What the reply to a read, or an update, means, as `image_outcome`, into the memory of a value
+/// that is used no more, if there is one and its elements are of that type.
 #[inline(always)]
 pub fn image_outcome_into(
     alloc: Global,

@@ -56,7 +56,7 @@ impl ByName {
         self.begin(name, channel)
     }
 
-    // The same for a record that has no line.
+    // A channel to the record of this name, which has no line yet, was opened.
     fn begin(&mut self, name: &[u8], channel: Handle) -> Result<(), AllocError>
         requires { channels_in self.old name.now ≡ [] }
         ensures ok { OnOk result (Enters name.now channel self.old self.new) }
@@ -79,7 +79,7 @@ impl ByName {
         self.drop_if_empty(name);
     }
 
-    // The same, but that a line may have none.
+    // This channel leads to the record of this name no more. A line may be left with none.
     fn take_out_of_line(&mut self, name: &[u8], channel: Handle)
         ensures { Goes name.now channel self.old self.new }
     {

@@ -68,7 +68,7 @@ impl Kept {
         self.retired
     }
 
-    // The same once more, if its name takes no memory of its own.
+    // A copy of it, if its name takes no memory of its own.
     fn copy(&self) -> Option<Kept>
         ensures { IfSome result (λ c. c ≡ self.now) }
     {

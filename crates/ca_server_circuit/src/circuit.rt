@@ -271,9 +271,9 @@ impl Circuit {
         self.close(circuit, cause, records);
     }
 
-    // The same in the middle of a call, when no more is known of its end than where its puts
-    // are. It has a function of its own so that the calls do not pay for its locals, in which
-    // a whole end has room.
+    // Its end ends for this cause in the middle of a call, when no more is known of it than where
+    // its puts are. It has a function of its own so that the calls do not pay for its locals, in
+    // which an end has room.
     #[cold]
     #[inline(never)]
     fn close(&mut self, circuit: Handle, cause: Cause, records: &mut ServedRecords)
@@ -364,7 +364,8 @@ impl Circuit {
         }
     }
 
-    /// The same of its host's.
+    /// The host's name that the client gave: empty if it gave none, and none if
+    /// its end is not open.
     pub fn host(&self) -> Option<&[u8]>
         ensures { option_map (λ t. t.now) result ≡ option_map (λ p. p.host) (peer_on self.now) }
     {

@@ -50,8 +50,8 @@ impl End {
         }
     }
 
-    /// The same for the last of them, so that no other moves up in the line of this name. It says
-    /// whether there was one.
+    /// The last channel to the record of this name is retired, and loses its subscriptions: so no
+    /// other moves up in the line of this name. It says whether there was one.
     fn retire_last(&mut self, name: &[u8]) -> bool
         ensures { RetiresLast name.now self.old result self.new }
     {

@@ -62,7 +62,7 @@ impl Short {
         })
     }
 
-    // The same once more.
+    // A copy of it.
     fn copy(&self) -> Short
         ensures { result ≡ self.now }
     {
@@ -94,7 +94,7 @@ impl Name {
         }
     }
 
-    // The same once more, if it takes no memory of its own.
+    // A copy of the name, if it takes no memory of its own.
     pub(crate) fn copy(&self) -> Option<Name>
         ensures { IfSome result (λ n. n ≡ self.now) }
     {

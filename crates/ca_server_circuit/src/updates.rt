@@ -79,7 +79,7 @@ impl End {
         self.pump_all()
     }
 
-    /// The same where something waits.
+    /// Puts updates into the output until none may go, when some wait.
     #[inline(never)]
     fn pump_all(&mut self) -> Result<(), AllocError>
         requires { IsOpen self.old.link }
@@ -112,7 +112,8 @@ impl End {
         Ok(true)
     }
 
-    /// The same of an update in a queue. The output is not full.
+    /// Puts the next update of a queue into the output, which is not full, and says
+    /// whether there was one.
     #[inline(never)]
     fn pump_queued(&mut self) -> Result<bool, AllocError>
         requires open { IsOpen self.old.link }
@@ -158,7 +159,8 @@ fn shown_alone(wanted: &Wanted, shown: &Update) -> Option<u64>
     shown.value().alone(wanted.data_type)
 }
 
-/// The same of the value of a record.
+/// The eight bytes that show a record's value to whoever asked so, if it has one element, of the
+/// type that is asked for.
 #[inline(always)]
 fn value_alone(wanted: &Wanted, of: &Record) -> Option<u64>
     ensures { IfSome result (λ n. ShowsTo wanted.now
@@ -192,7 +194,7 @@ fn send_alone(link: &mut Link, wanted: &Wanted, payload: u64) -> Result<(), Allo
     }
 }
 
-/// The same with an image that is made in its place.
+/// Puts an update after what waits on an open link, with an image that is made in its place.
 #[inline(never)]
 fn show_image(
     alloc: Global,

@@ -18,7 +18,8 @@ impl ServerCore {
         }
     }
 
-    /// The same of its host's.
+    /// The host's name that the client on a circuit gave: empty if it gave none. None if
+    /// its end is not open.
     pub fn host(&self, circuit: Handle) -> Option<&[u8]>
         ensures { option_map (λ t. t.now) result
             ≡ option_map (λ p. p.host) (peer_under (under self.now.circuits circuit)) }

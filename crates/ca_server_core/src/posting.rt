@@ -72,7 +72,7 @@ pub(crate) fn post_to_all(
     true
 }
 
-/// The same, by the record's list.
+/// A post to the record at this place reaches each circuit of the record's list.
 #[inline(never)]
 fn post_to_watching(
     circuits: &mut HeldTable<Circuit>,
@@ -103,7 +103,7 @@ fn post_to_watching(
     }
 }
 
-/// The same for the circuit at this place of the list of those that watch the record.
+/// A post reaches the circuit at this place of the list of those that watch the record.
 #[inline(never)]
 fn post_to_one(
     circuits: &mut HeldTable<Circuit>,
@@ -124,8 +124,8 @@ fn post_to_one(
     post_to_this(circuits, records, watchers, place, mask, watcher, circuit);
 }
 
-/// The same for this circuit, which is at this place of the list. It is taken out if it
-/// watches the record no more.
+/// A post reaches this circuit, which is at this place of the list. It is taken out if it watches
+/// the record no more.
 #[inline(always)]
 fn post_to_this(
     circuits: &mut HeldTable<Circuit>,
@@ -147,7 +147,7 @@ fn post_to_this(
     watchers.forget(records.at(place).state().name(), watcher);
 }
 
-/// The same for this circuit. It says whether it has a subscription on the record.
+/// A post reaches this circuit. It says whether the circuit has a subscription on the record.
 #[inline(always)]
 fn post_on(
     circuits: &mut HeldTable<Circuit>,

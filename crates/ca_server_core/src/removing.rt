@@ -56,7 +56,7 @@ fn lose_on_all(
     }
 }
 
-/// The same for the circuit at this place of the list of those that lead to the record.
+/// The circuit at this place of the list of those that lead to the record loses it.
 fn lose_on_next(
     circuits: &mut HeldTable<Circuit>,
     records: &mut ServedRecords,
@@ -74,7 +74,7 @@ fn lose_on_next(
     lose_on(circuits, records, circuit, name);
 }
 
-/// The same for this circuit, if it is there.
+/// This circuit loses the record, if the circuit is there.
 fn lose_on(
     circuits: &mut HeldTable<Circuit>,
     records: &mut ServedRecords,

@@ -147,7 +147,8 @@ pub(crate) fn settle(
     over(alloc, circuits, circuit, waited)
 }
 
-/// The same of an end that has ended since.
+/// Reports a circuit whose end has ended since. Of what is left, only the bytes that waited
+/// before the step stay.
 #[cold]
 #[inline(never)]
 pub(crate) fn over(

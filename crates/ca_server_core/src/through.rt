@@ -52,7 +52,8 @@ pub(crate) fn go_through(
     go_to_watching(circuits, records, watchers, circuit, place, idle, left)
 }
 
-/// The same of a write to the record at this place, where somebody watches some record.
+/// Goes through, as `go_through`, after a write to the record at this place, when somebody
+/// watches some record.
 #[inline(never)]
 fn go_to_watching(
     circuits: &mut HeldTable<Circuit>,

@@ -60,7 +60,7 @@ impl ByChannel {
         self.begin(key)
     }
 
-    // The same for a channel that has no line.
+    // One more of its channel, which has no line yet. Without memory all is as it was.
     fn begin(&mut self, key: SubKey) -> Result<(), AllocError>
         requires { ids_in self.old key.sid ≡ [] }
         ensures ok { OnOk result (ids_in self.new ≡ with_id key (ids_in self.old)) }
@@ -82,7 +82,7 @@ impl ByChannel {
         self.drop_if_empty(key.sid);
     }
 
-    // The same, but that the line may have none.
+    // The last one of its channel is gone again. The line may be left with none.
     fn pop(&mut self, key: SubKey)
         ensures { (ids : Ids) → ids_in self.old ≡ with_id key ids → ids_in self.new ≡ ids }
     {
@@ -110,7 +110,7 @@ impl ByChannel {
         self.drop_if_empty(key.sid);
     }
 
-    // The same, but that the line may have none.
+    // This one, which is at this place of all of the end, is gone. The line may be left with none.
     fn shorten(&mut self, standing: &IndexMap<SubKey, Standing>, place: usize, key: SubKey)
         requires here { At (keys_in standing.now.entries) place key }
         requires apart { AreApart (keys_in standing.now.entries) }

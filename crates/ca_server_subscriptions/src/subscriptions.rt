@@ -227,7 +227,7 @@ impl Subscriptions {
         self.post_to_each(name, mask, value, meta)
     }
 
-    // The same by the line of the record.
+    // A post to the record of this name, by the line of the record.
     #[inline(never)]
     fn post_to_each(
         &mut self,
@@ -302,7 +302,7 @@ impl Subscriptions {
         }
     }
 
-    // The same by the line of the record.
+    // What the only subscription on the record asked for, as `sole`, by the line of the record.
     #[inline(never)]
     fn seek_sole(&mut self, name: &[u8], mask: u16) -> Option<Wanted>
         requires on { AreOn self.old.queues }
@@ -466,7 +466,7 @@ fn place_of(receiver: &Receiver, standing: &IndexMap<SubKey, Standing>) -> usize
     }
 }
 
-// The same by the key.
+// Where this one is, by its key.
 #[inline(never)]
 fn moved_to(receiver: &Receiver, standing: &IndexMap<SubKey, Standing>) -> usize {
     standing.get_index_of(&receiver.key()).unwrap_or(0)

@@ -41,7 +41,7 @@ impl Update {
         }
     }
 
-    // The same once more.
+    // A copy of the update.
     pub(crate) fn copy(&self, alloc: Global) -> Result<Update, AllocError>
         ensures { IfOk result (λ u. u ≡ self.now) }
     {
@@ -108,7 +108,7 @@ fn copy_over(alloc: Global, room: &mut Value, value: &Value) -> Result<(), Alloc
     }
 }
 
-// The same in memory of its own.
+// This value is the same as the other from now on, in memory of its own.
 #[inline(never)]
 fn replace(alloc: Global, room: &mut Value, value: &Value) -> Result<(), AllocError>
     ensures ok { OnOk result (elements room.new ≡ elements value.now) }
@@ -137,7 +137,7 @@ fn renew<T: Copy + Drop>(items: &mut Vec<T>, from: &[T]) -> Result<(), AllocErro
     renew_all(items, from)
 }
 
-// The same however many there are.
+// These items, however many there are, in place of those that were there.
 #[inline(never)]
 fn renew_all<T: Copy + Drop>(items: &mut Vec<T>, from: &[T]) -> Result<(), AllocError>
     ensures ok { OnOk result (items.new.items ≡ from.now) }

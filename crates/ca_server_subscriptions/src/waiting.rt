@@ -126,7 +126,8 @@ impl Waiting {
         Ok(())
     }
 
-    // The same behind others that wait.
+    // A post to these subscriptions when others wait already: each that it concerns gets an
+    // update, in their order.
     #[inline(never)]
     fn post_behind(
         &mut self,
@@ -150,7 +151,7 @@ impl Waiting {
         Ok(())
     }
 
-    // The same for one subscription. Without memory all is as it was.
+    // A post to this subscription when others wait already. Without memory all is as it was.
     fn put_behind(
         &mut self,
         receiver: &Receiver,

@@ -79,7 +79,7 @@ impl Watchers {
         }
     }
 
-    // The same by the hash of the name.
+    // The last of the circuits that watch the record of this name, found by the hash of the name.
     #[inline(never)]
     fn hashed_last(&mut self, name: &[u8], before: &mut usize) -> Option<Handle>
         ensures last { result ≡ slice_get (watching self.old name.now) before.new }
@@ -151,7 +151,8 @@ impl Watchers {
         self.begin(name, circuit)
     }
 
-    // The same for a record that has no line.
+    // This circuit watches the record of this name, which has no line yet. Without
+    // memory all is as it was.
     fn begin(&mut self, name: &[u8], circuit: Handle) -> Result<(), AllocError>
         requires { watching self.old name.now ≡ [] }
         ensures ok { OnOk result (Watches name.now circuit self.old self.new) }

@@ -154,7 +154,8 @@ fn leaves_ends(alloc: Global, rest: &str) -> Result<bool, Refusal> {
     Ok(done == events.len() && are_open(&world, &open_after(alloc, &events)?))
 }
 
-/// The same with the events that a seed draws, as far as they can be done.
+/// Whether the script and the events that a seed draws, as far as they can be done, leave just
+/// those ends closed that they cut or restart.
 fn leaves_ends_with(alloc: Global, rest: &str, seed: u64) -> Result<bool, Refusal> {
     let (config, events) = world_of(alloc, rest)?;
     let all = draw_events(alloc, config, events, seed)?;

@@ -40,7 +40,8 @@ pub fn spell_made<P: Payload>(
     }
 }
 
-/// The same, but a refusal may leave some bytes.
+/// Writes the one spelling of the message with this payload at the end. A refusal
+/// may leave some bytes.
 fn write_made<P: Payload>(
     head: &Message,
     size: usize,

@@ -272,7 +272,7 @@ pub fn spell(message: &Message, out: &mut Vec<u8>) -> Result<(), AllocError>
     spell_all(message, out)
 }
 
-/// The same for a message with a payload too.
+/// Writes the one spelling of a message, with or without a payload, at the end.
 #[inline(never)]
 fn spell_all(message: &Message, out: &mut Vec<u8>) -> Result<(), AllocError>
     ensures ok { OnOk result (out.new.items ≡ out.old.items ++ spelling message.now) }

@@ -87,7 +87,7 @@ fn add_at(
     add_counted(alloc, side, logs, name, count_of(count), slow, value)
 }
 
-// The same of a count that the core takes.
+// A record with a count that the core takes is added to those of this server.
 fn add_counted(
     alloc: Global,
     side: &mut ServerSide,

@@ -80,7 +80,7 @@ fn read_on(
     }
 }
 
-// The same of a type and a count that a message carries.
+// A client asks for the value of a channel, as a type and a count that a message carries.
 fn read_carried(
     alloc: Global,
     client: usize,

@@ -89,7 +89,7 @@ fn subscribe_on(
     }
 }
 
-// The same of a type and a count that a message carries.
+// A client subscribes to a channel, as a type and a count that a message carries.
 fn subscribe_carried(
     alloc: Global,
     client: usize,

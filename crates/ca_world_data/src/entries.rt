@@ -34,7 +34,7 @@ pub fn push_entries(logs: &mut Vec<Vec<Entry>>, life: usize, entries: Vec<Entry>
     }
 }
 
-/// The same. The room that there was for more is there still.
+/// Puts entries after those of a life's log. The room that there was for more is still there.
 pub fn push_some(logs: &mut Vec<Vec<Entry>>, life: usize, entries: Vec<Entry>)
     requires { HasRoomFor (length entries.items) life logs.old.items }
     ensures logged { entries_in logs.new.items

@@ -45,8 +45,8 @@ pub fn meant_by(named: &[(Handle, Intent)], handle: Handle) -> Intent
     Intent::OfCircuit
 }
 
-// The same, by the place at which the handle may be named. Where it is not, all
-// places are looked at.
+// What is meant by a request or a subscription of this handle, which may be named at this place. If
+// it is not, all places are looked at.
 fn meant_near(named: &[(Handle, Intent)], place: usize, handle: Handle) -> Intent
     requires { MeanTheirs (map named_of named.now) }
     ensures { intent_of result ≡ world.meant_by (map named_of named.now) handle }

@@ -61,7 +61,8 @@ pub fn post_numbers(
     }
 }
 
-// The same on one circuit.
+// A post to the record of this name reached this circuit: those that it concerns have
+// their numbers waiting.
 fn number_on(server: usize, core: &ServerCore, joined: &mut Joined, name: &[u8], mask: u16)
     requires alike { joined.old.server ≡ server → joined.old.lists.server_open ≡ true
         → IsAlike (under core.now.circuits joined.old.at_server) (joined_of joined.old) }
@@ -74,7 +75,7 @@ fn number_on(server: usize, core: &ServerCore, joined: &mut Joined, name: &[u8],
     }
 }
 
-// The same on a circuit that is open at this server.
+// A post to the record of this name reached this circuit, which is open at this server.
 fn number_all(core: &ServerCore, joined: &mut Joined, name: &[u8], mask: u16)
     requires alike { IsAlike (under core.now.circuits joined.old.at_server) (joined_of joined.old) }
     requires counts { MayCount joined.old.standing.items }
@@ -89,7 +90,7 @@ fn number_all(core: &ServerCore, joined: &mut Joined, name: &[u8], mask: u16)
     }
 }
 
-// The same for the subscription at this place.
+// A post to the record of this name reached the subscription at this place.
 fn number_next(core: &ServerCore, joined: &mut Joined, place: usize, name: &[u8], mask: u16)
     requires alike { IsAlike (under core.now.circuits joined.old.at_server) (joined_of joined.old) }
     requires counts { (s : kept.Standing) → At joined.old.standing.items place s

@@ -25,7 +25,7 @@ pub fn mask_payload(alloc: Global, mask: Mask) -> Result<Vec<u8>, AllocError>
     Vec::from_slice(alloc, message.payload())
 }
 
-/// The same value again.
+/// A copy of the value.
 pub fn value_again(alloc: Global, value: &Value) -> Result<Value, AllocError>
     ensures { IfOk result (λ v. elements v ≡ elements value.now) }
 {

@@ -88,7 +88,7 @@ fn is_gone(server: usize, core: &ServerCore, circuits: &[Joined], circuit: usize
     ends_now(server, core, &circuits[circuit])
 }
 
-// The same of a circuit itself.
+// Whether this circuit's end at this server has ended.
 fn ends_now(server: usize, core: &ServerCore, joined: &Joined) -> bool
     ensures { result ≡ is_some (world.ends_by server core.now (joined_of joined.now)) }
 {

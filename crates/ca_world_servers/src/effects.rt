@@ -67,8 +67,8 @@ pub fn wrote_by(effect: Effect) -> Option<bool>
     }
 }
 
-/// The same of a message of this command whose step closed its end, by the count of
-/// applied writes before it.
+/// Whether a write was applied, and then whether it made its record busy, by a message of this
+/// command whose step closed its end. It goes by the count of applied writes before it.
 pub fn wrote_of(
     core: &ServerCore,
     applied: u64,

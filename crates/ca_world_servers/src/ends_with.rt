@@ -107,7 +107,7 @@ fn is_gone(
     ends_now(server, handle, core, &circuits[circuit])
 }
 
-// The same of a circuit itself.
+// Whether this circuit's end at this server is the one under the handle, or has ended.
 fn ends_now(server: usize, handle: Handle, core: &ServerCore, joined: &Joined) -> bool
     ensures { result ≡ is_some (ends_under handle [] server core.now (joined_of joined.now)) }
 {

@@ -46,7 +46,7 @@ pub fn prepare_losses(
     Ok(all)
 }
 
-// The same for one circuit.
+// What this circuit has to lose, with room for its SERVER_DISCONNs.
 fn prepare_loss(
     alloc: Global,
     server: usize,
@@ -107,7 +107,7 @@ pub fn lose_all(
     }
 }
 
-// The same for one circuit.
+// This circuit loses the channels whose SERVER_DISCONNs were sent.
 fn lose_on(alloc: Global, server: usize, core: &ServerCore, joined: &mut Joined, leading: &Leading)
     requires may { MayLose server core.now joined.old leading.now }
     ensures { (n : ℕ)
@@ -120,7 +120,7 @@ fn lose_on(alloc: Global, server: usize, core: &ServerCore, joined: &mut Joined,
     }
 }
 
-// The same for a circuit that is open at this server.
+// This circuit, which is open at this server, loses the channels whose SERVER_DISCONNs were sent.
 fn lose_open(alloc: Global, core: &ServerCore, joined: &mut Joined, leading: &Leading)
     requires sent { (n : ℕ) × Disconnects core.now (joined_of joined.old) leading.now n }
     requires room { vec_len joined.old.lists.down + length leading.now.channels.items

@@ -61,7 +61,8 @@ impl End {
         Some(FollowUp::Wrote(seat.place, false, wanted.sid.number()))
     }
 
-    /// The same on a slow record, whose put stays busy: its reply comes as it is finished.
+    /// WRITE_NOTIFY of eight bytes on a slow record, whose put stays busy: its reply comes
+    /// when it is finished.
     #[inline(never)]
     fn put_slow(
         &mut self,
@@ -93,7 +94,7 @@ impl End {
     }
 }
 
-/// The same of a put that makes its record busy.
+/// Writes one element by a put that makes its record busy, if the client may write.
 #[inline(always)]
 fn put_one(
     records: &mut ServedRecords,
