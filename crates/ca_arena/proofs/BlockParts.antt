@@ -3,7 +3,7 @@
 --     items_at, room_after, right_at      the parts of what a block owns, at the place
 --         where its first slot is
 --     taken, made      what is owned of a block: its one machine value, and the parts
---     opened, closed      the same behind a `&mut`
+--     opened, closed      the same of a `&mut`
 --     item_of      the item at an index that there is
 --     shown, none_at_null, item_shown      what a `&` holds: the pointer and the items, which do
 --         not lie at null; one of them

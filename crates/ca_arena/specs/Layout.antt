@@ -12,7 +12,7 @@ module _ {T : Type 0} where
   link_read None = 0
   link_read (Some slot) = link_of slot
 
-  -- so many free indices, from this one on: the slot of each names the one that was freed before it
+  -- n free indices, from this one on: the slot of each names the one that was freed before it
   abbrev pub freed_from : List (Slot T) → ℕ → ℕ → List ℕ
   freed_from slots zero index = []
   freed_from slots (suc count) index = index ∷ freed_from slots count (link_read (slice_get slots index))

@@ -117,8 +117,8 @@ impl<T> Arena<T> {
         Ok(self.handle_after(ahead.len(), index))
     }
 
-    // The handle that comes after so many others. None if no index is free then. Where one that was
-    // given before is, it is this one.
+    // The handle that comes after n others. None if no index is free then. Where one that was given
+    // before is, it is this one.
     #[inline(always)]
     fn handle_after(&self, count: usize, index: usize) -> Option<Handle>
         requires { count < length self.now.freed → index ≡ slice_index_or self.now.freed count 0 }

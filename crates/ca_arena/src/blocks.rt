@@ -93,7 +93,7 @@ impl<T> Blocks<T> {
         self.blocks[index / BLOCK_SLOTS].take_out(index % BLOCK_SLOTS)
     }
 
-    // Makes blocks until there is room for so many more items. It changes no item.
+    // Makes blocks until there is room for n more items. It changes no item.
     //
     // Inlined, its loop would have the compiler clear the room for what `append` returns at each
     // `insert`: 7 % of a round.

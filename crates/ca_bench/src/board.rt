@@ -73,7 +73,7 @@ fn take(rt: &impl Wait, queue: &Mutex<VecDeque<Outcome>>) -> bool {
     queue.lock(rt).pop_front().is_some()
 }
 
-/// So many outcomes in each cell, from one core to four callers, each in a thread of its own.
+/// This many outcomes in each cell, from one core to four callers, each in a thread of its own.
 fn board_callers<R: Threads + Wait + Sync>(
     rt: &R,
     alloc: Global,

@@ -61,7 +61,7 @@ fn is_gone(board: &Board, caller: &mut CallerSeat, ticket: Ticket) -> bool
     !again && !late
 }
 
-/// A ticket whose cell was armed anew gives nothing.
+/// A ticket whose cell was armed again gives nothing.
 pub(crate) fn old_ticket_is_stale(alloc: Global) -> Result<bool, Refusal> {
     let (board, mut core) = Board::new(alloc)?;
     let mut caller = board.caller(&mut core);

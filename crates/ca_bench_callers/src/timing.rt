@@ -13,11 +13,11 @@ use std::sync::{Arc, Wait};
 use std::thread::{JoinHandle, Threads};
 use std::time::{Clock, Instant};
 
-/// Waits for at most so many turns.
+/// Waits for at most this many turns.
 const TURNS: u64 = 1_000_000;
 
-/// What is measured: at this port, by so many callers, so many reads of TEMP each, with so many
-/// outstanding at each.
+/// What is measured: at this port, by this many callers, with this many reads of TEMP each and this
+/// many outstanding at each.
 #[derive(Clone, Copy)]
 pub(crate) struct Course {
     pub(crate) port: u16,

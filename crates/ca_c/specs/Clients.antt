@@ -138,7 +138,7 @@ DoesClose s n t circuit = (k : Closing) × ((sent : List Sending) × (ClientClos
 abbrev pub DoesOutput : ClientObject → ℕ → ClientObject → (circuit : ℕ) → (before after : List ℕ) → Type 0
 DoesOutput s n t circuit before after = Shows (out_bytes s.core (handle_of circuit)) n before after × (t ≡ s)
 
--- the first bytes that wait were sent; refused by OutOfRange if no so many wait
+-- the first bytes that wait were sent; refused by OutOfRange if fewer wait
 abbrev pub DoesSent : ClientObject → ℤ → ClientObject → (circuit count : ℕ) → Type 0
 DoesSent s n t circuit count =
     ((n ≡ pos 0) × (t.core ≡ handed_over (handle_of circuit) count s.core) × KeepsRest s t)

@@ -82,7 +82,7 @@ DoesStamp s n t seconds nanos = (n ≡ pos 0) × (t.core ≡ stamped (record { s
 abbrev pub DoesOutput : ServerObject → ℕ → ServerObject → (circuit : ℕ) → (before after : List ℕ) → Type 0
 DoesOutput s n t circuit before after = Shows (output_of (under s.core.circuits (handle_of circuit))) n before after × (t ≡ s)
 
--- the first bytes that wait were sent; refused by OutOfRange if no so many wait
+-- the first bytes that wait were sent; refused by OutOfRange if fewer wait
 abbrev pub DoesSent : ServerObject → ℤ → ServerObject → (circuit count : ℕ) → Type 0
 DoesSent s n t circuit count =
     ((n ≡ pos 0) × Sends s.core (handle_of circuit) count t.core × KeepsRest s t)

@@ -7,7 +7,7 @@ use ca_client_core::{ChannelState, ClientCore, Closing, Left, Stepped, Ticked, W
 use ca_text::Refusal;
 use std::alloc::Global;
 
-/// A call that steps stops after so many messages.
+/// A call that steps stops after this many messages.
 const MESSAGES: u32 = 100_000;
 
 /// `USER HOST NOW SERVER.. names SERVER..`.

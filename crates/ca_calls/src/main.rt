@@ -7,7 +7,7 @@
 //!                                                  and its name servers, each as A.B.C.D:PORT
 //! record NAME TYPE COUNT quick|slow VALUE..        a record of the next server
 //! rule USER HOST NAME rw|r|w|-                     a rule of the next server
-//! server PORT NOW                                  a server begins anew
+//! server PORT NOW                                  a server begins again
 //! repeat N CALL                                    a call N times: the answer is the last one
 //! ```
 //!

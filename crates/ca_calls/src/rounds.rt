@@ -52,7 +52,7 @@ fn read(
     }
 }
 
-/// `ticks ROUNDS NOW`: so many ticks at one moment.
+/// `ticks ROUNDS NOW`: n ticks at one moment.
 pub fn ticks(core: &mut ClientCore, mut words: Words<'_>) -> Result<(), Refusal> {
     let rounds = words.count()?;
     let now = words.number()?;

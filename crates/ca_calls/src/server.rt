@@ -9,7 +9,7 @@ use ca_text::Refusal;
 use ca_wire::Pipe;
 use std::alloc::Global;
 
-/// A call that steps stops after so many messages.
+/// A call that steps stops after this many messages.
 const MESSAGES: u32 = 100_000;
 
 /// `PORT NOW`, with these lines of records and rules.

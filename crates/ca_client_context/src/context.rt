@@ -294,8 +294,8 @@ impl<L: Listener> Context<L> {
             .channel_state(channel)
     }
 
-    /// Waits for the outcome of a ticket, for at most so many turns of 10 ms. None as `wait_for`
-    /// says `TimedOut` or `Over`.
+    /// Waits for the outcome of a ticket, for at most n turns of 10 ms. None as `wait_for` says
+    /// `TimedOut` or `Over`.
     pub fn wait<R: Wait + Clock>(
         &self,
         rt: &R,
@@ -425,7 +425,7 @@ impl<L: Listener> Context<L> {
         self.shared.leave(calls);
     }
 
-    /// Waits until a channel is live, for at most so many turns of 10 ms, and says whether it is.
+    /// Waits until a channel is live, for at most n turns of 10 ms, and says whether it is.
     pub fn wait_live<R: Wait + Clock>(&self, rt: &R, channel: Handle, turns: u64) -> bool {
         let state = self.wait_live_for(rt, channel, time_of(turns));
         matches!(state, Ok(ChannelState::Live(_, _, _)))

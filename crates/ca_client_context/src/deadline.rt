@@ -27,7 +27,7 @@ impl Deadline {
     }
 }
 
-// The time that so many turns take.
+// The time that n turns take.
 pub(crate) fn time_of(turns: u64) -> Duration {
     Duration::from_millis(turns.saturating_mul(TURN))
 }

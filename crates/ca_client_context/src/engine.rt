@@ -17,14 +17,14 @@ use std::thread;
 use std::thread::{JoinHandle, Threads};
 use std::time::{Clock, Duration, Instant};
 
-// While there is more to read, waits are ended only every so many milliseconds: each that ends
+// While there is more to read, waits are ended only once in this many milliseconds: each that ends
 // finds more outcomes.
 const HURRY: u64 = 2;
 
-// At most so many datagrams are read in a turn.
+// At most this many datagrams are read in a turn.
 const DATAGRAMS: usize = 64;
 
-// A turn's moment is at most so many milliseconds after that of the turn before.
+// A turn's moment is at most this many milliseconds after that of the turn before.
 const STEP: u64 = 1_000;
 
 /// Work for a thread of its own.

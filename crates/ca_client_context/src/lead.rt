@@ -4,13 +4,13 @@ use std::thread;
 use std::time::{Clock, Duration};
 
 // A wait of the thread of input and output, and one for the sockets, takes at most
-// so many milliseconds.
+// this many milliseconds.
 pub(crate) const TURN: u64 = 10;
 
-// What callers did is remembered for so many times 10 ms, the time that is under way among them.
+// What callers did is remembered for this many times 10 ms, the time that is under way among them.
 pub(crate) const LATELY: u64 = 2;
 
-// A caller that leads, and was not seen for so many times 10 ms, keeps nobody else from reading.
+// A caller that leads, and was not seen for this many times 10 ms, keeps nobody else from reading.
 const LATE: u64 = 2;
 
 // Waits for the sockets. One thread at a time does.

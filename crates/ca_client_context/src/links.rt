@@ -12,13 +12,13 @@ use mio::{Interest, Registry, Token};
 use std::alloc::{AllocError, Global};
 use std::net::Net;
 
-// At most so many messages of a circuit are read in a turn.
+// At most this many messages of a circuit are read in a turn.
 const STEPS: usize = 512;
 
-// A socket with so many faults is let go: `turn_over` asks for fewer.
+// A socket with this many faults is let go: `turn_over` asks for fewer.
 const MOST_FAULTS: u64 = 1 << 63;
 
-// A circuit that could not be connected is tried again after so many milliseconds.
+// A circuit that could not be connected is tried again after this many milliseconds.
 const REST: u64 = 1_000;
 
 // The events of circuits. Which circuit has one is not asked: each is turned over in each turn.

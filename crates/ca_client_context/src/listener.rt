@@ -70,7 +70,7 @@ impl<L: Listener> Ears<L> {
         }
     }
 
-    // Whether others were cancelled, now that so many were, since this was last asked.
+    // Whether others were cancelled, now that this many were, since this was last asked.
     pub(crate) fn is_behind(&mut self, cancels: u64) -> bool {
         let is_behind = self.cancels != cancels;
         self.cancels = cancels;

@@ -12,11 +12,11 @@ use std::sync::atomic::{AtomicU64, Ordering};
 use std::sync::{Mutex, MutexGuard, Wait};
 use std::time::{Clock, Duration};
 
-// Requests that callers make while none of them looks for an outcome go out so many at a time: then
-// the server answers them while the next are made.
+// Requests that callers make while none of them looks for an outcome go out this many at a time:
+// then the server answers them while the next are made.
 const TOGETHER: u64 = 256;
 
-// The thread of input and output is told of one request in so many, and of the
+// The thread of input and output is told of one request in this many, and of the
 // first that was not sent.
 const SOME: u64 = 8;
 
@@ -28,8 +28,8 @@ const TRIES: usize = 64;
 // lies under it in its processor's cache.
 const BACKOFF: usize = 200;
 
-// Before a turn the thread of input and output waits until no request was made in a pause,
-// or for so many pauses.
+// Before a turn the thread of input and output waits until no request was made in a pause, or
+// for this many pauses.
 const QUIET: usize = 400;
 
 const PATIENCE: usize = 500;

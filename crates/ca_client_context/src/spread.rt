@@ -6,7 +6,7 @@ use std::alloc::{AllocError, Global};
 // each are on a circuit.
 const EACH: u32 = 288;
 
-// A client has a circuit to a server for each priority, of which there are so many.
+// A client has a circuit to a server for each priority, of which there are this many.
 const PRIORITIES: usize = 100;
 
 // How many channels a client has at each priority.

@@ -18,7 +18,7 @@ use Rattle.ca_client_core.specs.declared.for_histories.Aim.TheVariants as aim
 use Rattle.ca_client_core.specs.declared.for_histories.Asked.{Asked}
 use Rattle.ca_client_core.specs.declared.for_histories.Sending.{Sending}
 
--- the channel of this handle is live on this circuit, under this SID, with so many elements at
+-- the channel of this handle is live on this circuit, under this SID, with n elements at
 -- most; or it is not live
 abbrev pub LivesOn : Client → Handle → Option LiveOn → Type 0
 LivesOn x h (Some o) = (l : LiveChannel) × IsLive x h l × (o.circuit ≡ l.circuit) × (o.sid ≡ l.native.sid) × (o.count ≡ l.native.count)

@@ -59,7 +59,7 @@ pub fn sent_when_connected(core: &ClientCore, circuit: Handle) -> Result<Vec<Sen
     Ok(sent)
 }
 
-// Puts VERSION, CLIENT_NAME and HOST_NAME of a circuit behind what is sent. A name that has no room
+// Puts VERSION, CLIENT_NAME and HOST_NAME of a circuit after what is sent. A name that has no room
 // in a message counts as out of memory.
 fn list_set_up(
     alloc: Global,
@@ -99,7 +99,7 @@ fn of_circuit(circuit: Handle, message: Message) -> Sending
     }
 }
 
-// Puts the CREATE_CHAN of each channel that waits for this circuit behind what is
+// Puts the CREATE_CHAN of each channel that waits for this circuit after what is
 // sent, in order of index.
 fn list_creations(
     alloc: Global,
@@ -116,7 +116,7 @@ fn list_creations(
     Ok(())
 }
 
-// Puts that of the channel at this index behind it, if it waits for this circuit.
+// Puts that of the channel at this index after it, if it waits for this circuit.
 fn list_creation(
     alloc: Global,
     channels: &Channels,

@@ -75,7 +75,7 @@ impl ClientCore {
     }
 }
 
-// Puts these CREATE_CHANs behind what is sent. There is room for them.
+// Puts these CREATE_CHANs after what is sent. There is room for them.
 fn push_creations(sent: &mut Vec<Sending>, creations: Vec<Creation>)
     requires { vec_len sent.old + length creations.items ≤ vec_capacity sent.old }
     ensures { map sending_of sent.new.items

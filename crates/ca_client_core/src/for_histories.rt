@@ -30,7 +30,7 @@ pub struct Sending {
     pub aim: Aim,
 }
 
-/// Where a channel is live: on this circuit, under this SID, with so many elements at most.
+/// Where a channel is live: on this circuit, under this SID, with n elements at most.
 #[derive(Clone, Copy, Debug, PartialEq, Eq)]
 pub struct LiveOn {
     pub circuit: Handle,
@@ -52,8 +52,8 @@ pub fn live_on(core: &ClientCore, channel: Handle) -> Option<LiveOn>
     }
 }
 
-/// Why a read or a subscription of so many elements of this type is refused while an id is free for
-/// it. Both may be greater than any that a message carries.
+/// Why a read or a subscription of n elements of this type is refused while an id is free for it.
+/// Both may be greater than any that a message carries.
 pub fn ask_refusal(
     core: &ClientCore,
     channel: Handle,
@@ -72,7 +72,7 @@ pub fn ask_refusal(
     }
 }
 
-/// What a subscription asks for: on this channel, as this type, with so many elements.
+/// What a subscription asks for: on this channel, as this type, with n elements.
 #[derive(Clone, Copy, Debug, PartialEq, Eq)]
 pub struct Asked {
     pub channel: Handle,

@@ -23,7 +23,7 @@ use std::marker::Model;
 // moment is not looked for.
 const LONGEST_WAIT: u64 = 300_000;
 
-// So many halvings find one moment among so many.
+// This many halvings find one moment among all.
 const HALVINGS: usize = 20;
 
 /// The channels that are searched for, or were found, by CID, in the order in
@@ -49,7 +49,7 @@ impl Model for Searches {
 }
 
 impl Searches {
-    // None. It takes no memory.
+    // None. It does not allocate.
     pub(crate) fn new(alloc: Global) -> Searches
         ensures { result.entries ≡ [] }
     {

@@ -26,8 +26,8 @@ as_sent o = record { circuit = o.circuit; message = o.message; aim = answer.Crea
 abbrev pub told_by : Table Channel → Table ClientCircuit → Address → Fields → Option Creation
 told_by channels circuits from m = if m.command == command_number command.Search then creation_by channels circuits from m else None
 
--- A message was received, and its CREATE_CHAN is behind those before; or there was no memory for
--- it, and nothing is changed.
+-- A message was received, and its CREATE_CHAN is after those before; or there was no memory for it,
+-- and nothing is changed.
 abbrev pub NotesOne : HalfParts → Address → Fields → List Creation → Result Received AllocError → List Creation → HalfParts → Type 0
 NotesOne old from m cs (Ok d) cs' new = ReceivesIn old from m (Ok d) new × (cs' ≡ cs ++ option_to_list (told_by old.channels (opened_parts old).circuits from m))
 NotesOne old from m cs (Err _) cs' new = (new ≡ old) × (cs' ≡ cs)

@@ -70,7 +70,7 @@ abbrev pub IsLong : DataType → ℕ → List ℕ → Type 0
 IsLong t count bytes = meta_size t.form + padding_size t.form t.base + least_size t.base count ≤ length bytes
 
 -- why these bytes are not read: no such type, no reading, or no memory for one; no
--- elements take no memory
+-- elements need no memory
 abbrev pub ReadRefused : ℕ → ℕ → List ℕ → Refusal → Type 0
 ReadRefused number count bytes refusal.BadType = 20 < number
 ReadRefused number count bytes refusal.Short = (t : DataType) × (type_number t ≡ number) × (IsLong t count bytes → ⊥) × ((e : Elements) (m : Meta) → Reads t count bytes e m → ⊥)

@@ -88,9 +88,9 @@ fn read_elements(
 }
 
 impl Value {
-    /// Reads one element of the plain type of this number over the one that is there: it takes no
-    /// memory, and nothing is moved. False, and nothing changes, if it is of another type than this
-    /// value, if the bytes are too few, if there are several elements, and for texts.
+    /// Reads one element of the plain type of this number over the one that is there: it does not
+    /// allocate, and nothing is moved. False, and nothing changes, if it is of another type than
+    /// this value, if the bytes are too few, if there are several elements, and for texts.
     #[inline(always)]
     pub fn read_over(&mut self, number: u16, bytes: &[u8]) -> bool
         ensures { ReadsOver number bytes.now (elements self.old) result (elements self.new) }

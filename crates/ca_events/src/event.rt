@@ -94,12 +94,12 @@ pub enum Event {
     Accept {
         client: u64,
     },
-    /// So many bytes of a circuit reach the server.
+    /// This many bytes of a circuit reach the server.
     Up {
         circuit: u64,
         bytes: u64,
     },
-    /// So many bytes of a circuit reach the client.
+    /// This many bytes of a circuit reach the client.
     Down {
         circuit: u64,
         bytes: u64,

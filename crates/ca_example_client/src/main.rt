@@ -17,7 +17,7 @@ use std::thread;
 use std::thread::Threads;
 use std::time::Clock;
 
-/// Waits for at most so many turns, which is long on an idle machine.
+/// Waits for at most this many turns, which is long on an idle machine.
 const TURNS: u64 = 2_000;
 
 /// The server's device, which has nothing to do.

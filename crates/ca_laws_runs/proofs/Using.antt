@@ -1,5 +1,5 @@
 -- What was called stays so, client by client, in every event: a subscription that is over stays
--- over, and a client that begins anew is another.
+-- over, and a client that begins again is another.
 use Rattle.std.proofs.Common.{◌≡◌, ℕ, ◌+◌, ◌<◌, ◌⊎◌, inl, inr, Bool, true, false, cond, List, [], ◌∷◌, ◌++◌, length, Option, Some, None, refl, sym, ap, ◌∙◌, subst, arith}
 use Rattle.std.specs.Prelude.{drop, is_none, map, slice_set}
 use Rattle.std.specs.List.{FoldsTo}

@@ -26,7 +26,7 @@ IsClosed l = l.input.closed ≡ true
 abbrev pub closed_off : LinkState → LinkState
 closed_off l = record l { input = record l.input { closed = true } }
 
--- `give`: these bytes came at this moment. No bytes take no memory.
+-- `give`: these bytes came at this moment. No bytes need no memory.
 abbrev pub Gives : ℕ → List ℕ → LinkState → Result (Unit {0}) Refusal → LinkState → Type 0
 Gives now bytes old (Ok _) new = IsOpen old × (new ≡ with_given now bytes old)
 Gives now bytes old (Err refusal.CircuitClosed) new = IsClosed old × (new ≡ old)

@@ -207,7 +207,7 @@ impl Monitors {
     }
 
     /// The subscriptions to this channel are over, and their ids drain on this circuit until its
-    /// clear's reply. It takes no memory.
+    /// clear's reply. It does not allocate.
     pub fn end_channel(&mut self, circuit: Handle, channel: Handle)
         ensures { self.new ≡ channel_over circuit channel self.old }
     {

@@ -39,7 +39,7 @@ module _ {E : Type 0} where
   abbrev pub AreInOne : List (Queue E) → Type 0
   AreInOne qs = (i j : ℕ) (key : SubKey) → HasAt qs i key → HasAt qs j key → i ≡ j
 
-  -- in the queues behind this place nothing waits
+  -- in the queues after this place nothing waits
   abbrev pub AreIdleBehind : (last : ℕ) → List (Queue E) → Type 0
   AreIdleBehind last qs = (i : ℕ) (q : Queue E) → At qs i q → last < i → q.waiting ≡ []
 

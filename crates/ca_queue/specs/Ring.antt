@@ -98,7 +98,7 @@ pub record IsIndexed (lasts : List Last) (keys : List SubKey) (room indexed spar
 
 -- ---- both
 
--- where the last entry of a subscription is, by where it is behind the first entry, and
+-- where the last entry of a subscription is, by how far it is after the first entry, and
 -- whether that is one of it
 abbrev pub later : Option ℕ → Bool → Option ℕ
 later (Some i) here = Some (i + 1)
@@ -115,7 +115,7 @@ module _ {E : Type 0} where
   last_index key (w ∷ q) = later (last_index key q) (is_of key w)
 
   -- The number that stands with a subscription is that of its last put, if it has an entry: there
-  -- were as many puts after it as entries wait behind that entry.
+  -- were as many puts after it as entries wait after that entry.
   abbrev pub IsNoted : ℕ → List (SubKey × E) → Last → Type 0
   IsNoted puts entries l = (i : ℕ) → last_index l.key entries ≡ Some i → i + 1 + puts_after puts l.put ≡ length entries
 

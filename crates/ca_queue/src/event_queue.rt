@@ -158,8 +158,8 @@ fn append<E: Drop>(
     put(ring, key, entry);
 }
 
-// Where the entry is that a post takes the place of, if it does: its subscription's last one,
-// behind which so many wait.
+// Where the entry is that a post takes the place of, if it does: its subscription's last
+// one, after which n wait.
 fn replaced<E>(
     ring: &Option<HeapCircularBuffer<(SubKey, E)>>,
     key: SubKey,
@@ -180,7 +180,7 @@ fn replaced<E>(
     last_of(ring, key, behind)
 }
 
-// Where the last entry of a subscription is, behind which so many wait, if it has one.
+// Where the last entry of a subscription is, after which n wait, if it has one.
 fn last_of<E>(
     ring: &Option<HeapCircularBuffer<(SubKey, E)>>,
     key: SubKey,

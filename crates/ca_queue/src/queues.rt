@@ -12,7 +12,7 @@ use std::alloc::Global;
 
 /// An event queue of these entries, however it is kept.
 ///
-/// `add` makes the room for all entries that come, so the other calls take no memory.
+/// `add` makes the room for all entries that come, so the other calls do not allocate.
 pub trait Queues<E> {
     /// What it is: the entries that wait, the subscriptions, and whether events are on.
     ghost contents: { Self → Queue E };

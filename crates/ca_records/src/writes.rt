@@ -39,7 +39,7 @@ impl ServedRecords {
 
     /// Writes one element, of the plain type of this number, as these bytes have it, over the value
     /// of the record at this place, if that has one element of that type. It is applied at once,
-    /// and takes no memory.
+    /// and does not allocate.
     ///
     /// False, and nothing changes, if the value is another, or is one of texts, if the bytes are
     /// too few, and if this is a put with notification that is to wait or makes the record busy:

@@ -13,8 +13,7 @@ use Rattle.ca_world.specs.declared.circuits.Way.TheVariants.{Down, Up}
 abbrev pub draws : ℕ
 draws = 16
 
--- the event that this number is in a world: it acts on a circuit, on which so
--- many bytes wait each way
+-- the event that this number is in a world: it acts on a circuit, on which n bytes wait each way
 pub record IsDrawn (w : World) (drawn : ℕ) (e : Event) : Type 0 where
   pub circuit : ℕ
   pub up : ℕ
@@ -45,7 +44,7 @@ pub record Drawn : Type 0 where
 abbrev pub DrawsNext : Drawn → Drawn → Type 0
 DrawsNext old new = (drawn : ℕ) × ((drawn, new.left) ≡ next_u32 old.left) × DrawsAt old.world drawn old.events new.events new.world
 
--- so many numbers are drawn, one after another
+-- n numbers are drawn, one after another
 abbrev pub DrawsSome : Drawn → (n : ℕ) → Drawn → Type 0
 DrawsSome old n new = FoldsTo (λ (d : Drawn) (i : ℕ) (d' : Drawn). DrawsNext d d') old (range_with_len 0 n) new
 

@@ -16,7 +16,7 @@ use std::mem;
 // So many are listed before any is taken out.
 const LEAST_LIMIT: usize = 16;
 
-/// Those that are over are taken out of a list once it is so many times as long as it
+/// Those that are over are taken out of a list once it is this many times as long as it
 /// was left the last time.
 pub(crate) const GROWTH: usize = 4;
 

@@ -20,7 +20,7 @@ use ca_wire::Message;
 use std::alloc::{AllocError, Global};
 use std::marker::Model;
 
-// The memory of so many values is kept at most.
+// The memory of this many values is kept at most.
 const MOST_SPARE: usize = 1_024;
 
 /// A client's requests: by their handles, by their IOIDs, and in order of issue.

@@ -85,7 +85,7 @@ fn know_apart(records: &Records)
     let _ = records.len();
 }
 
-// No credits, at so many places.
+// No credits, at n places.
 fn no_credits(alloc: Global, places: usize) -> Result<Vec<u64>, AllocError>
     ensures { IfOk result (λ v. v.items ≡ replicate places 0) }
 {

@@ -68,7 +68,7 @@ impl Kept {
         self.retired
     }
 
-    // A copy of it, if its name takes no memory of its own.
+    // A copy of it, if its name has no memory of its own.
     fn copy(&self) -> Option<Kept>
         ensures { IfSome result (λ c. c ≡ self.now) }
     {
@@ -120,7 +120,7 @@ impl Channel {
         self.kept.as_ref()
     }
 
-    // What is kept of it once more, if its name takes no memory of its own.
+    // A copy of what is kept of it, if its name has no memory of its own.
     pub(crate) fn copy(&self) -> Option<Kept>
         ensures { IfSome result (λ c. c ≡ self.now) }
     {

@@ -3,7 +3,7 @@
 pub enum Effect {
     /// Nothing of which whoever drives the server has to know.
     Quiet,
-    /// A put with notification on the channel of this SID waits behind another.
+    /// A put with notification on the channel of this SID waits for another.
     Queued(u32),
     /// A channel was refused.
     Refused,

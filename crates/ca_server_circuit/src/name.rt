@@ -94,7 +94,7 @@ impl Name {
         }
     }
 
-    // A copy of the name, if it takes no memory of its own.
+    // A copy of the name, if it has no memory of its own.
     pub(crate) fn copy(&self) -> Option<Name>
         ensures { IfSome result (λ n. n ≡ self.now) }
     {

@@ -173,7 +173,7 @@ fn value_alone(wanted: &Wanted, of: &Record) -> Option<u64>
 }
 
 /// Puts an update of one element after what waits on an open link. Without memory the link is as it
-/// was. As a call of its own it writes the message in its place; taken in line, after so many
+/// was. As a call of its own it writes the message in its place; taken in line, after all those
 /// tests, it was made aside and copied by another call.
 #[inline(never)]
 fn send_alone(link: &mut Link, wanted: &Wanted, payload: u64) -> Result<(), AllocError>

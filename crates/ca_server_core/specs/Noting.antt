@@ -64,7 +64,7 @@ NotesAt did s noted = noted ≡ None
 -- ---- the put of the record to which a message wrote, in the table of circuits
 
 -- The busy put of the record of a name ended: its reply went out, and what that leaves to do
--- followed. So many writes were applied before, and so many then.
+-- followed. This many writes were applied before, and this many then.
 pub record EndsPut (name : List ℕ) (n : ℕ) (t : Table ServerCircuit) (s : Store) (k : ℕ) (last : Table ServerCircuit) (x : Store) : Type 0 where
   pub f : Finished
   pub left : Store
@@ -113,7 +113,7 @@ pub record HandlesAndFinishes (old : Server) (h : Handle) (new : Server) : Type 
   pub tries : Tries stepped put new
 
 -- `serve_and_pump`: what was done with the next message. If it was handled, updates left the queues
--- of an open end then, and so many bytes wait on it.
+-- of an open end then, and n bytes wait on it.
 abbrev pub ServesAndPumps : Server → Handle → Stepped → (waiting : ℕ) → Server → Type 0
 ServesAndPumps old h Handled waiting new = (finished : Server) × HandlesAndFinishes old h finished × PumpsCounting finished h waiting new
 ServesAndPumps old h did waiting new = Steps old h did new × Closes old h did new

@@ -42,8 +42,8 @@ pub record GoesThrough (did : FollowUp) (h : Handle) (w : Watched) (t : Table Se
   pub pumps : PumpsIn mid h s after s
 
 -- What a message leaves to do was done, and its step is answered as it was before. Then the put of
--- the record to which it wrote ended, if that was busy, and the circuit was pumped. So many writes
--- were applied before, and so many then.
+-- the record to which it wrote ended, if that was busy, and the circuit was pumped. This many
+-- writes were applied before, and this many then.
 pub record FollowsAndPumps (did : FollowUp) (h : Handle) (n : ℕ) (t : Table ServerCircuit) (s : Store) (k : ℕ) (after : Table ServerCircuit) (x : Store) : Type 0 where
   pub mid : Table ServerCircuit
   pub left : Store

@@ -78,8 +78,8 @@ impl ServerCore {
 }
 
 /// Does what a message of this circuit leaves to do, finishes the put by which it made a record
-/// busy, and pumps the circuit. So many bytes wait on it then. False if the end of the circuit has
-/// ended before that: then nothing was finished, and nothing pumped.
+/// busy, and pumps the circuit. It says how many bytes wait on it then. False if the end of the
+/// circuit has ended before that: then nothing was finished, and nothing pumped.
 #[inline(always)]
 fn follow_and_pump(
     applied: &mut u64,

@@ -18,8 +18,8 @@ use ca_server_watchers::Watchers;
 
 /// Does what a message of this circuit leaves to do, and pumps the circuit, if the message is a
 /// write to a record that is not busy, and either nobody watches it while the circuit is idle, or
-/// this circuit alone does, and its update is shown at once. So many bytes wait then. False, and
-/// nothing changed, if more is to be done.
+/// this circuit alone does, and its update is shown at once. It says how many bytes wait then.
+/// False, and nothing changed, if more is to be done.
 #[inline(always)]
 pub(crate) fn go_through(
     circuits: &mut HeldTable<Circuit>,
@@ -90,7 +90,7 @@ fn go_to_watching(
     show_on(circuits, records, circuit, place, left)
 }
 
-/// Whether the last of those that watch, which has so many before it, is this circuit alone.
+/// Whether the last of those that watch, which has n before it, is this circuit alone.
 #[inline(always)]
 fn is_sole(last: Handle, before: usize, circuit: Handle) -> bool
     ensures { result ≡ true → (before ≡ 0) × (last ≡ circuit) }

@@ -18,11 +18,11 @@ addressee_of r = record { queue = r.queue; key = r.key }
 abbrev pub keys_of : List Addressee → List SubKey
 keys_of owed = map (λ (a : Addressee). a.key) owed
 
--- so many of this, and no other
+-- n of this, and no other
 abbrev pub AreCopies : {A : Type 0} → ℕ → A → List A → Type 0
 AreCopies n x xs = (length xs ≡ n) × ((i : ℕ) (y : _) → At xs i y → y ≡ x)
 
--- none is in a later queue than one behind it
+-- none is in a later queue than one after it
 abbrev pub AreInOrder : List Addressee → Type 0
 AreInOrder [] = Unit {0}
 AreInOrder (a ∷ owed) = ((i : ℕ) (b : Addressee) → At owed i b → a.queue ≤ b.queue) × AreInOrder owed

@@ -274,7 +274,7 @@ fn is_for_any(receivers: &[Receiver], mask: u16) -> bool
     receivers.iter().any(|receiver| receiver.is_masked(mask))
 }
 
-// Whether none of these is in a later queue than one behind it.
+// Whether none of these is in a later queue than one after it.
 #[inline(always)]
 fn are_in_order(receivers: &[Receiver]) -> bool
     ensures { result ≡ true → AreInOrder (map addressee_of receivers.now) }

@@ -124,7 +124,7 @@ fn close_all(open: &mut [[bool; 2]], end: usize) {
     }
 }
 
-/// Whether the ends that receive are those, and there is no circuit behind them.
+/// Whether the ends that receive are those, and there is no circuit after them.
 fn are_open(world: &Stopped, open: &[[bool; 2]]) -> bool {
     let none = open.len() as u64;
     world.circuits() == none

@@ -12,7 +12,7 @@ const REQUESTS: &[u8] =
 const CREATED: &[u8] =
     b"\0\x16\0\0\0\0\0\0\0\x01\0\0\0\0\0\x03\0\x12\0\0\0\x05\0\x01\0\x01\0\0\0\x01\0\0";
 
-/// Bytes that come in pieces of at most n, until so many reads were made.
+/// Bytes that come in pieces of at most n, until this many reads were made.
 #[derive(Drop)]
 struct Pieces<'a> {
     bytes: &'a [u8],
@@ -61,8 +61,8 @@ const STORED: &[u8] =
 const ANSWERS: &[u8] =
     b"\0\0\0\0\0\0\0\x0d\0\0\0\0\0\0\0\0\0\x16\0\0\0\0\0\0\0\x01\0\0\0\0\0\x03\0\x12\0\0\0\x05\0\x01\0\x01\0\0\0\x01\0\0\0\x0f\0\x08\0\x05\0\x01\0\0\0\x01\0\x01\0\0\0\0\0\x15\0\0\0\0\0\x0c\0\0\0\0\0\0\0\x01\0\0\0\x01\0\0";
 
-/// The status and what was written and told, if the reads after so many fail, those of the reader
-/// or of the source over it, or the writes after so many.
+/// The status and what was written and told, if the reads after the first n fail, those of the
+/// reader or of the source over it, or the writes after the first n.
 fn fused(
     alloc: Global,
     size: usize,

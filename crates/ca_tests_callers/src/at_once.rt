@@ -63,7 +63,7 @@ impl Row {
     }
 }
 
-/// A row is soon over within so many milliseconds.
+/// A row is soon over within this many milliseconds.
 pub(crate) const LEFT: u64 = 600;
 
 pub(crate) const ROWS: u64 = 20;

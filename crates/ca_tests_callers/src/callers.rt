@@ -21,7 +21,7 @@ use std::sync::{Arc, Wait};
 use std::thread::{JoinHandle, Threads};
 use std::time::Clock;
 
-/// Waits for at most so many turns, which is long on an idle machine.
+/// Waits for at most this many turns, which is long on an idle machine.
 const TURNS: u64 = 100_000;
 
 /// The tickets of a caller.
@@ -162,7 +162,7 @@ fn make_part<R: Wait + Clock>(
     })
 }
 
-/// Reads of so many elements, of one more, and so on.
+/// Reads of n elements, of one more, and so on.
 fn asked<R: Wait + Clock>(
     rt: &R,
     alloc: Global,
@@ -212,7 +212,7 @@ impl Work for Part {
     }
 }
 
-/// Whether a ticket's outcome has so many elements, and is there once.
+/// Whether a ticket's outcome has n elements, and is there once.
 fn is_right<R: Wait + Clock>(
     rt: &R,
     context: &Context<Nobody>,

@@ -24,10 +24,10 @@ use std::thread;
 use std::thread::Threads;
 use std::time::{Clock, Duration};
 
-/// Waits for at most so many turns, which is long on an idle machine.
+/// Waits for at most this many turns, which is long on an idle machine.
 const TURNS: u64 = 2_000;
 
-/// What is there at once is there within so many milliseconds: much less than a long wait takes.
+/// What is there at once is there within this many milliseconds: much less than a long wait takes.
 const SOON: u64 = 5_000;
 
 /// Reads one after another, each of which is waited for. They take some milliseconds, and this many

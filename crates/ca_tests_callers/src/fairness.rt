@@ -21,7 +21,7 @@ use std::time::{Clock, Duration};
 /// which is as many as may.
 const PUTS: u8 = 17;
 
-/// A call of the device takes so many milliseconds.
+/// A call of the device takes this many milliseconds.
 const CALL: u64 = 50;
 
 /// So many calls may begin between the put on the third record and its own, at most: two, and what

@@ -27,7 +27,7 @@ struct Signs {
     passed: AtomicU64,
 }
 
-/// Holds each put until it is opened, for so many turns at most.
+/// Holds each put until it is opened, for n turns at most.
 #[derive(Drop)]
 struct Gate {
     signs: Arc<Signs>,
@@ -108,7 +108,7 @@ fn show_held<
 }
 
 /// The server ends once one circuit is closed. Of four puts its device has begun two by then, one
-/// has made its record busy, and one waits behind another.
+/// has made its record busy, and one waits for another.
 fn show_ended<
     R: Threads
         + Wait
@@ -166,7 +166,7 @@ fn end_beside<R: Net<Stream = TcpStream, Listener = TcpListener>, W: Write>(
     )
 }
 
-/// A server of these records, whose puts the gate holds, until so many circuits are closed.
+/// A server of these records, whose puts the gate holds, until n circuits are closed.
 fn start_server<
     R: Threads
         + Wait

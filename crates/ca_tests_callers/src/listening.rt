@@ -21,7 +21,7 @@ use std::thread;
 use std::thread::Threads;
 use std::time::{Clock, Duration};
 
-/// Waits for at most so many turns, which is long on an idle machine.
+/// Waits for at most this many turns, which is long on an idle machine.
 const TURNS: u64 = 2_000;
 
 /// A listener that waits for a read, in the thread that would read its reply.

@@ -155,7 +155,7 @@ fn cid_of(datagram: &[u8], name: [u8; 8]) -> Option<u32> {
     None
 }
 
-/// A channel to so many LONGs that may be read and written. Its SID is its CID.
+/// A channel to n LONGs that may be read and written. Its SID is its CID.
 pub(crate) fn create(stream: &TcpStream, cid: u32, count: u16) -> Result<(), Refusal> {
     let rights = Message {
         command: 22,
@@ -211,7 +211,7 @@ pub(crate) fn tell_message(
     send(stream, &bytes[0..end])
 }
 
-/// The header of a message with so many bytes of payload.
+/// The header of a message with n bytes of payload.
 pub(crate) fn header_of(message: Message, size: usize) -> [u8; 16] {
     let mut header = [0u8; 16];
     header[0..2].copy_from_slice(&message.command.to_be_bytes());

@@ -29,13 +29,13 @@ const HALF: u64 = 5;
 
 const ROWS: u64 = 5;
 
-/// Those of four callers at once are over within so many milliseconds. They take twice as many if
+/// Those of four callers at once are over within this many milliseconds. They take twice as many if
 /// each is left to a turn.
 const LEFT: u64 = 1_000;
 
 const CALLERS: u64 = 4;
 
-/// Waits for at most so many turns.
+/// Waits for at most this many turns.
 const TURNS: u64 = 2_000;
 
 pub(crate) fn show<

@@ -23,7 +23,7 @@ use std::thread;
 use std::thread::{JoinHandle, Threads};
 use std::time::{Clock, Duration};
 
-/// A name server listens after so many milliseconds, and one that closes each circuit at once is
+/// A name server listens after this many milliseconds, and one that closes each circuit at once is
 /// watched for as long.
 const LATE: u64 = 2_500;
 

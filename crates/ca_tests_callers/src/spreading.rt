@@ -19,12 +19,12 @@ use std::thread;
 use std::thread::Threads;
 use std::time::{Clock, Duration};
 
-/// Waits for at most so many turns, which is long on an idle machine.
+/// Waits for at most this many turns, which is long on an idle machine.
 const TURNS: u64 = 3_000;
 
 const CHANNELS: usize = 10_000;
 
-/// A value is put to one channel of so many.
+/// A value is put to one channel of this many.
 const PUTS: usize = 100;
 
 /// 288 channels at each of 100 priorities.
@@ -189,7 +189,7 @@ fn watch<R: Wait + Clock>(
     }
 }
 
-/// Waits until so many were counted, and some turns more, and tells how many they are.
+/// Waits until n were counted, and some turns more, and returns how many they are.
 fn counted<R: Clock>(rt: &R, count: &AtomicU64, wanted: u64) -> u64 {
     for _ in 0..TURNS {
         if count.load(Ordering::SeqCst) >= wanted {

@@ -189,8 +189,8 @@ fn outcome_of<R: Wait + Clock>(
     }
 }
 
-// Prints so many updates. If one was left out, the channel is subscribed to anew once all others
-// were printed: that brings the newest value.
+// Prints n updates. If one was left out, the channel is subscribed to again once all others were
+// printed: that brings the newest value.
 fn monitor<R: Wait + Clock, K: Sink>(
     rt: &R,
     alloc: Global,
@@ -237,7 +237,7 @@ fn subscribe<R: Wait>(
     }
 }
 
-// Prints so many updates, or as many as there are if one was left out: how many are left to print.
+// Prints n updates, or as many as there are if one was left out: how many are left to print.
 fn print_updates<R: Clock, K: Sink>(
     rt: &R,
     alloc: Global,

@@ -22,7 +22,7 @@ pub enum Task<'a> {
     Get,
     /// Puts this text.
     Put(&'a str),
-    /// Prints so many updates.
+    /// Prints n updates.
     Monitor(u64),
 }
 

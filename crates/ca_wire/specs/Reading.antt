@@ -66,7 +66,7 @@ IsOne bytes (one.Whole head) = IsWhole bytes head
 IsOne bytes one.More = NoneBegins bytes × NotBad bytes
 IsOne bytes (one.Bad e) = BadAt bytes e
 
--- From old, these bytes were given, with this answer, and left new. No bytes take no memory.
+-- From old, these bytes were given, with this answer, and left new. No bytes need no memory.
 abbrev pub Gives : Held → List ℕ → Result (Unit {0}) Refusal → Held → Type 0
 Gives old bytes (Ok _) new = (old.closed ≡ false) × (new ≡ record { bytes = old.bytes ++ bytes; closed = false })
 Gives old bytes (Err CircuitClosed) new = (old.closed ≡ true) × (new ≡ old)

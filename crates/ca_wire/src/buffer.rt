@@ -56,7 +56,7 @@ impl Buffer {
         &self.bytes[self.start..]
     }
 
-    /// Puts these bytes after the others. A refusal changes nothing, and no bytes take no memory.
+    /// Puts these bytes after the others. A refusal changes nothing, and no bytes need no memory.
     pub fn push(&mut self, bytes: &[u8]) -> Result<(), AllocError>
         ensures ok { OnOk result (self.new ≡ self.old ++ bytes.now) }
         ensures err { OnErr result ((self.new ≡ self.old) × (bytes.now ≢ [])) }

@@ -157,7 +157,7 @@ impl Deframer {
     }
 }
 
-/// The bytes in this room, of which nothing is left then. No bytes take no
+/// The bytes in this room, of which nothing is left then. No bytes need no
 /// memory, and leave the room.
 #[inline(always)]
 fn copied(room: &mut Vec<u8>, bytes: &[u8]) -> Result<Vec<u8>, AllocError>

@@ -78,7 +78,7 @@ waits-found f log p o v is tells = subst (λ (x : Option _). WaitsIn log p (opti
 
 -- ---- logs
 
--- more entries behind others
+-- more entries after others
 pub grown-twice : {A : Type 0} (life : ℕ) (some more : List A) (logs : List (List A)) → grown life more (grown life some logs) ≡ grown life (some ++ more) logs
 grown-twice life some more [] = refl
 grown-twice zero some more (l ∷ ls) = ap (λ (z : List _). z ∷ ls) (append_assoc l some more)
@@ -115,7 +115,7 @@ busy-one y name r p b named busy is =
     let same : r ≡ is.c = some_is r is.c (sym named ∙ is.named) in
     some_is p b (sym busy ∙ ap (λ (z : Record). z.busy) same ∙ is.busy)
 
--- the reply stands behind what waited
+-- the reply is after what waited
 pub finish-behind : (y core : Server) (name : List ℕ) (sent : List (Handle × Fields)) (b : Put) → Finishes y name sent (Ok tt) core → IsBusy y name b → IsMessage (finish_reply b)
     → AreBehind (length (bytes_under (under y.circuits b.circuit))) (bytes_under (under core.circuits b.circuit)) (map (λ (s : Handle × Fields). s.1) sent)
 finish-behind y core name sent b (f, mid, replies, core_is) is fits =
@@ -149,7 +149,7 @@ finish-behind y core name sent b (f, mid, replies, core_is) is fits =
       few = inl (ap bodies sent_is);
     }
 
--- if no more bytes wait than before, none is behind
+-- if no more bytes wait than before, none is after
 pub none-behind : (waited : ℕ) (bytes : List ℕ) (ms : List Fields) → AreBehind waited bytes ms → length bytes ≤ waited → ms ≡ []
 none-behind waited bytes ms behind few = elim behind.few [
   | inl none ↦ none
@@ -417,7 +417,7 @@ pub bare-alike : (i : ℕ) (core : Server) (ks : List Joined) (k : ℕ) (j new :
 bare-alike i core ks k j new at is all =
     subst (AllAlike i core) (sym (bare-is ks k j new is)) (alike-bare i core (map joined_of ks) k (joined_of j) [] (At-map joined_of ks k j at) all)
 
--- on the circuit of the busy put the reply stands behind what waited
+-- on the circuit of the busy put the reply is after what waited
 pub reply-behind : (y core : Server) (name : List ℕ) (k waited : ℕ) (ks : List model.Joined) (j : model.Joined) (sent : List (Handle × Fields)) → IsBusyOn y name k ks → At ks k j → waited ≡ length (bytes_under (under y.circuits j.at_server)) → Finishes y name sent (Ok tt) core
     → AreBehind waited (bytes_under (under core.circuits j.at_server)) (map (λ (s : Handle × Fields). s.1) sent)
 reply-behind y core name k waited ks j sent busy at long finishes =
@@ -510,7 +510,7 @@ next-both logs life [] (Some v) (log, there, (p, first, rest)) = absurd cc
 next-both logs life (p ∷ ps) None next = absurd cc
 next-both logs life (p ∷ ps) (Some v) next = refl
 
--- a put that is applied next is told behind the finish
+-- a put that is applied next is told after the finish
 pub entries-two : (life number : ℕ) (p first : model.PutPlace) (value : Elements) (next : Option model.PutPlace) (some : Option Elements) (was mid now : List (List history.Entry)) → next ≡ Some first → some ≡ Some value
     → mid ≡ grown life (finish_entry p ∷ []) was → now ≡ grown life (history.Applied first.circuit first.place number (record { value = value; meta = unset }) true ∷ []) mid
     → now ≡ grown life (finish_entry p ∷ applied_of number next some) was

@@ -94,7 +94,7 @@ cut-closed core h e has =
 abbrev LacksAll : (before : Server) (h : Handle) (e : ServerEnd) → Action → Server → Type 0
 LacksAll before h e action new = (l : LacksMemory before h e new) × (busies_of action ≡ left_written l.written l.next.action)
 
--- the end that handled a message and was closed for want of memory
+-- the end that handled a message and was closed out of memory
 lacks-handled : (before core : Server) (h : Handle) (e : ServerEnd) (did : Effect) → HasEnd before h e → (d : IsHandled before core h e did) → NeedsMemory d.next.m d.next.replies d.next.action → LacksAll before h e d.next.action (closed h core)
 lacks-handled before core h e did has d needs = go (is_write d.next.action) refl
   where

@@ -91,7 +91,7 @@ pub record IsBusyOn (y : Server) (name : List ℕ) (k : ℕ) (ks : List Joined) 
 abbrev pub with_down : List history.Told → Joined → Joined
 with_down told j = record j { lists = record j.lists { down = told } }
 
--- Behind so many bytes these messages are spelled: none, or one without a payload.
+-- After n bytes these messages are spelled: none, or one without a payload.
 pub record AreBehind (waited : ℕ) (bytes : List ℕ) (ms : List Fields) : Type 0 where
   pub begun : List ℕ
   pub long : length begun ≡ waited

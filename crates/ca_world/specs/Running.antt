@@ -15,8 +15,8 @@ EndsBefore w (Some e) (Some BadEvent) = CanBe w e → ⊥
 EndsBefore w (Some e) (Some OutOfMemory) = CanBe w e
 EndsBefore w next refusal = ⊥
 
--- A run of these events from this setting did so many of them, in order, and ended in this world,
--- at the next one if there is one. Whatever the events are, the world is safe, and legal.
+-- A run of these events from this setting did n of them, in order, and ended in this world, at the
+-- next one if there is one. Whatever the events are, the world is safe, and legal.
 pub record HasRun (s : Setting) (es : List Event) (done : ℕ) (refusal : Option Refusal) (w : World) : Type 0 where
   pub within : done ≤ length es
   pub runs : Runs s (take done es) (slice_get es done) w

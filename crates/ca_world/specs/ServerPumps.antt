@@ -26,7 +26,7 @@ shown_by updates = map (λ (u : Update). u.message) updates
 abbrev pub UpdatesFit : Server → Handle → Type 0
 UpdatesFit y h = (updates : List Update) (new : Server) → Pumps y h updates new → AreGood (shown_by updates)
 
--- Bytes behind so many that waited: their updates went down.
+-- Bytes after the n that waited: their updates went down.
 pub record TellsBehind (waited : ℕ) (bytes : List ℕ) (j : model.Joined) (read : ℕ) (new : model.Joined) : Type 0 where
   pub n : ℕ
   pub is : read ≡ waited + n

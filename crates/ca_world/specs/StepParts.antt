@@ -89,7 +89,7 @@ pub record IsHandled (before core : Server) (h : Handle) (e : ServerEnd) (did : 
   pub reaches : Reaches next.action gone next.after core
   pub tells : did ≡ effect_due next.m next.action
 
--- Behind so many bytes these messages are spelled.
+-- After n bytes these messages are spelled.
 pub record StandBehind (waited : ℕ) (bytes : List ℕ) (ms : List Fields) : Type 0 where
   pub begun : List ℕ
   pub long : waited ≡ length begun

@@ -130,7 +130,7 @@ fn take_down(
     }
 }
 
-// Puts this command behind what the client sent, if there is one. There is room for it.
+// Puts this command after what the client sent, if there is one. There is room for it.
 fn push_flow(alloc: Global, up: &mut Vec<Sent>, flow: Option<Command>)
     requires { vec_len up.old + 1 ≤ vec_capacity up.old }
     ensures { map sent_of up.new.items ≡ map sent_of up.old.items ++ flow_said flow }

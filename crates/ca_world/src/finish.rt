@@ -314,7 +314,7 @@ fn give_down(joined: &mut Joined, down: Vec<Told>)
 }
 
 // The reply went down if more bytes wait than before: its message has no payload, so
-// that it takes no memory.
+// that it needs no memory.
 fn tell_reply(
     alloc: Global,
     core: &ServerCore,

@@ -108,8 +108,8 @@ fn pump_end(alloc: Global, core: &mut ServerCore, joined: &mut Joined) -> Option
     Some(first_of(left, read))
 }
 
-// Tells the updates that stand behind so many bytes that waited. So many bytes are those that
-// waited and those that were told.
+// Tells the updates that are after the n bytes that waited. It returns how many bytes
+// waited and were told.
 fn tell_behind(alloc: Global, bytes: &[u8], waited: usize, joined: &mut Joined) -> usize
     requires within { waited ≤ length bytes.now }
     requires spelled { AreSpelled (drop waited bytes.now) }

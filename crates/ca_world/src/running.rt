@@ -25,7 +25,7 @@ pub struct Ran {
 
 /// Is told how far a run is.
 pub trait Progress {
-    /// The run has done so many of all its events.
+    /// The run has done n of all its events.
     fn has_done(&mut self, done: usize, all: usize);
 }
 

@@ -322,7 +322,7 @@ fn prepare(
     Ok(prepared)
 }
 
-// The replies behind the bytes that waited on a circuit, as those to the message at this place.
+// The replies after the bytes that waited on a circuit, as those to the message at this place.
 // Without replies no memory is needed.
 fn replies_behind(turn: &Turn, core: &ServerCore, place: usize) -> Result<Vec<Told>, AllocError>
     requires { (ms : List Fields)
@@ -341,8 +341,8 @@ fn replies_behind(turn: &Turn, core: &ServerCore, place: usize) -> Result<Vec<To
     Ok(all)
 }
 
-// Makes room for so many replies to a message that is handled, beside that for its step. Without
-// replies no memory is needed.
+// Makes room for n replies to a message that is handled, beside that for its step. Without replies
+// no memory is needed.
 fn reserve_replies(joined: &mut Joined, replies: usize) -> Result<(), AllocError>
     requires { HasRoomToNote 0 joined.old }
     ensures same { joined_of joined.new ≡ joined_of joined.old }

@@ -19,7 +19,7 @@ count_on c sent = length (filter (λ (s : Sending). same_handle s.circuit c) sen
 abbrev pub HasRoomForAll : (i : ℕ) → List Sending → List Opened → Type 0
 HasRoomForAll i sent ks = (p : ℕ) (s : Sending) → At sent p s → (k : ℕ) → IsAt (map joined_of ks) i s.circuit k → HasRoomUp (count_on s.circuit sent) (Some k) ks
 
--- There is room for so many messages on each of the circuits of these numbers.
+-- There is room for n messages on each of the circuits of these numbers.
 abbrev pub HasRoomOnEach : (messages : ℕ) → (numbers : List ℕ) → List Opened → Type 0
 HasRoomOnEach n numbers ks = (p k : ℕ) → At numbers p k → HasRoomUp n (Some k) ks
 

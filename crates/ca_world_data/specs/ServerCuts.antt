@@ -19,7 +19,7 @@ use Rattle.ca_world_data.specs.declared.server.ServerSide.{ServerSide}
 use Rattle.ca_world_data.specs.Seen.{joined_of, record_of, server_of}
 use Rattle.ca_world_data.specs.Withdrawing.{all_withdrawn}
 
--- there is room for so many entries in the log of a life, if it has one
+-- there is room for n entries in the log of a life, if it has one
 abbrev pub HasRoomFor : (entries life : ℕ) → List (Vec Entry Global) → Type 0
 HasRoomFor entries life logs = (log : Vec Entry Global) → At logs life log → vec_len log + entries ≤ vec_capacity log
 

@@ -38,7 +38,7 @@ abbrev pub GoesUp : Option ℕ → history.Sent → List Joined → List Joined 
 GoesUp None s ks ks' = ks' ≡ ks
 GoesUp (Some k) s ks ks' = (j : Joined) → At ks k j → ks' ≡ slice_set ks k (with_up s j)
 
--- there is room for so many more messages on this circuit, if there is one
+-- there is room for n more messages on this circuit, if there is one
 abbrev pub HasRoomUp : (messages : ℕ) → Option ℕ → List Opened → Type 0
 HasRoomUp n None ks = Unit {0}
 HasRoomUp n (Some k) ks = (j : Opened) → At ks k j → vec_len j.lists.up + n ≤ vec_capacity j.lists.up

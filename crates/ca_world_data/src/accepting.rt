@@ -237,7 +237,7 @@ fn make_room(
     circuits.reserve(1)
 }
 
-// Makes it so many numbers at least.
+// Makes it n numbers at least.
 fn widen(numbers: &mut Vec<usize>, places: usize) -> Result<(), AllocError>
     ensures kept { Extends numbers.old.items numbers.new.items }
     ensures wide { OnOk result (places ≤ length numbers.new.items) }

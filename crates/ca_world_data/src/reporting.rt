@@ -20,8 +20,8 @@ use ca_server_core::{ServerCore, Step};
 use ca_wire::Pipe;
 use std::alloc::{AllocError, Global};
 
-/// Makes room in the log of a life for the withdrawal of all puts that wait for these records, and
-/// for so many more entries.
+/// Makes room in the log of a life for the withdrawal of all puts that wait for these records,
+/// and for n more entries.
 pub fn reserve_reports(
     logs: &mut Vec<Vec<Entry>>,
     life: usize,

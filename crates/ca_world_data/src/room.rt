@@ -8,7 +8,7 @@ use std::alloc::AllocError;
 // same pages, and each time that it doubles copy what no cache holds any more.
 const FIRST_ROOM: usize = 64;
 
-/// Makes room for so many more items in a list of a circuit. Only a list that has less is refused.
+/// Makes room for n more items in a list of a circuit. Only a list that has less is refused.
 pub fn reserve_list<T>(list: &mut Vec<T>, more: usize) -> Result<(), AllocError>
     ensures items { list.new.items ≡ list.old.items }
     ensures len { vec_len list.new ≡ vec_len list.old }

@@ -158,7 +158,7 @@ fn end(
 }
 
 // What the next message of a circuit will make its client send, with room for that on all circuits,
-// for the step in the history of this one, and for so many lines in the log.
+// for the step in the history of this one, and for n lines in the log.
 fn prepare_step(
     client: usize,
     circuit: usize,

@@ -48,7 +48,7 @@ fn take_number(
     None
 }
 
-// Puts the update that begins these bytes behind what the server sent, with the number that its
+// Puts the update that begins these bytes after what the server sent, with the number that its
 // queue gives, and returns how many of the bytes it is. Without memory for it nothing changes.
 fn tell_update(alloc: Global, bytes: &[u8], joined: &mut Joined) -> Result<usize, AllocError>
     requires { BeginsSpelled bytes.now }
@@ -68,7 +68,7 @@ fn tell_update(alloc: Global, bytes: &[u8], joined: &mut Joined) -> Result<usize
     Ok(size)
 }
 
-/// Puts the updates that these bytes are behind what the server sent, each with the number that its
+/// Puts the updates that these bytes are after what the server sent, each with the number that its
 /// queue gives, and returns how many of the bytes they are: all, unless memory lacked for the next.
 pub fn tell_updates(alloc: Global, bytes: &[u8], joined: &mut Joined) -> usize
     requires { AreSpelled bytes.now }

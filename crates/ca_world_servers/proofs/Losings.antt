@@ -69,7 +69,7 @@ ready-next R ks ls more i new x each long is one k j l there at = elim (At-set k
   ]
 ]
 
--- so many messages of 16 bytes
+-- n messages of 16 bytes
 pub sixteenths : (waited n all : ℕ) → waited + 16 * n ≡ all → (all - waited) / 16 ≡ n
 sixteenths waited n all is =
     let left : all - waited ≡ n * 16 = omega (arith, is) in

@@ -102,7 +102,7 @@ abbrev pub is_busy_in : Server → Option Coming → Bool
 is_busy_in core (Some w) = unwrap_or (option_map (λ (r : Record). is_some r.busy) (record_named core.records w.name.items)) false
 is_busy_in core None = false
 
--- A core that had applied so many writes before a message of this command wrote by it, and made the
+-- A core that had applied n writes before a message of this command wrote by it, and made the
 -- record busy or not; or it did not write.
 abbrev pub wrote_in : Server → (applied command : ℕ) → Option Coming → Option Bool
 wrote_in core applied number write =

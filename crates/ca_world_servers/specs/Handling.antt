@@ -15,7 +15,7 @@ use Rattle.ca_world_data.specs.declared.server.RecordSide.{RecordSide as Kept}
 
 -- ---- a circuit
 
--- The circuit has room for so many replies, and for the step of a message that is handled.
+-- The circuit has room for n replies, and for the step of a message that is handled.
 pub record HasRoomToNote (replies : ℕ) (j : Opened) : Type 0 where
   pub down : vec_len j.lists.down + replies ≤ vec_capacity j.lists.down
   pub handled : vec_len j.lists.handled + 1 ≤ vec_capacity j.lists.handled

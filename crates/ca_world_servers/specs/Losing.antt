@@ -65,8 +65,8 @@ pub record AllReady (i : ℕ) (core : Server) (name : List ℕ) (ks : List Opene
 
 -- ---- what was lost
 
--- the core of server i says that the SERVER_DISCONNs of so many channels were sent: they
--- are behind what waited
+-- the core of server i says that the SERVER_DISCONNs of n channels were sent: they
+-- are after what waited
 abbrev pub Disconnects : (core : Server) → Joined → Leading → ℕ → Type 0
 Disconnects core j l n = (l.waited + 16 * n ≡ length (bytes_under (under core.circuits j.at_server))) × (n ≤ length l.channels.items)
 
@@ -81,7 +81,7 @@ pub record AllMayLose (i : ℕ) (core : Server) (ks : List Opened) (ls : List Le
   pub each : (k : ℕ) (j : Opened) (l : Leading) → At ks k j → At ls k l → MayLose i core j l
   pub long : length ls ≡ length ks
 
--- the circuit after it, if so many SERVER_DISCONNs were sent
+-- the circuit after it, if n SERVER_DISCONNs were sent
 abbrev pub lost_by : (i : ℕ) → Leading → ℕ → Joined → Joined
 lost_by i l n j = if j.server == i && j.lists.server_open then without_lost (take n l.channels.items) j else j
 

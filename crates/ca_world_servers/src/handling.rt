@@ -22,7 +22,7 @@ use ca_world_data::room::reserve_list;
 use ca_world_data::server::{PutPlace, RecordSide};
 use std::alloc::AllocError;
 
-/// Makes room for so many replies to a message that is handled, and for its step.
+/// Makes room for n replies to a message that is handled, and for its step.
 pub fn reserve_handled(joined: &mut Joined, replies: usize) -> Result<(), AllocError>
     ensures same { joined_of joined.new ≡ joined_of joined.old }
     ensures creations { joined.new.creations ≡ joined.old.creations }
@@ -44,7 +44,7 @@ pub fn note_handled(joined: &mut Joined, step: Step, replies: Vec<Told>)
     joined.lists.handled.push_reserved(step);
 }
 
-// Puts replies behind what was sent. There is room for them.
+// Puts replies after what was sent. There is room for them.
 fn push_all(down: &mut Vec<Told>, replies: Vec<Told>)
     requires { vec_len down.old + length replies.items ≤ vec_capacity down.old }
     ensures { down.new.items ≡ down.old.items ++ replies.items }

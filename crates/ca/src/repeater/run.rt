@@ -81,7 +81,7 @@ pub fn repeater_run<D: Datagrams, W: Write>(
 ) -> u8
     ensures { RepeatsTo D.went D.refuses D.came D.fails limit datagrams.old datagrams.new result }
 {
-    // So many that they never come stand for no end.
+    // More than can ever come: the repeater has no end.
     let count = match limit {
         None => u64::MAX,
         Some(count) => count,

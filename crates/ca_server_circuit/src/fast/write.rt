@@ -47,8 +47,8 @@ impl End {
 }
 
 /// Writes the one element of this payload to the record at this place under these rights, as a put
-/// with notification or as none, if it is applied at once and takes no memory, as most are. False,
-/// and nothing changes, if `begin` has to judge it.
+/// with notification or as none, if it is applied at once and does not allocate, as most are.
+/// False, and nothing changes, if `begin` has to judge it.
 #[inline(always)]
 pub(crate) fn write_one(
     records: &mut ServedRecords,

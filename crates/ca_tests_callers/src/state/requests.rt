@@ -32,7 +32,7 @@ pub(crate) fn make_requests(alloc: Global, channel: Handle) -> Result<Requests, 
     })
 }
 
-/// How many of so many puts, one after the other, are done, once.
+/// How many of n puts, one after the other, are done, once.
 pub(crate) fn answered(
     state: &mut ClientState,
     caller: &mut Caller,
@@ -79,7 +79,7 @@ pub(crate) fn is_done(outcome: &Option<Outcome>) -> bool {
     }
 }
 
-/// How many of so many requests are refused with this number.
+/// How many of n requests are refused with this number.
 pub(crate) fn refused_as(state: &mut ClientState, request: &Request, number: u8) -> usize {
     let mut count = 0usize;
     for _ in 0..MANY {
@@ -97,7 +97,7 @@ fn is_refused_as(state: &mut ClientState, request: &Request, number: u8) -> bool
     }
 }
 
-/// The tickets of those of so many requests that are accepted.
+/// The tickets of those of n requests that are accepted.
 pub(crate) fn accepted(
     alloc: Global,
     state: &mut ClientState,
