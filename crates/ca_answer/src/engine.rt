@@ -1,3 +1,4 @@
+//! A server with one circuit, between a source of messages and a sink of answers.
 ghost use Rattle.std.specs.Prelude.{◌≡◌, ◌+◌, ◌<◌, ◌≤◌, ◌^◌, List, IfErr, IfOk, OnOk, take, true};
 ghost use Rattle.ca_text.specs.declared.refusal.Refusal.TheVariants as refusal;
 ghost use Rattle.ca_text.specs.Limits.{engine_turns, output_limit};

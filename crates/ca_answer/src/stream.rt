@@ -1,3 +1,4 @@
+//! One circuit is served from a source to a sink.
 ghost use Rattle.std.specs.Prelude.{◌+◌, ◌<◌, ◌≤◌, ◌^◌};
 ghost use Rattle.ca_text.specs.Limits.{engine_turns};
 ghost use Rattle.ca_answer.specs.Answering.{Streams};

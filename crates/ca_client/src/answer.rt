@@ -1,3 +1,4 @@
+//! What a call under the lock answers.
 use ca_client_core::{Closing, Notices, Ticked};
 use ca_text::Refusal;
 

@@ -1,3 +1,4 @@
+//! What is asked of a client under its lock.
 use ca_arena::Handle;
 use ca_dbr::Value;
 

@@ -1,3 +1,4 @@
+//! A caller's seat at the board, from which it collects outcomes.
 ghost use Rattle.std.specs.Prelude.{IsFalse, IsTrue};
 ghost use Rattle.ca_board.specs.Views.{HasCollected, HasFoundEnded, HasFoundOpen, HasGivenUp};
 

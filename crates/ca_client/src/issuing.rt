@@ -1,3 +1,4 @@
+//! A request is issued under the lock, with a ticket for its outcome.
 ghost use Rattle.std.specs.Prelude.{◌≡◌, IfErr, IfOk};
 ghost use Rattle.ca_board.specs.History.{Has};
 ghost use Rattle.ca_board.specs.Views.{HasTakenBack, IsDue};

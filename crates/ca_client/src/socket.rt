@@ -1,3 +1,5 @@
+//! What the client asks of a socket.
+
 /// What a call of a socket did.
 #[derive(Clone, Copy, Debug, PartialEq, Eq)]
 pub enum Moved {

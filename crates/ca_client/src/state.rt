@@ -1,3 +1,4 @@
+//! What is under the lock of a client.
 ghost use Rattle.std.specs.Prelude.{◌≡◌, ◌≤◌, [], IfErr, IfOk, List, length};
 ghost use Rattle.ca_board.specs.Views.{caller_start};
 ghost use Rattle.ca_dbr.specs.Elements.{elements};

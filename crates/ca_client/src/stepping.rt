@@ -1,3 +1,4 @@
+//! Calls of the core under the lock, and the outcomes that they complete.
 ghost use Rattle.std.specs.Prelude.{◌≡◌};
 ghost use Rattle.ca_client_core.specs.Notices.{completions};
 ghost use Rattle.ca_client.specs.Awaited.{Fillable, FillsAll, StateView, others};

@@ -1,3 +1,4 @@
+//! A socket in memory, for tests.
 use crate::socket::{Moved, Socket};
 
 /// A socket in memory: what it has to give, what it was given, and after how many calls it fails.

@@ -1,3 +1,4 @@
+//! A turn of a circuit: bytes move between it and its socket.
 ghost use Rattle.std.specs.Prelude.{◌≡◌, ◌<◌, ◌≤◌, ◌^◌, ◌⊎◌, IsFalse, IsTrue, List, length, Ok, Err};
 ghost use Rattle.ca_text.specs.declared.refusal.Refusal.TheVariants.{CircuitClosed, OutOfMemory};
 ghost use Rattle.ca_model.specs.Answers.{Sending};

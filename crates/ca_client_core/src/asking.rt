@@ -1,3 +1,4 @@
+//! Which reads and subscriptions a client may send on a channel.
 ghost use Rattle.std.specs.Prelude.{◌≡◌, ◌<◌, IfOk, None, false};
 ghost use Rattle.ca_client_core.specs.Calls.{live_ask_fault};
 ghost use Rattle.ca_client_core.specs.Lives.{MayAsk};

@@ -1,3 +1,4 @@
+//! A client begins.
 ghost use Rattle.std.specs.Prelude.{◌<◌};
 ghost use Rattle.ca_model.specs.ClientEnds.{ClientBegins};
 

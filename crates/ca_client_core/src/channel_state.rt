@@ -1,3 +1,4 @@
+//! How far a channel is, as callers see it.
 ghost use Rattle.std.specs.Prelude.{◌≡◌};
 ghost use Rattle.ca_client_tables.specs.Forms.{standing_of};
 ghost use Rattle.ca_client_core.specs.Forms.{stated};

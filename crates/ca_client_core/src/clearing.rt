@@ -1,3 +1,4 @@
+//! A channel is cleared by its caller.
 ghost use Rattle.std.specs.Prelude.{◌≡◌, ◌<◌, List, Some, is_none, true};
 ghost use Rattle.ca_requests.specs.Requests.{asks_on};
 ghost use Rattle.ca_model.specs.Answers.{Sending};

@@ -1,3 +1,4 @@
+//! The state of a client.
 use crate::searches::Searches;
 use ca_arena::Handle;
 use ca_beacon::BeaconTable;

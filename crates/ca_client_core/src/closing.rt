@@ -1,3 +1,4 @@
+//! What the end of a circuit leaves to its caller.
 use crate::notices::Notices;
 use ca_client_tables::Why;
 use ca_wire::Pipe;

@@ -1,3 +1,4 @@
+//! Bytes that came on a circuit are taken.
 ghost use Rattle.std.specs.Prelude.{List};
 ghost use Rattle.ca_model.specs.Answers.{Sending};
 ghost use Rattle.ca_model.specs.ClientEnds.{ClientGives};

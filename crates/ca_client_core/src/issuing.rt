@@ -1,3 +1,4 @@
+//! A request goes out: its handle, its message, and how both are taken back without memory.
 ghost use Rattle.std.specs.Prelude.{◌≡◌};
 ghost use Rattle.ca_requests.specs.Forms.{asked_of};
 ghost use Rattle.ca_client_core.specs.Asks.{Asks, IssuesOr};

@@ -1,3 +1,4 @@
+//! The notices of one call, in order, without a list when there is one alone.
 ghost use Rattle.std.specs.Prelude.{◌≡◌, [], None, Some};
 ghost use Rattle.ca_client_core.specs.Notices.{Parts, TakesCompletion, TakesNotice, told_by};
 ghost use Rattle.ca_model.specs.Answers as notice;

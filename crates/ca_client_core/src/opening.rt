@@ -1,3 +1,4 @@
+//! A channel is opened.
 ghost use Rattle.std.specs.Prelude.{[]};
 ghost use Rattle.ca_model.specs.ClientCalls.{ClientOpens};
 

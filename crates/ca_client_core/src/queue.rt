@@ -1,3 +1,4 @@
+//! What calls share: handles are looked up, and messages are queued.
 ghost use Rattle.std.specs.Prelude.{◌≡◌, ◌∷◌, [], OnErr, OnOk, option_map};
 ghost use Rattle.ca_link.specs.Link.{with_sent};
 ghost use Rattle.ca_model.specs.Client.{on_connection, standing_at};

@@ -1,3 +1,4 @@
+//! A read of a channel is asked for.
 ghost use Rattle.std.specs.Prelude.{◌≡◌, List};
 ghost use Rattle.ca_model.specs.Answers.{Sending};
 ghost use Rattle.ca_model.specs.ClientCalls.{ClientReads};

@@ -1,3 +1,4 @@
+//! A step of a circuit: its next message is read.
 ghost use Rattle.std.specs.Prelude.{◌≡◌, List, true};
 ghost use Rattle.ca_model.specs.Answers.{Sending};
 ghost use Rattle.ca_model.specs.ClientEnds.{ClientConnects, ClientSteps, gone};

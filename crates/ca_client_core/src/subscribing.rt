@@ -1,3 +1,4 @@
+//! A subscription begins.
 ghost use Rattle.std.specs.Prelude.{List};
 ghost use Rattle.ca_client_core.specs.Asks.{AddsOr, Subscribes};
 ghost use Rattle.ca_model.specs.Answers.{Sending};

@@ -1,3 +1,4 @@
+//! The time has passed: searches, ECHOs and the ends of silent circuits are due.
 ghost use Rattle.std.specs.Prelude.{List, ◌≡◌, ◌≢◌, ◌+◌, ◌<◌, ◌≤◌, [], IfOk, OnErr, flat_map, length, map, vec_capacity, vec_len};
 ghost use Rattle.ca_search.specs.Searcher.{with_all};
 ghost use Rattle.ca_search.specs.Searches.{passed};

@@ -1,3 +1,4 @@
+//! A subscription is cancelled by its caller.
 ghost use Rattle.std.specs.Prelude.{◌≡◌, List, Ok, Some};
 ghost use Rattle.ca_ids.specs.Table.{with_freed};
 ghost use Rattle.ca_monitor.specs.Subscriptions.{standing_under};

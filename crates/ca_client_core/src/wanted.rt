@@ -1,3 +1,4 @@
+//! The circuits that a client wants to be connected.
 ghost use Rattle.std.specs.Prelude.{◌≡◌, ◌≢◌, [], IfOk, OnErr};
 ghost use Rattle.ca_model.specs.ClientCalls.{wanted};
 

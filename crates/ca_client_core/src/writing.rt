@@ -1,3 +1,4 @@
+//! Writes and puts with notification go out.
 ghost use Rattle.std.specs.Prelude.{◌≡◌, OnErr, OnOk, ◌<◌, None, false, List};
 ghost use Rattle.ca_dbr.specs.Elements.{elements};
 ghost use Rattle.ca_client_tables.specs.Ends.{with_message};

@@ -1,3 +1,4 @@
+//! A channel as a client keeps it: its name, its priority and how far it is.
 ghost use Rattle.std.specs.Prelude.{◌≡◌, ◌≤◌, IfOk, option_map};
 ghost use Rattle.ca_text.specs.Limits.{channel_name_limit, priority_limit};
 ghost use Rattle.ca_text.specs.Name.{IsName};

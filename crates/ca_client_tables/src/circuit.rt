@@ -1,3 +1,4 @@
+//! A circuit as a client keeps it: an address and a priority, with an end once it is connected.
 ghost use Rattle.std.specs.Prelude.{◌≡◌};
 ghost use Rattle.ca_model.specs.ClientEnds.{is_name_connected};
 ghost use Rattle.ca_client_tables.specs.Names.{is_name_in};

@@ -1,3 +1,4 @@
+//! Calls of a server under its lock that pass on to the core.
 ghost use Rattle.std.specs.Prelude.{◌≡◌, ◌≤◌, Bool, Err, IfErr, IfOk, List, Ok, [], false, length, map, option_copied, option_map, unwrap_or, ℕ};
 ghost use Rattle.ca_arena.specs.declared.handle.Handle.{Handle};
 ghost use Rattle.ca_dbr.specs.Elements.{elements};

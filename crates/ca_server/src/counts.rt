@@ -1,3 +1,4 @@
+//! Laws of what calls count: the writes that they apply and the puts that come to wait.
 ghost use Rattle.std.specs.Prelude.{◌≡◌, ◌≤◌, ◌+◌, Bool, Err, List, Ok, Option, Result, ℕ};
 ghost use Rattle.ca_arena.specs.declared.handle.Handle.{Handle};
 ghost use Rattle.ca_server.specs.Counts.{AreApart, CountsNext, CountsNothing, CountsOne};

@@ -1,3 +1,4 @@
+//! What is under the lock of a server: its core, and the counts of applied writes.
 ghost use Rattle.std.specs.Prelude.{◌≡◌, ◌+◌, ◌≤◌, IfOk, replicate, sum};
 ghost use Rattle.ca_model.specs.Server.{new_server};
 ghost use Rattle.ca_model.specs.ServerCalls.{waiting};

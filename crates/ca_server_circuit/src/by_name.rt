@@ -1,3 +1,4 @@
+//! The channels of a circuit by the names of their records, which a removal of a record looks up.
 ghost use Rattle.std.specs.Prelude.{ℕ, ◌≡◌, List, [], None, OnErr, OnOk};
 ghost use Rattle.ca_server_circuit.specs.ByName.{Enters, Goes, channels_in, line_of};
 

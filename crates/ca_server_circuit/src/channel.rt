@@ -1,3 +1,4 @@
+//! An open channel as a circuit keeps it.
 ghost use Rattle.std.specs.Prelude.{◌≡◌, IfOk, IfSome, false, true};
 
 use crate::name::Name;

@@ -1,3 +1,4 @@
+//! The channels of a circuit, with a copy of the one used last.
 ghost use Rattle.std.specs.Prelude.{◌≡◌, ◌<◌, ◌≤◌, ◌↔◌, length, [], IsSome, IsTrue, IfOk, OnErr, Some, false, is_some, option_map};
 ghost use Rattle.ca_text.specs.Limits.{arena_slots};
 ghost use Rattle.ca_arena.specs.Arena.{place_at};

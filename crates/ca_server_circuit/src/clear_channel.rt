@@ -1,3 +1,4 @@
+//! CLEAR_CHANNEL on an open end.
 ghost use Rattle.std.specs.Prelude.{◌≡◌, ◌==◌, ◌&&◌, IfOk, OnErr, OnOk, [], ◌∷◌};
 ghost use Rattle.ca_ids.specs.Table.{same_handle};
 ghost use Rattle.ca_ids.specs.Wire.{wire_of};

@@ -1,3 +1,4 @@
+//! CREATE_CHAN on an open end.
 ghost use Rattle.std.specs.Prelude.{ℕ, ◌≡◌, IfOk, OnErr, [], ◌∷◌, false};
 ghost use Rattle.ca_ids.specs.Table.{is_full};
 ghost use Rattle.ca_link.specs.Calls.{IsOpen};

@@ -1,3 +1,5 @@
+//! The effects of a message that was handled, as callers see them.
+
 /// What a message that was handled did, beside its replies.
 #[derive(Clone, Copy, Debug, PartialEq, Eq)]
 pub enum Effect {

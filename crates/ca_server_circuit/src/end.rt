@@ -1,3 +1,5 @@
+//! The open end of a circuit: its link, subscriptions and channels, and the names that its peer
+//! gave.
 ghost use Rattle.std.specs.Prelude.{◌≡◌, OnErr, OnOk, [], ◌∷◌};
 ghost use Rattle.ca_link.specs.Calls.{IsOpen};
 ghost use Rattle.ca_link.specs.Link.{with_sent};

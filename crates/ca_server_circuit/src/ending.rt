@@ -1,3 +1,4 @@
+//! An open end is left: its puts that wait are dropped.
 ghost use Rattle.std.specs.Prelude.{◌≡◌, ◌+◌, ◌<◌, ◌≤◌, length};
 ghost use Rattle.ca_text.specs.Limits.{arena_slots};
 ghost use Rattle.ca_records.specs.Store.{records_of};

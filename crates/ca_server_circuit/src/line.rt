@@ -1,3 +1,4 @@
+//! The channels to one record: mostly one, which needs no list.
 ghost use Rattle.std.specs.Prelude.{◌≡◌, ◌∷◌, ◌≤◌, ◌↔◌, [], true, IfOk, OnErr, OnOk, length};
 ghost use Rattle.ca_server_circuit.specs.ByName.{EntersLine, GoesFromLine, IsItsPlace};
 

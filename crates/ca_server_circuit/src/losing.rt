@@ -1,3 +1,4 @@
+//! The record of some channels was removed: SERVER_DISCONN for each.
 ghost use Rattle.std.specs.Prelude.{◌≡◌, ◌≢◌, [], IfOk, OnErr, OnOk, filter, map};
 ghost use Rattle.ca_ids.specs.Table.{held};
 ghost use Rattle.ca_link.specs.Calls.{IsOpen};

@@ -1,3 +1,4 @@
+//! Names that do not change; a short one needs no memory of its own.
 ghost use Rattle.std.specs.Prelude.{◌≡◌, IfSome};
 
 use std::marker::Model;

@@ -1,3 +1,4 @@
+//! Whether the next message of an end may be a write, and the record that a SID leads to.
 ghost use Rattle.std.specs.Prelude.{◌≡◌, option_map};
 ghost use Rattle.ca_server_circuit.specs.Peeking.{NamesBy, is_write, may_write};
 

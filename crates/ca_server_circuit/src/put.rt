@@ -1,3 +1,4 @@
+//! Puts with notification: their elements, and how they begin.
 ghost use Rattle.std.specs.Prelude.{◌≡◌, IfOk, OnErr};
 ghost use Rattle.ca_dbr.specs.Reading.{least_size};
 ghost use Rattle.ca_records.specs.Store.{IsThere};

@@ -1,3 +1,4 @@
+//! READ_NOTIFY on an open end, and what its reply is made of.
 ghost use Rattle.std.specs.Prelude.{ℕ, ◌≡◌, IfOk, MatchOption, OnErr, OnOk, [], ◌∷◌};
 ghost use Rattle.ca_text.specs.declared.refusal.Refusal.TheVariants.{OutOfMemory};
 ghost use Rattle.ca_link.specs.Calls.{IsOpen};

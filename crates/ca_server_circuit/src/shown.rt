@@ -1,3 +1,4 @@
+//! Payloads that show a value in a type, written in their place.
 use ca_dbr::{Meta, Value, write_shown};
 use ca_text::Refusal;
 use ca_wire::Payload;

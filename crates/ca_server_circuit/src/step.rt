@@ -1,3 +1,4 @@
+//! A step of an open end: the next message is taken and handled by its command.
 ghost use Rattle.std.specs.Prelude.{◌≡◌, ◌<◌, IfOk, OnErr, length};
 ghost use Rattle.ca_text.specs.Limits.{output_limit};
 ghost use Rattle.ca_link.specs.Calls.{IsOpen};

@@ -1,3 +1,4 @@
+//! Updates of an open end: a post makes them, and a pump sends them.
 ghost use Rattle.std.specs.Prelude.{◌≡◌, ◌<◌, ◌≤◌, ◌==◌, IfOk, IfSome, OnErr, OnOk, [], ◌∷◌, false, if◌then◌else◌, length, replicate, true};
 ghost use Rattle.std.specs.List.{list_any};
 ghost use Rattle.ca_text.specs.Limits.{element_limit, output_limit, payload_limit};

@@ -1,3 +1,4 @@
+//! A record is added to those that a server serves.
 ghost use Rattle.std.specs.Prelude.{ℕ};
 ghost use Rattle.ca_dbr.specs.Elements.{elements};
 ghost use Rattle.ca_model.specs.ServerCalls.{AddsRecord};

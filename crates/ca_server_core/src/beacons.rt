@@ -1,3 +1,4 @@
+//! The beacons of a server: when one is due, and its bytes.
 ghost use Rattle.ca_model.specs.ServerCalls.{Beacons};
 
 use crate::server::ServerCore;

@@ -1,3 +1,5 @@
+//! A step and a pump of one circuit that also report how many bytes wait on it, so that it is
+//! looked up once.
 ghost use Rattle.std.specs.Prelude.{◌≡◌, false, length, true};
 ghost use Rattle.ca_ids.specs.Table.{under};
 ghost use Rattle.ca_model.specs.ServerSteps.{output_of};

@@ -1,3 +1,4 @@
+//! A circuit is cut, and its end ends.
 ghost use Rattle.ca_model.specs.ServerSteps.{Cuts};
 ghost use Rattle.ca_records.specs.Store.{records_of};
 ghost use Rattle.ca_server_core.specs.Ending.{EndsIn};

@@ -1,3 +1,4 @@
+//! What a server answers to a datagram: a reply to each search for a record that it serves.
 ghost use Rattle.std.specs.Prelude.{◌≡◌, ◌≢◌, [], IfErr, IfOk, OnErr, Ok, Err, map};
 ghost use Rattle.std.specs.List.{flat_map};
 ghost use Rattle.ca_dgram.specs.Packing.{ArePacked};

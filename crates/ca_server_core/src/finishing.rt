@@ -1,3 +1,4 @@
+//! A busy put is finished: its reply is sent, and the next put that waits is applied.
 ghost use Rattle.std.specs.Prelude.{◌≡◌, List};
 ghost use Rattle.ca_arena.specs.declared.handle.Handle.{Handle};
 ghost use Rattle.ca_model.specs.ServerCalls.{Finishes};

@@ -1,3 +1,5 @@
+//! What a caller may ask of a server: a record, its busy value, who waits first for it, and whether
+//! an end is open.
 ghost use Rattle.std.specs.Prelude.{◌≡◌, option_map};
 ghost use Rattle.ca_dbr.specs.Elements.{elements};
 ghost use Rattle.ca_ids.specs.Table.{under};

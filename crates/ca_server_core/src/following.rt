@@ -1,3 +1,5 @@
+//! What a handled message leaves to do beyond its own circuit: a write reaches subscriptions, a
+//! subscription or a channel is listed.
 ghost use Rattle.std.specs.Prelude.{◌≡◌, false};
 ghost use Rattle.ca_records.specs.Store.{records_of};
 ghost use Rattle.ca_server_core.specs.Covering.{AreLed, AreListed, Covers};

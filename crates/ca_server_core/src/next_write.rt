@@ -1,3 +1,5 @@
+//! Whether the next message may be a write, and to which record: for callers that stamp writes or
+//! read a device first.
 ghost use Rattle.std.specs.Prelude.{option_map};
 ghost use Rattle.ca_ids.specs.Table.{under};
 ghost use Rattle.ca_server_core.specs.Asking.{MayWrite, NamesUnder};

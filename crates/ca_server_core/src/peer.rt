@@ -1,3 +1,4 @@
+//! The names that the client on a circuit gave for its user and its host.
 ghost use Rattle.std.specs.Prelude.{◌≡◌, option_map};
 ghost use Rattle.ca_ids.specs.Table.{under};
 ghost use Rattle.ca_server_core.specs.Asking.{peer_under};

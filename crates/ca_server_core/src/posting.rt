@@ -1,3 +1,5 @@
+//! A record has a new value from outside: it reaches the subscriptions on the record, on all
+//! circuits.
 ghost use Rattle.std.specs.Prelude.{◌≡◌, Bool, false};
 ghost use Rattle.ca_arena.specs.declared.handle.Handle.{Handle};
 ghost use Rattle.ca_dbr.specs.Elements.{elements};

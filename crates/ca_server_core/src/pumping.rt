@@ -1,3 +1,4 @@
+//! Updates that wait on a circuit move into its output.
 ghost use Rattle.std.specs.Prelude.{List};
 ghost use Rattle.ca_model.specs.ServerSteps.{Pumps, Update};
 ghost use Rattle.ca_records.specs.Store.{records_of};

@@ -1,3 +1,4 @@
+//! Which circuits a change of a record may have reached: for callers that pump or wake only these.
 ghost use Rattle.std.specs.Prelude.{◌≡◌, [], option_copied, unwrap_or};
 ghost use Rattle.ca_records.specs.Puts.{record_named};
 ghost use Rattle.ca_records.specs.Store.{records_of};

@@ -1,3 +1,4 @@
+//! A record is removed: all circuits with a channel to it lose the channel.
 ghost use Rattle.std.specs.Prelude.{ℕ, ◌≡◌, Bool};
 ghost use Rattle.ca_arena.specs.declared.handle.Handle.{Handle};
 ghost use Rattle.ca_model.specs.ServerCalls.{Removes};

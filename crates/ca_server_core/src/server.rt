@@ -1,3 +1,4 @@
+//! The server: its records, its circuits, and the calls that move bytes.
 ghost use Rattle.std.specs.Prelude.{◌≡◌, ◌≢◌, ◌≤◌, IfErr, IfOk, OnErr, false, length};
 ghost use Rattle.ca_text.specs.declared.refusal.Refusal.TheVariants.{OutOfMemory};
 ghost use Rattle.ca_model.specs.Server.{new_server};

@@ -1,3 +1,5 @@
+//! A step, the finish of its put and the pump after it as one call, for servers whose records need
+//! no device.
 ghost use Rattle.std.specs.Prelude.{◌≡◌, false, length, true};
 ghost use Rattle.ca_ids.specs.Table.{under};
 ghost use Rattle.ca_model.specs.ServerSteps.{output_of};

@@ -1,3 +1,4 @@
+//! A step of a circuit: its next message is handled, or the end of the circuit is reported.
 ghost use Rattle.std.specs.Prelude.{◌≡◌, false, length, take, true};
 ghost use Rattle.ca_ids.specs.Table.{under};
 ghost use Rattle.ca_model.specs.ServerSteps.{Steps, output_of};

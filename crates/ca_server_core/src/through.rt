@@ -1,3 +1,5 @@
+//! The short way of a write that nobody else watches: its update is shown at once, on its own
+//! circuit.
 ghost use Rattle.std.specs.Prelude.{ℕ, ◌≡◌, Bool, false, length, true};
 ghost use Rattle.ca_ids.specs.Table.{under};
 ghost use Rattle.ca_model.specs.ServerSteps.{output_of};

@@ -1,3 +1,4 @@
+//! The short way of a WRITE_NOTIFY of one element.
 ghost use Rattle.std.specs.Prelude.{◌≡◌, MatchOption, Some, [], ◌∷◌, false, true};
 ghost use Rattle.ca_text.specs.declared.command.Command.{Command};
 ghost use Rattle.ca_text.specs.declared.command.Command.TheVariants as command;

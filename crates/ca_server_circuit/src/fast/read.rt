@@ -1,3 +1,4 @@
+//! The short way of a READ_NOTIFY of one element.
 ghost use Rattle.std.specs.Prelude.{◌≡◌, ◌<◌, IfSome, OnErr, OnOk, [], ◌∷◌, length};
 ghost use Rattle.ca_arena.specs.declared.handle.Handle.{Handle};
 ghost use Rattle.ca_text.specs.Limits.{output_limit};

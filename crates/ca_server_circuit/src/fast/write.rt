@@ -1,3 +1,4 @@
+//! The short way of a WRITE of one element.
 ghost use Rattle.std.specs.Prelude.{◌≡◌, MatchOption, Option, false, is_some, true};
 ghost use Rattle.ca_arena.specs.declared.handle.Handle.{Handle};
 ghost use Rattle.ca_text.specs.declared.command.Command.{Command};
