@@ -50,7 +50,7 @@ pub record BreaksOff {S K : Type 0} (gives : S → List ℕ → S → Type 0) (t
   pub waits : List ℕ
   pub turned : Turned gives takes rules states s0 s k0 k chunks rest waits
 
--- The source failed after it had given these chunks. All whole messages in them were answered.
+-- The source failed after it had given these chunks. All complete messages in them were answered.
 pub record SourceFails {S K : Type 0} (gives : S → List ℕ → S → Type 0) (takes : K → List ℕ → K → Type 0) (rules : List Rule) (states : List RecordState) (s0 : S) (k0 k : K) : Type 0 where
   pub last : S
   pub chunks : List (List ℕ)

@@ -57,7 +57,7 @@ pub record Over (rules : List Rule) (states : List RecordState) (bytes : List �
   pub left : List ℕ
   pub ended : under y.circuits h ≡ Some (Ended why.OutOfMemory left)
 
--- This text was written, but for what waits on the circuit, which stands in this server as
+-- This text was written, but for what waits on the circuit, which is in this server as
 -- it would without that.
 pub record IsWritten {K : Type 0} (takes : K → List ℕ → K → Type 0) (k0 k : K) (x : EngineState) (now : Server) (text : List ℕ) : Type 0 where
   pub waits : List ℕ
@@ -74,7 +74,8 @@ pub record Serving {K : Type 0} (takes : K → List ℕ → K → Type 0) (rules
   pub stands : Served rules states bytes x.circuit now text ⊎ Over rules states bytes x.circuit now text
   pub written : IsWritten takes k0 k x now text
 
--- The circuit is open, no whole message is left to be read, and all that was answered was written.
+-- The circuit is open, no complete message is left to be read, and all that was
+-- answered was written.
 pub record Rested {K : Type 0} (takes : K → List ℕ → K → Type 0) (rules : List Rule) (states : List RecordState) (k0 : K) (bytes : List ℕ) (k : K) (x : EngineState) : Type 0 where
   pub text : List ℕ
   pub served : Served rules states bytes x.circuit x.core text

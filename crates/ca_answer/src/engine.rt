@@ -109,7 +109,7 @@ impl Engine {
                 self.flush(sink, turns)?;
                 Ok(false)
             }
-            // This does not come: fewer bytes wait.
+            // It cannot happen: fewer bytes wait than that.
             Step::OutputFull => Ok(false),
         }
     }
@@ -149,8 +149,8 @@ impl Engine {
         if waiting >= OUTPUT_LIMIT {
             return self.make_room(sink, turns);
         }
-        // Fewer bytes than before wait where the end has ended, without memory for an
-        // update. Then it left them.
+        // If the end has ended, out of memory for an update, fewer bytes wait than
+        // before: those were left.
         self.waiting = self.waiting.max(waiting);
         Ok(())
     }
@@ -183,8 +183,8 @@ impl Engine {
     }
 
     // Hands what waited to the sink, of what an end has left. What it left after that belongs to a
-    // message that was not answered whole. In line, since for a call each step would be put into
-    // memory, where it is large.
+    // message that was not answered completely. In line, since for a call each step would be put
+    // into memory, where it is large.
     #[inline(always)]
     fn hand_left<K: Sink>(&self, left: &Pipe, sink: &mut K, turns: &mut u64) -> Result<(), Refusal>
         requires within { turns.old ≤ engine_turns }

@@ -36,7 +36,7 @@ module _ {T : Type 0} where
   abbrev pub IsGone : Contents T → Handle → Type 0
   IsGone a handle = IsPast handle.generation (place_at a.given handle.index)
 
-  -- another place stands at its index
+  -- another place is at its index
   moved : (a b : Contents T) (handle : Handle) → place_at b.given handle.index ≡ place_at a.given handle.index → IsGone a handle → IsGone b handle
   moved a b handle same gone = subst (IsPast handle.generation) (sym same) gone
 

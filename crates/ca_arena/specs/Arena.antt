@@ -9,7 +9,7 @@ use Rattle.ca_text.specs.Limits.{arena_slots}
 use Rattle.ca_arena.specs.declared.handle.Handle.{Handle}
 use Rattle.ca_text.specs.Limits.{last_generation}
 
--- what stands at an index: the generation given last, and the value, until it is removed
+-- what is at an index: the generation given last, and the value, until it is removed
 pub record Place (T : Type 0) : Type 0 where
   pub generation : ℕ
   pub value : Option T
@@ -54,11 +54,11 @@ module _ {T : Type 0} where
   abbrev pub empty : Contents T
   empty = record { given = []; freed = [] }
 
-  -- what stands at an index that was never given: generation 0, and no value
+  -- what is at an index that was never given: generation 0, and no value
   abbrev pub blank : Place T
   blank = record { generation = 0; value = None }
 
-  -- what stands at an index
+  -- what is at an index
   abbrev pub place_at : List (Place T) → ℕ → Place T
   place_at given index = slice_index_or given index blank
 

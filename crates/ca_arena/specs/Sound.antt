@@ -17,7 +17,7 @@ module _ {T : Type 0} where
     pub vacant : (place_at given index).value ≡ None
     pub lasting : (place_at given index).generation < last_generation
 
-  -- all of these are free, and each stands here once
+  -- all of these are free, and each is here once
   abbrev pub AreFree : List (Place T) → List ℕ → Type 0
   AreFree given [] = Unit {0}
   AreFree given (index ∷ rest) = IsFree given index × AllByRecursion (λ other. other ≢ index) rest × AreFree given rest

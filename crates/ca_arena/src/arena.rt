@@ -117,8 +117,8 @@ impl<T> Arena<T> {
         Ok(self.handle_after(ahead.len(), index))
     }
 
-    // The handle that comes after n others. None if no index is free then. Where one that was given
-    // before is, it is this one.
+    // The handle that comes after n others. None if no index is free then. If it reuses a freed
+    // index, that is this one.
     #[inline(always)]
     fn handle_after(&self, count: usize, index: usize) -> Option<Handle>
         requires { count < length self.now.freed → index ≡ slice_index_or self.now.freed count 0 }
@@ -261,7 +261,7 @@ impl<T> Arena<T> {
         Ok(Handle { index, generation })
     }
 
-    /// `insert` under the handle that `vacant` tells, for whoever has to know it before.
+    /// `insert` under the handle that `vacant` returns, for whoever has to know it before.
     ///
     /// The value is handed back if another handle is the next, and where the room for
     /// one more is missing.

@@ -13,7 +13,7 @@ use std_alloc::room::may_hold;
 /// Items by index from 0 on, in blocks of 64 that never move.
 pub struct Blocks<T> {
     blocks: Vec<Block<T, Global>>,
-    // How many items there are. They stand in the first places.
+    // How many items there are. They are in the first places.
     len: usize,
     alloc: Global,
 }

@@ -42,7 +42,7 @@ impl BeaconTable {
         }
     }
 
-    /// Notes a beacon of the server at this address and TCP port, and tells whether it is an
+    /// Notes a beacon of the server at this address and TCP port, and says whether it is an
     /// anomaly: the first one of its server, or one whose number does not follow the last. A server
     /// beyond the 1,024 is an anomaly each time.
     ///

@@ -20,7 +20,7 @@ pub(crate) fn outcome_is_given_once(alloc: Global) -> Result<bool, Refusal> {
     Ok(waits && given && freed && !twice)
 }
 
-// Whether a ticket that is not filled gives nothing, and keeps its cell.
+// Whether a ticket that is not filled returns nothing, and keeps its cell.
 fn still_waits(board: &Board, core: &mut CoreSeat, caller: &mut CallerSeat, ticket: Ticket) -> bool
     requires board { (core.old.board ≡ board.now) × (caller.old.board ≡ board.now) }
     requires due { IsDue core.old ticket }
@@ -51,7 +51,7 @@ fn is_given_once(
     stored && first && gone
 }
 
-// Whether a ticket gives nothing, and a give-up finds nothing.
+// Whether a ticket returns nothing, and a give-up finds nothing.
 fn is_gone(board: &Board, caller: &mut CallerSeat, ticket: Ticket) -> bool
     requires { caller.old.board ≡ board.now }
     ensures { caller.new.board ≡ board.now }
@@ -61,7 +61,7 @@ fn is_gone(board: &Board, caller: &mut CallerSeat, ticket: Ticket) -> bool
     !again && !late
 }
 
-/// A ticket whose cell was armed again gives nothing.
+/// A ticket whose cell was armed again returns nothing.
 pub(crate) fn old_ticket_is_stale(alloc: Global) -> Result<bool, Refusal> {
     let (board, mut core) = Board::new(alloc)?;
     let mut caller = board.caller(&mut core);
@@ -91,7 +91,7 @@ fn ends_by_give_up(
     found && freed
 }
 
-// Whether the old ticket gives nothing once the new one is filled, and the new
+// Whether the old ticket returns nothing once the new one is filled, and the new
 // one gives its outcome.
 fn is_stale(
     board: &Board,
@@ -183,7 +183,7 @@ fn comes_back_late(
     gone && freed && back && none
 }
 
-/// A ticket that is taken back gives nothing, and its cell is free, also where a
+/// A ticket that is taken back returns nothing, and its cell is free, also where a
 /// caller gave it up before.
 pub(crate) fn taken_back_is_free(alloc: Global) -> Result<bool, Refusal> {
     let (board, mut core) = Board::new(alloc)?;

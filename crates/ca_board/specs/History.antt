@@ -1,4 +1,4 @@
--- The board's rule, what each step tells, and what a seat's lists are.
+-- The board's rule, what each step reports, and what a seat's lists are.
 use Rattle.std.specs.Prelude.{◌≡◌, ◌≢◌, ◌⊎◌, ℕ, suc, ◌+◌, ◌*◌, ◌<◌, ◌≤◌, List, [], ◌∷◌, ◌++◌, length, slice_index, Some, None, Option, true, false}
 use mathlib.Core.Option.{some}
 use mathlib.Core.Option as maybe
@@ -14,7 +14,7 @@ use Rattle.ca_board.specs.declared.steps.View.{View}
 abbrev pub ticket : ℕ → ℕ → Ticket
 ticket k g = record { cell = k; generation = g }
 
--- x stands somewhere in the list
+-- x is somewhere in the list
 abbrev pub Has : {A : Type 0} → List A → A → Type 0
 Has xs x = (i : ℕ) × (get_elem? xs i ≡ some x)
 

@@ -135,7 +135,7 @@ pub extern "C" fn cvz_server_give(
     answer
 }
 
-/// Handles the next message of a circuit, and tells what it did.
+/// Handles the next message of a circuit, and says what it did.
 #[unsafe(no_mangle)]
 pub extern "C" fn cvz_server_step(
     alloc: Global,
@@ -224,7 +224,7 @@ pub extern "C" fn cvz_server_left(alloc: Global, server: &mut CvzServer, room: &
     answer
 }
 
-/// The caller cuts a circuit. A step tells that it has closed.
+/// The caller cuts a circuit. A step says that it has closed.
 #[unsafe(no_mangle)]
 pub extern "C" fn cvz_server_cut(alloc: Global, server: &mut CvzServer, circuit: u64) -> i32
     ensures { Calls no_object server.old.value result server.new.value

@@ -13,7 +13,7 @@ use std::alloc::Global;
 const LONG: u16 = 5;
 
 /// `reads CIRCUIT CHANNELS ROUNDS BYTES`: in each round, on each channel, a read of one LONG is
-/// issued, sent and completed. The bytes are what stands after the IOID in its reply.
+/// issued, sent and completed. The bytes are what is after the IOID in its reply.
 pub fn reads(alloc: Global, core: &mut ClientCore, mut words: Words<'_>) -> Result<(), Refusal> {
     let circuit = words.handle()?;
     let channels = words.short()?;

@@ -47,7 +47,7 @@ fn arm_one(board: &Board, seat: &mut CoreSeat) -> Result<Ticket, Refusal>
     }
 }
 
-// Makes the core's call. Where it refuses, the ticket is taken back.
+// Makes the core's call. If it refuses, the ticket is taken back.
 fn issue_or_take_back(
     core: &mut ClientCore,
     board: &Board,

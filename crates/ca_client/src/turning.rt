@@ -22,7 +22,7 @@ const CALLS: usize = 16;
 enum Turned {
     // There may be more to move.
     GoesOn,
-    // Nothing is to be read yet, after what waited was written as far as that could be.
+    // What waited was written as far as it could be, and there is nothing to read yet.
     Idle,
     // The circuit was cut.
     Cut(Closing),

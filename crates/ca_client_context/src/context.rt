@@ -431,7 +431,7 @@ impl<L: Listener> Context<L> {
         matches!(state, Ok(ChannelState::Live(_, _, _)))
     }
 
-    /// Waits until a channel is live, for so long at most, and tells where it is then: one that is
+    /// Waits until a channel is live, for so long at most, and says where it is then: one that is
     /// not live once the time is over, or the client has ended, may be so later. Refused as
     /// StaleHandle, at once, if the handle is stale.
     pub fn wait_live_for<R: Wait + Clock>(

@@ -333,7 +333,7 @@ fn send_at(
 }
 
 fn send_one(state: &mut ClientState, link: &mut Link, told: &mut Vec<Heard>) -> Served {
-    // Nothing is sent without room for what a fault tells.
+    // Nothing is sent without room for what a fault reports.
     if told.reserve(1).is_err() || link.wire.faults() >= MOST_FAULTS {
         return Served::behind();
     }

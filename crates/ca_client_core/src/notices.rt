@@ -12,7 +12,7 @@ use std::marker::Model;
 /// What a call reports, in order: first the requests that are complete without an answer, then the
 /// channels that were lost, then anything else.
 ///
-/// To make it does not allocate, since its handles were listed before.
+/// It is made without allocation, since its handles were listed before.
 #[derive(Debug, Drop)]
 pub struct Notices {
     disconnected: Vec<Handle>,

@@ -31,7 +31,7 @@ pub enum Stepped {
 }
 
 /// How a step began. Most messages are replies, for which that is all; what else a
-/// step tells is large.
+/// step reports is large.
 #[derive(Debug, Drop)]
 pub enum Advanced {
     /// It read a reply, which completed this request with this outcome. The step is over.

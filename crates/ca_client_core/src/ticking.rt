@@ -60,7 +60,7 @@ impl Model for Ticked {
 struct Plan {
     // The circuits that were silent too long.
     ends: Vec<Handle>,
-    // None yet; there is room for one for each of those.
+    // Empty, with room for one for each of `ends`.
     closings: Vec<Left>,
     datagrams: Vec<Datagram>,
 }

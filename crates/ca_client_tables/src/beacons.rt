@@ -20,7 +20,7 @@ pub struct Beacon {
     pub port: u16,
     /// The number of the last beacon from there before it.
     pub before: Option<u32>,
-    /// Whether it tells that a server came or came back.
+    /// Whether it says that a server came or came back.
     pub anomaly: bool,
 }
 

@@ -57,7 +57,7 @@ pub enum Standing {
 /// A channel as its caller opened it, and where it is.
 #[derive(Debug, Drop)]
 pub struct Channel {
-    // Each message on it looks there, so it is first, beside what its slot says.
+    // Each message on it reads this, so it is first, next to the state of its slot.
     standing: Standing,
     priority: u16,
     name: Vec<u8>,

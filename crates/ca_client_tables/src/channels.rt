@@ -32,9 +32,9 @@ use std::marker::Model;
 #[derive(Drop)]
 pub struct Channels {
     table: HeldTable<Channel>,
-    // The indices of those on each circuit, by its index, and of some that are not on it any more.
+    // The indices of the channels on each circuit, by its index, and of some that have left it.
     circuits: IndexLists,
-    // Whether all are listed: there was memory for each so far.
+    // Whether these lists are complete: there was memory for each entry so far.
     complete: bool,
 }
 

@@ -2,7 +2,7 @@
 //! searches, and what becomes of them when a circuit is connected or has ended, a
 //! channel is found, or a datagram came.
 //!
-//! The client's core (`ca_client_core`) stands on it: the calls of a client, with its
+//! The client's core (`ca_client_core`) is built on it: the calls of a client, with its
 //! requests and subscriptions.
 #![tactic(auto)]
 

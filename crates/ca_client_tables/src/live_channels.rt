@@ -12,7 +12,7 @@ use std::alloc::{AllocError, Global};
 use std::marker::Model;
 use std::mem;
 
-// So many are listed before any is taken out.
+// This many are listed before any is taken out.
 const LEAST_LIMIT: usize = 16;
 
 /// The channels that are live on a circuit, and some that were. At the limit each that is
@@ -20,7 +20,7 @@ const LEAST_LIMIT: usize = 16;
 #[derive(Debug, Drop)]
 pub struct LiveChannels {
     listed: Vec<Handle>,
-    // How many are listed before those that are not live any more are taken out.
+    // At this length those that are no longer live are taken out.
     limit: usize,
 }
 
@@ -34,7 +34,7 @@ impl Model for LiveChannels {
 }
 
 impl LiveChannels {
-    // Lists one more, of which nothing is known if memory lacks.
+    // Lists one more. Without memory it may be listed or not.
     fn note(&mut self, channels: &Channels, channel: Handle) -> Result<(), AllocError>
         ensures kept { KeepsLive channels.now self.old self.new }
         ensures own { OnOk result (Has self.new channel) }

@@ -1,4 +1,4 @@
--- Images: how a value and its metadata stand in a payload (section "Payload Data Types").
+-- Images: how a value and its metadata are in a payload (section "Payload Data Types").
 use Rattle.std.specs.Prelude.{ℕ, ◌≡◌, ◌++◌, List, [], replicate, Result, Ok, Err}
 use Rattle.ca_text.specs.declared.refusal.Refusal.{Refusal}
 use Rattle.ca_text.specs.declared.refusal.Refusal.TheVariants as refusal

@@ -41,13 +41,13 @@ abbrev pub shown : Elements → ℕ → BaseType → Result Elements Refusal
 shown e count b = zeros_behind (count - count_of e) (converted (first_elements count e) b)
 
 -- The bytes of the results were put after the old bytes, with this answer, and left new: after a
--- refusal some bytes may stand after the old ones.
+-- refusal some bytes may be after the old ones.
 abbrev pub PutsAll : {T : Type 0} → (T → List ℕ) → (T → Type 0) → Result (List T) Refusal → List ℕ → Result (Unit {0}) Refusal → List ℕ → Type 0
 PutsAll {T} spelled fits to old (Ok _) new = (ys : List T) × (to ≡ Ok ys) × (new ≡ old ++ flat_map spelled ys) × All fits ys
 PutsAll spelled fits to old (Err r) new = (to ≡ Err r) × ((x : List ℕ) × (new ≡ old ++ x))
 
 -- The elements of this result were put after the old bytes, with this answer, and left new: after a
--- refusal some bytes may stand after the old ones.
+-- refusal some bytes may be after the old ones.
 abbrev pub Puts : Result Elements Refusal → List ℕ → Result (Unit {0}) Refusal → List ℕ → Type 0
 Puts to old (Ok _) new = (e : Elements) × (to ≡ Ok e) × (new ≡ old ++ bytes_of e) × IsValue e
 Puts to old (Err r) new = (to ≡ Err r) × ((x : List ℕ) × (new ≡ old ++ x))

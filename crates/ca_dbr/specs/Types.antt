@@ -55,7 +55,7 @@ meta_size form.Plain = 0
 meta_size form.Status = 4
 meta_size form.Time = 12
 
--- how many bytes stand between the metadata and the elements, as C lays the structs out
+-- how many bytes are between the metadata and the elements, as C lays the structs out
 abbrev pub padding_size : Form → BaseType → ℕ
 padding_size form.Plain _ = 0
 padding_size form.Status base.String = 0

@@ -22,7 +22,7 @@ pub enum BaseType {
     Double,
 }
 
-/// What stands before the elements in an image.
+/// What is before the elements in an image.
 #[derive(Clone, Copy, Debug, PartialEq, Eq)]
 pub enum Form {
     Plain,
@@ -126,7 +126,7 @@ impl DataType {
         }
     }
 
-    /// How many bytes stand between the metadata and the elements.
+    /// How many bytes are between the metadata and the elements.
     pub fn padding_size(self) -> usize
         ensures { result ≡ padding_size self.form self.base }
     {

@@ -5,7 +5,7 @@ ghost use Rattle.ca_dbr.specs.Elements.{string_bytes, byte_1, bytes_2, bytes_4, 
 
 use std::alloc::{AllocError, Global};
 
-/// An element as it stands in an image.
+/// An element as it is in an image.
 pub(crate) trait Element: Copy + Drop {
     ghost SIZE: { ℕ };
 

@@ -14,7 +14,7 @@ ghost use Rattle.ca_dbr.specs.Image.{image};
 ghost use Rattle.ca_dbr.specs.Reading.{carried, IsMeta, Reads};
 
 /// What was written is read again, with the metadata that its type carries and whatever
-/// stands after it, and bytes are read in one way. A number names one type, and an image has
+/// is after it, and bytes are read in one way. A number names one type, and an image has
 /// the size that is told.
 pub fn one_reading()
     ensures again { (t : DataType) (e : Elements) (m : Meta) (behind : List ℕ) → t.base ≡ base_of e

@@ -102,8 +102,8 @@ impl<T> HeldTable<T> {
         self.entries.vacant()
     }
 
-    /// Puts `value` under the handle that `vacant` tells, whose wire id it holds from now on: for a
-    /// value whose id has to be known before.
+    /// Puts `value` under the handle that `vacant` returns, whose wire id it holds from now on: for
+    /// a value whose id has to be known before.
     ///
     /// It is handed back if there is no memory for one more index, or if another handle is the
     /// one to be given next.

@@ -438,7 +438,7 @@ module _ (on : Handle) (x : Client) (c : Handle) (m : Fields) (e : Conduct) (hea
     keeps-live : f ≡ created x c m (Some (h, Creating rights)) → Keeps x y-live
     keeps-live is = subst (λ (v : Effect). Keeps x v.core) is keeps
 
-    -- a subscription that stands on the channel has its EVENT_ADD among them
+    -- a subscription that is on the channel has its EVENT_ADD among them
     added-there : (g : Handle) (d : Subscription) → under x.subscriptions g ≡ Some d → stands_in d.stage ≡ true → d.channel ≡ h
         → (i : ℕ) × At adds i (event_add_sent c m.p2 g d)
     added-there g d row it to =

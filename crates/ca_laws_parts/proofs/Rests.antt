@@ -137,7 +137,7 @@ rests-alike on x y a asks = record { channels = a.asked.keeps; requests = asks; 
 
 -- ---- one channel stands otherwise, or is gone
 
--- what passes on a circuit stands there
+-- what passes on a circuit is there
 pub stands-there : (test : Phase → Bool) (on o : Handle) (ch : Channel) (p : Phase) → ch.standing ≡ On o p → is_on_in test on ch ≡ true → o ≡ on
 stands-there test on o ch p stands pass = elim (cases_Bool (same_handle o on)) [
   | inl same ↦ same-is o on same
@@ -286,7 +286,7 @@ module _ (on : Handle) (x : Client) (e : Effect) (c : Handle) (m : Fields) where
       frees-so [] (without_channel x h) is
       (gone-bare h Doomed f.0 f.1 f.3 (inl (fails, sym f.2)) refl (with_freed h x.channels) (λ k w there other. freed-other x.channels k h w there other) (without_channel x h) refl refl refl)
 
-  -- what was live on a circuit stands there
+  -- what was live on a circuit is there
   was-there : (h : Handle) (p : Phase) (ch : Channel) → under x.channels h ≡ Some ch → ch.standing ≡ On c p → (g o : Handle) (v : Channel)
       → under x.channels g ≡ Some v → g ≡ h → is_on_in was_live o v ≡ true → c ≡ o
   was-there h p ch there stands g o v is same pass =

@@ -99,7 +99,7 @@ new-name names t q given may =
       | inl same ↦ absurd (not-given t q may (subst (λ (k : Handle). WasGiven t k) (same-is e.0 q same) (given i e at)))
     ])
 
--- what stands at the first place that passes a test passes
+-- what is at the first place that passes a test passes
 pub place-passes : {A : Type 0} (test : A → Bool) (xs : List A) (y : A) → At xs (place_of test xs) y → test y ≡ true
 place-passes test [] y at = absurd cc
 place-passes {A} test (x ∷ xs) y at = go (test x) refl at (λ h. place-passes test xs y h)

@@ -27,7 +27,7 @@ use Rattle.ca_laws_parts.proofs.Stands.{IsEndOf, end-ending, end-itself, end-lik
 plain : (a j : Joined) → j.client ≡ a.client → j.at_client ≡ a.at_client → j.lists.client_open ≡ a.lists.client_open → IsEndOf a j
 plain a j client handle opens = record { client = client; handle = handle; opens = λ o. sym opens ∙ o }
 
--- a circuit is noted, or changed where it stands
+-- a circuit is noted, or changed where it is
 stands-at : (w : World) (k : ℕ) (f : Joined → Joined) → ((a : Joined) → IsEndOf a (f a)) → ClientsStand w → ClientsStand (unwrap_or (option_map (λ (c : Joined). with_circuit k (f c) w) (slice_get w.circuits k)) w)
 stands-at w k f ends s = go (slice_get w.circuits k) refl
   where

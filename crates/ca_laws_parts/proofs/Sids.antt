@@ -202,7 +202,7 @@ one-live c a d i j k l sid b f x y =
           absurd (y.uncleared (within-wider c.up sid l k b (let e : k < b = x.early in omega (arith, e)) cleared))
     ]
 
--- what stands in the beginning of a list
+-- what is in the beginning of a list
 At-taken : {A : Type 0} (n : ℕ) (xs : List A) (k : ℕ) (x : A) → At xs k x → k < n → At (take n xs) k x
 At-taken zero xs k x at lt = absurd (omega (arith, lt))
 At-taken (suc n) [] k x at lt = absurd cc

@@ -27,7 +27,7 @@ use Rattle.ca_laws_parts.proofs.Filtered.{filter-order}
 use Rattle.ca_laws_parts.proofs.Given.{Given, HeldBy}
 use Rattle.ca_laws_parts.proofs.Growing.{Added, Asked, Grows, HasNow, IsTold, NoneCleared, StaysConnected, Went, added-now, added-sent, asked-now, asked-sent, channel-later, connected-later, free-forth, grows-sent, has-sent, longer, on-channel-forth, told-sent, uncancelled-forth, uncancelled-sent, went-forth}
 
--- What is known of a channel with this CID that stands in this phase on the circuit.
+-- What is known of a channel with this CID that is in this phase on the circuit.
 abbrev pub Stands : Conduct → (cid : ℕ) → Phase → Type 0
 Stands e cid (Creating rights) = (i : ℕ) × Asked e i cid
 Stands e cid Doomed = (i : ℕ) × Asked e i cid

@@ -1,4 +1,4 @@
--- Working: a server's records beside the log of its life: what each record is, the log tells.
+-- Working: a server's records beside the log of its life: what each record is, the log says.
 use Rattle.std.specs.Prelude.{ℕ, ◌≡◌, ◌<◌, ◌≤◌, ◌⊎◌, Bool, true, List, [], ◌∷◌, Option, Some, None, filter_map, length, map}
 use Rattle.ca_text.specs.Place.{At}
 use Rattle.ca_dbr.specs.Elements.{Elements, base_of}
@@ -50,7 +50,7 @@ pub record StillWaits (y : List Entry) (r : ℕ) (p : PutPlace) (value : Element
   pub unapplied : IsApplied y p → ⊥
   pub kept : IsWithdrawn y p → ⊥
 
--- no two stand at one place
+-- no two are at one place
 abbrev pub AreApart : List PutPlace → Type 0
 AreApart [] = Unit {0}
 AreApart (p ∷ ps) = (In ps p → ⊥) × AreApart ps
@@ -78,7 +78,7 @@ module _ (Is : PutPlace → Put → Type 0) where
   IsBusyAs (Some p) None = ⊥
   IsBusyAs (Some p) (Some b) = Is p b
 
-  -- A record as its server has it, and by numbers, is what this log tells: it was added and not
+  -- A record as its server has it, and by numbers, is what this log says: it was added and not
   -- removed, and of that only its value changed, which is that of the last write or post; the puts
   -- that wait, in order; and the one that makes it busy.
   pub record Agrees (y : List Entry) (c : Record) (r : RecordSide) : Type 0 where
@@ -135,7 +135,7 @@ IsOf r (Finished n k) = ⊥
 IsOf r (Withdrawn n k) = ⊥
 
 -- A server's life: its log has each write once, and its records, of which n were added,
--- are what the log tells.
+-- are what the log says.
 pub record Agree (Came : PutPlace → (i : ℕ) → Elements → Type 0) (Lost : PutPlace → (i : ℕ) → Type 0) (Is : PutPlace → Put → Type 0) (y : List Entry) (records : List Record)
     (sides : List RecordSide) (added : ℕ) : Type 0 where
   pub once : Once Came Lost y

@@ -36,7 +36,7 @@ MakesLive old call c h m =
     × ((rights : ℕ) × (channel_on old c m.p1 ≡ Some (h, Creating rights)))
 
 -- An EVENT_ADD goes out in its own call, or as its channel comes to be live: then for each
--- subscription that stands on that, and no other, under the channel's new SID and the
+-- subscription that is on that, and no other, under the channel's new SID and the
 -- subscription's own id.
 pub record AddsAreSent : Type 0 where
   pub only : (old : Client) (call : Call) (sent : List Sending) (new : Client) → Does old call sent new

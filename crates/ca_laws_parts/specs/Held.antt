@@ -65,7 +65,7 @@ is_asked p = true
 abbrev pub HoldsChannels : (Awaits : ℕ → Type 0) (on : Handle) (number : Handle → ℕ) → Table Channel → Circuit → Type 0
 HoldsChannels Awaits on number t c = HoldsIds Awaits Cid (is_on_in is_asked on) (λ (h : Handle). On (number h) Create) t c
 
--- ---- subscriptions: those that stand on a channel that is live or leaves there, or drain there
+-- ---- subscriptions: those that are on a channel that is live or leaves there, or drain there
 
 -- the channel's EVENT_ADDs went out, and its clear was not answered; its caller did not clear it
 abbrev pub is_subscribed : Phase → Bool

@@ -62,7 +62,7 @@ pub record IsPutOf (circuits : List Joined) (server : ℕ) (p : PutPlace) (b : P
   pub ioid : b.ioid ≡ s.message.p2
 
 -- A server's life on these circuits: its log has each write once, and its records
--- are what the log tells.
+-- are what the log says.
 abbrev pub Life : List Joined → (server life : ℕ) → List Entry → List Record → List RecordSide → (added : ℕ) → Type 0
 Life circuits server life y records sides added =
     Agree (CameOn circuits life) (LostOn circuits) (IsPutOf circuits server) y records sides added

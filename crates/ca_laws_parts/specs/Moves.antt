@@ -37,7 +37,7 @@ pub record Writes (w : World) : Type 0 where
       → WasHandled w.circuits p
 
 -- What an event at server i does: the server goes on as this, its log has these entries more, other
--- servers and logs stay, and circuits go on. Its records are what its log tells now, and the puts
+-- servers and logs stay, and circuits go on. Its records are what its log says now, and the puts
 -- that wait, there and at other servers, are on circuits that are open.
 pub record Moves (w new : World) (i : ℕ) (y next : ServerSide) (log more : List Entry) : Type 0 where
   pub is : At w.servers i y

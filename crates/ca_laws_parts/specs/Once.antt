@@ -10,7 +10,7 @@ use Rattle.ca_model.specs.World.{PutPlace}
 
 -- ---- what is told of the write at a place
 
--- where the write came of which an entry tells
+-- where the write came that an entry reports
 abbrev pub write_in : Entry → Option PutPlace
 write_in (Waits n k r v) = Some (record { circuit = n; place = k })
 write_in (Applied n k r v busies) = Some (record { circuit = n; place = k })

@@ -38,7 +38,7 @@ AreNumbered w = (k : ℕ) (j : Joined) (y : ServerSide) (updates : List Update) 
 abbrev pub AllAsked : World → Type 0
 AllAsked w = (n k : ℕ) (c : Joined) (s : Sent) → At w.circuits n c → At c.lists.up k s → Suits s.intent s.message
 
--- a notice in a client's log tells what the reply to its own message means, or that this is lost;
+-- a notice in a client's log says what the reply to its own message means, or that this is lost;
 -- and each request is at one place
 abbrev pub CompleteOnce : World → Type 0
 CompleteOnce w = OfClients (told w) (CompletesOnce (IsDue (port_of w) (rules_of w)) Shows Means (told w))

@@ -52,8 +52,8 @@ pub fn bytes_are_messages_in_runs()
 /// after them; so it is as the client hears a message, whatever that is, as one of its ends ends or
 /// is connected, and as bytes come or a moment is handed in.
 ///
-/// Its core fits messages before. Where a handle is looked up, its tables have no more slots than
-/// an arena.
+/// Its core fits messages before. If a handle is looked up, its tables have no more
+/// slots than an arena.
 pub fn a_client_sends_messages()
     ensures opens { (x y : Client) (a : Opening) (q : Handle) (sent : List Sending) → ClientFits x
         → ClientOpens x a (Ok q) sent y → SpeaksWell y sent }

@@ -29,8 +29,8 @@ pub fn a_clients_steps_are_those_of_rows()
 
 /// A read, a put with notification and a plain write go out in their own call, once, and in no
 /// other. An EVENT_ADD goes out in its own call, or as its channel comes to be live, also on
-/// another circuit: then for each subscription that stands on that channel, and for no other, under
-/// its own id and the new SID.
+/// another circuit: then for each subscription that is on that channel, and for no other, under its
+/// own id and the new SID.
 pub fn which_call_sends_what()
     ensures requests { RequestsAreSentOnce }
     ensures subscriptions { AddsAreSent }

@@ -130,7 +130,7 @@ pub fn records_agree_with_their_log()
         (cs : List Record) (rs : List RecordSide) (n i : ℕ) (c : Record) (r : RecordSide)
         → At cs i c → At rs i r → Life circuits server life y cs rs n
         → IsNow y r.number (known_record c) × Has y r.number r.name }
-    // The number by which an event tells of a record is that of the one that has the name.
+    // The number by which an event names a record is that of the one that has the name.
     ensures numbers { (circuits : List Joined) (server life : ℕ) (y : List Entry)
         (cs : List Record) (rs : List RecordSide) (n i : ℕ) (r : RecordSide) → At rs i r
         → Life circuits server life y cs rs n → number_of r.name rs ≡ r.number }

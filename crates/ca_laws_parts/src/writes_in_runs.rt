@@ -43,7 +43,7 @@ pub fn sound_writes_are_applied_once()
 {}
 
 /// What replies say of writes is so by the logs of servers, before any event, after each event, and
-/// after every run: a put that a reply tells Done is applied, and of a write that a reply tells
+/// after every run: a put that a reply reports Done is applied, and of a write that a reply reports
 /// Failed the log never tells.
 ///
 /// What the end of a circuit takes next is the message that its client sent next, in each world on
@@ -58,8 +58,8 @@ pub fn each_event_keeps_what_replies_say()
 {}
 
 /// Each circuit that is open at its server is in step with its end there: the same subscriptions
-/// stand in both, each once, and the same updates wait in both. So it is before any event, after
-/// each event, and after every run; and so each update that leaves a queue has its number in front
+/// are in both, each once, and the same updates wait in both. So it is before any event, after each
+/// event, and after every run; and so each update that leaves a queue has its number in front
 /// there, and is told as an update.
 ///
 /// What the end of a circuit takes next is the message that its client sent next, in each world on

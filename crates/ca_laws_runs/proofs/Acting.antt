@@ -24,7 +24,7 @@ taken-at (suc n) [] i x lt at = absurd (none_at i x at)
 taken-at (suc n) (y ∷ xs) zero x lt at = at
 taken-at (suc n) (y ∷ xs) (suc i) x lt at = taken-at n xs i x (omega (arith, lt)) at
 
--- each item of the one stands in the other, at its place
+-- each item of the one is in the other, at its place
 abbrev pub Grows : {A : Type 0} → List A → List A → Type 0
 Grows {A} xs ys = (i : ℕ) (x : A) → At xs i x → At ys i x
 

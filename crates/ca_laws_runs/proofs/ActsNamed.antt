@@ -248,7 +248,7 @@ module _ (w new : World) (i : ℕ) (x z : ClientSide) (spoken : Names) (sent : L
     | inr same ↦ same.0
   ]
 
-  -- what a log tells now it told, or is new
+  -- what a log says now it told, or is new
   pub names-moved : NamesStand new
   names-moved = record {
     titled = λ l y log h ch at there is. elim (clients l y at) [

@@ -204,7 +204,7 @@ module _ (w new : World) (k : ℕ) (j : Joined) (x : ClientSide) (on : At w.circ
             | inr (inr late) ↦ create-used Create refl (c.since t.place s Create (omega (arith, late, place)) (At-within now.lists.up t.place s up_now) up_now (meant ∙ ap (λ (z : ℕ). On z Create) (sym number_is)))
           ]
 
-      -- each that stands on it is added
+      -- each that is on it is added
       added : (g : Handle) (d : Subscription) → under x.core.subscriptions g ≡ Some d → stands_in d.stage ≡ true → d.channel ≡ h
           → meant_by x.names.subscriptions g ≡ On a (Subscribe number) → IsAnew now.lists a number t.place step.sent
       added g d held_there stands channel intent_is =

@@ -31,7 +31,7 @@ use Rattle.ca_laws_runs.proofs.OpenLive.{IsLiveOn, Opens, opens-ended, opens-sam
 use Rattle.ca_laws_runs.proofs.ToldAsked.{IsOpenIn, gone-open}
 use Rattle.ca_laws_parts.proofs.WritesLists.{none_at}
 
--- It tells that a request is lost that was open, and sent on this circuit; or a channel
+-- It says that a request is lost that was open, and sent on this circuit; or a channel
 -- that was live there.
 abbrev pub FromFarewell : Client → (c : Handle) → Notice → Type 0
 FromFarewell x c said =

@@ -317,7 +317,7 @@ event-last w new (event.Tick moment) c q o n happens =
 
 -- ---- what stands, and what was ended
 
--- Each subscription that is named stands on a channel that its caller has not cleared, or its
+-- Each subscription that is named is on a channel that its caller has not cleared, or its
 -- client's log has its end.
 abbrev pub AllStandOrEnd : World → Type 0
 AllStandOrEnd w = (i a m : ℕ) (x : ClientSide) (g : Handle) (log : List Line) → At w.clients i x → At w.client_logs x.life log → At x.names.subscriptions m (g, On a (Subscribe m)) → ((h : Handle) × IsKept x.core g h) ⊎ IsEndedBy log a m

@@ -105,7 +105,7 @@ beyond zero i le = (i, omega arith)
 beyond (suc a) zero le = absurd (omega (arith, le))
 beyond (suc a) (suc i) le = (let r = beyond a i (omega (arith, le)) in let e : i ≡ a + r.0 = r.1 in (r.0, omega (arith, e)))
 
--- Of the message at place k of circuit n, which was handled, the log tells first in its step.
+-- Of the message at place k of circuit n, which was handled, the log says first in its step.
 module _ (cs : List Joined) (life : ℕ) (z : List Entry) (once : Once (CameOn cs life) (LostOn cs) z) (n k : ℕ) (d : Joined) (on : At cs n d)
     (h : Step) (at_h : At d.lists.handled k h) where
   came-in : (i : ℕ) (value : Elements) → CameOn cs life (record { circuit = n; place = k }) i value → (h.logged ≤ i) × (i < h.after)

@@ -94,7 +94,7 @@ module _ (n : Names) (x : Client) (t : Tidy n x) where
         row-of : (w : Handle × Subscription) (k : ℕ) → At (held x.subscriptions) k w → (number : ℕ) × (meant_by n.subscriptions w.0 ≡ history.On (channel_number n w.1.channel) (Subscribe number))
         row-of w k there = (let meant = t.subscriptions w.0 w.1 (held-under x.subscriptions k w there) in (meant.0, meant.2))
 
-        -- each is an EVENT_ADD of a subscription that stands on the channel
+        -- each is an EVENT_ADD of a subscription that is on the channel
         add-of : (i : ℕ) (s : Sent) → At (said n on (event_adds c m.p2 h x)) i s → (w : Handle × Subscription) × (c ≡ on) × (w.1.channel ≡ h) × ((k : ℕ) × At (held x.subscriptions) k w) × (s.intent ≡ meant_by n.subscriptions w.0)
         add-of i s place =
             let a = At-mapped (stamped n) (filter (λ (z : Sending). same_handle z.circuit on) (event_adds c m.p2 h x)) i s place in

@@ -44,8 +44,8 @@ module _ (P : ℕ → List Entry → List RecordSide → ServerEnd → Joined �
   AllEnds w = (n : ℕ) (c : Joined) (y : ServerSide) (e : ServerEnd) (log : List Entry) → At w.circuits n c → At w.servers c.server y → c.lists.server_open ≡ true
       → HasEnd y.core c.at_server e → At w.server_logs y.life log → P n log y.records e c
 
-  -- Each change of an end and its circuit keeps it: what happens at the client, and to bytes; what
-  -- else the log tells; a post; a record that is removed or added; updates that leave their
+  -- Each change of an end and its circuit keeps it: what happens at the client, and to bytes;
+  -- what else the log says; a post; a record that is removed or added; updates that leave their
   -- queues; and a late reply.
   pub record Lasting : Type 0 where
     pub stays : (n : ℕ) (log : List Entry) (rs : List RecordSide) (e f : ServerEnd) (c d : Joined) → SameHeld e f → Goes c d → P n log rs e c → P n log rs f d

@@ -93,7 +93,7 @@ module _ (P : ℕ → List Entry → List RecordSide → ServerEnd → Joined �
 
   -- ---- a post
 
-  -- A post reaches an end and its circuit, as an entry tells; the core told the numbers when it had
+  -- A post reaches an end and its circuit, as an entry says; the core told the numbers when it had
   -- this end with the same subscriptions.
   pub post-ends-last : (n i : ℕ) (log : List Entry) (rs : List RecordSide) (core mid : Server) (name : List ℕ) (r : RecordSide) (mask : ℕ) (v : Stored) (entry : Entry) (gone : Handle → Bool) (c : Joined) (b e f : ServerEnd)
       → AreOthers rs → In rs r → r.name ≡ name → IsPost r.number mask v entry → c.server ≡ i → c.lists.server_open ≡ true → HasEnd core c.at_server b

@@ -1,5 +1,5 @@
--- A client's log tells of each read, put and subscription once: what it told of is over, and what a
--- call or a step tells of was not.
+-- A client's log reports each read, put and subscription once: what it told of is over, and what a
+-- call or a step reports was not.
 use Rattle.std.proofs.Common.{◌≡◌, ℕ, zero, suc, ◌⊎◌, inl, inr, List, [], ◌∷◌, Option, Some, None, refl, sym, ap, ◌∙◌, subst}
 use Rattle.std.specs.Prelude.{find, option_map, unwrap_or}
 use Rattle.ca_text.specs.Place.{At}
@@ -122,7 +122,7 @@ tells-after n x line lines now y none t = record {
 
 -- ---- what notices tell of
 
--- A notice tells of a request that the names have under this handle, or of a subscription.
+-- A notice reports a request that the names have under this handle, or of a subscription.
 pub record OfRequest (n : Names) (k : Notice) (intent : Intent) : Type 0 where
   pub q : Handle
   pub o : Outcome

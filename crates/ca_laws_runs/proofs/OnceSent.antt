@@ -31,7 +31,7 @@ use Rattle.ca_laws_runs.proofs.OnceWorld.{LogsAfter, logs-grown, logs-still}
 abbrev pub IsOpenAt : World → (i life : ℕ) → Handle → Type 0
 IsOpenAt w i life c = (k : ℕ) × (j : Joined) × At w.circuits k j × (j.client ≡ i) × (j.at_client ≡ c) × (j.lists.client ≡ life) × (j.lists.client_open ≡ true)
 
--- The message of what was called stands on a circuit of that life.
+-- The message of what was called is on a circuit of that life.
 abbrev pub IsSaid : World → (life : ℕ) → Intent → Type 0
 IsSaid w life intent = (k : ℕ) × (j : Joined) × (q : ℕ) × (s : Sent) × At w.circuits k j × (j.lists.client ≡ life) × At j.lists.up q s × (s.intent ≡ intent)
 

@@ -46,7 +46,7 @@ pub record IsCut (w new : World) (number : ℕ) (x : ClientSide) (said : Notice)
   pub now : At new.circuits n d × (d.lists.client_open ≡ false)
   pub from : FromFarewell x.core c.at_client said
 
--- A channel was cleared, as the log tells first, and an open request on it is lost.
+-- A channel was cleared, as the log says first, and an open request on it is lost.
 pub record IsAway (x : ClientSide) (said : Notice) (y : List Line) (i : ℕ) : Type 0 where
   pub h : Handle
   pub q : Handle
@@ -54,7 +54,7 @@ pub record IsAway (x : ClientSide) (said : Notice) (y : List Line) (i : ℕ) : T
   pub was_open : IsOpenIn (asks_on h) x.core q
   pub cleared : In (take i y) (Called (On (channel_number x.names h) Clear) None)
 
--- Line i of this log is new, and tells that something is lost so.
+-- Line i of this log is new, and says that something is lost so.
 pub record Parted (w new : World) (l : ℕ) (y : List Line) (i : ℕ) (line : Line) : Type 0 where
   pub number : ℕ
   pub x : ClientSide

@@ -205,7 +205,7 @@ follows-stays log rs e f c d held goes p = record {
       (λ i sub st a b. ap (λ (l : List Step). posts_by log rs l sub st.place) goes.handled) p.holds));
 }
 
--- ---- what else the log tells
+-- ---- what else the log says
 
 pub follows-told : (log more : List Entry) (rs rt : List RecordSide) (e : ServerEnd) (c : Joined) → AreQuiet more → titles rt ≡ titles rs → Follows log rs e c → Follows (log ++ more) rt e c
 follows-told log more rs rt e c quiet same_all p = record {

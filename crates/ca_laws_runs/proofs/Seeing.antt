@@ -149,7 +149,7 @@ heard-live x c id g is = go (by_wire x.subscriptions id) refl is
     go None found f = absurd cc
     go (Some e) found f = by e (wire-under x.subscriptions id e found).0 (stands_in e.1.stage) (is_live_on x c e.1.channel) refl f
 
--- and what stands on a live channel is found
+-- and what is on a live channel is found
 heard-found : (x : Client) (c : Handle) (g : Handle) (d : Subscription) → by_wire x.subscriptions (wire_of g) ≡ Some (g, d) → stands_in d.stage ≡ true → is_live_on x c d.channel ≡ true → heard_by x c (wire_of g) ≡ Some g
 heard-found x c g d found stands lives =
     ap (λ (o : Option (Handle × Subscription)). option_and_then (λ (e : Handle × Subscription). cond (is_live_on x c e.1.channel) (Some e.0) None) (option_and_then (λ (e : Handle × Subscription). cond (stands_in e.1.stage) (Some e) None) o)) found

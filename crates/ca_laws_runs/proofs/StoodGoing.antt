@@ -1,5 +1,5 @@
--- What each event leaves of the subscriptions that stand on live channels: none is new, but one
--- with an EVENT_ADD that was sent by this event.
+-- What each event leaves of the subscriptions that are on live channels: none is new, but one with
+-- an EVENT_ADD that was sent by this event.
 use Rattle.std.proofs.Common.{◌≡◌, ℕ, ◌+◌, ◌≤◌, ◌⊎◌, inl, inr, Bool, true, false, cond, List, [], ◌∷◌, ◌++◌, length, Option, Some, None, refl, sym, ap, ◌∙◌, subst, arith}
 use Rattle.std.specs.Prelude.{drop, filter, is_none, map, option_map, slice_get, slice_set, unwrap_or}
 use Rattle.std.specs.List.{FoldsTo}

@@ -239,7 +239,7 @@ lines-not about n notices none p line at =
 
 -- ---- goodbyes
 
--- It tells that something is lost.
+-- It says that something is lost.
 abbrev pub IsGoodbye : Notice → Type 0
 IsGoodbye (notice.Completed q o) = o ≡ outcome.Disconnected
 IsGoodbye (notice.Lost h) = Unit {0}

@@ -126,7 +126,7 @@ says-called w mid new i names sent ups is none n d k s at there writes =
           absurd (none v.0 v.1 v.2 (subst (λ (z : Sent). IsWrite z.intent) v.4 writes))
     ]
 
--- One was, which its call tells of.
+-- One was, which its call reports.
 says-one : (w new : World) (i : ℕ) (x : ClientSide) (spoken : Names) (o : Outcomes) (r : Sending) (e : Elements) → At w.clients i x → OnceStand w → new ≡ client_after i x spoken o w → o.sent ≡ r ∷ []
     → o.lines ≡ Called (intent_of spoken r.aim) (Some e) ∷ [] → IsValue e → Carries r.message e → CarriesBack w new
 says-one w new i x spoken o r e at once is sent lines valued carries n d k s at_d there writes =

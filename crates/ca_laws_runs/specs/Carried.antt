@@ -38,7 +38,7 @@ AllCarried w = (n k : ℕ) (c : Joined) (s : Sent) (x : List Line) → At w.circ
 
 -- ---- what servers log
 
--- The entry tells that the write at place k of circuit n waits for record r, or was applied to it.
+-- The entry says that the write at place k of circuit n waits for record r, or was applied to it.
 abbrev pub IsWriteTo : (n k r : ℕ) → Entry → Type 0
 IsWriteTo n k r (Waits m l q v) = (m ≡ n) × (l ≡ k) × (q ≡ r)
 IsWriteTo n k r (Applied m l q v busies) = (m ≡ n) × (l ≡ k) × (q ≡ r)

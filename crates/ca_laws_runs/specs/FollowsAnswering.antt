@@ -60,7 +60,7 @@ pub record IsAnswered (n : ℕ) (c : Circuit) (y : List Entry) (k : ℕ) (h : St
   pub besides : (i : ℕ) (e : Entry) → h.logged + length logs ≤ i → i < h.after → At y i e → (m l : ℕ) × (e ≡ Withdrawn m l)
   pub ends : h.after ≤ length y
 
--- A reply that came later, to a put, tells that it was done; and that put was finished, before its
+-- A reply that came later, to a put, says that it was done; and that put was finished, before its
 -- channel was cleared.
 abbrev pub IsLate : (n : ℕ) → Circuit → List Entry → (k : ℕ) → Fields → Type 0
 IsLate n c y k m =

@@ -34,6 +34,6 @@ IsAwaited intent = ⊥
 abbrev pub TellsOnce : World → (life : ℕ) → List Line → Type 0
 TellsOnce w life x = (i l : ℕ) (intent : Intent) (o p : Outcome) → IsAwaited intent → At x i (Noticed intent o) → At x l (Noticed intent p) → i ≡ l
 
--- A notice of a plain write tells that it failed.
+-- A notice of a plain write says that it failed.
 abbrev pub WritesTellFailed : World → (life : ℕ) → List Line → Type 0
 WritesTellFailed w life x = (i channel number : ℕ) (o : Outcome) → At x i (Noticed (On channel (Request Write number)) o) → (s : Status) × (o ≡ Failed s)

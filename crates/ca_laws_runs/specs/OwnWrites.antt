@@ -1,4 +1,4 @@
--- Statement: the clause of writes, whole, of a world; and what is applied, by itself.
+-- Statement: the clause of writes, complete, of a world; and what is applied, by itself.
 use Rattle.std.specs.Prelude.{ℕ}
 use Rattle.ca_requests.specs.Meaning.{Means}
 use Rattle.ca_model.specs.Speech.{Stored}

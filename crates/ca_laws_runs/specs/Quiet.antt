@@ -55,7 +55,7 @@ PhaseIn up number (Live n rights) = (k : ℕ) × IsAskedAt up k number Create ×
 PhaseIn up number Leaving = IsBeingCleared up number
 PhaseIn up number Clearing = IsBeingCleared up number
 
--- so it is if it stands on the circuit of this handle
+-- so it is if it is on the circuit of this handle
 abbrev pub StandsIn : (on : Handle) → List Sent → (number : ℕ) → Standing → Type 0
 StandsIn on up number s = (p : Phase) → s ≡ standing.On on p → PhaseIn up number p
 

@@ -11,7 +11,7 @@ use Rattle.ca_model.specs.Headline.{Acted, IsBadChannel}
 use Rattle.ca_model.specs.Known.{IsDue}
 use Rattle.ca_model.specs.World.{World, port_of, rules_of, told}
 
--- The reply at place j tells BADCHID of the message at place k.
+-- The reply at place j reports BADCHID of the message at place k.
 abbrev pub TellsBad : World → Circuit → (k j : ℕ) → Type 0
 TellsBad w c k j = IsBadChannel (IsDue (port_of w) (rules_of w)) Shows Means c k j
 

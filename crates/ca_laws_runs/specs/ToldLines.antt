@@ -27,8 +27,8 @@ IsToLast (On channel Create) = Unit {0}
 IsToLast (On channel (Subscribe number)) = Unit {0}
 IsToLast intent = ⊥
 
--- Each notice of a channel or a subscription that does not tell Disconnected tells what the reply
--- to its own message means.
+-- Each notice of a channel or a subscription that does not tell Disconnected says what the reply to
+-- its own message means.
 abbrev pub LastingAreTold : World → Type 0
 LastingAreTold w = OfClients (told w) (λ (life : ℕ) (x : List Line). (i : ℕ) (intent : Intent) (o : Outcome) → At x i (Noticed intent o)
     → IsToLast intent → o ≢ Disconnected → (by : IsToldOf w life x i intent o) × (by.t.cause ≡ Reply))

@@ -17,8 +17,8 @@ use Rattle.ca_model.specs.World.{World, port_of, rules_of, told}
 use Rattle.ca_laws_parts.specs.Sids.{IsClearedWithin}
 use Rattle.ca_laws_runs.specs.ToldLines.{IsToldOf}
 
--- Each notice of a read, a put or a plain write that does not tell Disconnected tells what the
--- reply to its own message means.
+-- Each notice of a read, a put or a plain write that does not tell Disconnected says what the reply
+-- to its own message means.
 abbrev pub RequestsAreTold : World → Type 0
 RequestsAreTold w = OfClients (told w) (λ (life : ℕ) (x : List Line). (i : ℕ) (intent : Intent) (o : Outcome) → At x i (Noticed intent o)
     → IsRequest intent → o ≢ Disconnected → (by : IsToldOf w life x i intent o) × (by.t.cause ≡ Reply))
@@ -38,7 +38,7 @@ abbrev pub FailedIsNot : history.World → Type 0
 FailedIsNot w = (life n k l i r : ℕ) (intent : Intent) (s : Status) (x : List Line) (v : Stored) → At w.clients life x → In x (Noticed intent (Failed s))
     → Stands w life intent n k → IsApplied w n k l i r v → ⊥
 
--- Each notice tells what the reply to its own message means, or Disconnected if that is lost.
+-- Each notice says what the reply to its own message means, or Disconnected if that is lost.
 abbrev pub NoticesAreTold : World → Type 0
 NoticesAreTold w = OfClients (told w) (λ (life : ℕ) (x : List Line). (i : ℕ) (intent : Intent) (o : Outcome) → At x i (Noticed intent o)
     → ((by : IsToldOf w life x i intent o) × (by.t.cause ≡ Reply)) ⊎ ((o ≡ Disconnected) × IsLost (told w) life x i intent))

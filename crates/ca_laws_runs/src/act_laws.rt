@@ -28,7 +28,7 @@ pub fn live_channels_are_open()
         → AreEvents es → Runs s es stopped w → LiveAreOpen w }
 {}
 
-/// In every world to which a run leads, whatever its setting and events, no log of a client tells
+/// In every world to which a run leads, whatever its setting and events, no log of a client reports
 /// of a channel twice that it was opened: this is the client's part of `names` of the clause.
 pub fn a_channel_is_opened_once()
     ensures { (s : Setting) (es : List Event) (stopped : Option Event) (w : World)

@@ -24,8 +24,8 @@ pub fn servers_know_their_records()
         → Runs s es stopped w → KnowRecords w }
 {}
 
-/// After every run from a well-formed setting, of a subscription that stands at an open end no
-/// cancel was handled since its EVENT_ADD, and no clear of its channel.
+/// After every run from a well-formed setting, of a subscription that is at an open end no cancel
+/// was handled since its EVENT_ADD, and no clear of its channel.
 pub fn what_stands_was_not_ended()
     ensures { (s : Setting) (es : List Event) (stopped : Option Event) (w : World) → IsSetting s
         → Runs s es stopped w → AllUnended w }

@@ -11,7 +11,7 @@ ghost use Rattle.ca_laws_runs.specs.FollowsAnswering.{AreAnswered};
 /// of its records, its peer, its open channels and its subscriptions, and of whether it was full.
 /// Its step logged the write that was due, if there was one, or the withdrawals of the puts that
 /// waited on the channel that it cleared, and besides only withdrawals. Any other reply about it is
-/// to a put, tells that it was done, and came once it was finished, before its channel was cleared.
+/// to a put, says that it was done, and came once it was finished, before its channel was cleared.
 /// This is the most of `answered` of the statement's clause `AnswersOwn`.
 pub fn messages_are_answered()
     ensures { (s : Setting) (es : List Event) (stopped : Option Event) (w : World) → IsSetting s

@@ -15,8 +15,8 @@ pub fn requests_are_told_of_their_own()
         → AreEvents es → Runs s es stopped w → RequestsAreTold w }
 {}
 
-/// After every such run, a client tells of each read, put, plain write and subscription once at
-/// most. This is `once` of the clause, whole.
+/// After every such run, a client reports each read, put, plain write and subscription once at
+/// most. This is `once` of the clause, complete.
 pub fn uses_are_told_of_once()
     ensures { (s : Setting) (es : List Event) (stopped : Option Event) (w : World) → IsSetting s
         → AreEvents es → Runs s es stopped w → UsesAreToldOnce w }
@@ -32,11 +32,11 @@ pub fn callers_are_told_what_became_of_their_writes()
         → IsSetting s → AreEvents es → Runs s es stopped w → FailedIsNot (told w) }
 {}
 
-/// After every such run each notice in a client's log tells what the reply to its own message
-/// means, in the step that read that reply, while its caller had not ended it; or it tells
-/// Disconnected, and then the client's end of the circuit has ended, or the channel was
-/// cleared by its caller before, or a SERVER_DISCONN for it was read in that step. This is
-/// `told` of the clause, whole.
+/// After every such run each notice in a client's log says what the reply to its own message
+/// means, in the step that read that reply, while its caller had not ended it; or it reports
+/// Disconnected, and then the client's end of the circuit has ended, or the channel was cleared
+/// by its caller before, or a SERVER_DISCONN for it was read in that step. This is `told` of
+/// the clause, complete.
 pub fn notices_are_told_of_their_own()
     ensures { (s : Setting) (es : List Event) (stopped : Option Event) (w : World) → IsSetting s
         → AreEvents es → Runs s es stopped w → NoticesAreTold w }
@@ -51,10 +51,11 @@ pub fn creations_are_told()
         → AreEvents es → Runs s es stopped w → CreationsAreTold (told w) }
 {}
 
-/// After every such run a channel that its caller is told to be lost was told to be live before, as
-/// the reply was read by which it was created on its circuit, and no loss of it was told since; and
-/// the client's end of that circuit has ended, or the SERVER_DISCONN for that creation was read in
-/// the step that told the loss. Its caller had not cleared it. This is `lost` of the clause, whole.
+/// After every such run a channel that its caller is told to be lost was told to be live before,
+/// as the reply was read by which it was created on its circuit, and no loss of it was told
+/// since; and the client's end of that circuit has ended, or the SERVER_DISCONN for that
+/// creation was read in the step that told the loss. Its caller had not cleared it. This is
+/// `lost` of the clause, complete.
 pub fn lost_channels_were_live()
     ensures { (s : Setting) (es : List Event) (stopped : Option Event) (w : World) → IsSetting s
         → AreEvents es → Runs s es stopped w → LostWereLive w }
@@ -69,7 +70,7 @@ pub fn live_channels_were_not_lost()
 {}
 
 /// After every such run the log of each life of a client says of its calls and channels what the
-/// statement's clause `CompletesOnce` says: the clause, whole.
+/// statement's clause `CompletesOnce` says: the clause, complete.
 pub fn calls_complete_once()
     ensures { (s : Setting) (es : List Event) (stopped : Option Event) (w : World) → IsSetting s
         → AreEvents es → Runs s es stopped w → CompleteOnce w }

@@ -49,9 +49,9 @@ pub fn what_is_held_by_what_servers_take()
         → AllCircuitsHeld w }
 {}
 
-/// So each notice that a client makes of a message tells what that message means, of what was
+/// So each notice that a client makes of a message says what that message means, of what was
 /// meant by the message that it is about: by its own request, its own subscription, or the
-/// CREATE_CHAN of its channel; or it tells Disconnected, of a SERVER_DISCONN. A refused plain
+/// CREATE_CHAN of its channel; or it reports Disconnected, of a SERVER_DISCONN. A refused plain
 /// write is told of its channel.
 pub fn each_notice_tells_of_its_own_message()
     ensures { (s : Setting) (es : List Event) (stopped : Option Event) (w new : World) (k : ℕ)

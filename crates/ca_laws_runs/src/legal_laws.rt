@@ -69,9 +69,9 @@ pub fn clients_send_on_channels_that_they_have()
         → AreEvents es → Runs s es stopped w → ClientsSendOnChannels w }
 {}
 
-/// After every run from a well-formed setting by well-formed events, a subscription that stands in
-/// its client's table has its EVENT_ADD on each open circuit on which its channel is live, after
-/// that channel's last CREATE_CHAN there.
+/// After every run from a well-formed setting by well-formed events, a subscription that is in its
+/// client's table has its EVENT_ADD on each open circuit on which its channel is live, after that
+/// channel's last CREATE_CHAN there.
 pub fn live_subscriptions_were_added()
     ensures { (s : Setting) (es : List Event) (stopped : Option Event) (w : World) → IsSetting s
         → AreEvents es → Runs s es stopped w → SubscriptionsAreAddedAnew w }
@@ -86,9 +86,9 @@ pub fn clients_cancel_what_was_added()
         → AreEvents es → Runs s es stopped w → ClientsCancelWhatWasAdded w }
 {}
 
-/// After every run a subscription that stands in its client's table, on a channel that is live, is
-/// held by the log of that client's life: its caller neither cancelled it nor cleared its channel,
-/// and no notice told of its end.
+/// After every run a subscription that is in its client's table, on a channel that is live, is held
+/// by the log of that client's life: its caller neither cancelled it nor cleared its channel, and
+/// no notice told of its end.
 pub fn live_subscriptions_are_held_by_logs()
     ensures { (s : Setting) (es : List Event) (stopped : Option Event) (w : World)
         → Runs s es stopped w → LiveSubscriptionsAreHeld w }

@@ -1,4 +1,4 @@
-//! Laws of runs: every run is safe and legal (`runs_are_safe`), and what that stands on.
+//! Laws of runs: every run is safe and legal (`runs_are_safe`), and what that is built on.
 //!
 //! First what is held of all circuits, over every run: the ids in flight, the clients' tables, the
 //! SIDs under which clients speak, what servers keep for circuits, and what became of each

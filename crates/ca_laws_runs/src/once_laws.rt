@@ -23,15 +23,15 @@ pub fn a_request_is_at_one_place()
 {}
 
 /// In every such world each request and each plain write that a client called was sent: a message
-/// that was meant so stands on a circuit of that life of the client. This is `sent` of the clause.
+/// that was meant so is on a circuit of that life of the client. This is `sent` of the clause.
 pub fn what_was_called_was_sent()
     ensures { (s : Setting) (es : List Event) (stopped : Option Event) (w : World)
         → Runs s es stopped w → OfClients (told w) (SendsCalled (told w)) }
 {}
 
-/// In every such world a client tells of each read, each put with notification and each
-/// subscription once at most. This is `once` of the clause, without plain writes: of these the
-/// client keeps nothing, so that one refusal at most is told is its server's to show.
+/// In every such world a client reports each read, each put with notification and each subscription
+/// once at most. This is `once` of the clause, without plain writes: of these the client keeps
+/// nothing, so that one refusal at most is told is its server's to show.
 pub fn what_is_awaited_is_told_once()
     ensures { (s : Setting) (es : List Event) (stopped : Option Event) (w : World)
         → Runs s es stopped w → OfClients (told w) (TellsOnce (told w)) }

@@ -13,8 +13,8 @@ pub fn bad_channels_lost_their_records()
 {}
 
 /// After every such run each reply to a read, a put, a write or a subscription that was handled on
-/// a record which had been removed then tells BADCHID, also if another record has the name by then.
-/// This is `refused` of the clause.
+/// a record which had been removed then reports BADCHID, also if another record has the name by
+/// then. This is `refused` of the clause.
 pub fn channels_of_removed_records_are_bad()
     ensures { (s : Setting) (es : List Event) (stopped : Option Event) (w : World) → IsSetting s
         → Runs s es stopped w → AreRefused w }

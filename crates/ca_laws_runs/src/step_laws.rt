@@ -22,7 +22,7 @@ ghost use Rattle.ca_laws_runs.specs.Worlds.{IsOther, IsOwnNext, ServersStand};
 /// Each put that makes a record of a server busy, or waits, came on a channel whose handle had been
 /// given before it; if that channel is open still, it was created before the put, and the channel
 /// of a put that waits is open. This holds beside what is known of writes, clients, bytes and what
-/// stands on circuits: before any event, after each event, and after every run.
+/// is on circuits: before any event, after each event, and after every run.
 ///
 /// The setting is well-formed; nothing else is asked for.
 pub fn puts_came_on_their_channels()

@@ -24,7 +24,7 @@ pub fn channels_and_subscriptions_are_told_of_their_own()
 
 /// After every such run a subscriber saw the updates of each EVENT_ADD in order and with none left
 /// out: before an update was told, each that was sent earlier on the circuit for the same EVENT_ADD
-/// was. With `own` this is the statement's clause `Sees`, whole.
+/// was. With `own` this is the statement's clause `Sees`, complete.
 pub fn subscribers_see_their_updates()
     ensures { (s : Setting) (es : List Event) (stopped : Option Event) (w : World) → IsSetting s
         → AreEvents es → Runs s es stopped w → SubscribersSee w }

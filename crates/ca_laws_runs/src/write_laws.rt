@@ -12,8 +12,8 @@ pub fn writes_carry_what_callers_gave()
         → Runs s es stopped w → AllCarried w }
 {}
 
-/// After every run from a well-formed setting by well-formed events each write of which a server's
-/// log tells, as one that was applied or that waits, is of a record that was added under the name
+/// After every run from a well-formed setting by well-formed events each write that a server's log
+/// reports, as one that was applied or that waits, is of a record that was added under the name
 /// under which the caller opened the channel of that write. It holds also of the write of a message
 /// on which the server's end closed.
 pub fn writes_are_of_the_record_that_is_named()
@@ -35,7 +35,7 @@ pub fn what_is_applied_is_what_callers_gave()
 /// all lives of all servers; each that is applied has its caller's value, on the record that the
 /// caller's channel names; a put that waits is dropped only with its record, its channel or its
 /// circuit; a record finishes one put at a time, each once; a put that was told Done is applied,
-/// and a write that was told Failed is not. This is the statement's clause `NotTwice`, whole.
+/// and a write that was told Failed is not. This is the statement's clause `NotTwice`, complete.
 pub fn writes_are_not_made_twice()
     ensures { (s : Setting) (es : List Event) (stopped : Option Event) (w : World) → IsSetting s
         → AreEvents es → Runs s es stopped w → WritesAreNotTwice w }

@@ -200,7 +200,7 @@ circuit-there address priority x e is =
     let f = find-at (λ (w : Handle × ClientCircuit). same_address w.1.address address && eqb w.1.priority priority) (held x.circuits) e is in
     held-under x.circuits f.0 e f.1
 
--- a channel that is searched for stands on a circuit: it waits if that is not connected
+-- a channel that is searched for is on a circuit: it waits if that is not connected
 pub found-keeps : (x : Client) (c h : Handle) (p : Phase) (here : Channel) → under x.channels h ≡ Some here → here.standing ≡ Searching → is_connecting p ≡ is_none (connection_at x c) → Keeps x (found_on c p h x)
 found-keeps x c h p here there searched waits =
     let y : Client = with_standing (On c p) h x in

@@ -61,7 +61,7 @@ write_number (On channel (history.Request history.Write number)) = number
 write_number intent = 0
 
 -- The line for a notice. The message that the client read was about one that was meant so: of a
--- plain write that tells which it was.
+-- plain write that says which it was.
 abbrev pub line_of : (about : Intent) → Names → Notice → Line
 line_of about n (answer.Live h) = history.Noticed (On (channel_number n h) history.Create) outcome.Done
 line_of about n (answer.Lost h) = history.Noticed (On (channel_number n h) history.Create) outcome.Disconnected
@@ -171,7 +171,7 @@ hands_out number (history.Collected n (Some place)) = n == number
 hands_out number (history.GaveUp n place) = n == number
 hands_out number line = false
 
--- the line at this place tells that the request completed, and its outcome was neither
+-- the line at this place says that the request completed, and its outcome was neither
 -- handed out nor given up
 abbrev pub IsThere : List Line → (number : ℕ) → (meant : Intent) → (place : ℕ) → Type 0
 IsThere log number meant place = ((o : Outcome) × At log place (history.Noticed meant o)) × (list_any (hands_out number) log ≡ false)
@@ -227,13 +227,13 @@ abbrev pub connected_as : Option Closing → Joined → Joined
 connected_as None j = j
 connected_as (Some k) j = client_closed k.left j
 
--- what a closing tells
+-- what a closing reports
 abbrev pub told_by : Option Closing → List Notice
 told_by None = []
 told_by (Some k) = k.notices
 
--- The circuit that the client wants first is made. A server without room refuses
--- it, and tells nothing.
+-- The circuit that the client wants first is made. A server without room refuses it,
+-- and reports nothing.
 pub record HappensAccept (w : World) (c : ℕ) (x : ClientSide) (v : WantsFirst w x) (new : World) : Type 0 where
   pub answer : Result Handle Refusal
   pub server : Server

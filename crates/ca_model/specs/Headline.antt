@@ -135,7 +135,7 @@ module _
     pub why : (by.c.client_open ≡ false) ⊎ ((j : ℕ) × (t : Told) × (h : Step) × At by.c.down j t × At by.c.heard j h
         × (t.cause ≡ Removal) × (t.place ≡ by.t.place) × (h.logged ≤ i) × (i < h.after))
 
-  -- And in a client's log: a notice tells what the reply to its own message means, or Disconnected
+  -- And in a client's log: a notice says what the reply to its own message means, or Disconnected
   -- if that is lost; a read, write or subscription has one notice at most; a call is accepted once;
   -- and each accepted request is at one place.
   pub record CompletesOnce (w : World) (life : ℕ) (x : List Line) : Type 0 where

@@ -40,7 +40,7 @@ HasChannel e k i j cid sid =
 abbrev pub IsDisconnect : ℕ → Fields → Type 0
 IsDisconnect cid m = Is command.ServerDisconnect m × (m.p1 ≡ cid)
 
--- An ERROR quotes the whole header of this request: its command and its id.
+-- An ERROR quotes the complete header of this request: its command and its id.
 abbrev pub Quotes : Fields → Fields → Type 0
 Quotes request m =
     Is command.Error m

@@ -59,7 +59,7 @@ ends_at ends circuits k = unwrap_or (option_map (λ (j : Joined). is_some (ends 
 abbrev pub without_puts : (ℕ → Bool) → RecordSide → RecordSide
 without_puts gone r = record r { waiting = filter (λ (p : PutPlace). not (gone p.circuit)) r.waiting }
 
--- and the log tells that
+-- and the log says that
 abbrev pub withdrawals : (ℕ → Bool) → List RecordSide → List Entry
 withdrawals gone records =
     map (λ (p : PutPlace). entry.Withdrawn p.circuit p.place) (flat_map (λ (r : RecordSide). filter (λ (p : PutPlace). gone p.circuit) r.waiting) records)
@@ -130,7 +130,7 @@ is_of_channel h sid p = same_handle p.circuit h && wire_of p.channel == sid
 abbrev pub without_channel : Handle → (sid : ℕ) → Record → RecordSide → RecordSide
 without_channel h sid c r = record r { waiting = places_where (λ (p : Put). not (is_of_channel h sid p)) c.waiting r.waiting }
 
--- and the log tells that
+-- and the log says that
 abbrev pub channel_withdrawals : Handle → (sid : ℕ) → List Record → List RecordSide → List Entry
 channel_withdrawals h sid cores records =
     map (λ (p : PutPlace). entry.Withdrawn p.circuit p.place) (flat_map (λ (ps : List PutPlace). ps) (with_core (λ (c : Record) (r : RecordSide). places_where (is_of_channel h sid) c.waiting r.waiting) cores records))

@@ -277,9 +277,8 @@ StepsAt old h (Some (Open e)) did new = StepsOpen old h e did new
 StepsAt old h (Some (Ended w left)) did new = (did ≡ Closed w left) × (new ≡ closed h old)
 StepsAt old h None did new = (did ≡ Closed why.Cut []) × (new ≡ old)
 
--- `step`: an open end takes one message, or the answer tells why it takes none. The end
--- of a circuit is reported once, with what it left; under a handle without a circuit
--- each step answers Cut.
+-- `step`: an open end takes one message, or the answer says why it takes none. The end of a circuit
+-- is reported once, with what it left; under a handle without a circuit each step answers Cut.
 abbrev pub Steps : Server → Handle → Stepped → Server → Type 0
 Steps old h did new = StepsAt old h (under old.circuits h) did new
 

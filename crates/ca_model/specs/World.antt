@@ -81,7 +81,7 @@ pub record ServerSide : Type 0 where
   pub records : List RecordSide
   pub added : ℕ
 
--- a subscription that stands at a server's end: its key, the place of its EVENT_ADD, and how many
+-- a subscription that is at a server's end: its key, the place of its EVENT_ADD, and how many
 -- posts matched so far
 pub record Standing : Type 0 where
   pub key : SubKey

@@ -61,10 +61,10 @@ impl Monitors {
         self.table.vacant()
     }
 
-    /// Adds a subscription to this channel under the handle that `vacant` tells.
+    /// Adds a subscription to this channel under the handle that `vacant` returns.
     /// It stands from now on.
     ///
-    /// Refused as StaleHandle if `vacant` tells another handle or none, then as OutOfMemory.
+    /// Refused as StaleHandle if `vacant` returns another handle or none, then as OutOfMemory.
     pub fn add(
         &mut self,
         vacant: Handle,
@@ -124,7 +124,7 @@ impl Monitors {
     /// A subscription that stands is cancelled on this circuit: its id drains
     /// until the confirmation.
     ///
-    /// Refused as StaleHandle if none stands under the handle.
+    /// Refused as StaleHandle if none is under the handle.
     pub fn cancel(&mut self, circuit: Handle, handle: Handle) -> Result<Subscription, Refusal>
         ensures { Comes (monitor.Cancelled circuit) self.old handle result self.new }
     {
@@ -138,7 +138,7 @@ impl Monitors {
     /// A subscription that stands is over: its id drains on this circuit until its
     /// channel's clear is answered.
     ///
-    /// Refused as StaleHandle if none stands under the handle.
+    /// Refused as StaleHandle if none is under the handle.
     pub fn end(&mut self, circuit: Handle, handle: Handle) -> Result<Subscription, Refusal>
         ensures { Comes (monitor.Ended circuit) self.old handle result self.new }
     {

@@ -55,7 +55,7 @@ set-is-map f (z ∷ xs) zero x h others =
 set-is-map f (z ∷ xs) (suc i) x h others =
     λ t. (sym (others zero z refl (λ e. omega arith)) t) ∷ (set-is-map f xs i x h (λ j y at other. others (suc j) y at (λ e. other (let d : suc j ≡ suc i = e in omega arith))) t)
 
--- what an index gave stands there
+-- what an index gave is there
 pub found : {A : Type 0} (xs : List A) (k : ℕ) (x : A) → k < length xs → x ≡ get_or xs k x → At xs k x
 found xs k x lt e = subst (λ (z : _). At xs k z) (sym e) (slice_get-get_or xs k x lt)
 

@@ -531,7 +531,7 @@ module _ {E : Type 0} where
       ]
   last-same key (v ∷ q) (suc n) w at here behind = last-same key q n w at here behind
 
-  -- an entry of it stands there
+  -- an entry of it is there
   pub last-there : (key : SubKey) (behind n : ℕ) (w : SubKey × E) (entries : List (SubKey × E)) → ((i : ℕ) → last_index key entries ≡ Some i → i + 1 + behind ≡ length entries) → n + 1 + behind ≡ length entries → At entries n w → same key w.0 ≡ true → Some n ≡ last_index key entries
   last-there key behind n w entries is_behind n_is at is = by (last_index key entries) refl
     where
@@ -539,7 +539,7 @@ module _ {E : Type 0} where
       by None none = absurd (both_ways (has_entry key entries) (sym (last-has key entries) ∙ ap is_some none) (key-there key entries n w at is))
       by (Some i) it = ap (λ (m : ℕ). Some m) (omega (arith, is_behind i it, n_is)) ∙ sym it
 
-  -- one of another stands there
+  -- one of another is there
   pub last-nowhere : (key : SubKey) (behind n : ℕ) (w : SubKey × E) (entries : List (SubKey × E)) → ((i : ℕ) → last_index key entries ≡ Some i → i + 1 + behind ≡ length entries) → n + 1 + behind ≡ length entries → At entries n w → same key w.0 ≡ false → None ≡ last_index key entries
   last-nowhere key behind n w entries is_behind n_is at other = by (last_index key entries) refl
     where

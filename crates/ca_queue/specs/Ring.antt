@@ -114,8 +114,8 @@ module _ {E : Type 0} where
   last_index key [] = None
   last_index key (w ∷ q) = later (last_index key q) (is_of key w)
 
-  -- The number that stands with a subscription is that of its last put, if it has an entry: there
-  -- were as many puts after it as entries wait after that entry.
+  -- The number that is with a subscription is that of its last put, if it has an entry: there were
+  -- as many puts after it as entries wait after that entry.
   abbrev pub IsNoted : ℕ → List (SubKey × E) → Last → Type 0
   IsNoted puts entries l = (i : ℕ) → last_index l.key entries ≡ Some i → i + 1 + puts_after puts l.put ≡ length entries
 

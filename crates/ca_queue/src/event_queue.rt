@@ -18,8 +18,8 @@ use std::marker::Model;
 /// whether its room was made.
 ///
 /// Each put at the back has a number, and with each subscription stands that of its last one. How
-/// many puts there were since tells where its last entry is, so a post looks at no entry but the
-/// one whose place it takes, and a take at none but the front.
+/// many puts there were since says where its last entry is, so a post looks at no entry but the one
+/// whose place it takes, and a take at none but the front.
 #[derive(Drop)]
 pub struct EventQueue<E> {
     alloc: Global,

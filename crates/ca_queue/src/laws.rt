@@ -37,7 +37,7 @@ pub fn post_ends_its_own<T>()
         → entries_of other (after_post on key entry q) ≡ entries_of other q }
 {}
 
-/// A take gives the first entry of a subscription, and leaves those after it and those of each
+/// A take returns the first entry of a subscription, and leaves those after it and those of each
 /// other one as they are.
 pub fn take_gives_the_first_of_its_own<T>()
     ensures own { (on : Bool) (key : SubKey) (entry : T) (q : List (SubKey × T))

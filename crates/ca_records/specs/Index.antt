@@ -8,7 +8,7 @@ use Rattle.ca_text.specs.Place.{At}
 use Rattle.ca_records.specs.Record.{RecordState}
 use Rattle.ca_records.specs.Records.{Names}
 
--- the place that stands beside this name in a map
+-- the place that is beside this name in a map
 abbrev pub place_of : {K : Type 0} → (K → List ℕ) → List (K × ℕ) → List ℕ → Option ℕ
 place_of bytes entries name = lookup (λ k. is_eq (slice_cmp nat_cmp name (bytes k))) entries
 

@@ -68,7 +68,7 @@ pub record Becomes (old : Store) (place : ℕ) (r next : Record) (new : Store) :
   pub records : (f : Record → Record) → f r ≡ next → records_of new ≡ with_record r.state.name f (records_of old)
   pub same : next ≡ r → new ≡ old
 
--- A record came to a place: one that was free, or a new one. It stands somewhere among the others.
+-- A record came to a place: one that was free, or a new one. It is somewhere among the others.
 pub record Enters (old : Store) (place : ℕ) (r : Record) (new : Store) : Type 0 where
   pub leaves : (At old.slots place None × (new ≡ with_slot place (Some r) old)) ⊎ ((place ≡ length old.slots) × (new ≡ with_place r old))
   pub at : HasAt new place r

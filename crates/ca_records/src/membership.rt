@@ -41,7 +41,7 @@ impl ServedRecords {
         Ok(())
     }
 
-    /// Adds a record of a new name after all others, with metadata of zeros, and tells its place.
+    /// Adds a record of a new name after all others, with metadata of zeros, and reports its place.
     ///
     /// Refused as NameLength if this is no name, as BadCount if the record may not have this value,
     /// and then as OutOfMemory. A refusal changes nothing.
@@ -69,7 +69,7 @@ impl ServedRecords {
         Ok(place)
     }
 
-    /// Adds a record, with metadata of zeros, and tells its place: the one that became
+    /// Adds a record, with metadata of zeros, and reports its place: the one that became
     /// free last, or a new one.
     ///
     /// Refused as NameLength if this is no name, as RecordExists if it is served, as BadCount if
@@ -137,7 +137,7 @@ impl ServedRecords {
         Ok(place)
     }
 
-    /// Takes the record of this name out, with its puts, and tells its place, which is free then.
+    /// Takes the record of this name out, with its puts, and reports its place, which is free then.
     /// It does not allocate.
     ///
     /// Refused as UnknownRecord if no record has the name.

@@ -1,7 +1,7 @@
 use ca_world::Progress;
 use std::io::Write;
 
-/// After how many events a run tells how far it is.
+/// After how many events a run says how far it is.
 const LINE: usize = 100_000;
 
 /// Writes a line of progress now and then, if somebody looks.

@@ -40,7 +40,7 @@ pub record MayIssue (channel circuit : Handle) (x : Issued) : Type 0 where
 abbrev pub issued_last : Handle → Request → Issued → Issued
 issued_last q r x = record { table = with_held q r x.table; order = x.order ++ q ∷ [] }
 
--- why no request is issued under a handle: it is not the one that `vacant` tells; or it is,
+-- why no request is issued under a handle: it is not the one that `vacant` returns; or it is,
 -- and there is no memory
 abbrev pub WhyNot : Table Request → Handle → Refusal → Type 0
 WhyNot t q e =

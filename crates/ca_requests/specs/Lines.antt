@@ -23,7 +23,7 @@ abbrev pub with_last : List Handle → Option Handle → List Handle
 with_last xs None = xs
 with_last xs (Some h) = xs ++ h ∷ []
 
--- the room beside the last one: one that stands there has to go first
+-- the room beside the last one: one that is there has to go first
 abbrev pub room_beside : Option Handle → ℕ → ℕ
 room_beside None n = n
 room_beside (Some h) n = 0

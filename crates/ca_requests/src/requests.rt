@@ -84,10 +84,10 @@ impl Requests {
     }
 
     /// Issues a request on this channel, which is sent on this circuit, under the handle that
-    /// `vacant` tells. It is open from now on. No other channel and no other circuit of these
+    /// `vacant` returns. It is open from now on. No other channel and no other circuit of these
     /// indices has an open request.
     ///
-    /// Refused as StaleHandle if `vacant` tells another handle or none, then as OutOfMemory.
+    /// Refused as StaleHandle if `vacant` returns another handle or none, then as OutOfMemory.
     pub fn issue(
         &mut self,
         vacant: Handle,

@@ -19,7 +19,7 @@ abbrev pub pieces_left : ℕ → Option (List ℕ) → List (List ℕ)
 pieces_left separator None = []
 pieces_left separator (Some text) = parted separator text
 
--- no line stands after the last line feed
+-- no line is after the last line feed
 abbrev pub whole_lines : List (List ℕ) → List (List ℕ)
 whole_lines [] = []
 whole_lines ([] ∷ []) = []

@@ -36,7 +36,7 @@ peer_on (Ended w left) = None
 abbrev pub is_write : ℕ → Bool
 is_write n = n == command_number command.Write || n == command_number command.WriteNotify
 
--- the low byte of the command that stands first is that of a command that writes
+-- the low byte of the command that is first is that of a command that writes
 abbrev pub may_write : List ℕ → Bool
 may_write [] = false
 may_write (high ∷ []) = false

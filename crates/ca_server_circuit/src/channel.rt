@@ -21,8 +21,8 @@ pub(crate) struct Kept {
     retired: bool,
     // The name of its record.
     name: Name,
-    // Where its record was as the channel was created. The record is mostly there
-    // still; its name decides.
+    // The place of its record when the channel was created. The record is mostly still
+    // there; its name decides.
     place: usize,
 }
 

@@ -21,8 +21,8 @@ use std::marker::Model;
 /// its channel's handle.
 #[derive(Drop)]
 pub(crate) struct Channels {
-    // One of the channels once more, mostly the only one: with many circuits a message is handled
-    // in fewer cache lines so.
+    // A copy of one of the channels, mostly the only one. With many circuits a message then
+    // touches fewer cache lines.
     front: Option<(Handle, Kept)>,
     table: ChannelTable,
     // The CIDs in use.

@@ -16,8 +16,8 @@ use std::marker::Model;
 #[derive(Drop)]
 pub(crate) struct End {
     pub(crate) alloc: Global,
-    // What each step needs stands side by side: with many circuits it is in the
-    // fewest cache lines so.
+    // What each step needs is side by side: with many circuits it then fills
+    // the fewest cache lines.
     pub(crate) link: Link,
     pub(crate) subscriptions: SubscriptionsAtNeed,
     pub(crate) channels: Channels,

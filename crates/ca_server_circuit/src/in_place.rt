@@ -1,4 +1,4 @@
-//! What stands in the first message of a circuit, which is handled where it came.
+//! What is in the first message of a circuit, which is handled where it came.
 ghost use Rattle.std.specs.Prelude.{◌≡◌, ◌==◌, [], position};
 ghost use Rattle.ca_wire.specs.Messages.{text_in};
 ghost use Rattle.ca_wire.specs.Reading.{IsWhole};

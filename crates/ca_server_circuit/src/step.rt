@@ -166,7 +166,7 @@ impl End {
             Command::EventCancel => self.event_cancel(&head.header),
             Command::EventsOff => Ok(self.events_off()),
             Command::EventsOn => Ok(self.events_on()),
-            // Another is ignored.
+            // Any other command is ignored.
             _ => Ok(FollowUp::Quiet(Effect::Quiet)),
         }
     }

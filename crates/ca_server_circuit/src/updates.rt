@@ -73,7 +73,7 @@ impl End {
         requires { IsOpen self.old.link }
         ensures { PumpsEnd self.old result self.new }
     {
-        // So it is after most messages.
+        // Nothing waits after most messages.
         if self.subscriptions.is_idle() {
             return Ok(());
         }
@@ -104,7 +104,7 @@ impl End {
         if self.subscriptions.is_idle() {
             return Ok(false);
         }
-        // Mostly one waits alone, and is shown where it is.
+        // Mostly one update waits alone: it is shown without a move.
         let Some((wanted, update)) = self.subscriptions.first() else {
             return self.pump_queued();
         };
@@ -233,7 +233,7 @@ fn show_image(
         Ok(()) => Ok(()),
         Err(refusal) => match status_of(refusal) {
             None => Err(AllocError),
-            // Whatever it is, an update tells it by GETFAIL.
+            // An update has one status for each refusal: GETFAIL.
             Some(_) => {
                 let about = answered(id, Status::GETFAIL, data_type, count);
                 match send_zeros(alloc, link, about, size) {

@@ -66,7 +66,7 @@ pub(crate) fn post_to_all(
     ensures listed { AreListed (records_of records.new) watchers.new }
     ensures none { result ≡ false → circuits.new ≡ circuits.old }
 {
-    // Then a write pays for no more than this test.
+    // If nobody watches any record, a write pays for no more than this test.
     if watchers.is_empty() {
         return false;
     }
@@ -97,7 +97,7 @@ fn post_to_watching(
         return;
     };
     post_to_this(circuits, records, watchers, place, mask, before, circuit);
-    // Mostly nobody is left.
+    // The last circuit is mostly the only one.
     let mut left = before;
     'posting: while left > 0 {
         left -= 1;

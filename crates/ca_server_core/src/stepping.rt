@@ -123,10 +123,9 @@ pub(crate) fn is_quiet(effect: FollowUp) -> bool
     }
 }
 
-/// What a step of a circuit answers that handled a message with this effect. If its end has
-/// ended since, out of memory, nothing is left of its replies: these come after the first
-/// bytes that waited, and these alone are left. Where it may not have ended its circuit is
-/// not looked up again.
+/// What a step of a circuit answers that handled a message with this effect. If its end has ended
+/// since, out of memory, nothing is left of its replies: these come after the first bytes that
+/// waited, and these alone are left. If it may not have ended, its circuit is not looked up again.
 pub(crate) fn settle(
     alloc: Global,
     circuits: &mut HeldTable<Circuit>,

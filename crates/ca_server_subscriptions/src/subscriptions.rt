@@ -436,7 +436,7 @@ fn sole_on(
     Some(standing.receiver(*key, place))
 }
 
-// The only one on the record of this name, if it is at this place, as it stands there.
+// The only one on the record of this name, if it is at this place, as it is there.
 #[inline(always)]
 fn alone_on<'a>(
     sole: Option<usize>,

@@ -147,7 +147,8 @@ fn waiting_on(world: &Stopped, circuit: u64) -> [u64; 2] {
     ]
 }
 
-/// Whether the script is done whole, and leaves just those ends closed that it cuts or restarts.
+/// Whether the script is done completely, and leaves just those ends closed that
+/// it cuts or restarts.
 fn leaves_ends(alloc: Global, rest: &str) -> Result<bool, Refusal> {
     let (_, events) = world_of(alloc, rest)?;
     let (world, done) = ended(alloc, rest, &events)?;

@@ -37,7 +37,7 @@ impl<'a> Read for Pieces<'a> {
 #[test]
 fn failing_output_is_refused(rt: HostRuntime) -> Result<(), Fail> {
     for (passes, output) in [(0, b"".as_slice()), (1, CREATED)] {
-        // The first read gives the first request alone.
+        // The first read returns the first request alone.
         let mut source = Reader::new(Pieces {
             bytes: REQUESTS,
             size: 24,

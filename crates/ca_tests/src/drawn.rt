@@ -89,7 +89,7 @@ fn call<Q: Queues<u64>>(
     }
 }
 
-/// What a queue gives at these calls, and what it gives up when events are on again.
+/// What a queue returns at these calls, and what it gives up when events are on again.
 fn answers<Q: Queues<u64>>(alloc: Global, queue: &mut Q) -> Result<Vec<u64>, Refusal> {
     let mut given = Vec::new(alloc);
     let mut drawn = 1;

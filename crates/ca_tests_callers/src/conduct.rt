@@ -268,7 +268,7 @@ impl Both {
         }
     }
 
-    /// Subscribes, and tells what came at the server, and the subscription.
+    /// Subscribes, and says what came at the server, and the subscription.
     fn subscribe<R: Wait + Clock>(
         &mut self,
         rt: &R,

@@ -143,7 +143,7 @@ impl Peer {
 }
 
 /// The CID of a search for this name in a datagram: the name comes right after the CID,
-/// which stands there twice.
+/// which is there twice.
 fn cid_of(datagram: &[u8], name: [u8; 8]) -> Option<u32> {
     let mut cid = 0u32;
     for part in datagram.chunks(8) {

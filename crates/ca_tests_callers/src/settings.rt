@@ -146,7 +146,7 @@ fn read_temp<R: Wait + Clock>(rt: &R, context: &Context<Nobody>) -> Result<bool,
     Ok(value_of(rt, context, &mut caller, channel)? == 21)
 }
 
-/// What a read gives: 0 if it gives no value, or is refused.
+/// What a read returns: 0 if it gives no value, or is refused.
 fn value_of<R: Wait + Clock>(
     rt: &R,
     context: &Context<Nobody>,

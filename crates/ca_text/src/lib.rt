@@ -1,6 +1,6 @@
 //! Words of Channel Access: commands, statuses, refusals, masks, names and limits.
 //!
-//! Each stands once in the protocol specification (minor version 13), and every crate
+//! Each is once in the protocol specification (minor version 13), and every crate
 //! above takes it from here.
 #![tactic(auto)]
 

@@ -7,7 +7,7 @@ use std::fmt;
 /// A peer may send any number.
 #[derive(Clone, Copy, Debug, PartialEq, Eq)]
 pub struct Status {
-    /// The number, as it stands in a message.
+    /// The number, as it is in a message.
     pub number: u32,
 }
 

@@ -130,7 +130,7 @@ fn done<R: Wait + Clock, K: Sink>(
     }
 }
 
-// Waits until a channel is live, and tells its type and its greatest count.
+// Waits until a channel is live, and reports its type and its greatest count.
 fn live_at<R: Wait + Clock>(
     rt: &R,
     context: &Context<Ear>,

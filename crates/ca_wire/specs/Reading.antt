@@ -1,4 +1,4 @@
--- What reading gives.
+-- What reading returns.
 use Rattle.std.specs.Prelude.{ℕ, ◌≡◌, ◌≢◌, ◌+◌, ◌%◌, ◌≤◌, ◌++◌, List, [], drop, length, take, true, false, Option, Some, None, Result, Ok, Err}
 use Rattle.ca_text.specs.Limits.{payload_limit}
 use Rattle.ca_text.specs.declared.refusal.Refusal.{Refusal}
@@ -16,11 +16,11 @@ use Rattle.ca_text.specs.Command.{command_number}
 use Rattle.ca_text.specs.declared.command.Command.{Command}
 use Rattle.ca_wire.specs.Stream.{Held, NoneBegins, BadAt, NotBad}
 
--- no whole header begins these bytes
+-- no complete header begins these bytes
 abbrev pub NoHeader : List ℕ → Type 0
 NoHeader bytes = (h : Header) (front back : List ℕ) → HeaderSpells front h → bytes ≡ front ++ back → ⊥
 
--- a whole header begins these bytes
+-- a complete header begins these bytes
 pub record BeginsHeader (bytes : List ℕ) (head : Head) : Type 0 where
   pub header : HeaderSpells (take head.start bytes) head.header
   pub room : head.start ≤ length bytes
@@ -53,7 +53,7 @@ NoShort bytes c = (w : Wanted) → BeginsShort bytes c w → ⊥
 abbrev pub short_in : List ℕ → Command → Wanted → Fields
 short_in bytes c w = on_channel c w (take 8 (drop 16 bytes))
 
--- A whole message begins these bytes: its header in the first `start` bytes, then
+-- A complete message begins these bytes: its header in the first `start` bytes, then
 -- `size` bytes of payload.
 pub record IsWhole (bytes : List ℕ) (head : Head) : Type 0 where
   pub header : HeaderSpells (take head.start bytes) head.header

@@ -3,7 +3,7 @@ ghost use Rattle.ca_wire.specs.Header.{extended_header, header_spelling, short_h
 
 use std::alloc::AllocError;
 
-/// What stands before the payload of a message (section "Message Structure").
+/// What is before the payload of a message (section "Message Structure").
 #[derive(Clone, Copy, Debug, PartialEq, Eq)]
 pub struct Header {
     pub command: u16,

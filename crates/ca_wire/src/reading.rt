@@ -7,7 +7,7 @@ use crate::ids::{Ioid, Sid};
 use crate::requests::Wanted;
 use ca_text::{Command, PAYLOAD_LIMIT, Refusal};
 
-/// The header of a whole message, and where its payload starts.
+/// The header of a complete message, and where its payload starts.
 #[derive(Clone, Copy, Debug, PartialEq, Eq)]
 pub struct Head {
     pub header: Header,
@@ -15,19 +15,19 @@ pub struct Head {
     pub start: usize,
 }
 
-/// What stands at the front of bytes.
+/// What is at the front of bytes.
 #[derive(Clone, Copy, Debug, PartialEq, Eq)]
 pub enum One {
-    /// A whole message.
+    /// A complete message.
     Whole(Head),
     /// Less than one.
     More,
-    /// A whole header that is refused: as Misaligned for a size that is no multiple of 8, else as
-    /// TooLarge for one over the limit.
+    /// A complete header that is refused: as Misaligned for a size that is no multiple of 8, else
+    /// as TooLarge for one over the limit.
     Bad(Refusal),
 }
 
-/// What begins these bytes. A bad header is told as soon as it is whole.
+/// What begins these bytes. A bad header is told as soon as it is complete.
 pub fn read_one(bytes: &[u8]) -> One
     ensures { IsOne bytes.now result }
 {
@@ -147,7 +147,7 @@ pub(crate) fn short_at(bytes: &[u8], command: Command) -> Option<Wanted>
     })
 }
 
-/// The two-byte number at the front, and what stands after it.
+/// The two-byte number at the front, and what is after it.
 fn number16_at(bytes: &[u8]) -> (u16, &[u8])
     requires { 2 ≤ length bytes.now }
     ensures front { bytes.now ≡ number16 result.0 ++ result.1.now }
@@ -157,7 +157,7 @@ fn number16_at(bytes: &[u8]) -> (u16, &[u8])
     (u16::from_be_bytes([front[0], front[1]]), rest)
 }
 
-/// The four-byte number at the front, and what stands after it.
+/// The four-byte number at the front, and what is after it.
 fn number32_at(bytes: &[u8]) -> (u32, &[u8])
     requires { 4 ≤ length bytes.now }
     ensures front { bytes.now ≡ number32 result.0 ++ result.1.now }

@@ -52,7 +52,7 @@ module _ {A : Type 0} where
   above-at (suc n) x (y ∷ xs) zero z le at = absurd (omega (arith, le))
   above-at (suc n) x (y ∷ xs) (suc k) z le at = above-at n x xs k z (omega (arith, le)) at
 
-  -- what stands there is the one, or stood at this place
+  -- what is there is the one, or stood at this place
   abbrev pub WasAt : ℕ → A → List A → ℕ → A → Type 0
   WasAt n x xs i z = ((i ≡ n) × (z ≡ x)) ⊎ ((k : ℕ) × At xs k z × (((k < n) × (i ≡ k)) ⊎ ((n ≤ k) × (i ≡ suc k))))
 

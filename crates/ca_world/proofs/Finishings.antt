@@ -68,7 +68,7 @@ use Rattle.ca_world_data.proofs.Worlds.{set-map, set-same, world_of}
 
 -- ---- the value of a put that waits
 
--- what an entry tells, if a value was found
+-- what an entry says, if a value was found
 pub wait-found : {A : Type 0} (f : A → Elements) (e : history.Entry) (p : PutPlace) (o : Option A) (v : A) → o ≡ Some v → WaitIn e p (option_map f o) → TellsWait e p (f v)
 wait-found f e p o v is tells = subst (λ (x : Option _). WaitIn e p (option_map f x)) is tells
 
@@ -255,7 +255,7 @@ module _ (w : model.World) (i : ℕ) (y : model.ServerSide) (name : List ℕ) (a
   l : Lives w i y
   l = (runs.reached w (at_run.0, at_run.1, None, at_run.2, (w, at_run.3, refl))).1.sound.writes.lives i y at
 
-  -- the log of its life tells what the two records are
+  -- the log of its life says what the two records are
   agree-beside : (c : Record) (r : model.RecordSide) → IsBeside y.core y.records name c r → Agrees (IsPutOf w.circuits i) l.log c r
   agree-beside c r (named, (place, in_rs, is_name)) =
       let f = found (IsPutOf w.circuits i) l.log y.core.records y.records name c l.life.each named in
@@ -561,7 +561,7 @@ pub none-busy : {A : Type 0} (f : A → Elements) (o : Option A) (y : Server) (n
 none-busy f None y name is has = sym is
 none-busy f (Some v) y name is has = absurd cc
 
--- the record that was found stands beside the core's
+-- the record that was found is beside the core's
 pub found-beside : (y : ServerSide) (rs : List Held) (name : List ℕ) (r : Held) (b : Put) (busy : IsBusy y.core name b) → rs ≡ y.records.items → IsFound rs name (Some r) → IsBeside y.core (map record_of y.records.items) name busy.c (record_of r)
 found-beside y rs name r b busy same (place, at, is) =
     (busy.named, (place, subst (λ (z : List Held). At (map record_of z) place (record_of r)) same (At-map record_of rs place r at), is))

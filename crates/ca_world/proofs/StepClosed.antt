@@ -254,7 +254,7 @@ module _ (before core : Server) (j : Joined) (ks : List Joined) (rs : List Recor
   none-some : (b : Bool) → (let n : Option Bool = None in n ≡ Some b) → ⊥
   none-some b e = cc
 
-  -- Where the end closed the same subscriptions stand at the ends and on the circuits,
+  -- Where the end closed the same subscriptions are at the ends and on the circuits,
   -- if its message wrote.
   pub closed-alike : (left : List ℕ) (cause : Why) → StepsOpen before j.at_server m.e (stepped.Closed cause left) core → (busies : Bool) → wrote_in core t.applied a.command a.write ≡ Some busies → AllAlike t.server core ks
   closed-alike left why.OutOfMemory steps busies is = lacks-alike before core j ks rs a t m steps.1 _ (lacks-wrote before core j ks rs a t m steps.1) busies is

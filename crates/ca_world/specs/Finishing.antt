@@ -26,11 +26,11 @@ use Rattle.ca_world_data.specs.Seen.{record_of, server_of}
 
 -- ---- the value of a put that waits
 
--- the entry tells that the put at this place came to wait with this value
+-- the entry says that the put at this place came to wait with this value
 abbrev pub TellsWait : history.Entry → PutPlace → Elements → Type 0
 TellsWait e p value = (r : ℕ) × (v : Stored) × (e ≡ history.Waits p.circuit p.place r v) × (v.value ≡ value)
 
--- an entry of this log tells so, if a value was found
+-- an entry of this log says so, if a value was found
 abbrev pub WaitsIn : List history.Entry → PutPlace → Option Elements → Type 0
 WaitsIn log p (Some value) = (e : history.Entry) × In log e × TellsWait e p value
 WaitsIn log p None = Unit {0}
@@ -62,7 +62,7 @@ IsFound rs name None = Unit {0}
 IsFound rs name (Some r) = (place : ℕ) × At rs place r × (r.name.items ≡ name)
 
 -- What holds of a record of this name, so that its busy put may be finished: the put came on the
--- circuit of its handle, its reply is a message, the log tells the value of the put that waits
+-- circuit of its handle, its reply is a message, the log says the value of the put that waits
 -- first, and writes are stored with no stamp.
 pub record MayFinish (name : List ℕ) (y : Side) (ks : List Joined) (logs : List (List history.Entry)) : Type 0 where
   pub handle : (c : Record) (r : RecordSide) (b : Put) (p : PutPlace) (j : Joined) → IsBeside y.core y.records name c r → c.busy ≡ Some b → r.busy ≡ Some p → At ks p.circuit j → j.at_server ≡ b.circuit

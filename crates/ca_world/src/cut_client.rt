@@ -41,7 +41,7 @@ impl World {
     }
 }
 
-// The end of a circuit at this client is cut. It tells of each request and of each
+// The end of a circuit at this client is cut. It reports each request and of each
 // channel at most once.
 fn cut_at(
     side: &mut ClientSide,

@@ -31,7 +31,7 @@ abbrev pub IsClearWay : Client → List Joined → (i : ℕ) → Handle → Way 
 IsClearWay x ks i h w = ClearsAs ks i w (standing_at x h)
 
 -- the channel of this number has this handle, and there is room for what its end leaves, where it
--- tells of each request at most once
+-- reports each request at most once
 pub record IsReadyToClear (i c : ℕ) (x : real.ClientSide) (ks : List Opened) (logs : List (Vec Written Global)) (p : Handle × Way) : Type 0 where
   pub named : At x.names.channels.items c p.0
   pub way : IsClearWay x.core (map joined_of ks) i p.0 p.1

@@ -21,7 +21,7 @@ abbrev pub IfSame : {A : Type 0} → A → A → Bool → Type 0
 IfSame a b true = a ≡ b
 IfSame a b false = a ≡ b → ⊥
 
--- the line tells what became of what was meant so, or not
+-- the line says what became of what was meant so, or not
 abbrev pub Tells : Intent → Line → Bool → Type 0
 Tells meant l true = (o : Outcome) × (l ≡ line.Noticed meant o)
 Tells meant l false = (o : Outcome) → l ≡ line.Noticed meant o → ⊥

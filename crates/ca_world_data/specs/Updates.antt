@@ -1,5 +1,5 @@
 -- Working: messages of a server that are read off its bytes; of updates, each with the number
--- that its queue gives.
+-- that its queue returns.
 use Rattle.std.specs.Prelude.{ℕ, ◌≡◌, ◌++◌, List, [], ◌∷◌, Option, Some, Ok, Err, Result, length}
 use Rattle.std.specs.List.{FoldsTo}
 use Rattle.std.specs.declared.alloc.AllocError.{AllocError}

@@ -98,7 +98,7 @@ pub enum Line {
     /// A call was refused.
     Refused(Refusal),
     /// The request of this number was collected, with the place of the line that
-    /// tells what became of it.
+    /// says what became of it.
     Collected(usize, Option<usize>),
     /// The request of this number was given up, with that place.
     GaveUp(usize, Option<usize>),

@@ -27,7 +27,7 @@ pub struct Creation {
     pub place: usize,
 }
 
-/// A subscription that stands at a server's end: its key, the place of its EVENT_ADD, and how many
+/// A subscription that is at a server's end: its key, the place of its EVENT_ADD, and how many
 /// posts matched so far.
 #[derive(Clone, Copy)]
 pub struct Standing {

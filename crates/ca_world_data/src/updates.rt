@@ -34,7 +34,7 @@ fn payload_size(bytes: &[u8]) -> usize
     }
 }
 
-// Takes the number in front of the first queue that gives one, and tells the place of the queue.
+// Takes the number in front of the first queue that gives one, and reports the place of the queue.
 fn take_number(
     queues: &mut Vec<ListQueue<(usize, Cause)>>,
 ) -> Option<(usize, SubKey, (usize, Cause))>

@@ -8,12 +8,12 @@ use Rattle.ca_model.specs.History.{Intent, Line}
 use Rattle.ca_model.specs.History as history
 use Rattle.ca_script.specs.Report.{counted, outcome_text}
 
--- the outcome that a line tells, if it tells one
+-- the outcome that a line says, if it tells one
 abbrev pub told_text : Option Line → List ℕ
 told_text (Some (history.Noticed intent o)) = outcome_text o
 told_text _ = codes " nothing"
 
--- the outcome that the line at a place of a log tells, or none
+-- the outcome that the line at a place of a log says, or none
 abbrev pub found_text : List Line → Option ℕ → List ℕ
 found_text log None = codes " nothing"
 found_text log (Some place) = told_text (slice_get log place)

@@ -166,7 +166,7 @@ fn put_found(log: &[Line], place: Option<usize>, text: &mut Vec<u8>) -> Result<(
     }
 }
 
-// Puts the outcome that a line tells.
+// Puts the outcome that a line says.
 fn put_told(line: &Line, text: &mut Vec<u8>) -> Result<(), Refusal>
     ensures ok { OnOk result (text.new.items
         ≡ text.old.items ++ told_text (Some (line_of line.now))) }

@@ -37,7 +37,7 @@ impl Verb {
         ensures { MatchOption result ((v : Verb) → verb_word v ≡ word.now → ⊥)
             (λ v. verb_word v ≡ word.now) }
     {
-        // Those that a script has most stand first.
+        // Those that a script has most are first.
         if is_word(word, "up") {
             return Some(Verb::Up);
         }

@@ -1,5 +1,5 @@
--- Working: what a message did beside its replies, by the effect that its step tells, and what of it
--- is known before that step.
+-- Working: what a message did beside its replies, by the effect that its step reports, and what of
+-- it is known before that step.
 use Rattle.std.specs.Prelude.{ℕ, ◌≡◌, ◌⊎◌, ◌==◌, ◌&&◌, Bool, true, false, List, [], ◌∷◌, Option, Some, None, if◌then◌else◌, is_some, map, nat_lt, option_map, unwrap_or}
 use Rattle.ca_arena.specs.declared.handle.Handle.{Handle}
 use Rattle.ca_dbr.specs.Elements.{elements}

@@ -1,5 +1,5 @@
-//! What a message did beside its replies, by the effect that its step tells, is told of
-//! its circuit. A step that closed its end tells no effect: whether its message wrote
+//! What a message did beside its replies, by the effect that its step reports, is told
+//! of its circuit. A step that closed its end tells no effect: whether its message wrote
 //! is read off the core.
 ghost use Rattle.std.specs.Prelude.{◌≡◌, OnErr, OnOk, map};
 ghost use Rattle.ca_world_data.specs.Seen.{joined_of, queue_of};

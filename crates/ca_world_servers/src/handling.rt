@@ -1,6 +1,6 @@
 //! What a message that a server handled leaves: its replies and its step on the circuit, the
-//! channels and subscriptions there, and the puts of the records. Where memory is needed, a call
-//! that lacks it changes nothing.
+//! channels and subscriptions there, and the puts of the records. If memory is needed, a call that
+//! lacks it changes nothing.
 ghost use Rattle.std.specs.Prelude.{◌≡◌, ◌+◌, ◌++◌, ◌≤◌, OnErr, OnOk, false, true, if◌then◌else◌, length, map, vec_capacity, vec_len};
 ghost use Rattle.std.specs.Str.{bytes_eq};
 ghost use Rattle.ca_queue.specs.Circuit.{HasNone};

@@ -70,7 +70,7 @@ fn part_waiting(
     Ok(kept)
 }
 
-// The put at this place is kept, or the log tells that it is withdrawn.
+// The put at this place is kept, or the log says that it is withdrawn.
 fn put_aside(
     kept: &mut Vec<PutPlace>,
     told: &mut Vec<Entry>,

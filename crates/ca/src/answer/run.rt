@@ -55,7 +55,7 @@ fn served(alloc: Global, records: Option<&[u8]>) -> Result<RecordFile, Refusal>
     }
 }
 
-/// Serves one circuit over the records that a text says, or the standing ones, tells a refusal on
+/// Serves one circuit over the records that a text says, or the standing ones, reports a refusal on
 /// `err`, and returns the exit status.
 pub fn answer_run<S: Source, K: Sink, W: Write>(
     alloc: Global,
@@ -77,8 +77,8 @@ pub fn answer_run<S: Source, K: Sink, W: Write>(
     report(outcome, err)
 }
 
-/// Serves one circuit over the records that a file says, tells a refusal on `err`, and returns the
-/// exit status. A file that could not be opened, or cannot be read, is refused as Device before
+/// Serves one circuit over the records that a file says, reports a refusal on `err`, and returns
+/// the exit status. A file that could not be opened, or cannot be read, is refused as Device before
 /// anything is read of the circuit.
 pub fn answer_file<F: Read + Drop, S: Source, K: Sink, W: Write>(
     alloc: Global,

@@ -12,9 +12,9 @@ use std::net::Ipv4Addr;
 /// Bytes of the greatest datagram.
 const DATAGRAM: usize = 65_535;
 
-/// Runs the host's repeater on what was bound, tells a refusal on `err`, and returns the exit
-/// status. Where nothing could be bound it is refused as Device. Port 0 is the system's choice, and
-/// a line to the sink says which it is.
+/// Runs the host's repeater on what was bound, reports a refusal on `err`, and returns the exit
+/// status. If nothing could be bound it is refused as Device. Port 0 is the system's choice, and a
+/// line to the sink says which it is.
 pub fn repeater_bound<D: Datagrams + Drop, K: Sink, W: Write>(
     alloc: Global,
     bound: Result<D, Fault>,
@@ -68,7 +68,7 @@ fn told_port<D: Datagrams, K: Sink>(
     }
 }
 
-/// Runs the host's repeater until it took n datagrams, or without end; tells a refusal on `err`,
+/// Runs the host's repeater until it took n datagrams, or without end; reports a refusal on `err`,
 /// and returns the exit status.
 ///
 /// A send that is refused drops that member. A receive that fails ends the run with refusal
