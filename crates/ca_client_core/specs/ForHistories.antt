@@ -1,4 +1,4 @@
--- Vocabulary: what whoever records histories asks of a client.
+-- Vocabulary: what a recorder of histories asks of a client.
 use Rattle.std.specs.Prelude.{◌≡◌, ◌≢◌, ◌<◌, Bool, false, List, [], Option, Some, None, Result, Ok, Err, Vec, map, option_and_then}
 use Rattle.std.specs.declared.alloc.AllocError.{AllocError}
 use Rattle.std.specs.declared.alloc.Global.{Global}

@@ -61,7 +61,7 @@ impl ClientCore {
         self.monitors.free_channel(channel);
     }
 
-    // Of a channel that was not live nothing is on the way.
+    // Nothing is on the way for a channel that was not live.
     fn let_channel_go(&mut self, channel: Handle)
         requires { IsBare channel self.old }
         ensures { self.new ≡ without_channel (unsubscribed_all channel self.old) channel }
@@ -70,7 +70,7 @@ impl ClientCore {
         self.remove_channel(channel);
     }
 
-    // A channel that is being created is cleared once that is done.
+    // A channel that is being created is cleared once it is created.
     fn doom(&mut self, circuit: Handle, channel: Handle)
         requires { MayTurn channel circuit client.Doomed self.old }
         ensures { self.new
@@ -111,7 +111,7 @@ impl ClientCore {
         Notices::of(told, Vec::new(self.alloc), None)
     }
 
-    // A circuit that is not connected, and on which no channel is any more, is let go.
+    // A circuit that is not connected, and that no channel wants any more, is dropped.
     fn let_unwanted_go(&mut self, circuit: Handle)
         requires { is_none (connection_at self.old circuit) ≡ true }
         ensures { self.new ≡ unwanted circuit self.old }

@@ -11,8 +11,8 @@ use std::marker::Model;
 
 /// A client: its channels, requests and subscriptions, and its end of each circuit.
 ///
-/// Moments are milliseconds; an earlier one than the last that was given counts as that. A call
-/// that is refused leaves it as it was.
+/// Moments are milliseconds; one earlier than the last counts as the last. A call that is refused
+/// leaves it as it was.
 #[derive(Drop)]
 pub struct ClientCore {
     pub(crate) alloc: Global,

@@ -1,5 +1,4 @@
-//! What whoever records histories asks of a client before a circuit is connected. No
-//! client needs these calls.
+//! Calls for a recorder of histories before a circuit is connected. No client needs them.
 ghost use Rattle.std.specs.Prelude.{◌≡◌, ◌≢◌, ◌<◌, ◌≤◌, ◌++◌, [], IfOk, OnErr, OnOk, length, map};
 ghost use Rattle.ca_text.specs.Limits.{priority_limit};
 ghost use Rattle.ca_arena.specs.Arena.{place_at};

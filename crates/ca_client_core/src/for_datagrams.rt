@@ -1,5 +1,4 @@
-//! A datagram is taken, and what it makes a client send is told, for whoever records histories. No
-//! client needs these calls.
+//! What a datagram makes a client send, for a recorder of histories. No client needs these calls.
 ghost use Rattle.std.specs.Prelude.{◌≡◌, ◌+◌, ◌≤◌, ◌++◌, length, map, vec_capacity, vec_len};
 ghost use Rattle.ca_client_tables.specs.Noting.{as_sent};
 ghost use Rattle.ca_client_core.specs.ForDatagrams.{NotesDatagram};

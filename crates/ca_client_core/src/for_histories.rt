@@ -1,4 +1,4 @@
-//! What whoever records histories asks of a client. No client needs these calls.
+//! Calls for a recorder of histories. No client needs them.
 ghost use Rattle.std.specs.Prelude.{◌≡◌};
 ghost use Rattle.ca_client_core.specs.ForHistories.{AsksFor, AsksWide, LivesOn, TellsNext, flow_at};
 
@@ -80,7 +80,7 @@ pub struct Asked {
     pub count: u32,
 }
 
-/// What this subscription asks for, if it stands.
+/// What this subscription asks for, if it is not over.
 pub fn subscribed(core: &ClientCore, subscription: Handle) -> Option<Asked>
     ensures { AsksFor core.now subscription result }
 {

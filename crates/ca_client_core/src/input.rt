@@ -9,7 +9,7 @@ use ca_text::Refusal;
 
 impl ClientCore {
     /// Takes bytes that were read on a circuit, and whether the read left more waiting: after
-    /// several reads in a row that did, the client asks for a pause of updates.
+    /// several such reads in a row, the client asks for a pause of updates.
     ///
     /// Refused as CircuitClosed if the circuit is not connected, then as OutOfMemory, only if there
     /// are bytes or a message to send.

@@ -63,7 +63,7 @@ impl ClientCore {
         self.is_name_connected(circuit) && !self.is_silent(circuit)
     }
 
-    // Whether it is that of a name server, and connected.
+    // Whether a circuit is that of a name server, and connected.
     fn is_name_connected(&self, circuit: Handle) -> bool
         ensures { result ≡ is_name_connected self.now circuit }
     {
@@ -73,8 +73,8 @@ impl ClientCore {
         }
     }
 
-    // These searches wait on a circuit, in order, as long as not too much waits there. Without
-    // memory the first of them may.
+    // These searches wait on a circuit, in order, until too much waits there. Without memory
+    // the first of them may.
     fn search_all_on(&mut self, circuit: Handle, searches: &[Search]) -> Result<(), AllocError>
         ensures ok { OnOk result (self.new ≡ searched_all circuit searches.now self.old) }
         ensures kept { (ms : List Fields) × (self.new ≡ with_messages circuit ms self.old) }

@@ -36,14 +36,14 @@ impl Model for Notices {
 }
 
 impl Notices {
-    /// None.
+    /// No notices.
     pub(crate) fn none(alloc: Global) -> Notices
         ensures { result ≡ [] }
     {
         Notices::of(Vec::new(alloc), Vec::new(alloc), None)
     }
 
-    /// This one, if there is one.
+    /// This notice, if there is one.
     pub(crate) fn one(alloc: Global, last: Option<Notice>) -> Notices
         ensures { result ≡ told_by [] [] last }
     {
@@ -63,7 +63,7 @@ impl Notices {
         }
     }
 
-    /// Takes the first.
+    /// Takes the first notice.
     pub fn next(&mut self) -> Option<Notice>
         ensures { TakesNotice self.old result self.new }
     {

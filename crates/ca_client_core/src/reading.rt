@@ -46,8 +46,8 @@ impl ClientCore {
         }
     }
 
-    /// A value that is used no more gives its memory to the value of a read. Without memory to keep
-    /// it, or with many kept, it is dropped.
+    /// The memory of this value is kept for the value of a later read. Without memory to keep it,
+    /// or with many kept, it is dropped.
     pub fn recycle_value(&mut self, value: Value)
         ensures { self.new ≡ self.old }
     {

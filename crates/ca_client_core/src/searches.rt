@@ -49,7 +49,7 @@ impl Model for Searches {
 }
 
 impl Searches {
-    // None. It does not allocate.
+    // No searches. It does not allocate.
     pub(crate) fn new(alloc: Global) -> Searches
         ensures { result.entries ≡ [] }
     {
@@ -273,7 +273,7 @@ fn quiet_between(place: &Place, low: u64, high: u64) -> u64
     range.0
 }
 
-// The half of these moments in which the last one is.
+// The half of these moments that has the last one.
 fn halved(place: &Place, low: u64, high: u64) -> (u64, u64)
     requires between { low ≤ high }
     requires quiet { IsQuiet low place.now }

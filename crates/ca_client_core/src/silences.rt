@@ -113,7 +113,7 @@ impl ClientCore {
     }
 }
 
-// Whether an ECHO is asked for.
+// Whether it asks for an ECHO.
 fn is_echo(keep: Keep) -> bool
     ensures { result ≡ is_echo keep }
 {
@@ -124,7 +124,7 @@ fn is_echo(keep: Keep) -> bool
     }
 }
 
-// Whether the end is asked for.
+// Whether it asks for the end of the circuit.
 fn is_close(keep: Keep) -> bool
     ensures { result ≡ is_close keep }
 {

@@ -55,7 +55,7 @@ impl Model for Ticked {
     } };
 }
 
-// What a moment asks of a client, when all that takes memory is done.
+// What a moment asks of a client, once all that allocates is done.
 #[derive(Debug, Drop)]
 struct Plan {
     // The circuits that were silent too long.
@@ -89,8 +89,8 @@ impl ClientCore {
         }
     }
 
-    // All of it that takes memory. What is sent goes out after marks; the ends that have to
-    // end are there still.
+    // All of it that allocates. What is sent goes out after marks; the ends that have to
+    // end are still there.
     fn plan(&mut self, marks: &mut Vec<CircuitMark>) -> Result<Plan, AllocError>
         ensures kept { undone marks.new.items self.new ≡ undone marks.old.items self.old }
         ensures ok { IfOk result (λ p. Plans self.old p self.new) }

@@ -56,7 +56,7 @@ impl ClientCore {
         Ok(())
     }
 
-    // Cancels a subscription that stands, whose channel is live on this circuit.
+    // Cancels a subscription that is not over, whose channel is live on this circuit.
     fn cancel(
         &mut self,
         subscription: Handle,

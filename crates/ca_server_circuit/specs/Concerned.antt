@@ -1,4 +1,4 @@
--- Vocabulary: what whoever records histories asks of one circuit.
+-- Vocabulary: what a recorder of histories asks of one circuit.
 use Rattle.std.specs.Prelude.{ℕ, ◌≡◌, List, [], Option, None, map}
 use Rattle.ca_arena.specs.declared.handle.Handle.{Handle}
 use Rattle.ca_ids.specs.Wire.{wire_of}

@@ -26,7 +26,7 @@ impl Model for ByName {
 }
 
 impl ByName {
-    // None. It does not allocate yet.
+    // No channels. It does not allocate yet.
     pub(crate) fn new(alloc: Global) -> ByName
         ensures { result ≡ [] }
     {
@@ -35,7 +35,7 @@ impl ByName {
         }
     }
 
-    // Those to the record of this name, in order of index.
+    // The channels to the record of this name, in order of index.
     pub(crate) fn channels(&self, name: &[u8]) -> &[Handle]
         ensures { result.now ≡ channels_in self.now name.now }
     {
@@ -70,7 +70,7 @@ impl ByName {
         Ok(())
     }
 
-    // This channel leads to the record of this name no more. A line that has none left goes, so
+    // This channel no longer leads to the record of this name. A line with none left is dropped, so
     // that names which come and go fill no memory.
     pub(crate) fn take_out(&mut self, name: &[u8], channel: Handle)
         ensures goes { Goes name.now channel self.old self.new }
@@ -80,7 +80,7 @@ impl ByName {
         self.drop_if_empty(name);
     }
 
-    // This channel leads to the record of this name no more. A line may be left with none.
+    // This channel no longer leads to the record of this name. A line may be left with none.
     fn take_out_of_line(&mut self, name: &[u8], channel: Handle)
         ensures { Goes name.now channel self.old self.new }
     {
@@ -90,7 +90,7 @@ impl ByName {
         line.take_out(channel);
     }
 
-    // Without the line of this name if it has none.
+    // Drops the line of this name if it has no channel.
     fn drop_if_empty(&mut self, name: &[u8])
         ensures stay { (other : List ℕ) → channels_in self.new other ≡ channels_in self.old other }
         ensures gone { channels_in self.old name.now ≡ [] → line_of self.new name.now ≡ None }
@@ -103,7 +103,7 @@ impl ByName {
         }
     }
 
-    // Without the line of this name, which has none.
+    // Drops the line of this name, which has no channel.
     fn drop_line(&mut self, name: &[u8])
         requires { channels_in self.old name.now ≡ [] }
         ensures stay { (other : List ℕ) → channels_in self.new other ≡ channels_in self.old other }

@@ -16,7 +16,7 @@ use std::marker::Model;
 #[derive(Drop)]
 pub(crate) struct ChannelTable {
     table: HeldTable<Channel>,
-    // Those whose records were not removed.
+    // The channels whose records were not removed.
     by_name: ByName,
 }
 
@@ -34,7 +34,7 @@ impl Model for ChannelTable {
 }
 
 impl ChannelTable {
-    // None. It does not allocate yet.
+    // No channels. It does not allocate yet.
     pub(crate) fn new(alloc: Global) -> ChannelTable
         ensures { result ≡ [] }
     {
@@ -128,7 +128,7 @@ impl ChannelTable {
     }
 }
 
-// The channel under this handle is in no line any more: it is to be closed, or
+// The channel under this handle is no longer in a line: it is to be closed, or
 // its record was removed.
 fn forget(by_name: &mut ByName, table: &HeldTable<Channel>, channel: Handle)
     requires { AreByName by_name.old table.now }

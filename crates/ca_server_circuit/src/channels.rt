@@ -43,7 +43,7 @@ impl Model for Channels {
 }
 
 impl Channels {
-    // None. It does not allocate yet.
+    // No channels. It does not allocate yet.
     pub(crate) fn new(alloc: Global) -> Channels
         ensures { result ≡ [] }
     {
@@ -190,7 +190,7 @@ impl Channels {
     }
 
     // The record of the channel under this handle was removed. Its SID and its
-    // CID are in use still.
+    // CID are still in use.
     pub(crate) fn retire(&mut self, channel: Handle)
         ensures { self.new ≡ with_changed without_record channel self.old }
     {
@@ -199,7 +199,7 @@ impl Channels {
     }
 }
 
-// A new channel is in front if none is, unless its name takes memory of its own.
+// A new channel is copied in front if none is there, unless its name has memory of its own.
 fn come(front: &mut Option<(Handle, Kept)>, channel: Handle, copy: Option<Kept>)
     ensures { front.new ≡ come channel copy front.old }
 {
@@ -212,7 +212,7 @@ fn come(front: &mut Option<(Handle, Kept)>, channel: Handle, copy: Option<Kept>)
     }
 }
 
-// The channel under this handle is not in front any more.
+// The channel under this handle is no longer in front.
 fn leave(front: &mut Option<(Handle, Kept)>, channel: Handle)
     ensures { front.new ≡ leave channel front.old }
 {

@@ -53,7 +53,7 @@ impl Model for Circuit {
 }
 
 impl Circuit {
-    /// One that was accepted at this moment. It does not allocate yet.
+    /// A circuit that was accepted at this moment. It does not allocate yet.
     pub fn new(alloc: Global, now: u64) -> Circuit
         ensures { result ≡ server.Open (new_end now) }
     {
@@ -75,7 +75,7 @@ impl Circuit {
         }
     }
 
-    /// Takes the memory of the spare rows for its bytes, where it has none.
+    /// Takes the memory of the spare rows for its bytes, if it has none.
     pub fn borrow_from(&mut self, spares: &mut Spares)
         ensures { self.new ≡ self.old }
     {
@@ -105,7 +105,7 @@ impl Circuit {
         }
     }
 
-    /// One step of its end, which has ended if it broke. None if it had ended.
+    /// One step of its end, which has ended if the step broke. None if it had ended before.
     #[inline(always)]
     pub fn step(
         &mut self,
@@ -299,7 +299,7 @@ impl Circuit {
     }
 
     /// The place of the queue that has the subscription at this place of its end, if a post to the
-    /// record of this name, with this mask, concerns it. Only whoever records histories needs it.
+    /// record of this name, with this mask, concerns it. Only a recorder of histories needs it.
     pub fn concerned_at(&self, place: usize, name: &[u8], mask: u16) -> Option<usize>
         ensures { ConcernsOn name.now mask place self.now result }
     {
@@ -309,8 +309,8 @@ impl Circuit {
         }
     }
 
-    /// The bytes that wait to be sent, or that its end left which has ended. Only whoever
-    /// records histories needs it.
+    /// The bytes that wait to be sent, or that its end left which has ended. Only a recorder
+    /// of histories needs it.
     pub fn bytes(&self) -> &[u8]
         ensures { result.now ≡ bytes_on self.now }
     {
@@ -321,8 +321,8 @@ impl Circuit {
     }
 
     /// The SID and the CID of each channel to the record of this name at its end, in order of
-    /// index: none if that is not open. Refused without memory, only if there is one. Only whoever
-    /// records histories needs it.
+    /// index: none if that is not open. Refused without memory, only if there is one. Only a
+    /// recorder of histories needs it.
     pub fn channels_to(&self, alloc: Global, name: &[u8]) -> Result<Vec<(u32, u32)>, AllocError>
         ensures ok { IfOk result (λ all. all.items ≡ channels_on name.now self.now) }
         ensures some { OnErr result (channels_on name.now self.now ≢ []) }

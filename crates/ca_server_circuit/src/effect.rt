@@ -3,7 +3,7 @@
 /// What a message that was handled did, beside its replies.
 #[derive(Clone, Copy, Debug, PartialEq, Eq)]
 pub enum Effect {
-    /// Nothing of which whoever drives the server has to know.
+    /// Nothing that the caller of the server has to know.
     Quiet,
     /// A put with notification on the channel of this SID waits for another.
     Queued(u32),

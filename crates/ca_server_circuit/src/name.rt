@@ -19,7 +19,7 @@ enum Kept {
     Long(Vec<u8>),
 }
 
-/// So many bytes of these.
+/// The first n of these bytes.
 #[derive(Debug, Drop)]
 struct Short {
     bytes: [u8; SHORT],
@@ -47,7 +47,7 @@ impl Model for Name {
 }
 
 impl Short {
-    // These bytes, if they are few enough.
+    // A name of these bytes, if they are few enough.
     fn of(name: &[u8]) -> Option<Short>
         ensures { IfSome result (λ s. s ≡ name.now) }
     {

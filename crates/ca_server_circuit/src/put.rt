@@ -11,7 +11,7 @@ use ca_text::{Refusal, Status};
 use ca_wire::Wanted;
 use std::alloc::{AllocError, Global};
 
-/// What the payload of a put gives.
+/// What the payload of a put holds.
 #[derive(Drop)]
 pub(crate) enum Given {
     /// These elements.

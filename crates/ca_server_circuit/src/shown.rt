@@ -23,7 +23,7 @@ impl Payload for Shown<'_> {
     }
 }
 
-/// As many zero bytes, in place of an image that a value has not.
+/// n zero bytes, in place of an image that a value does not have.
 #[derive(Drop)]
 pub(crate) struct Zeros {
     pub(crate) size: usize,

@@ -172,7 +172,7 @@ impl End {
     }
 }
 
-/// Why an end is to be closed whose next header is refused for this.
+/// The cause of an end whose next header is refused for this.
 fn cause_of(refusal: Refusal) -> Cause
     ensures { result ≡ cause_for refusal }
 {

@@ -130,7 +130,7 @@ impl End {
     }
 }
 
-/// Shows an update to whoever asked so: GETFAIL and zero bytes if its elements have
+/// Shows an update as its subscription asks: GETFAIL and zero bytes if its elements have
 /// no place in that type.
 #[inline(always)]
 fn show(alloc: Global, link: &mut Link, wanted: &Wanted, shown: &Update) -> Result<(), AllocError>
@@ -147,7 +147,7 @@ fn show(alloc: Global, link: &mut Link, wanted: &Wanted, shown: &Update) -> Resu
     }
 }
 
-/// The eight bytes that show an update to whoever asked so, if it has one element, of the
+/// The eight bytes that show an update as its subscription asks, if it has one element, of the
 /// type that is asked for.
 #[inline(always)]
 fn shown_alone(wanted: &Wanted, shown: &Update) -> Option<u64>
@@ -160,7 +160,7 @@ fn shown_alone(wanted: &Wanted, shown: &Update) -> Option<u64>
     shown.value().alone(wanted.data_type)
 }
 
-/// The eight bytes that show a record's value to whoever asked so, if it has one element, of the
+/// The eight bytes that show a record's value as a subscription asks, if it has one element, of the
 /// type that is asked for.
 #[inline(always)]
 fn value_alone(wanted: &Wanted, of: &Record) -> Option<u64>
@@ -174,8 +174,8 @@ fn value_alone(wanted: &Wanted, of: &Record) -> Option<u64>
 }
 
 /// Puts an update of one element after what waits on an open link. Without memory the link is as it
-/// was. As a call of its own it writes the message in its place; taken in line, after all those
-/// tests, it was made aside and copied by another call.
+/// was. As a function of its own it writes the message in its place; inlined, after all those
+/// tests, it made the message elsewhere and copied it.
 #[inline(never)]
 fn send_alone(link: &mut Link, wanted: &Wanted, payload: u64) -> Result<(), AllocError>
     requires { IsOpen link.old }

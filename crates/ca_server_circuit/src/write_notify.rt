@@ -26,10 +26,10 @@ use std::alloc::AllocError;
 
 impl End {
     /// WRITE_NOTIFY on this circuit: refused in its reply, or applied at once, or it waits until
-    /// the record is free. On a slow record its reply comes as it is finished.
+    /// the record is free. On a slow record its reply comes when it is finished.
     ///
-    /// The reply of a quick one goes first, so that none is applied for whose reply there is no
-    /// memory. It is taken back if the put is refused, or if there is no memory for the put itself.
+    /// On a quick record the reply goes first, so that no put is applied without memory for its
+    /// reply. It is taken back if the put is refused, or if there is no memory for the put itself.
     #[inline(never)]
     pub(crate) fn write_notify(
         &mut self,

@@ -1,4 +1,4 @@
--- Vocabulary: what whoever records histories asks of a server.
+-- Vocabulary: what a recorder of histories asks of a server.
 use Rattle.std.specs.Prelude.{ℕ, ◌≡◌, ◌<◌, ◌≤◌, Bool, true, false, List, [], Option, Some, None, option_map, slice_get}
 use Rattle.ca_arena.specs.declared.handle.Handle.{Handle}
 use Rattle.ca_dbr.specs.Elements.{Elements}

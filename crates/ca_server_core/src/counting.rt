@@ -15,8 +15,8 @@ use ca_records::ServedRecords;
 use ca_server_circuit::{Circuit, EndStep};
 
 /// One step of a circuit's end, as `step_on`. If nothing is left to do then, its end is pumped: so
-/// a read takes one look-up of its circuit. Else it says whether the end is idle. So many bytes
-/// wait on it in the end.
+/// a read takes one look-up of its circuit. Else it says whether the end is idle. It counts the
+/// bytes that wait on it then.
 #[inline(always)]
 pub(crate) fn step_counting_on(
     port: u16,

@@ -1,4 +1,4 @@
-//! What whoever records histories asks of a server. No server needs these calls.
+//! Calls for a recorder of histories. No server needs them.
 ghost use Rattle.std.specs.Prelude.{◌≡◌, ◌≢◌, ◌<◌, [], IfOk, OnErr, false, length, option_map};
 ghost use Rattle.ca_dbr.specs.Elements.{elements};
 ghost use Rattle.ca_ids.specs.Table.{same_handle, under};

@@ -9,8 +9,8 @@ use ca_arena::Handle;
 use ca_wire::Sid;
 
 impl ServerCore {
-    /// Whether the next message of a circuit may be a write, by the low byte of its command. Of no
-    /// other message does a step use the time stamp.
+    /// Whether the next message of a circuit may be a write, by the low byte of its command. A step
+    /// uses the time stamp for no other message.
     pub fn may_write(&self, circuit: Handle) -> bool
         ensures { MayWrite self.now circuit result }
     {

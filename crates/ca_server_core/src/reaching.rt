@@ -16,8 +16,8 @@ impl ServerCore {
     /// have left updates on: each that has a subscription on the record is among them.
     /// None if nobody has one.
     ///
-    /// Others may be among them. Right after such a call those are, too, whose ends it ended, as
-    /// there was no memory for their updates.
+    /// Others may be among them: right after such a call also those whose ends it ended, without
+    /// memory for their updates.
     pub fn watching(&self, name: &[u8]) -> Option<&Line>
         ensures { AreAllAmong self.now name.now
             (unwrap_or (option_copied result) []) }

@@ -28,7 +28,7 @@ pub struct ServerCore {
     // The moment that was given last.
     pub(crate) moment: u64,
     pub(crate) circuits: HeldTable<Circuit>,
-    // Memory for the bytes of a circuit: one that has none to read and none to send keeps none.
+    // Spare memory for bytes: a circuit with none to read and none to send keeps none.
     pub(crate) spares: Spares,
     // The circuits with subscriptions on each record.
     pub(crate) watchers: Watchers,
@@ -94,7 +94,7 @@ impl ServerCore {
     /// A circuit is accepted, and gets a handle. Refused as ArenaFull if none may be given, then as
     /// OutOfMemory. A refusal changes nothing.
     ///
-    /// Memory is asked for only where no index is free again.
+    /// It allocates only if no freed index can be used again.
     pub fn accept(&mut self) -> Result<Handle, Refusal>
         ensures call { Accepts self.old result self.new }
         ensures memory { IfErr result (λ e. e ≡ OutOfMemory → has_free self.old.circuits ≡ false) }
@@ -171,7 +171,7 @@ fn open_on(circuits: &mut HeldTable<Circuit>, circuit: Circuit) -> Result<Handle
     }
 }
 
-// Why a circuit was refused, which is let go.
+// Why a circuit was refused. The circuit is dropped.
 fn refusal_in(refused: (Circuit, Refusal)) -> Refusal
     ensures { result ≡ refused.1 }
 {

@@ -35,7 +35,7 @@ impl ServerCore {
     ///
     /// A record that was busy before is finished too if the message wrote to it. The record is
     /// found by its place. If no message was handled nothing is pumped, and nothing is said of the
-    /// bytes. Nothing is left to whoever called, so no effect is told.
+    /// bytes. Nothing is left to the caller, so no effect is reported.
     pub fn serve_and_pump(&mut self, circuit: Handle, waiting: &mut usize) -> Step
         ensures serves { ServesAndPumps self.old circuit (stepped result) waiting.new self.new }
         ensures quiet { (did : Effect) → result ≡ Handled did → did ≡ Quiet }

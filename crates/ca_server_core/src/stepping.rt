@@ -41,10 +41,10 @@ impl ServerCore {
     /// that it applies reaches all subscriptions on its record, on all circuits. An end without
     /// memory for an update has ended.
     ///
-    /// The end closes at a header that is refused, and out of memory if there is none for the
-    /// message, which changes nothing then, or for its own update of its write, which is applied
-    /// then, though no effect tells it; its replies are not sent. The puts of the circuit that
-    /// wait are never applied.
+    /// The end closes at a header that is refused, and out of memory. If the memory was for the
+    /// message, the message changes nothing. If it was for the end's own update of a write, the
+    /// write is applied, though no effect reports it, and its replies are not sent. The puts of the
+    /// circuit that wait are never applied.
     /// The end of a circuit is reported once, whichever call ended it. From then on, and under a
     /// handle without a circuit, a step reports a cut.
     pub fn step(&mut self, circuit: Handle) -> Step
@@ -91,8 +91,8 @@ impl ServerCore {
     }
 }
 
-/// One step of a circuit's end, which has ended if it broke, and how many bytes waited to be sent
-/// before it. None if there is no circuit, or its end had ended.
+/// One step of a circuit's end, which has ended if the step broke, and how many bytes waited to be
+/// sent before it. None if there is no circuit, or its end had ended.
 #[inline(always)]
 pub(crate) fn step_on(
     port: u16,
@@ -113,7 +113,7 @@ pub(crate) fn step_on(
     found.step(port, circuit, records)
 }
 
-/// Whether nothing is left to do: so it is after most messages.
+/// Whether nothing is left to do, as after most messages.
 pub(crate) fn is_quiet(effect: FollowUp) -> bool
     ensures { result ≡ is_quiet effect }
 {
@@ -123,9 +123,9 @@ pub(crate) fn is_quiet(effect: FollowUp) -> bool
     }
 }
 
-/// What a step of a circuit answers that handled a message with this effect. If its end has ended
-/// since, out of memory, nothing is left of its replies: these come after the first bytes that
-/// waited, and these alone are left. If it may not have ended, its circuit is not looked up again.
+/// The answer of a step that handled a message with this effect. If the end has ended since, out of
+/// memory, the replies are dropped: only the bytes that waited before them are left. If the end
+/// cannot have ended, the circuit is not looked up again.
 pub(crate) fn settle(
     alloc: Global,
     circuits: &mut HeldTable<Circuit>,
@@ -186,7 +186,7 @@ pub(crate) fn is_open(circuits: &HeldTable<Circuit>, circuit: Handle) -> bool
     }
 }
 
-/// Takes a circuit out whose end has ended, and reports that.
+/// Takes out a circuit whose end has ended, and reports that.
 #[cold]
 #[inline(never)]
 pub(crate) fn report(alloc: Global, circuits: &mut HeldTable<Circuit>, circuit: Handle) -> Step

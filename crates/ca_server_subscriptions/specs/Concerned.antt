@@ -1,5 +1,4 @@
--- Vocabulary: the subscription at a place, and the queue that has it, for
--- whoever records histories.
+-- Vocabulary: the subscription at a place, and the queue that has it, for a recorder of histories.
 use Rattle.std.specs.Prelude.{ℕ, ◌≡◌, true, false, List, Option, Some, None}
 use Rattle.ca_text.specs.Place.{At}
 use Rattle.ca_queue.specs.Circuit.{AreInOne, HasAt}

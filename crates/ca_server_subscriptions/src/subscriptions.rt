@@ -264,7 +264,7 @@ impl Subscriptions {
     }
 
     /// The place of the queue that has the one at this place, if a post to the record of this name,
-    /// with this mask, concerns it. Only whoever records histories needs it.
+    /// with this mask, concerns it. Only a recorder of histories needs it.
     pub fn concerned_at(&self, place: usize, name: &[u8], mask: u16) -> Option<usize>
         ensures { ConcernsAt name.now mask place self.now.subscriptions self.now.queues result }
     {

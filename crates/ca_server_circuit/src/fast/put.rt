@@ -22,9 +22,9 @@ use ca_records::{Put, ServedRecords};
 use ca_wire::{Done, Wanted};
 
 impl End {
-    /// WRITE_NOTIFY of eight bytes, if it is such a one. On a slow record its reply comes as it is
-    /// finished. On a quick one it goes first, so that none is applied for whose reply there is no
-    /// memory; it is taken back if the put is another.
+    /// WRITE_NOTIFY of eight bytes, if the message is one. On a slow record its reply comes when
+    /// the put is finished. On a quick one the reply goes first, so that no put is applied without
+    /// memory for its reply; it is taken back if the put needs the plain path.
     #[inline(never)]
     pub(crate) fn put_short(
         &mut self,

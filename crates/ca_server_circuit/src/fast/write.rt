@@ -19,7 +19,7 @@ use ca_records::ServedRecords;
 use ca_wire::Wanted;
 
 impl End {
-    /// WRITE of eight bytes, if it is such a one.
+    /// WRITE of eight bytes, if the message is one.
     #[inline(never)]
     pub(crate) fn write_short(
         &mut self,
