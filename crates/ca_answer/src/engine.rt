@@ -114,7 +114,7 @@ impl Engine {
         }
     }
 
-    // Handles the next message, finishes the record that it made busy, and pumps once. So
+    // Handles the next message, finishes the record that it made busy, and pumps once. It says how
     // many bytes wait then.
     fn serve_next(&mut self, waiting: &mut usize) -> Step
         ensures served { ServesAndPumps self.old.core self.old.circuit (stepped result) waiting.new
@@ -124,8 +124,8 @@ impl Engine {
         self.core.serve_and_pump(self.circuit, waiting)
     }
 
-    // So many bytes wait after a message and a pump, which was made as if nothing had waited
-    // before. Then so little waits that the next message is handled.
+    // After a message and a pump this many bytes wait. The pump was made as if nothing had waited
+    // before: so then little enough waits for the next message to be handled.
     fn keep<K: Sink>(
         &mut self,
         waiting: usize,
@@ -155,8 +155,8 @@ impl Engine {
         Ok(())
     }
 
-    // So much waits that a pump had to stop. Hands over what waited before the message, pumps on,
-    // and hands over the rest.
+    // As much waits as stops a pump. Hands over what waited before the message, pumps on, and
+    // hands over the rest.
     #[inline(never)]
     fn make_room<K: Sink>(&mut self, sink: &mut K, turns: &mut u64) -> Result<(), Refusal>
         requires within { turns.old ≤ engine_turns }
@@ -182,9 +182,9 @@ impl Engine {
         Ok(())
     }
 
-    // Hands what waited to the sink, of what an end has left. What it left after that belongs to a
-    // message that was not answered completely. In line, since for a call each step would be put
-    // into memory, where it is large.
+    // Hands to the sink what waited, of what an end has left. What it left after that belongs to
+    // a message that was not answered completely. It is inlined, since a call would copy each
+    // step, which is large.
     #[inline(always)]
     fn hand_left<K: Sink>(&self, left: &Pipe, sink: &mut K, turns: &mut u64) -> Result<(), Refusal>
         requires within { turns.old ≤ engine_turns }
@@ -199,7 +199,7 @@ impl Engine {
         hand(sink, turns, first(left.bytes(), self.waiting))
     }
 
-    // Hands what waits to the sink, in one call; makes none where nothing waits.
+    // Hands what waits to the sink, in one call; makes none if nothing waits.
     fn flush<K: Sink>(&mut self, sink: &mut K, turns: &mut u64) -> Result<(), Refusal>
         requires within { turns.old ≤ engine_turns }
         requires calls { K.call_count sink.old < 2 ^ 63 + turns.old }
@@ -227,7 +227,7 @@ fn first(bytes: &[u8], n: usize) -> &[u8]
     if n < bytes.len() { &bytes[..n] } else { bytes }
 }
 
-// Hands bytes to the sink in one call, or makes none where there are none.
+// Hands bytes to the sink in one call, or makes none if there are none.
 #[inline(never)]
 fn hand<K: Sink>(sink: &mut K, turns: &mut u64, bytes: &[u8]) -> Result<(), Refusal>
     requires within { turns.old ≤ engine_turns }

@@ -16,8 +16,8 @@ const READ_SIZE: usize = 65_536;
 /// message all busy records are finished, and updates are pumped once.
 ///
 /// It ends without refusal at the end of input, also inside a message. 2 and 3 come at a bad
-/// header, after all messages before it were answered; 23 where the source or the sink failed, or
-/// another call of theirs is needed after 1,048,576 of them; 1 where there was no memory.
+/// header, after all messages before it were answered; 23 if the source or the sink failed, or
+/// another call of theirs is needed after 1,048,576 of them; 1 if there was no memory.
 pub fn answer_stream<S: Source, K: Sink>(
     source: &mut S,
     sink: &mut K,

@@ -33,7 +33,7 @@ pub fn issue_under_lock(
     Ok((handle, ticket))
 }
 
-// Arms a cell. If none is free, each is recycled first whose ticket has ended.
+// Arms a cell. If none is free, each whose ticket has ended is recycled first.
 fn arm_one(board: &Board, seat: &mut CoreSeat) -> Result<Ticket, Refusal>
     requires { seat.old.board ≡ board.now }
     ensures { HasArmedOne seat.old result seat.new }

@@ -172,7 +172,7 @@ impl ClientState {
         self.core.datagram(now, from, bytes)
     }
 
-    /// A value that is used no more gives its memory to the value of a read, as
+    /// The memory of this value is kept for the value of a later read, as
     /// `ClientCore::recycle_value`.
     pub fn recycle(&mut self, value: Value)
         ensures { self.new ≡ self.old }

@@ -57,18 +57,18 @@ fn step(state: &mut ClientState, circuit: Handle) -> Answer
     }
 }
 
-// How a step began, of which the outcome of a reply was handed over.
+// How a step began, once the outcome of a reply was handed over.
 #[derive(Drop)]
 pub(crate) enum Begun {
     // It read a reply, and is over.
     Filled,
     // No complete message is there, and it is over.
     NeedBytes,
-    // This came first. `finish` is to do the rest.
+    // Something else came first. `finish` is to do the rest.
     Other(First),
 }
 
-// Begins a step. Most messages are replies, for which that is all: so this is small.
+// Begins a step. Most messages are replies, which need no more: so this is small.
 #[inline(always)]
 pub(crate) fn begin(state: &mut ClientState, circuit: Handle) -> Begun
     ensures { Begins state.old circuit result state.new }
@@ -91,7 +91,7 @@ pub(crate) fn begin(state: &mut ClientState, circuit: Handle) -> Begun
     Begun::Other(first)
 }
 
-// Does the rest of a step that began so.
+// Does the rest of a step that began with this.
 #[inline(never)]
 pub(crate) fn finish(state: &mut ClientState, circuit: Handle, first: First) -> Answer
     requires { (before : StateView) × Begins before circuit (begun.Other first) state.old }

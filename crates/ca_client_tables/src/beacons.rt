@@ -48,7 +48,7 @@ pub(crate) fn hear_beacon(
     }
 }
 
-// A beacon was not heard.
+// A beacon that was heard is undone.
 pub(crate) fn forget_beacon(beacons: &mut BeaconTable, beacon: Beacon)
     ensures { beacons.new
         ≡ restored

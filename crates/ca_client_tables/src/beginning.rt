@@ -21,7 +21,7 @@ pub fn count_names(names: &[Address]) -> usize
     count
 }
 
-// 1 if the address at this place is none of those before it, else 0.
+// 1 if the address at this place is not among those before it, else 0.
 fn one_if_new(names: &[Address], index: usize) -> usize
     requires { index < length names.now }
     ensures { result ≡ (if seen_before index names.now then 0 else 1) }

@@ -50,7 +50,7 @@ pub enum Phase {
 pub enum Standing {
     /// It is searched for.
     Searching,
-    /// It is on this circuit, so far.
+    /// It is on this circuit, in this phase.
     On(Handle, Phase),
 }
 
@@ -96,7 +96,7 @@ impl Phase {
     }
 }
 
-// Whether both are one handle.
+// Whether both are the same handle.
 pub(crate) fn is_same(a: Handle, b: Handle) -> bool
     ensures { result ≡ same_handle a b }
 {
@@ -104,7 +104,7 @@ pub(crate) fn is_same(a: Handle, b: Handle) -> bool
 }
 
 impl Channel {
-    /// One that is searched for.
+    /// A channel that is searched for.
     pub fn new(name: Vec<u8>, priority: u16) -> Channel
         requires name { IsName channel_name_limit name.items }
         requires priority { priority ≤ priority_limit }
@@ -180,7 +180,7 @@ impl Channel {
         }
     }
 
-    /// It is there now.
+    /// From now on it is there.
     pub(crate) fn set_standing(&mut self, standing: Standing)
         ensures { self.new ≡ record self.old { standing = standing_of standing } }
     {

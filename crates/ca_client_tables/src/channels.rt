@@ -54,7 +54,7 @@ impl Model for Channels {
 }
 
 impl Channels {
-    /// No channel. It does not allocate yet.
+    /// No channels. It does not allocate yet.
     pub fn new(alloc: Global) -> Channels
         ensures { result ≡ [] }
     {
@@ -126,7 +126,7 @@ impl Channels {
     }
 
     /// Takes the channel of this handle out. The handle is stale from then on, and its CID is free.
-    /// No memory is asked for.
+    /// It does not allocate.
     pub fn free(&mut self, handle: Handle) -> Option<Channel>
         ensures value { result ≡ under self.old handle }
         ensures after { self.new ≡ with_freed handle self.old }
@@ -137,14 +137,14 @@ impl Channels {
         found
     }
 
-    /// The indices of those on this circuit.
+    /// The indices of the channels on this circuit.
     pub(crate) fn on(&self, circuit: Handle) -> Candidates<'_>
         ensures { MayBeOn circuit.index self.now (indices_of result) }
     {
         candidates(&self.table, &self.circuits, self.complete, circuit)
     }
 
-    // Takes an index out of the list of a circuit, unless its channel is on that.
+    // Takes an index out of the list of a circuit, unless its channel is on that circuit.
     fn leave(&mut self, circuit: Option<u16>, index: u16)
         ensures { self.new ≡ self.old }
     {
@@ -157,7 +157,7 @@ impl Channels {
         self.circuits.remove(circuit, index);
     }
 
-    // Takes those out of the list of a circuit whose channels are not on that any more.
+    // Takes out of the list of a circuit those whose channels have left it.
     fn tidy(&mut self, circuit: u16)
         ensures { self.new ≡ self.old }
     {
@@ -166,7 +166,7 @@ impl Channels {
         }
     }
 
-    // Takes the one at this place out, if that is so of it.
+    // Takes out the one at this place, if its channel has left the circuit.
     fn tidy_at(&mut self, circuit: u16, place: usize)
         ensures { self.new ≡ self.old }
     {
@@ -224,7 +224,7 @@ fn candidates<'a>(
     Candidates::Listed(circuits.of(circuit.index))
 }
 
-/// The channel of this handle is there now; a stale handle changes nothing.
+/// The channel of this handle is there from now on; a stale handle changes nothing.
 pub fn set_standing(channels: &mut Channels, handle: Handle, standing: Standing)
     ensures { channels.new
         ≡ with_changed
@@ -238,8 +238,8 @@ pub fn set_standing(channels: &mut Channels, handle: Handle, standing: Standing)
     channels.leave(before, handle.index);
 }
 
-// The index is listed for the circuit to which a channel comes, if it comes to one. Whether
-// there was memory for it.
+// Lists the index for the circuit to which a channel moves, if it moves to one. It says whether
+// there was memory for that.
 fn list(circuits: &mut IndexLists, standing: Standing, index: u16) -> bool
     ensures kept { (t : Table client.Channel) → AreListed circuit_of t circuits.old
         → AreListed circuit_of t circuits.new }
@@ -252,7 +252,7 @@ fn list(circuits: &mut IndexLists, standing: Standing, index: u16) -> bool
     circuits.add(circuit.index, index).is_ok()
 }
 
-/// The channel of this handle is there now.
+/// The channel of this handle is there from now on.
 pub(crate) fn put(table: &mut HeldTable<Channel>, handle: Handle, standing: Standing)
     ensures { table.new
         ≡ with_changed
@@ -315,7 +315,7 @@ fn begin_each(table: &mut HeldTable<Channel>, on: Candidates, circuit: Handle)
     }
 }
 
-// The channel at this index is, if it waited for this circuit.
+// The channel at this index is being created, if it waited for this circuit.
 fn begin_at(table: &mut HeldTable<Channel>, index: usize, circuit: Handle)
     ensures { table.new ≡ with_place index (creating_at circuit) table.old }
 {

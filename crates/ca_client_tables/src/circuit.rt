@@ -24,7 +24,7 @@ impl Model for Connection {
 
     ghost view = { λ c. record { link = c.link; run = c.run } };
 
-    // No bad header was met: the end ends at once then.
+    // It met no bad header: such an end ends at once.
     ghost invariant = { λ c. c.link.input.closed ≡ false };
 }
 

@@ -108,7 +108,7 @@ fn create_all(
     Ok(())
 }
 
-// That of the channel at this index, if it waits for this circuit.
+// The CREATE_CHAN of the channel at this index, if it waits for this circuit, waits on a link.
 fn create_at(
     alloc: Global,
     link: &mut Link,

@@ -89,7 +89,7 @@ pub fn find(
     }
 }
 
-// What was found is not, and nothing is to be opened.
+// What was found is undone, and nothing is to be opened.
 fn lose_found(
     channels: &mut Channels,
     circuits: &mut HeldTable<Circuit>,
@@ -113,8 +113,8 @@ fn lose_found(
     }
 }
 
-// As by `find`, but that a circuit that is wanted from now on is still to be opened, under the
-// handle that it will have. Without memory nothing changes.
+// As `find`, but a circuit that is wanted from now on is still to be opened, under the handle that
+// it will have. Without memory nothing changes.
 pub(crate) fn find_one(
     alloc: Global,
     channels: &mut Channels,
@@ -326,7 +326,7 @@ fn circuit_in_table(
     None
 }
 
-// The circuit at this index, if it is that one.
+// The circuit at this index, if it goes to this address under this priority.
 fn circuit_at(
     circuits: &HeldTable<Circuit>,
     address: Address,

@@ -34,7 +34,7 @@ impl Circuit {
 }
 
 impl Circuit {
-    /// What a read makes the client send, which left more waiting or none.
+    /// What a read makes the client send, by whether it left more waiting.
     pub fn sends_by_read(&self, more: bool) -> Option<Command>
         ensures { result
             ≡ option_and_then (λ (e : client.Connection). sent_by_read more e.run) self.now.connection }

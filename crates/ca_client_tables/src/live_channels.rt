@@ -1,5 +1,5 @@
-//! The channels that are live on each circuit, so that its end can tell without
-//! memory which were lost.
+//! The channels that are live on each circuit, so that its end can report without
+//! allocation which were lost.
 ghost use Rattle.std.specs.Prelude.{[], ◌≡◌, ◌≢◌, ◌+◌, ◌<◌, ◌≤◌, ◌++◌, ℕ, OnOk, length, vec_capacity, vec_len};
 ghost use Rattle.ca_model.specs.Client.{is_live};
 ghost use Rattle.ca_client_tables.specs.Ending.{named_at, named_in};
@@ -44,7 +44,7 @@ impl LiveChannels {
         Ok(())
     }
 
-    // Takes those that are not live any more out once it is long.
+    // Takes out those that are no longer live, once the list is long.
     fn tidy(&mut self, channels: &Channels)
         ensures { KeepsLive channels.now self.old self.new }
     {
@@ -65,7 +65,7 @@ impl LiveChannels {
     }
 }
 
-// Takes those out of a list that are not live, and lists the others once each.
+// Takes out of a list those that are not live, and lists the others once each.
 fn forget(listed: &mut Vec<Handle>, channels: &Channels)
     ensures { KeepsLive channels.now listed.old.items listed.new.items }
 {

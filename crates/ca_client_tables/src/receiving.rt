@@ -161,8 +161,8 @@ pub fn settle(searches: &mut IndexMap<u32, Place>, moment: u64, done: &[Received
     }
 }
 
-// They follow one more message, but that they begin again after an anomaly: whether
-// there was one so far.
+// They follow one more message, except that an anomaly does not yet make them begin again. It says
+// whether there was one so far.
 fn settle_one(searches: &mut IndexMap<u32, Place>, received: &Received, anomaly: bool) -> bool
     ensures { (moment : ℕ) → boosted_if result moment searches.new.entries
         ≡ settled_in moment received.now (boosted_if anomaly moment searches.old.entries) }

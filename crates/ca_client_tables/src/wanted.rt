@@ -35,7 +35,7 @@ impl Model for WantedCircuit {
     } };
 }
 
-/// Those of these circuits that are not connected, in their order. It takes memory
+/// The circuits of these that are not connected, in their order. It takes memory
 /// only if there is one.
 pub fn wanted_in(
     alloc: Global,

@@ -78,7 +78,7 @@ impl<L: Ledger> State<L> {
     }
 
     /// Cuts a circuit: its end ends, if it is open, and its puts that wait are never applied. One
-    /// more step reports that, and takes its credits over. It does not allocate.
+    /// more step reports that, and takes over its credits. It does not allocate.
     pub fn cut(&mut self, circuit: Handle)
         ensures call { Cuts self.old.core circuit self.new.core }
         ensures counts { (self.new.count ≡ self.old.count)
@@ -122,8 +122,8 @@ impl<L: Ledger> State<L> {
     /// have left updates on: each that has a subscription on the record is among them.
     /// None if nobody has one.
     ///
-    /// Others may be among them. Right after such a call those are, too, whose ends it ended, as
-    /// there was no memory for their updates.
+    /// Others may be among them: right after such a call also those whose ends it ended, without
+    /// memory for their updates.
     pub fn watching(&self, name: &[u8]) -> Option<&Line>
         ensures { AreAllAmong self.now.core name.now
             (unwrap_or (option_copied result) []) }
@@ -146,7 +146,7 @@ impl<L: Ledger> State<L> {
     /// The beacon that is due at this moment, once: 16 bytes, to be sent in a datagram of their
     /// own. None if none is due.
     ///
-    /// A moment before one that was given counts as that one.
+    /// A moment earlier than the last counts as the last.
     pub fn beacon(&mut self, now: u64) -> Option<[u8; 16]>
         ensures call { Beacons self.old.core now result self.new.core }
         ensures counts { (self.new.count ≡ self.old.count)

@@ -1,4 +1,4 @@
-//! What lies under a server's lock: its core, and a count of the writes that were applied, which is
+//! What is under a server's lock: its core, and a count of the writes that were applied, which is
 //! the sum of the circuits' shares of a ledger.
 //!
 //! `locked_step` and `locked_finish` are lent what is locked. A circuit's thread steps its own

@@ -12,7 +12,7 @@ use ca_text::ARENA_SLOTS;
 use std::alloc::{AllocError, Global};
 use std::sync::ledger::{Book, Ledger, Share};
 
-/// What lies under a server's lock.
+/// What a server's lock keeps.
 #[derive(Drop)]
 pub struct State<L: Ledger> {
     pub(crate) core: ServerCore,
@@ -65,7 +65,7 @@ impl<L: Ledger> State<L> {
         self.core.applied()
     }
 
-    /// The count, by whoever has all shares: it is their sum.
+    /// The count, for a caller that has all shares: it is their sum.
     pub fn audit(&mut self, all: &mut Share<L>) -> u64
         requires { all.old.parts ≡ L.parts }
         ensures sum { result ≡ all.old.amount }
