@@ -23,7 +23,7 @@ abbrev pub file_in : AnswerLine → Option Text
 file_in line = option_map (λ t. t.now) line.records
 
 -- What was read of the words after `answer`: the line that they ask for, or nothing
--- where they ask for none.
+-- if they ask for none.
 abbrev pub IsWanted : List Text → Option AnswerLine → Type 0
 IsWanted words (Some line) = Wants words (file_in line)
 IsWanted words None = (file : Option Text) → Wants words file → ⊥

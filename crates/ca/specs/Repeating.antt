@@ -57,7 +57,7 @@ module _ {D : Type 0} (went refuses : D → Address → List ℕ → D → Type 
       Takes s members (Err _) t after = ⊥
 
       -- A run for n datagrams, with this outcome: it ends well only after n rounds; refused as
-      -- `Device` where a receive failed after fewer; and out of memory before it began, or at a
+      -- `Device` if a receive failed after fewer; and out of memory before it began, or at a
       -- datagram that came after fewer.
       abbrev pub Repeats : ℕ → D → Result (Unit {0}) Refusal → D → Type 0
       Repeats n s0 (Ok _) s = (members : List Address) × Rounds n s0 s members
@@ -77,8 +77,8 @@ module _ {D : Type 0} (went refuses : D → Address → List ℕ → D → Type 
         pub repeats : Repeats (limit_of limit) s0 outcome s
         pub told : status ≡ status_of outcome
 
-      -- The line's repeater ran on what was bound, and has this exit status: 1 where nothing was
-      -- bound, or where the port that the system chose could not be told.
+      -- The line's repeater ran on what was bound, and has this exit status: 1 if nothing was
+      -- bound, or if the port that the system chose could not be told.
       abbrev pub RepeatsFrom : Result D Fault → RepeaterLine → ℕ → Type 0
       RepeatsFrom (Err _) line status = status ≡ 1
       RepeatsFrom (Ok s0) line status = ((line.port ≡ 0) × (status ≡ 1)) ⊎ ((s : D) × RepeatsTo line.datagrams s0 s status)

@@ -23,7 +23,7 @@ module _ {K : Type 0} (takes : K → List ℕ → K → Type 0) (faults : K → 
 
   -- The replay ended so: well with the report of all events; at an event that cannot be done with
   -- the report of those before it; out of memory with such a report or with nothing; with nothing
-  -- where the script does not read; refused as `Device` where the sink failed.
+  -- if the script does not read; refused as `Device` if the sink failed.
   abbrev pub Replays : Result (Unit {0}) Refusal → Type 0
   Replays (Ok _) = Tells None
   Replays (Err BadText) = (k ≡ k0) × IsNotRead script

@@ -58,8 +58,8 @@ pub record SourceFails {S K : Type 0} (gives : S → List ℕ → S → Type 0) 
   pub turned : Turned gives takes rules states s0 last k0 k chunks rest []
   pub whole : NoneBegins rest
 
--- What the engine did, by its answer. Refusal 23 comes where the source failed, where the sink
--- failed, or where the calls of the two are used up.
+-- What the engine did, by its answer. Refusal 23 comes if the source failed, the sink failed, or
+-- the calls of the two are used up.
 abbrev pub Streams : {S K : Type 0} → (S → List ℕ → S → Type 0) → (K → List ℕ → K → Type 0) → (S → ℕ) → (K → ℕ) → (S → ℕ) → (K → ℕ) → List Rule → List RecordState → S → S → K → K → Result (Unit {0}) Refusal → Type 0
 Streams gives takes calls calls' faults faults' rules states s0 s k0 k (Ok _) = ReadsAll gives takes rules states s0 s k0 k
 Streams gives takes calls calls' faults faults' rules states s0 s k0 k (Err Misaligned) = MeetsBad gives takes rules states s0 s k0 k Misaligned

@@ -126,8 +126,8 @@ module _ {T : Type 0} where
     pub unused : (other : Handle) → other.index ≡ handle.index → find a other ≡ None
     pub later : last_at a handle.index < handle.generation
 
-  -- From old, this value was inserted, with this answer, and left new. Memory is asked for only
-  -- where no index is free again.
+  -- From old, this value was inserted, with this answer, and left new. Memory is asked for only if
+  -- no index is free again.
   abbrev pub Inserts : Contents T → T → Result Handle (T × Refusal) → Contents T → Type 0
   Inserts old value (Ok handle) new = (0 < free_slots old) × (handle ≡ next_handle old) × (new ≡ inserted old value)
   Inserts old value (Err (back, ArenaFull)) new = (free_slots old ≡ 0) × (back ≡ value) × (new ≡ old)

@@ -100,7 +100,7 @@ impl<T> Arena<T> {
     /// The handle that `insert` gives once these values are inserted under their handles. None if
     /// no index is free then.
     ///
-    /// It is refused where these handles are not those that come next.
+    /// It is refused if these handles are not those that come next.
     pub fn vacant_after(&self, ahead: &[(Handle, T)]) -> Result<Option<Handle>, Refusal>
         ensures { TellsAfter self.now ahead.now result }
     {
@@ -238,8 +238,7 @@ impl<T> Arena<T> {
 
     /// Puts `value` under a handle that was never given before.
     ///
-    /// It is refused, and handed back, where no index is free, and where the room for
-    /// one more is missing.
+    /// It is refused, and handed back, if no index is free, or if the room for one more is missing.
     #[inline(always)]
     pub fn insert(&mut self, value: T) -> Result<Handle, (T, Refusal)>
         ensures inserts { Inserts self.old value result self.new }
@@ -263,7 +262,7 @@ impl<T> Arena<T> {
 
     /// `insert` under the handle that `vacant` returns, for whoever has to know it before.
     ///
-    /// The value is handed back if another handle is the next, and where the room for
+    /// The value is handed back if another handle is the next, or if the room for
     /// one more is missing.
     #[inline(always)]
     pub fn insert_at(&mut self, vacant: Handle, value: T) -> Result<(), T>
@@ -290,8 +289,8 @@ impl<T> Arena<T> {
     /// Puts these values under their handles, which `vacant_after` told, one after
     /// another: all, or none.
     ///
-    /// They are refused, and handed back, where these handles are not those that come next, and
-    /// where the room for them is missing. No values are never refused.
+    /// They are refused, and handed back, if these handles are not those that come next, or if the
+    /// room for them is missing. No values are never refused.
     pub fn insert_all(&mut self, values: Vec<(Handle, T)>) -> Result<(), Vec<(Handle, T)>>
     where
         T: Drop,
@@ -337,7 +336,7 @@ impl<T> Arena<T> {
     // `insert` at the first index that was never given. It makes all room before
     // it changes anything.
     //
-    // Inlined, it would make `insert` save registers also where an index is free again.
+    // Inlined, it would make `insert` save registers also if an index is free again.
     #[inline(never)]
     fn append(&mut self, value: T) -> Result<Handle, (T, Refusal)>
         requires { self.old.freed ≡ [] }

@@ -14,8 +14,8 @@ server address port = address * 65536 + port
 abbrev pub Servers : Type 0
 Servers = map.FinMap nat_cmp ℕ
 
--- A beacon of this number is an anomaly where its server is not known, or the number is not one
--- more, modulo 2^32, than the last.
+-- A beacon of this number is an anomaly if its server is not known, or the number is not one more,
+-- modulo 2^32, than the last.
 abbrev pub anomaly : Option ℕ → ℕ → Bool
 anomaly None number = true
 anomaly (Some last) number = not (nat_eq number ((last + 1) % 2 ^ 32))

@@ -138,7 +138,7 @@ fn is_given(
     Ok(ticket.generation == generation && given && freed)
 }
 
-/// The outcome of a ticket that was given up comes back to the core, also where the
+/// The outcome of a ticket that was given up comes back to the core, also if the
 /// cell was freed before.
 pub(crate) fn fill_after_give_up(alloc: Global) -> Result<bool, Refusal> {
     let (board, mut core) = Board::new(alloc)?;
@@ -183,7 +183,7 @@ fn comes_back_late(
     gone && freed && back && none
 }
 
-/// A ticket that is taken back returns nothing, and its cell is free, also where a
+/// A ticket that is taken back returns nothing, and its cell is free, also if a
 /// caller gave it up before.
 pub(crate) fn taken_back_is_free(alloc: Global) -> Result<bool, Refusal> {
     let (board, mut core) = Board::new(alloc)?;

@@ -60,7 +60,7 @@ abbrev pub caller_view : CallerLog → View
 caller_view caller = record { is_core = false; core = no_core; caller = caller; one = no_caller; other = no_caller }
 
 -- One cell: its word, which has one of these six states, its slot, and the core's lists. The slot
--- is at home and empty while the cell is free, waiting, empty or given up, but where the core holds
+-- is at home and empty while the cell is free, waiting, empty or given up, unless the core holds
 -- it; it has the outcome of the fill while the cell is done. Each generation up to the word's was
 -- armed, and each below it was recycled
 pub record CellOk (log : CoreLog) (k n : ℕ) (home : maybe.Option (maybe.Option Slot)) : Type 0 where
@@ -158,8 +158,7 @@ pub record IsStock (arms recycles free : List Ticket) : Type 0 where
 abbrev pub IsUntouched : List Entry → List Ticket → List Ticket → Ticket → Type 0
 IsUntouched fills refused recycles t = IsUnfilled fills t × ¬ (Has refused t) × ¬ (Has recycles t)
 
--- A view with one thing more. A core's seat then holds no slot, but where a fill
--- came after a give-up
+-- A view with one thing more. A core's seat then holds no slot, unless a fill came after a give-up
 abbrev pub armed_too : View → Ticket → View
 armed_too v t = core_view (core_log (v.core.arms ++ t ∷ []) v.core.fills v.core.refused v.core.recycles 0) v.caller
 

@@ -95,7 +95,7 @@ Found old t n new = (t.cell < board_cells) × IsLatest old.seen t.cell n × (new
 abbrev pub IsEarly : List Reading → Ticket → Type 0
 IsEarly seen t = (n : ℕ) × Has seen (t.cell, n) × (n ≤ 8 * t.generation)
 
--- What a collection answers: an outcome, once for a ticket; or none, where its cell was
+-- What a collection answers: an outcome, once for a ticket; or none, if its cell was
 -- found not to be done
 abbrev pub HasCollected : CallerView → Ticket → Option Outcome → CallerView → Type 0
 HasCollected old t result new = MatchOption result
@@ -121,7 +121,7 @@ HasFoundEnded old t new = IsOutside old t new ⊎ ((n : ℕ) × (8 * t.generatio
 abbrev pub HasFoundOpen : CallerView → Ticket → CallerView → Type 0
 HasFoundOpen old t new = IsOwnOpen old t × ((n : ℕ) × (n ≤ 8 * t.generation + 2) × Found old t n new)
 
--- What a recycle of the cell did where it answers true: the cell is free for its next generation
+-- What a recycle of the cell did if it answers true: the cell is free for its next generation
 abbrev pub HasRecycled : CoreView → ℕ → CoreView → Type 0
 HasRecycled old k new = (g : ℕ) × Frees old.arms old.recycles k g × (new ≡ with_recycle old (ticket k g))
 

@@ -75,7 +75,7 @@ impl Board {
         Ok(ticket)
     }
 
-    /// Hands over the outcome of a ticket that was armed and not filled yet, or gives it back where
+    /// Hands over the outcome of a ticket that was armed and not filled yet, or gives it back if
     /// the ticket was given up, also after its cell was recycled.
     // In line, since an outcome that is handed on through memory has the processor wait for
     // what was just written.

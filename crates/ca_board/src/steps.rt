@@ -24,7 +24,7 @@ pub struct CoreLog {
 pub struct CallerLog {
     pub takes: LinkedList<(Ticket, Outcome)>,
     pub gives: LinkedList<Ticket>,
-    /// The words that it found where it did nothing, each with its cell.
+    /// The words that it found when it did nothing, each with its cell.
     pub seen: LinkedList<(usize, u64)>,
     /// 0, or 1 more than the cell whose slot it holds.
     pub hand: u64,

@@ -80,7 +80,7 @@ fn step(core: &mut ServerCore, mut words: Words<'_>, answer: &mut Answer) -> Res
     }
 }
 
-/// An effect: nothing where it is quiet.
+/// An effect: nothing if it is quiet.
 fn did(effect: Effect, answer: &mut Answer) -> Result<(), Refusal> {
     match effect {
         Effect::Quiet => Ok(()),

@@ -165,7 +165,7 @@ impl<L: Listener> Context<L> {
     /// more, is used again.
     ///
     /// It ends with the first that is refused, as `get` and `put_notify` refuse it, and as
-    /// OutOfMemory where there is none for a ticket: the tickets of those before it were added.
+    /// OutOfMemory if there is none for a ticket: the tickets of those before it were added.
     pub fn request_all<R: Wait>(
         &self,
         rt: &R,

@@ -139,9 +139,9 @@ impl Lead {
         true
     }
 
-    // Whether the sockets are left to callers. They are not where the thread of input and
-    // output has to serve them: several callers waited at once lately, or a socket has no room
-    // for what waits to be sent.
+    // Whether the sockets are left to callers. They are not if the thread of input and output
+    // has to serve them: several callers waited at once lately, or a socket has no room for
+    // what waits to be sent.
     pub(crate) fn is_left(&self, serves: bool) -> bool {
         self.is_led() || self.wished != 0 && !serves && !self.hears
     }

@@ -51,7 +51,7 @@ struct Watched<S: Socket + Drop> {
 impl<S: Socket + Drop> Socket for Watched<S> {
     ghost use Rattle.std.specs.Prelude.{◌≡◌, ◌⊎◌, []};
 
-    // The inner socket's bytes, or none where it is not read.
+    // The inner socket's bytes, or none if it is not read.
     ghost gives = { λ v bytes w.
         S.gives v.inner bytes w.inner ⊎ ((bytes ≡ []) × (w.inner ≡ v.inner)) };
 

@@ -35,7 +35,7 @@ abbrev pub gathered : {S T : Type 0} → (S → Result T Refusal) → List S →
 gathered f [] = Ok []
 gathered f (x ∷ xs) = first_and (f x) (gathered f xs)
 
--- this refusal is the first one, or memory ran out where there is none
+-- this refusal is the first one, or memory ran out if there is none
 abbrev pub Fails : {A : Type 0} → Result A Refusal → Refusal → Type 0
 Fails r e = (r ≡ Err e) ⊎ ((e ≡ refusal.OutOfMemory) × IsOk r)
 

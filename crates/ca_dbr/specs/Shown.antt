@@ -11,7 +11,7 @@ use Rattle.ca_dbr.specs.Elements.{Elements, strings, ints, floats, enums, chars,
 use Rattle.ca_dbr.specs.Image.{image}
 use Rattle.ca_dbr.specs.Conversion.{Fails, converted}
 
--- n elements from the front, or all where there are fewer
+-- n elements from the front, or all if there are fewer
 abbrev pub first_elements : ℕ → Elements → Elements
 first_elements n (strings xs) = strings (take n xs)
 first_elements n (ints xs) = ints (take n xs)

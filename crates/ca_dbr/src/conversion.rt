@@ -59,7 +59,7 @@ fn convert_all<S: Copy + Drop, T: Drop, C: Conversion<S, T>>(
 {
     match Vec::with_capacity(alloc, items.len()) {
         Err(_) => {
-            // Want of memory is told only where no element is at fault.
+            // Out of memory is reported only if no element is at fault.
             check_all::<S, T, C>(items)?;
             Err(Refusal::OutOfMemory)
         }

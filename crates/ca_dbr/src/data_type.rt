@@ -55,7 +55,7 @@ impl BaseType {
         }
     }
 
-    /// The plain type of this number, where there is one.
+    /// The plain type of this number, if there is one.
     pub fn of(number: u16) -> Option<BaseType>
         ensures { MatchOption result (6 < number) (λ b. base_number b ≡ number) }
     {
@@ -101,7 +101,7 @@ impl DataType {
         self.base.number() + offset
     }
 
-    /// The type of this number, where there is one.
+    /// The type of this number, if there is one.
     pub fn of(number: u16) -> Option<DataType>
         ensures { MatchOption result (20 < number) (λ t. type_number t ≡ number) }
     {

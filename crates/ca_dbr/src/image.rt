@@ -23,7 +23,7 @@ pub fn image_size(number: u16, count: u32) -> Result<usize, Refusal>
     }
 }
 
-/// The size of an image, or the greatest number where it is over that.
+/// The size of an image, or the greatest number if it is over that.
 pub(crate) fn size_for(data_type: DataType, count: usize) -> usize
     ensures { result ≡ min (size_of_image data_type count) (2 ^ 64 - 1) }
 {

@@ -45,7 +45,7 @@ pub fn wanted_shown()
         → shown e count b ≡ Ok f → (base_of f ≡ b) × (count_of f ≡ count) }
 {}
 
-/// No conversion is told exactly where there is none; every other refusal tells of
+/// No conversion is told exactly if there is none; every other refusal tells of
 /// an element at fault.
 pub fn why_not_shown()
     ensures none { (e : Elements) (count : ℕ) (b : BaseType) → (HasConversion (base_of e) b → ⊥)

@@ -16,7 +16,7 @@ use crate::numeric::{Conversion, Source, ToNumber, ToText, Whole};
 use crate::value::{Meta, Value};
 use ca_text::Refusal;
 
-/// So many elements from the front, or all where there are fewer.
+/// The first n elements, or all if there are fewer.
 fn first<T>(items: &[T], count: usize) -> &[T]
     ensures value { result.now ≡ take count items.now }
     ensures len { length result.now ≡ min count (length items.now) }
@@ -229,7 +229,7 @@ pub fn write_shown(
     let start = out.len();
     match out.reserve(size_for(data_type, count)) {
         Err(_) => {
-            // Want of memory is told only where no element is at fault.
+            // Out of memory is reported only if no element is at fault.
             check_first(value, count, data_type.base)?;
             Err(Refusal::OutOfMemory)
         }

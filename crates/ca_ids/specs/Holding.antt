@@ -9,7 +9,7 @@ use Rattle.ca_ids.specs.Table.{IsFull, MayGive, MayGiveAll, Table, has_free, is_
 
 module _ {T : Type 0} where
   -- From old, this value was given an id, with this answer, and left new. Memory is asked for only
-  -- where no index may have another id.
+  -- if no index may have another id.
   abbrev pub Gives : Table T → T → Result Handle (T × Refusal) → Table T → Type 0
   Gives old value (Ok handle) new = MayGive old handle × (new ≡ with_held handle value old)
   Gives old value (Err (back, refusal.ArenaFull)) new = IsFull old × (back ≡ value) × (new ≡ old)

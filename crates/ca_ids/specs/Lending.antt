@@ -1,4 +1,4 @@
--- What a table ends as, where a `&mut` to one of its values was handed out.
+-- What a table ends as, when a `&mut` to one of its values was handed out.
 use Rattle.std.specs.Prelude.{Option}
 use Rattle.std.specs.Borrow.{Lends, LendsIf, Fml, RattleType, MutBor}
 use Rattle.ca_arena.specs.declared.handle.Handle.{Handle}

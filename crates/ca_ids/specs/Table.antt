@@ -84,7 +84,7 @@ module _ {T : Type 0} where
   abbrev pub with_all : (T → T) → Table T → Table T
   with_all f t = map (λ (p : Place T). record p { value = option_map f p.value }) t
 
-  -- what stays of a place where the test frees its id
+  -- what stays of a place if the test frees its id
   abbrev pub kept_of : (T → Bool) → Option T → Option T
   kept_of frees None = None
   kept_of frees (Some v) = if frees v then None else Some v

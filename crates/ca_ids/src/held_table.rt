@@ -117,7 +117,7 @@ impl<T> HeldTable<T> {
     /// The handle that is given once these values are put under their handles. None if no
     /// id may be given then.
     ///
-    /// It is refused where these handles are not those to be given next.
+    /// It is refused if these handles are not those to be given next.
     pub fn vacant_after(&self, ahead: &[(Handle, T)]) -> Result<Option<Handle>, Refusal>
         ensures { IsVacantAfter self.now ahead.now result }
     {

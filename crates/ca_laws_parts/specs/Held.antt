@@ -42,7 +42,7 @@ pub record HoldsIdsBy {T : Type 0} (Awaits : ℕ → Type 0) (kind : ℕ → Id)
   -- finds it is about it.
   pub own : (h : Handle) (v : T) → under t h ≡ Some v → here h v ≡ true → IsMeant c (meant h) (kind (wire_of h))
 
--- the same where the test does not look at handles
+-- the same if the test does not look at handles
 abbrev pub IsHeld : {T : Type 0} → (here : T → Bool) → Table T → (n : ℕ) → Type 0
 IsHeld {T} here t n = IsHeldBy (λ (h : Handle). here) t n
 

@@ -27,8 +27,8 @@ pub fn ends_take_what_was_sent()
     ensures first { (a b : CircuitEnd) (m : Fields) (front rest : List ℕ) → AreMessages a.sent
         → Streams a b → Spells front m → b.came ≡ front ++ rest
         → At a.sent b.read m × Streams a (record b { came = rest; read = b.read + 1 }) }
-    // So it is of the message that an open end takes next: at a server, where all that clients sent
-    // are messages; and at a client, where all that servers sent are.
+    // So it is of the message that an open end takes next: at a server, if all that clients sent
+    // are messages; and at a client, if all that servers sent are.
     ensures server { (w : World) → AllStream w → ClientsSpeak w → TakesSent w }
     ensures client { (w : World) → AllStream w → ServersSpeak w → HearsSent w }
 {}

@@ -136,7 +136,7 @@ pub fn records_agree_with_their_log()
         → Life circuits server life y cs rs n → number_of r.name rs ≡ r.number }
 {}
 
-/// Where the log of each life has each write once, no write is applied twice, in all lives of all
+/// If the log of each life has each write once, no write is applied twice, in all lives of all
 /// servers; each has the value of its own message; a put that waits is dropped only with its
 /// record, its channel or its circuit; and a record finishes one put at a time, each once.
 pub fn no_write_is_applied_twice()

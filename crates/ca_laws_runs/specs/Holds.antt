@@ -31,7 +31,7 @@ number_for place t = if t.place == place then number_of t.cause else None
 abbrev pub sent_numbers : (place : ℕ) → List Told → List ℕ
 sent_numbers place down = filter_map (number_for place) down
 
--- the post of this number, or another where there is none
+-- the post of this number, or another if there is none
 abbrev pub post_at : Stored → List Stored → ℕ → Stored
 post_at other posts n = unwrap_or (slice_get posts n) other
 

@@ -83,8 +83,8 @@ pub fn what_is_held_in_runs()
         → AllCircuitsHeld w }
 {}
 
-/// Where that is so, each message of a client is what was meant, and each id in a message of a
-/// server is taken for what that message is about, whatever ids were given again.
+/// If that is so, each message of a client is what was meant, and each id in a message of a server
+/// is taken for what that message is about, whatever ids were given again.
 pub fn what_is_held_is_what_was_meant()
     ensures asked { (w : World) → AllCircuitsHeld w → AllAsked w }
     ensures own { (w : World) → AllCircuitsHeld w → (n i : ℕ) (c : Joined) (t : Told) (id : Id)

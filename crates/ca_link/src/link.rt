@@ -67,7 +67,7 @@ impl Link {
         Ok(())
     }
 
-    /// Takes the memory of the spare rows, where it has none.
+    /// Takes the memory of the spare rows, if it has none.
     pub fn borrow_from(&mut self, spares: &mut Spares)
         ensures { self.new ≡ self.old }
     {
@@ -104,7 +104,7 @@ impl Link {
     }
 
     /// What the first message names, if it is complete, of this command, and is a header in 16
-    /// bytes and a payload of eight. It stays there, where its payload can be read without memory.
+    /// bytes and a payload of eight. It stays there if its payload can be read without memory.
     #[inline(always)]
     pub fn first_short(&self, command: Command) -> Option<Wanted>
         ensures { FirstShort command self.now result }

@@ -15,7 +15,7 @@ pub fn report<W: Write>(outcome: Result<(), Refusal>, err: &mut W) -> u8
     match outcome {
         Ok(()) => 0,
         Err(refusal) => {
-            // Where this cannot be written the status alone tells.
+            // If this cannot be written the status alone tells.
             let _told = writeln!(err, "refused: {refusal}");
             1
         }
@@ -26,7 +26,7 @@ pub fn report<W: Write>(outcome: Result<(), Refusal>, err: &mut W) -> u8
 pub fn not_understood<W: Write>(err: &mut W) -> u8
     ensures { result ≡ not_understood_status }
 {
-    // Where this cannot be written the status alone tells.
+    // If this cannot be written the status alone tells.
     let _told = writeln!(err, "not understood");
     NOT_UNDERSTOOD
 }

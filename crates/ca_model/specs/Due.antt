@@ -89,7 +89,7 @@ rights_at k name = rights k.rules k.peer.user k.peer.host name
 
 -- ---- SEARCH ("CA_PROTO_SEARCH", "CA_PROTO_NOT_FOUND")
 
--- A search for a name that is served is answered; another by NOT_FOUND where its type asks for
+-- A search for a name that is served is answered; another by NOT_FOUND if its type asks for
 -- that; else by nothing.
 abbrev pub search_due : Knows → Fields → List Fields
 search_due k m =

@@ -56,7 +56,7 @@ module _ {E : Type 0} where
   switched on q = record { waiting = q.waiting; subscriptions = q.subscriptions; events_on = on }
 
   -- Why one more subscription is refused: there are as many as may be, or a growth was refused,
-  -- which is asked for only where there is none yet.
+  -- which is asked for only if there is none yet.
   abbrev pub Refuses : Queue E → Refusal → Type 0
   Refuses q TooManySubscriptions = length q.subscriptions ≡ queue_subscriptions
   Refuses q OutOfMemory = q.subscriptions ≡ []

@@ -12,7 +12,7 @@ use Rattle.ca_queue.specs.Waiting.{has_entry, is_of}
 -- ---- the ring
 
 module _ {W : Type 0} where
-  -- the entries that wait, where a ring was made
+  -- the entries that wait, if a ring was made
   abbrev pub waits : Option (Buffer W) → List W
   waits None = []
   waits (Some b) = b.items

@@ -55,7 +55,7 @@ module _ {E : Type 0} where
   front [] = None
   front (w ∷ q) = Some w
 
-  -- what a take returns: the front, where an entry may be taken
+  -- what a take returns: the front, if an entry may be taken
   abbrev pub taken : Bool → List (SubKey × E) → Option (SubKey × E)
   taken events_on q = if may_take events_on q then front q else None
 

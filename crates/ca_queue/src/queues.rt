@@ -45,8 +45,8 @@ pub trait Queues<E> {
 
     /// Puts an entry of a subscription that was added.
     ///
-    /// It takes the place of the subscription's last entry where there is one and either 36 places
-    /// or fewer are free or events are off; else it goes to the back.
+    /// It takes the place of the subscription's last entry if there is one and either 36 places or
+    /// fewer are free or events are off; else it goes to the back.
     fn post(&mut self, key: SubKey, entry: E)
         requires { IsTrue (is_among key (contents self.old).subscriptions) }
         ensures posts { contents self.new ≡ posted key entry (contents self.old) }

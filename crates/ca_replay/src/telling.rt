@@ -16,7 +16,7 @@ pub struct Telling<'a, W> {
 impl<W: Write> Progress for Telling<'_, W> {
     fn has_done(&mut self, done: usize, all: usize) {
         if self.is_terminal && done % LINE == 0 {
-            // Where this cannot be written the run goes on.
+            // If this cannot be written the run goes on.
             let _told = writeln!(self.err, "{done} of {all} events");
         }
     }

@@ -23,7 +23,7 @@ pub(crate) const GROWTH: usize = 4;
 /// The requests of a circuit or of a channel, in order of issue: all that are open,
 /// and some that are over.
 ///
-/// The one that was issued last stands apart, so that where one is open at a time no list in memory
+/// The one that was issued last stands apart, so that if one is open at a time no list in memory
 /// of its own is touched.
 #[derive(Debug, Drop)]
 pub(crate) struct Line {

@@ -33,7 +33,7 @@ pub record SaysServer (words : List (List ℕ)) (address port : ℕ) : Type 0 wh
   pub of : IsNumber last port
   pub small : port < 2 ^ 16
 
--- a word is a whole number: digits, and before them a minus where it is below zero
+-- a word is a whole number: digits, and before them a minus if it is below zero
 pub record IsWhole (word : List ℕ) (z : ℤ) : Type 0 where
   pub digits : IsNumeral 10 (without_leading_sign word)
   pub plain : slice_index word 0 ≡ 43 → ⊥

@@ -20,12 +20,12 @@ at s now = max s.moment now
 abbrev pub holds : ℕ → List (ℕ × Channel) → Bool
 holds cid channels = list_any (λ c. nat_eq cid c.0) channels
 
--- the channels with this done to the one of this CID, where there is one
+-- the channels with this done to the one of this CID, if there is one
 abbrev pub with_one : (Channel → Channel) → ℕ → List (ℕ × Channel) → List (ℕ × Channel)
 with_one f cid [] = []
 with_one f cid (c ∷ channels) = if nat_eq cid c.0 then (c.0, f c.1) ∷ channels else c ∷ with_one f cid channels
 
--- the channels without the one of this CID, where there is one
+-- the channels without the one of this CID, if there is one
 abbrev pub without : ℕ → List (ℕ × Channel) → List (ℕ × Channel)
 without cid [] = []
 without cid (c ∷ channels) = if nat_eq cid c.0 then channels else c ∷ without cid channels

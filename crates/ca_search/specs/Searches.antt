@@ -27,7 +27,7 @@ due_by now (Some clock) = nat_le clock.due now
 abbrev pub is_due : ℕ → Channel → Bool
 is_due now c = due_by now c.clock
 
--- after the search that was made now, where one was due
+-- after the search that was made now, if one was due
 abbrev pub passed : ℕ → Channel → Channel
 passed now c = record c { clock = option_map (λ clock. if nat_le clock.due now then searched_at clock now else clock) c.clock }
 

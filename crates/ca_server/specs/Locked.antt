@@ -48,8 +48,8 @@ abbrev pub credited : Option Handle → List ℕ → List ℕ
 credited None credits = credits
 credited (Some h) credits = slice_set credits h.index (credit_of credits h + 1)
 
--- The server makes its finish once; a credit is added exactly where that applied a put that waited,
--- to the circuit of the put.
+-- The server makes its finish once; a credit is added exactly if that applied a put that waited, to
+-- the circuit of the put.
 abbrev pub LockedFinish : (old : Server) (credits : List ℕ) (name : List ℕ) → List (Handle × Fields) → Result (Unit {0}) Refusal → (new : Server) (credits' : List ℕ) → Type 0
 LockedFinish old credits name sent (Ok _) new credits' = Finishes old name sent (Ok tt) new × (credits' ≡ credited (first_waiting old name) credits)
 LockedFinish old credits name sent (Err e) new credits' = Finishes old name sent (Err e) new × (credits' ≡ credits)

@@ -1,7 +1,7 @@
 //! Fast paths: most messages read, write or put one element. Such a message is handled without a
 //! copy of it, and without allocation. Each is tried on the first message before its header is read
-//! as a whole. If it applies it is a step as any other, by the same definition (`EndSteps`); where
-//! it does not, nothing has changed, and the plain path does the rest.
+//! as a whole. If it applies it is a step as any other, by the same definition (`EndSteps`); if it
+//! does not, nothing has changed, and the plain path does the rest.
 //!
 //! Only speed depends on them: with `FAST` false the program is right, and is proved.
 ghost use Rattle.std.specs.Prelude.{◌≡◌, ◌<◌, length};

@@ -27,7 +27,7 @@ abbrev pub WatchesIn : Table ServerCircuit → Handle → (place : ℕ) → Stor
 WatchesIn t h place s on = (r : Record) × HasAt s place r × (on ≡ watches_under r.state.name (under t h))
 
 -- The same if its end has a subscription on the record. Else it is taken out of the list of those
--- that watch it, where it is at this place.
+-- that watch it, if it is at this place.
 abbrev pub ReachesOne : (name : List ℕ) → (place : ℕ) → (mask : ℕ) → (watcher : ℕ) → Handle → (still : Bool) → Watched → Table ServerCircuit → Store → Watched → Table ServerCircuit → Store → Type 0
 ReachesOne name place mask watcher h true w t s v after u = PostsIn t h place mask s after u × (v ≡ w)
 ReachesOne name place mask watcher h false w t s v after u = LeavesAt name watcher w v × (after ≡ t) × (u ≡ s)

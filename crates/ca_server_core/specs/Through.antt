@@ -1,5 +1,5 @@
 -- Working: what a message of a circuit leaves to do, with the pump of the circuit; and the same of
--- a write, where nobody else watches its record.
+-- a write, if nobody else watches its record.
 use Rattle.std.specs.Prelude.{ℕ, ◌≡◌, false, true}
 use Rattle.ca_arena.specs.declared.handle.Handle.{Handle}
 use Rattle.ca_ids.specs.Table.{Table, under}

@@ -12,8 +12,7 @@ use Rattle.ca_wire.specs.Message.{Spells}
 abbrev pub NoneBegins : List ℕ → Type 0
 NoneBegins bytes = (m : Fields) (front back : List ℕ) → Spells front m → bytes ≡ front ++ back → ⊥
 
--- A header earns refusal 2 where its size is no multiple of 8, else 3 where its
--- size is over the limit.
+-- A header earns refusal 2 if its size is no multiple of 8, else 3 if its size is over the limit.
 abbrev pub Faults : Header → Refusal → Type 0
 Faults h e = ((e ≡ Misaligned) × (h.size % 8 ≢ 0)) ⊎ ((e ≡ TooLarge) × (h.size % 8 ≡ 0) × (payload_limit < h.size))
 

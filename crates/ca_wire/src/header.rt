@@ -31,8 +31,7 @@ pub(crate) fn header_size(header: &Header) -> usize
     24
 }
 
-/// Writes the header at the end: in 16 bytes where size and count are both
-/// below 65,535, else in 24.
+/// Writes the header at the end: in 16 bytes if size and count are both below 65,535, else in 24.
 #[inline(always)]
 pub fn spell_header(header: &Header, out: &mut Vec<u8>) -> Result<(), AllocError>
     ensures ok { OnOk result (out.new.items ≡ out.old.items ++ header_spelling header.now) }

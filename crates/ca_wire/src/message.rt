@@ -265,7 +265,7 @@ pub fn spell(message: &Message, out: &mut Vec<u8>) -> Result<(), AllocError>
     ensures capacity { vec_capacity out.old ≤ vec_capacity out.new }
 {
     let header = message.header();
-    // Where there is room a header alone is written without a call.
+    // If there is room a header alone is written without a call.
     if header.size == 0 && header.count < EXTENDED && out.capacity() - out.len() >= 16 {
         return out.extend_from_slice(&short_form(&header));
     }

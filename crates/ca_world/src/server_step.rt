@@ -146,7 +146,7 @@ fn step_at(
     Ok(())
 }
 
-// Whether one more post can be counted for each subscription that stands, where a message writes.
+// Whether one more post can be counted for each subscription that stands, if a message writes.
 fn check_write(circuits: &[Joined], write: &Option<Coming>) -> Result<(), AllocError>
     ensures { OnOk result ((w : coming.Coming) → write.now ≡ Some w → AllMayCount circuits.now) }
 {

@@ -30,7 +30,7 @@ ClearsAs ks i w there = w.circuit ≡ None
 abbrev pub IsClearWay : Client → List Joined → (i : ℕ) → Handle → Way → Type 0
 IsClearWay x ks i h w = ClearsAs ks i w (standing_at x h)
 
--- the channel of this number has this handle, and there is room for what its end leaves, where it
+-- the channel of this number has this handle, and there is room for what its end leaves, if it
 -- reports each request at most once
 pub record IsReadyToClear (i c : ℕ) (x : real.ClientSide) (ks : List Opened) (logs : List (Vec Written Global)) (p : Handle × Way) : Type 0 where
   pub named : At x.names.channels.items c p.0

@@ -119,7 +119,7 @@ pub fn line_heard(names: &Names, about: Intent, notice: Notice) -> Line
     }
 }
 
-/// The line for a notice, where the message that the client read was about one that was meant so.
+/// The line for a notice, if the message that the client read was about one that was meant so.
 pub fn line_for(names: &Names, about: Intent, notice: Notice) -> Line
     ensures { line_of result
         ≡ world.line_of (intent_of about) (names_of names.now) (notice_of notice) }

@@ -12,7 +12,7 @@ use crate::history::{Intent, Line};
 use crate::naming::{line_for, line_heard};
 use ca_client_core::Notices;
 
-/// Puts these notices into the log, where the message that the client read was about
+/// Puts these notices into the log, if the message that the client read was about
 /// one that was meant so.
 pub fn tell_all(
     logs: &mut Vec<Vec<Line>>,

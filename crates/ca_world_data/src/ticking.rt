@@ -26,7 +26,7 @@ use std::alloc::AllocError;
 /// The moment is handed to a client: what it sends goes up its circuits, and its ends that were
 /// silent too long have ended.
 ///
-/// Refused, with nothing changed, only where the client itself may refuse it.
+/// Refused, with nothing changed, only if the client itself may refuse it.
 pub fn tick_client(
     moment: u64,
     client: usize,

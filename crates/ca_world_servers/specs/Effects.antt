@@ -55,7 +55,7 @@ abbrev pub BeginsNew : Effect → List (Queue (ℕ × Cause)) → Type 0
 BeginsNew (Subscribed sid sub) qs = HasNone qs (record { sid = sid; sub = sub })
 BeginsNew did qs = Unit {0}
 
--- memory lacks for what a world has of a message only where a channel was created or
+-- memory can be too little for what a world has of a message only if a channel was created or
 -- a subscription began
 abbrev pub MayLackFor : Effect → Type 0
 MayLackFor (Created sid) = Unit {0}

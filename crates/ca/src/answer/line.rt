@@ -16,7 +16,7 @@ pub struct AnswerLine<'a> {
     pub records: Option<&'a str>,
 }
 
-/// Reads the words after `answer`: none where they are not understood.
+/// Reads the words after `answer`: none if they are not understood.
 pub(crate) fn read_answer<'a>(
     alloc: Global,
     words: &'a [String],

@@ -18,7 +18,7 @@ pub struct ReplayLine<'a> {
     pub seed: Option<u64>,
 }
 
-/// Reads the words after `replay`: none where they are not understood.
+/// Reads the words after `replay`: none if they are not understood.
 pub(crate) fn read_replay<'a>(
     alloc: Global,
     words: &'a [String],
@@ -51,7 +51,7 @@ fn grammar<'a>(alloc: Global) -> Result<Command<'a>, AllocError>
         .arg(seed)
 }
 
-/// What these values mean: nothing without a file, or where the seed is no number.
+/// What these values mean: nothing without a file, or if the seed is no number.
 fn meant<'a>(file: Option<&'a str>, seed: Option<&str>) -> Option<ReplayLine<'a>>
     ensures { IsMeant (option_map (λ t. t.now) file.entry) (option_map (λ t. t.now) seed.entry)
         result }
