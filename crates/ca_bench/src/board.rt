@@ -36,7 +36,7 @@ fn board_rounds(alloc: Global, rounds: u32) -> Result<(), Refusal> {
     go_round(&board, &mut core, &mut caller, rounds)
 }
 
-/// Arm, fill, collect and recycle, so often.
+/// Arm, fill, collect and recycle, this many times.
 fn go_round(
     board: &Board,
     core: &mut CoreSeat,

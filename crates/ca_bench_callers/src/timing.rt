@@ -110,7 +110,7 @@ impl Work for Reader {
     }
 }
 
-// So many reads, of which a window's are outstanding at once.
+// This many reads, of which a window's are outstanding at once.
 fn read_all<R: Wait + Clock>(rt: &R, reader: &Reader) -> Result<(), Refusal> {
     let mut caller = reader.context.caller(rt)?;
     let mut tickets = Vec::new(reader.alloc);

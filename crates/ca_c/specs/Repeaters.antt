@@ -44,6 +44,6 @@ DoesOutgoing s n t to_before to_after before after =
     let next : Option Sent = slice_get s.sends.items s.taken in
     ShowsSend next n to_before to_after before after × (t ≡ record s { taken = if is_some next then s.taken + 1 else s.taken })
 
--- the member is one no more
+-- it is no longer a member
 abbrev pub DoesRefused : RepeaterObject → ℤ → RepeaterObject → CvzAddress → Type 0
 DoesRefused s n t to = (n ≡ pos 0) × (t ≡ record s { core = filter (λ m. not (same m (place_of to))) s.core })

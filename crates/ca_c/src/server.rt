@@ -280,7 +280,7 @@ pub extern "C" fn cvz_server_add(
     answer
 }
 
-/// Serves a record no more.
+/// Stops serving a record.
 #[unsafe(no_mangle)]
 pub extern "C" fn cvz_server_remove(alloc: Global, server: &mut CvzServer, name: &[u8]) -> i32
     ensures { Calls no_object server.old.value result server.new.value

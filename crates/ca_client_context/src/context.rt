@@ -25,7 +25,7 @@ const WAKER: Token = Token(0);
 
 const DATAGRAMS: Token = Token(1);
 
-// So many requests are made under one hold of the lock at most: some microseconds, as long as a
+// This many requests are made under one hold of the lock at most: some microseconds, as long as a
 // thread that finds the lock taken pauses between its tries.
 const AT_ONCE: usize = 32;
 
@@ -146,7 +146,7 @@ impl<L: Listener> Context<L> {
         self.issue(rt, &Request::Read(channel, data_type, count))
     }
 
-    /// Asks for the value of a channel as `get`, into the memory of a value that is used no more.
+    /// Asks for the value of a channel as `get`, into the memory of a value that is no longer used.
     pub fn get_into<R: Wait>(
         &self,
         rt: &R,
@@ -160,9 +160,9 @@ impl<L: Listener> Context<L> {
         self.issue_under(guard, &Request::Read(channel, data_type, count))
     }
 
-    /// Makes requests in order, each as `get` and `put_notify` do, and adds their tickets: one
-    /// hold of the lock serves several. The memory of the rooms, which are values that are used no
-    /// more, is used again.
+    /// Makes requests in order, each as `get` and `put_notify` do, and adds their tickets: one hold
+    /// of the lock serves several. The memory of the rooms, which are values that are no longer
+    /// used, is used again.
     ///
     /// It ends with the first that is refused, as `get` and `put_notify` refuse it, and as
     /// OutOfMemory if there is none for a ticket: the tickets of those before it were added.
@@ -309,8 +309,8 @@ impl<L: Listener> Context<L> {
         }
     }
 
-    /// Waits for the outcome of a ticket, for so long at most. A caller that waits alone moves the
-    /// bytes of circuits itself.
+    /// Waits for the outcome of a ticket, for this time at most. A caller that waits alone moves
+    /// the bytes of circuits itself.
     pub fn wait_for<R: Wait + Clock>(
         &self,
         rt: &R,
@@ -352,7 +352,7 @@ impl<L: Listener> Context<L> {
         }
     }
 
-    // Waits for a turn, of the thread of input and output or its own, for so long at most. It is
+    // Waits for a turn, of the thread of input and output or its own, for this time at most. It is
     // Left if nothing is to be waited for any more: that thread, or the ticket, has ended.
     fn wait_once<R: Wait + Clock>(
         &self,
@@ -431,7 +431,7 @@ impl<L: Listener> Context<L> {
         matches!(state, Ok(ChannelState::Live(_, _, _)))
     }
 
-    /// Waits until a channel is live, for so long at most, and says where it is then: one that is
+    /// Waits until a channel is live, for this time at most, and says where it is then: one that is
     /// not live once the time is over, or the client has ended, may be so later. Refused as
     /// StaleHandle, at once, if the handle is stale.
     pub fn wait_live_for<R: Wait + Clock>(

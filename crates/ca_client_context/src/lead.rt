@@ -27,7 +27,7 @@ impl SocketPoll {
     }
 }
 
-// Waits for so long at most. A wait that the system refuses takes as long, so that a fault that
+// Waits for this time at most. A wait that the system refuses takes as long, so that a fault that
 // lasts costs no processor.
 pub(crate) fn wait_at<R: Clock>(
     rt: &R,

@@ -15,7 +15,7 @@ use std::net::Net;
 // At most this many messages of a circuit are read in a turn.
 const STEPS: usize = 512;
 
-// A socket with this many faults is let go: `turn_over` asks for fewer.
+// A socket with this many faults is dropped: `turn_over` asks for fewer.
 const MOST_FAULTS: u64 = 1 << 63;
 
 // A circuit that could not be connected is tried again after this many milliseconds.

@@ -20,8 +20,8 @@ const TOGETHER: u64 = 256;
 // first that was not sent.
 const SOME: u64 = 8;
 
-// A thread tries so often to have the lock before it sleeps: it is mostly held for as long as a few
-// requests take, and to be woken takes longer.
+// A thread tries this often to have the lock before it sleeps: it is mostly held for as long as a
+// few requests take, and to be woken takes longer.
 const TRIES: usize = 64;
 
 // Between two tries it pauses, so that whoever has the lock can make several requests with what
@@ -275,7 +275,7 @@ impl<L: Listener> Shared<L> {
         Place::Sockets
     }
 
-    // Waits for the sockets, for so long or a turn at most.
+    // Waits for the sockets, for this time or a turn at most.
     pub(crate) fn watch<R: Wait + Clock>(&self, rt: &R, most: Duration) {
         let mut guard = self.sockets.lock(rt);
         guard.watch(rt, most);
@@ -456,7 +456,7 @@ impl<L: Listener> Shared<L> {
         self.turns.load(Ordering::SeqCst)
     }
 
-    // Waits until another turn is over, for so long at most, and says whether the thread of input
+    // Waits until another turn is over, for this time at most, and says whether the thread of input
     // and output has ended. It may return before that.
     //
     // The time ends a wait while a listener keeps that thread, and a wait that a listener makes.

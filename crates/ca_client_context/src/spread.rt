@@ -2,7 +2,7 @@ use ca_arena::Handle;
 use ca_text::ARENA_SLOTS;
 use std::alloc::{AllocError, Global};
 
-// Subscriptions of a circuit, at most: a server refuses one more. So many channels with one
+// Subscriptions of a circuit, at most: a server refuses one more. This many channels with one
 // each are on a circuit.
 const EACH: u32 = 288;
 

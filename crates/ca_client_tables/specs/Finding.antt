@@ -77,7 +77,7 @@ opened t = record { channels = t.channels; circuits = with_all_held t.opening t.
 abbrev pub stood : Standing → Handle → Table Channel → Table Channel
 stood s h t = with_changed (λ (here : Channel). record here { standing = s }) h t
 
--- the client that searches no more for a channel that was found
+-- the client that no longer searches for a channel that was found
 abbrev pub paused_for : Option Handle → Client → Client
 paused_for None x = x
 paused_for (Some h) x = record x { searches = with_one paused (wire_of h) x.searches }
@@ -115,8 +115,8 @@ undone (Some f) t = found_undone f t
 abbrev pub unopened : Halfway → Tables
 unopened t = record { channels = t.channels; circuits = t.circuits; order = t.order }
 
--- A search reply that came from this address had its effect, but that this channel
--- is searched for still.
+-- A search reply that came from this address had its effect, except that this channel
+-- is still searched for.
 abbrev pub HasFound : Tables → Address → Fields → Option Handle → Tables → Type 0
 HasFound old from m found new =
     (x : Client) → tables_of x ≡ old

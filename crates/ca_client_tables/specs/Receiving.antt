@@ -124,7 +124,7 @@ settled d x = record x { searches = settled_in x.moment d x.searches }
 abbrev pub all_settled : List Received → Client → Client
 all_settled ds x = record x { searches = all_settled_in x.moment ds x.searches }
 
--- A message from this address had its effect, but that the searches are still to follow.
+-- A message from this address had its effect, except that the searches are still to follow.
 abbrev pub HasReceived : Parts → Address → Fields → Received → Parts → Type 0
 HasReceived old from m d new =
     (x : Client) → parts_of x ≡ old
@@ -141,7 +141,8 @@ abbrev pub OpensOrUndoes : HalfParts → Vec Received Global → Result (Vec Rec
 OpensOrUndoes old done (Ok ds) new = (ds ≡ done) × (new ≡ opened_parts old)
 OpensOrUndoes old done (Err _) new = (old.opening ≢ []) × (new ≡ unopened_parts (all_undone done.items old))
 
--- These messages had their effects, one after another, but that the searches are still to follow.
+-- These messages had their effects, one after another, except that the searches
+-- are still to follow.
 abbrev pub HaveReceived : Parts → Address → List Fields → List Received → Parts → Type 0
 HaveReceived old from ms ds new =
     (x : Client) → parts_of x ≡ old

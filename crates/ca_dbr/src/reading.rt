@@ -147,8 +147,8 @@ pub fn read_value(
     read_value_into(alloc, None, number, count, bytes)
 }
 
-/// Reads the image of n elements, as `read_value`, into the memory of a value that is used no more,
-/// if there is one and its elements are of that type.
+/// Reads the image of n elements, as `read_value`, into the memory of a value that is no longer
+/// used, if there is one and its elements are of that type.
 #[inline(always)]
 pub fn read_value_into(
     alloc: Global,

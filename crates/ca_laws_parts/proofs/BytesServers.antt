@@ -76,7 +76,7 @@ pub record Like (c d : Joined) : Type 0 where
   pub side : (x : ClientSide) → client_end x d ≡ client_end x c
   pub up : d.lists.up ≡ c.lists.up
 
--- and its server's end is as it was, but that it sent these messages more
+-- and its server's end is as it was, except that it sent these messages more
 pub record Tells (c d : Joined) (more : List Fields) : Type 0 where
   pub like : Like c d
   pub is_open : d.lists.server_open ≡ c.lists.server_open

@@ -127,7 +127,7 @@ pub subscription-elsewhere : (on : Handle) (x : Client) (g : Handle) (d : Subscr
 subscription-elsewhere on x g d is away =
     with-others on x (without_subscription g x) refl (alike-itself (was_sent_on on) x.requests) (freed-alike (has_id x.channels on) x.subscriptions g d is away)
 
--- the ids of a channel drain no more on its circuit
+-- the ids of a channel no longer drain on its circuit
 drained-elsewhere : (c on h : Handle) (x : Client) → (c ≡ on → ⊥) → Attached x → ((ch : Channel) → under x.channels h ≡ Some ch → is_on_in was_live on ch ≡ false) → HoldAlike on x (without_drained c h x)
 drained-elsewhere c on h x other attached never =
     with-others on x (without_drained c h x) refl

@@ -168,7 +168,7 @@ module _ (on : Handle) (x : Client) (c : Handle) (m : Fields) (e : Conduct) (hea
   read-failed known (Some (h, Doomed)) is =
       quiet known (becomes (without_channel x h)) is refl (backs-channels (without_channel x h).channels (back-freed on x.channels h) (without_channel x h) refl refl refl)
 
-  -- the ids of a channel drain no more, and it is elsewhere
+  -- the ids of a channel no longer drain, and it is elsewhere
   backs-drained : (h : Handle) (z : Client) → BacksOn on x.channels z.channels → z.requests ≡ (without_drained c h x).requests → z.subscriptions ≡ (without_drained c h x).subscriptions
       → Backs on x z
   backs-drained h z back requests subscriptions = record {

@@ -66,7 +66,7 @@ abbrev pub sent_on : Handle → List Sending → List Fields
 sent_on c sent = map (λ (s : Sending). s.message) (filter (λ (s : Sending). same_handle s.circuit c) sent)
 
 -- what the client did on a circuit by the time that a call sends: as a circuit is connected, also
--- once more under the same handle, it did nothing on it yet; and a step on it read a message
+-- again under the same handle, it did nothing on it yet; and a step on it read a message
 abbrev pub before_sending : Handle → Call → Conduct → Conduct
 before_sending c (Connected d None) e = if same_handle d c then nothing_done else e
 before_sending c (Step d read answer) e = if same_handle d c then with_read read e else e

@@ -121,7 +121,7 @@ pub fn records_agree_with_their_log()
         → Life circuits server life (y ++ Added n s ∷ [])
         (take behind cs ++ new_record s ∷ drop behind cs)
         (take behind rs ++ record_begun n s ∷ drop behind rs) (n + 1) }
-    // Nothing happens but that circuits go on.
+    // Nothing happens except that circuits go on.
     ensures later { (old new : List Joined) (server life : ℕ) (y : List Entry)
         (cs : List Record) (rs : List RecordSide) (n : ℕ) → AreLater old new
         → Life old server life y cs rs n → Life new server life y cs rs n }

@@ -343,7 +343,7 @@ removal-none name rs n k r v there = all (filter (λ (x : RecordSide). bytes_eq 
       | inr new ↦ all xs (new.0, new.2)
     ]
 
--- what is withdrawn waits no more
+-- what is withdrawn no longer waits
 withdrawn-over : (r : ℕ) (es : List Entry) (ps : List (ℕ × ℕ)) (n k : ℕ) → NoWaits es → In es (Withdrawn n k) → In (fold (waiting_after r) ps es) (n, k) → ⊥
 withdrawn-over r [] ps n k none there still = none_at there.0 (Withdrawn n k) there.1
 withdrawn-over r (e ∷ es) ps n k none (zero, at) still = elim (more-or r es (waiting_after r ps e) (n, k) still) [

@@ -142,7 +142,7 @@ pub record IsEndAfter (i : ℕ) (n : Names) (sent : List Sending) (a j : Joined)
   pub heard : length j.lists.heard ≡ length a.lists.heard
   pub handled : length j.lists.handled ≡ length a.lists.handled
 
--- The same, but that the client may have read a message there.
+-- The same, except that the client may have read a message there.
 pub record IsEnd (i : ℕ) (n : Names) (sent : List Sending) (a j : Joined) : Type 0 where
   pub client : j.client ≡ a.client
   pub handle : j.at_client ≡ a.at_client

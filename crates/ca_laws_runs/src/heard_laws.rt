@@ -39,7 +39,7 @@ pub fn what_is_read_is_about_what_it_finds()
 
 /// What is held of all circuits stays so over every event, and over every run, as far as it is
 /// known of each message that a server takes what it is about (`IsOwnNext`). Of clients nothing is
-/// asked for but that setting and events are well-formed.
+/// asked for except that setting and events are well-formed.
 pub fn what_is_held_by_what_servers_take()
     ensures event { (s : Setting) (es : List Event) (stopped : Option Event) (w new : World)
         (e : Event) → IsSetting s → AreEvents es → Runs s es stopped w → Happens w e new

@@ -72,7 +72,7 @@ pub fn a_servers_step_keeps_what_is_held()
 
 /// What is held of all circuits stays so over every event, and over every run, as far as it is
 /// known of each message that an end takes what it is about: `IsOwnNext` at a server, and `IsHeard`
-/// at a client. Nothing else is asked for but that setting and events are well-formed.
+/// at a client. Nothing else is asked for except that setting and events are well-formed.
 pub fn what_is_held_in_runs()
     ensures begins { (s : Setting) → AllCircuitsHeld (opening s) }
     ensures event { (s : Setting) (es : List Event) (stopped : Option Event) (w new : World)

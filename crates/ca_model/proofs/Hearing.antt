@@ -92,7 +92,7 @@ module _ (c : Handle) (x : Client) where
       let found = channel-on x c m.p1 h Doomed at in
       keeps-doing x (without_channel x h) [] [] e is (keeps-gone h x (bare-so h found.0 Doomed found.1 found.3 refl))
 
-  -- the ids of a channel drain no more
+  -- the ids of a channel no longer drain
   pub drained-keeps : (h : Handle) → Keeps x (without_drained c h x)
   drained-keeps h =
       let test : Subscription → Bool = λ (s : Subscription). is_to h s && drains_in c s.stage in

@@ -268,7 +268,7 @@ abbrev pub clearing_sent : Handle → Standing → List Sending
 clearing_sent h (On c (phase.Live n rights)) = clear_sent c n.sid h ∷ []
 clearing_sent h s = []
 
--- a circuit that is not connected, and on which no channel is any more, is let go
+-- a circuit that is not connected, and that no channel is on any more, is dropped
 abbrev pub unwanted : Handle → Client → Client
 unwanted c x =
     if length (channels_on (λ (p : Phase). true) c x) == 0

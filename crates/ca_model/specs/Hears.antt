@@ -122,7 +122,7 @@ failed x (Some (h, phase.Creating rights)) = becomes (searched_again x h)
 failed x (Some (h, phase.Doomed)) = becomes (without_channel x h)
 failed x there = becomes x
 
--- the ids of a channel whose clear is answered drain no more
+-- the ids of a channel whose clear is answered no longer drain
 abbrev pub without_drained : Handle → Handle → Client → Client
 without_drained c h x =
     with_requests (request.channel_gone h x.requests) (record x { subscriptions = monitor.channel_drained c h x.subscriptions })

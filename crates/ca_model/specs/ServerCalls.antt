@@ -88,7 +88,7 @@ lacking gone h (Open e) = if gone h then Ended why.OutOfMemory e.link.output els
 lacking gone h (Ended w left) = Ended w left
 
 -- The next put that waits is applied, and reaches all subscriptions; or nothing waits, and only a
--- circuit that lacks memory ends.
+-- circuit without memory ends.
 abbrev pub after_next : List ℕ → List WaitingPut → (gone : Handle → Bool) → Server → Server
 after_next name [] gone y =
     record y { circuits = with_each (lacking gone) y.circuits; records = withdrawn (λ (p : Put). gone p.circuit) y.records }

@@ -221,8 +221,8 @@ pub data Stepped : Type 0 where
   Handled NeedBytes OutputFull : Stepped
   Closed : Why → (left : List ℕ) → Stepped
 
--- Memory may lack for a message with a payload, one that is answered, and one by which a write is
--- applied or waits or a subscription begins.
+-- There may be no memory for a message with a payload, one that is answered, and one by which a
+-- write is applied or waits or a subscription begins.
 abbrev pub NeedsMemory : Fields → List Fields → Action → Type 0
 NeedsMemory m replies (Applies name value busies) = Unit {0}
 NeedsMemory m replies (Waits name value) = Unit {0}

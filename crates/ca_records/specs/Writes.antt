@@ -42,7 +42,7 @@ Takes s r put v (Applied false) next =
 Takes s r put v Waiting next = (p : Put) × (put ≡ Some p) × (must_wait r put ≡ true) × (next ≡ with_waiting (record { put = p; value = v }) r)
 Takes s r put v (Refused status) next = ⊥
 
--- Memory may lack for a write that waits, and for one that is not of the record's type.
+-- There may be no memory for a write that waits, and for one that is not of the record's type.
 abbrev pub NeedsMemory : Record → Option Put → Elements → Type 0
 NeedsMemory r put e = (must_wait r put ≡ true) ⊎ (base_of e ≢ base_of r.state.value)
 

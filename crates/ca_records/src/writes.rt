@@ -74,7 +74,7 @@ impl ServedRecords {
             .put_one(put, number, bytes, stamp)
     }
 
-    /// A value that the record at this place had and has no more, if there is one: its
+    /// A value that the record at this place had and no longer has, if there is one: its
     /// memory may hold the next.
     pub fn take_spare(&mut self, place: usize) -> Option<Value>
         requires { IsThere self.old place }

@@ -13,7 +13,7 @@ use std::alloc::{AllocError, Global};
 use std::marker::Model;
 use std::mem;
 
-// So many are listed before any is taken out.
+// This many are listed before any is taken out.
 const LEAST_LIMIT: usize = 16;
 
 /// Those that are over are taken out of a list once it is this many times as long as it

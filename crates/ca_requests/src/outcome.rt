@@ -19,7 +19,7 @@ pub fn image_outcome(alloc: Global, message: &Message) -> Result<Outcome, AllocE
 }
 
 /// What the reply to a read, or an update, means, as `image_outcome`, into the memory of a value
-/// that is used no more, if there is one and its elements are of that type.
+/// that is no longer used, if there is one and its elements are of that type.
 #[inline(always)]
 pub fn image_outcome_into(
     alloc: Global,

@@ -40,7 +40,7 @@ pub struct Requests {
     circuits: Vec<Line>,
     // Those of each channel, by its index.
     channels: Vec<Line>,
-    // Values that are used no more: those that come take their memory.
+    // Values that are no longer used: those that come take their memory.
     spare: Vec<Value>,
 }
 
@@ -212,8 +212,8 @@ impl Requests {
         Ok(Some((handle, outcome)))
     }
 
-    /// A value that is used no more gives its memory to one that comes. Without memory to keep it,
-    /// or with many kept, it is dropped.
+    /// A value that is no longer used gives its memory to one that comes. Without memory to keep
+    /// it, or with many kept, it is dropped.
     pub fn recycle(&mut self, value: Value)
         ensures { self.new ≡ self.old }
     {

@@ -3,7 +3,7 @@ use Rattle.std.specs.Prelude.{ℕ, Bool, false, nat_le, if◌then◌else◌, Lis
 use Rattle.std.specs.Option.{option_map}
 use Rattle.ca_search.specs.Clock.{Clock, fresh, searched_at}
 
--- its name, and its clock, which a paused one has not
+-- its name, and its clock, which a paused one does not have
 pub record Channel : Type 0 where
   pub name : List ℕ
   pub clock : Option Clock

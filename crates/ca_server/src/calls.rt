@@ -183,7 +183,7 @@ impl<L: Ledger> State<L> {
         self.core.post(name, value, meta, mask)
     }
 
-    /// Serves the record of this name no more. Its puts go with it: those that
+    /// Stops serving the record of this name. Its puts go with it: those that
     /// wait are never applied.
     ///
     /// Refused as UnknownRecord if no record has the name. A refusal changes nothing.

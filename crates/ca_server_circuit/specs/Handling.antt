@@ -127,7 +127,7 @@ AsksMemory m replies (Adds s) = Unit {0}
 AsksMemory m replies (Names p) = (text_in m.payload ≢ []) ⊎ (replies ≢ [])
 AsksMemory m replies action = replies ≢ []
 
--- Whatever is due for the message, memory may lack for it. That something is always
+-- Whatever is due for the message, there may be no memory for it. That something is always
 -- due is not shown here.
 abbrev pub MayLack : Knows → Fields → Type 0
 MayLack k m = (replies : List Fields) (action : Action) → Due k m replies action → AsksMemory m replies action

@@ -75,7 +75,7 @@ pub(crate) fn begin(
 }
 
 /// The elements of a put to this record under these rights, or its first fault before they are
-/// read. They may take the memory of a value that is used no more.
+/// read. They may take the memory of a value that is no longer used.
 #[inline(always)]
 fn read_elements(
     alloc: Global,

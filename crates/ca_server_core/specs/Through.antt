@@ -55,7 +55,7 @@ pub record FollowsAndPumps (did : FollowUp) (h : Handle) (n : ℕ) (t : Table Se
   pub tries : TriesAt did (more_applied (is_wrote did) n) mid left k last u
   pub pumps : PumpsIn last h u after x
 
--- The same, but that the end of the circuit has ended before its put was looked for.
+-- The same, except that the end of the circuit has ended before its put was looked for.
 pub record FollowsAndEnds (did : FollowUp) (h : Handle) (n : ℕ) (t : Table ServerCircuit) (s : Store) (k : ℕ) (after : Table ServerCircuit) (x : Store) : Type 0 where
   pub follows : Follows did h t s after x
   pub counts : k ≡ more_applied (is_wrote did) n

@@ -46,8 +46,8 @@ impl ServerCore {
 
 /// The value of the record at this place reaches all subscriptions on it whose mask shares a bit
 /// with this one, on all circuits. An end without memory for an update has ended. The circuits in
-/// the record's list are visited, and no other. A list may have some that watch the record no more:
-/// these are taken out, and get nothing. It says whether there may be any.
+/// the record's list are visited, and no other. A list may have some that no longer watch the
+/// record: these are taken out, and get nothing. It says whether there may be any.
 #[inline(always)]
 pub(crate) fn post_to_all(
     circuits: &mut HeldTable<Circuit>,
@@ -126,8 +126,8 @@ fn post_to_one(
     post_to_this(circuits, records, watchers, place, mask, watcher, circuit);
 }
 
-/// A post reaches this circuit, which is at this place of the list. It is taken out if it watches
-/// the record no more.
+/// A post reaches this circuit, which is at this place of the list. It is taken out if it no
+/// longer watches the record.
 #[inline(always)]
 fn post_to_this(
     circuits: &mut HeldTable<Circuit>,

@@ -15,7 +15,7 @@ use ca_server_watchers::Watchers;
 use ca_text::Refusal;
 
 impl ServerCore {
-    /// Serves the record of this name no more. Its puts go with it: those that wait are never
+    /// Stops serving the record of this name. Its puts go with it: those that wait are never
     /// applied. On all circuits each channel to it gets a SERVER_DISCONN, loses its subscriptions
     /// with their updates, and is retired: its SID stands for nothing until it is cleared. A
     /// circuit's end without memory for a SERVER_DISCONN has ended.

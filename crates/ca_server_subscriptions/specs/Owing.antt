@@ -57,7 +57,7 @@ module _ {E : Type 0} where
     pub apart : AreApart (keys_of owed)
     pub ordered : AreInOrder owed
 
-  -- A subscription begins as the queues do it; or memory lacks, and all is as it was.
+  -- A subscription begins as the queues do it; or there is no memory, and all is as it was.
   abbrev pub MayBegin : List (Queue E) → SubKey → E → Result ℕ Refusal → List (Queue E) → Type 0
   MayBegin old key v (Err refusal.OutOfMemory) new = new ≡ old
   MayBegin old key v r new = Begins old key v r new

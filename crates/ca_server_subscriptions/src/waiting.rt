@@ -79,7 +79,7 @@ impl Waiting {
         }
     }
 
-    // Adds a subscription with its first update, as the queues do. It may lack memory for
+    // Adds a subscription with its first update, as the queues do. It may be without memory for
     // those beside them too.
     pub(crate) fn begin(&mut self, key: SubKey, update: Update) -> Result<usize, Refusal>
         requires { HasNone self.old key }
@@ -212,8 +212,8 @@ impl Waiting {
         }
     }
 
-    // Takes an update from the first queue that may give one, as the queues do. It may lack memory
-    // if one may be taken.
+    // Takes an update from the first queue that may give one, as the queues do. It may be without
+    // memory if one may be taken.
     pub(crate) fn take(&mut self) -> Result<Option<(usize, SubKey, Update)>, AllocError>
         ensures ok { IfOk result (λ taken. Takes self.old taken self.new) }
         ensures some { OnErr result ((key : SubKey) × ((v : Stored) × IsNext self.old key v)) }
@@ -350,7 +350,7 @@ fn settle(
     Ok(())
 }
 
-// So many copies of the update.
+// This many copies of the update.
 fn copies_of(alloc: Global, update: &Update, n: usize) -> Result<Vec<Update>, AllocError>
     ensures { IfOk result (λ copies. AreCopies n update.now copies.items) }
 {

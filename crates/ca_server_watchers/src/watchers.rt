@@ -166,7 +166,7 @@ impl Watchers {
         Ok(())
     }
 
-    /// The circuit at this place of the list of this record watches it no more. The last of
+    /// The circuit at this place of the list of this record no longer watches it. The last of
     /// the list comes there.
     pub fn forget(&mut self, name: &[u8], place: usize)
         ensures { LeavesAt name.now place self.old self.new }

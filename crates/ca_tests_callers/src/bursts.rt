@@ -23,7 +23,7 @@ const EVENT_ADD: u16 = 1;
 
 const CREATE: u16 = 18;
 
-/// So many come together, for which a socket has room: those of two turns are read at once in any
+/// This many come together, for which a socket has room: those of two turns are read at once in any
 /// case, and the others take two turns more.
 const DATAGRAMS: u32 = 200;
 

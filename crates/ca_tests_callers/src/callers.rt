@@ -82,7 +82,7 @@ fn records(alloc: Global) -> Result<RecordFile, Refusal> {
     })
 }
 
-/// Uses up the tickets, has four callers collect them, and asks once more.
+/// Uses up the tickets, has four callers collect them, and asks again.
 fn talk<R: Threads + Wait + Clock + Copy + Send + 'static, W: Write>(
     rt: R,
     alloc: Global,

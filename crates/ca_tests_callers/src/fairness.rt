@@ -24,8 +24,8 @@ const PUTS: u8 = 17;
 /// A call of the device takes this many milliseconds.
 const CALL: u64 = 50;
 
-/// So many calls may begin between the put on the third record and its own, at most: two, and what
-/// a busy machine adds. 32 begin if it has to wait for all others.
+/// This many calls may begin between the put on the third record and its own, at most: two, and
+/// what a busy machine adds. 32 begin if it has to wait for all others.
 const CALLS_BETWEEN: u64 = 20;
 
 /// The records are SLO and a letter.

@@ -8,7 +8,7 @@ use std::net::{Net, SocketAddr, TcpListener, TcpStream, UdpSocket};
 use std::thread;
 use std::time::{Clock, Duration};
 
-/// A client is waited for so long.
+/// A client is waited for this long.
 const SECONDS: u64 = 10;
 
 const CREATE: u16 = 18;
@@ -16,7 +16,7 @@ const CREATE: u16 = 18;
 /// The name of the record, as a search has it: with zeros up to 8 bytes.
 pub(crate) const TEMP: [u8; 8] = *b"TEMP\0\0\0\0";
 
-/// So many datagrams are looked through for a search.
+/// This many datagrams are looked through for a search.
 const LOOKED_THROUGH: u64 = 1_000;
 
 /// Where searches and circuits of a client come in.

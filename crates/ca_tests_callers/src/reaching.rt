@@ -32,7 +32,7 @@ const CIRCUITS: u16 = 99;
 /// Each at a server of its own, and all circuits stay until the end.
 const ROWS: u64 = 4;
 
-/// So many messages are looked through for one.
+/// This many messages are looked through for one.
 const LOOKED_THROUGH: u64 = 1_000;
 
 /// A caller that waits for a read, which is answered at the end.

@@ -24,8 +24,8 @@ impl Device for Prompt {
 }
 
 /// Serves records at these sockets, which are bound to one port, until n circuits were closed, or
-/// without a number for ever. Its device returns at once, and beacons go to this host's repeater.
-/// Tells where it serves on the sink and a refusal on `err`, and returns the exit status.
+/// without end if no number is given. Its device returns at once, and beacons go to this host's
+/// repeater. Tells where it serves on the sink and a refusal on `err`, and returns the exit status.
 pub fn serve_run<
     R: Threads
         + Wait

@@ -139,7 +139,7 @@ fn add_counted(
     }
 }
 
-// What the event is to which a server answered so: out of memory is no refusal of the server's.
+// What the event is to which a server answered so. Being out of memory is no refusal of a server.
 fn settle(refusal: Refusal) -> Result<(), Refusal>
     ensures { Settles refusal result }
 {

@@ -95,8 +95,8 @@ impl World {
     }
 }
 
-// A step of the end of a circuit at this server. All that may lack memory but the
-// replies is made before it.
+// A step of the end of a circuit at this server. All that needs memory, except the
+// replies, is made before it.
 fn step_at(
     alloc: Global,
     circuit: usize,

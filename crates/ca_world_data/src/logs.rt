@@ -29,7 +29,7 @@ pub fn push_line(logs: &mut Vec<Vec<Line>>, life: usize, line: Line)
     }
 }
 
-/// Puts the refusal of a call into the log. Want of memory is no refusal of the call.
+/// Puts the refusal of a call into the log. Being out of memory is no refusal of the call.
 pub fn note(logs: &mut Vec<Vec<Line>>, life: usize, refusal: Refusal) -> Result<(), Refusal>
     requires { HasRoom 1 life logs.old.items }
     ensures { Notes life refusal (lines_in logs.old.items) result (lines_in logs.new.items) }

@@ -1,6 +1,6 @@
 //! What a message that a server handled leaves: its replies and its step on the circuit, the
-//! channels and subscriptions there, and the puts of the records. If memory is needed, a call that
-//! lacks it changes nothing.
+//! channels and subscriptions there, and the puts of the records. If memory is needed, a call
+//! without it changes nothing.
 ghost use Rattle.std.specs.Prelude.{◌≡◌, ◌+◌, ◌++◌, ◌≤◌, OnErr, OnOk, false, true, if◌then◌else◌, length, map, vec_capacity, vec_len};
 ghost use Rattle.std.specs.Str.{bytes_eq};
 ghost use Rattle.ca_queue.specs.Circuit.{HasNone};
@@ -99,7 +99,7 @@ pub fn begin_standing(joined: &mut Joined, key: SubKey, place: usize) -> Result<
     Ok(())
 }
 
-/// A subscription is over: it stands no more, and its numbers wait no more.
+/// A subscription is over: its numbers no longer wait.
 pub fn end_standing(joined: &mut Joined, key: SubKey)
     requires { AreSeated (joined_of joined.old) }
     ensures { joined_of joined.new ≡ world.without_standing (same key) (joined_of joined.old) }

@@ -1,5 +1,5 @@
-//! A record of a server is removed: the circuits with channels to it lose them, and
-//! it is served no more.
+//! A record of a server is removed: the circuits with channels to it lose them, and it
+//! is no longer served.
 ghost use Rattle.std.specs.Prelude.{ℕ, ◌≡◌, ◌≤◌, ◌+◌, ◌++◌, ◌<◌, IfOk, true, OnOk, filter, if◌then◌else◌, length, map, not, take, vec_capacity, vec_len};
 ghost use Rattle.std.specs.Str.{bytes_eq};
 ghost use Rattle.ca_queue.specs.Queue.{cancelled};
@@ -165,7 +165,7 @@ fn created_at(sid: u32, creations: &[Creation]) -> usize
     0
 }
 
-// Subscriptions on these channels are over, and their numbers wait no more.
+// Subscriptions on these channels are over, and their numbers no longer wait.
 pub(crate) fn drop_lost(
     standing: &mut Vec<Standing>,
     queues: &mut [ListQueue<(usize, Cause)>],
@@ -244,7 +244,7 @@ fn tell_withdrawn(all: &mut Vec<Entry>, waiting: &[PutPlace]) -> Result<(), Allo
     Ok(())
 }
 
-/// The record of this name is served no more.
+/// The record of this name is no longer served.
 pub fn forget_record(records: &mut Vec<RecordSide>, name: &[u8])
     ensures { map record_of records.new.items
         ≡ filter (λ r. not (bytes_eq r.name name.now)) (map record_of records.old.items) }

@@ -83,7 +83,7 @@ impl Both {
         say_yes(out, "and cleared at once:", is_cleared)
     }
 
-    /// So many channels, each opened once the one before is searched for, with the searches.
+    /// This many channels, each opened once the one before is searched for, with the searches.
     fn opened<R: Wait + Clock>(
         &mut self,
         rt: &R,
