@@ -19,34 +19,34 @@ use Rattle.ca_model.specs.Channels.{Lasts, Meant}
 use Rattle.ca_model.specs.Channels.{OfCircuits, OfClients, Stands, Suits, before, named, until, updates}
 use Rattle.ca_model.specs.Posts.{matching}
 
--- The message at place k was handled on record r: that of the channel open then under its SID.
+-- The message at place k was handled on record r: that of the channel that was open then under its SID.
 abbrev pub Acted : Circuit → List Entry → (k r : ℕ) → Type 0
 Acted c y k r =
     (s : Sent) × (h : Step) × (i l : ℕ) × At c.up k s × At c.handled k h
     × IsOpen (before c k h) (take h.logged y) i l (sid_in s.message) r
 
--- When it reads the message at place j, the client takes the id for that of its message at place k:
--- the last so far that gave it.
+-- When it reads the message at place j, the client takes the id for that of its message at place k: the last so far
+-- that gave it.
 abbrev pub Took : Circuit → (j : ℕ) → Id → (k : ℕ) → Type 0
 Took c j id k =
     (s : Sent) × At c.up k s × Gives s.message id × (k < until c j)
     × ((l : ℕ) (r : Sent) → k < l → l < until c j → At c.up l r → Gives r.message id → ⊥)
 
--- The id in the message at place j is taken for what the client's message at place p is about, and
--- was not given again since.
+-- The id in the message at place j is taken for what the client's message at place p is about, and was not given again
+-- since.
 abbrev pub TakesOwn : Circuit → (j p : ℕ) → Id → Type 0
 TakesOwn c j p id =
     (k number : ℕ) × (s r : Sent) × Took c j id k × (k ≤ p) × At c.up k s × At c.up p r
     × (named id s.intent ≡ Some number) × (named id r.intent ≡ Some number)
 
--- The EVENT_ADD s at place k was accepted in step h: handled on record r, refused by no reply.
+-- The EVENT_ADD s at place k was accepted in step h: it was handled on record r, and no reply refused it.
 abbrev pub Accepted : Circuit → List Entry → (k r : ℕ) → Sent → Step → Type 0
 Accepted c y k r s h =
     (channel number : ℕ) × At c.up k s × (s.intent ≡ On channel (Subscribe number)) × At c.handled k h × Acted c y k r
     × ((j : ℕ) (t : Told) → At c.down j t → t.place ≡ k → t.cause ≡ Reply → ⊥)
 
--- A message has its cause: an update an accepted EVENT_ADD; a SERVER_DISCONN a channel that was
--- open when its record was removed.
+-- A message has its cause: an update an accepted EVENT_ADD; a SERVER_DISCONN a channel that was open when its record
+-- was removed.
 abbrev pub HasCause : Circuit → List Entry → Told → Cause → Type 0
 HasCause c y t Reply = Unit {0}
 HasCause c y t (Update item) = (r : ℕ) × (s : Sent) × (h : Step) × Accepted c y t.place r s h
@@ -63,9 +63,9 @@ module _
   abbrev pub IsBadChannel : Circuit → (k j : ℕ) → Type 0
   IsBadChannel c k j = (m : Fields) × IsReply c k j m × Means m (Failed (record { number = bad_channel }))
 
-  -- 1. A message on a channel is handled on the record that the channel names. BADCHID answers it
-  -- only if that record was removed, and then each use of it. A live channel is open at the server
-  -- under its SID; its record is there, or its SERVER_DISCONN unread. All names are kept.
+  -- 1. A message on a channel is handled on the record that the channel names. BADCHID answers it only if that record
+  -- was removed, and then answers each use of it. A live channel is open at the server under its SID; its record is
+  -- there, or a SERVER_DISCONN for it is unread. Channels and records keep their names.
   pub record ActsOnRecord (n : ℕ) (c : Circuit) (x : List Line) (y : List Entry) : Type 0 where
     pub acts : (k channel : ℕ) (ask : Ask) → k < length c.handled → Meant c k (On channel ask) → (ask ≡ Create → ⊥)
         → (r : ℕ) × Acted c y k r × IsNamed x y channel r
@@ -77,9 +77,9 @@ module _
         × (c.server_open ≡ true → (In y (Removed r) → ⊥) ⊎ IsUnread c k)
     pub names : KeepNames x y
 
-  -- The message at place k got the replies due, each once, in its step, which logged what was due,
-  -- and besides only withdrawals. A late reply to a put is there only once the put is finished, and
-  -- then it is there if the server's end is open.
+  -- The message at place k got the replies due, each once, in its step, which logged what was due, and besides only
+  -- withdrawals. A late reply to a put is there only once the put is finished, and then it is there if the server's end
+  -- is open.
   pub record Answered (n : ℕ) (c : Circuit) (y : List Entry) (k : ℕ) (h : Step) : Type 0 where
     pub s : Sent
     pub at : At c.up k s
@@ -98,9 +98,9 @@ module _
     pub comes : (m : Fields) → late ≡ Some m → IsFinished n c y k s → c.server_open ≡ true → IsReply c k place m
     pub next : (l : ℕ) (g : Step) → k < l → At c.handled l g → h.sent + length replies ≤ g.sent
 
-  -- 2. On a circuit each message of the client is what was meant, and each of the server has its
-  -- cause, handled before; no creation has two SERVER_DISCONNs; an id is taken for what the cause
-  -- is about; each handled message is answered; and steps are in order.
+  -- 2. On a circuit each message of the client is what was meant, and each of the server has its cause, handled before;
+  -- no creation has two SERVER_DISCONNs; an id is taken for what the cause is about; each handled message is answered;
+  -- and steps are in order.
   pub record AnswersOwn (n : ℕ) (c : Circuit) (x : List Line) (y : List Entry) : Type 0 where
     pub asked : (k : ℕ) (s : Sent) → At c.up k s → Suits s.intent s.message
     pub caused : (j : ℕ) (t : Told) → At c.down j t → HasCause c y t t.cause
@@ -111,8 +111,8 @@ module _
     pub answered : (k : ℕ) (h : Step) → At c.handled k h → Answered n c y k h
     pub in_order : AreSteps c.handled c.up c.down y × AreSteps c.heard c.down c.up x
 
-  -- Line i of a client's log was told when a message was read that was sent for one with this
-  -- intent, which the caller had not ended, and that means this outcome.
+  -- Line i of a client's log was told when a message was read that was sent for one with this intent, which the caller
+  -- had not ended, and that means this outcome.
   pub record Reads (w : World) (life : ℕ) (x : List Line) (i : ℕ) (intent : Intent) (o : Outcome) : Type 0 where
     pub n : ℕ
     pub c : Circuit
@@ -125,8 +125,8 @@ module _
     pub held : IsHeld (take i x) intent
     pub means : Means t.message o
 
-  -- A channel is lost in line i: told live before, and not lost or cleared since. Its circuit has
-  -- ended at the client, or the step that told line i read the SERVER_DISCONN for that creation.
+  -- A channel is lost in line i: it was told live before, and was not lost or cleared since; and its circuit has ended
+  -- at the client, or in the step that told line i the SERVER_DISCONN for that creation was read.
   pub record LosesLive (w : World) (life : ℕ) (x : List Line) (i channel : ℕ) : Type 0 where
     pub l : ℕ
     pub by : Reads w life x l (On channel Create) Done
@@ -135,9 +135,9 @@ module _
     pub why : (by.c.client_open ≡ false) ⊎ ((j : ℕ) × (t : Told) × (h : Step) × At by.c.down j t × At by.c.heard j h
         × (t.cause ≡ Removal) × (t.place ≡ by.t.place) × (h.logged ≤ i) × (i < h.after))
 
-  -- And in a client's log: a notice says what the reply to its own message means, or Disconnected
-  -- if that is lost; a read, write or subscription has one notice at most; a call is accepted once;
-  -- and each accepted request is at one place.
+  -- And in a client's log: a notice tells what the reply to its own message means, or Disconnected if that is lost; a
+  -- read, write or subscription has one notice at most; a call is accepted once; and each accepted request is at one
+  -- place.
   pub record CompletesOnce (w : World) (life : ℕ) (x : List Line) : Type 0 where
     pub told : (i : ℕ) (intent : Intent) (o : Outcome) → At x i (Noticed intent o)
         → ((by : Reads w life x i intent o) × (by.t.cause ≡ Reply)) ⊎ ((o ≡ Disconnected) × IsLost w life x i intent)
@@ -151,10 +151,10 @@ module _
     pub at_one : (intent : Intent) (n k m l : ℕ) → IsRequest intent → Stands w life intent n k
         → Stands w life intent m l → (n ≡ m) × (k ≡ l)
 
-  -- 3. A write is applied once, in all lives of all servers, with its own value to its own record,
-  -- when it was handled, or as the server's end closed on it, or after it had waited. A put that
-  -- waits is dropped only with its record, its channel or its circuit. A record finishes one put at
-  -- a time, each once. A put told Done is applied; a write told Failed is not.
+  -- 3. A write is applied once, in all lives of all servers, with its own value to its own record, when it was handled,
+  -- or as the server's end closed on it, or after it had waited. A put that waits is dropped only with its record, its
+  -- channel or its circuit. A record finishes one put at a time, each once. A put told Done is applied; a write told
+  -- Failed is not.
   pub record NotTwice (w : World) : Type 0 where
     pub once : (n k l m i j r q : ℕ) (v u : Stored) → IsApplied w n k l i r v → IsApplied w n k m j q u
         → (l ≡ m) × (i ≡ j)
@@ -168,8 +168,8 @@ module _
     pub failed : (life n k l i r : ℕ) (intent : Intent) (s : Status) (x : List Line) (v : Stored) → At w.clients life x
         → In x (Noticed intent (Failed s)) → Stands w life intent n k → IsApplied w n k l i r v → ⊥
 
-  -- The updates of the EVENT_ADD s, sent and then queued, carry matching posts by rising numbers;
-  -- each sent one shows its post; and while the subscription lasts, the newest post is among them.
+  -- The updates of the EVENT_ADD s, sent and then queued, carry matching posts by rising numbers; each sent one shows
+  -- its post; and while the subscription lasts, the newest post is among them.
   pub record Follows (c : Circuit) (y : List Entry) (k r : ℕ) (s : Sent) (posts : List Stored) : Type 0 where
     pub rising : (i j a b : ℕ) → i < j → At (updates c) i (k, Update a) → At (updates c) j (k, Update b) → a < b
     pub matches : (a : ℕ) → In (updates c) (k, Update a) → a < length posts

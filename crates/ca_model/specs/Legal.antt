@@ -33,10 +33,10 @@ BecomesLive c channel k h =
 abbrev pub IsStanding : List Line → Intent → Type 0
 IsStanding x intent = In x (Called intent None) × IsHeld x intent × ((o : Outcome) → In x (Noticed intent o) → ⊥)
 
--- What goes out on a circuit. Each end sends what it may. A channel that was open when its record
--- was removed has a SERVER_DISCONN. And for each creation of its channel a subscription has one
--- EVENT_ADD: two are for different creations; each time that the channel becomes live there is one
--- if the subscription stands, and none if its caller or a refusal had ended it.
+-- What goes out on a circuit. Each end sends what it may. A channel that was open when its record was removed has a
+-- SERVER_DISCONN. And for each creation of its channel a subscription has one EVENT_ADD: two are for different
+-- creations; each time that the channel becomes live there is one if the subscription stands, and none if its caller
+-- or a refusal had ended it.
 pub record LegalCircuit (n : ℕ) (c : Circuit) (x : List Line) (y : List Entry) : Type 0 where
   pub client : LegalClient (client_conduct c)
   pub server : LegalServer (server_conduct c)
