@@ -13,7 +13,8 @@ answer_app =
       top = record bare.top { no_binary_name = true; disable_help_flag = true };
     }) (valued (codes "records"))
 
--- The words after `answer` name this file of records, or none: clap finds no fault in them, and it is what they give.
+-- The words after `answer` name this file of records, or none: clap finds no fault in them, and
+-- it is what they give.
 abbrev pub Wants : List Text → Option Text → Type 0
 Wants words file = (has_escape words ≡ false) × (fault_of answer_app words ≡ []) × (first_of (codes "records") (matches_of answer_app words) ≡ file)
 
@@ -21,7 +22,8 @@ Wants words file = (has_escape words ≡ false) × (fault_of answer_app words �
 abbrev pub file_in : AnswerLine → Option Text
 file_in line = option_map (λ t. t.now) line.records
 
--- What was read of the words after `answer`: the line that they ask for, or nothing where they ask for none.
+-- What was read of the words after `answer`: the line that they ask for, or nothing
+-- if they ask for none.
 abbrev pub IsWanted : List Text → Option AnswerLine → Type 0
 IsWanted words (Some line) = Wants words (file_in line)
 IsWanted words None = (file : Option Text) → Wants words file → ⊥

@@ -13,7 +13,7 @@ AsksLine words (Answer line) = (rest : List Text) × (words ≡ codes "answer" �
 AsksLine words (Repeater line) = (rest : List Text) × (words ≡ codes "repeater" ∷ rest) × Asks rest line
 AsksLine words (Replay line) = (rest : List Text) × (words ≡ codes "replay" ∷ rest) × Names rest line.file.now line.seed
 
--- What was read of the words: the line that they ask for, or nothing where they ask for none.
+-- What was read of the words: the line that they ask for, or nothing if they ask for none.
 abbrev pub IsLine : List Text → Option Line → Type 0
 IsLine words (Some line) = AsksLine words line
 IsLine words None = (line : Line) → AsksLine words line → ⊥

@@ -36,20 +36,23 @@ MeansCount None (Some n) = ⊥
 MeansCount (Some text) None = ⊥
 MeansCount (Some text) (Some n) = IsNumber text n
 
--- Options of these values mean this line: the port is the repeater's own if none is given, and each number is decimal.
+-- Options of these values mean this line: the port is the repeater's own if none is given, and
+-- each number is decimal.
 abbrev pub Means : Option Text → Option Text → RepeaterLine → Type 0
 Means port datagrams line = MeansPort port line.port × MeansCount datagrams line.datagrams
 
--- What was made of options of these values: the line that they mean, or nothing where they mean none.
+-- What was made of options of these values: the line that they mean, or nothing if they mean none.
 abbrev pub IsMeant : Option Text → Option Text → Option RepeaterLine → Type 0
 IsMeant port datagrams (Some line) = Means port datagrams line
 IsMeant port datagrams None = (line : RepeaterLine) → Means port datagrams line → ⊥
 
--- The words after `repeater` ask for this line: clap finds no fault in them, and their options mean it.
+-- The words after `repeater` ask for this line: clap finds no fault in them, and
+-- their options mean it.
 abbrev pub Asks : List Text → RepeaterLine → Type 0
 Asks words line = (has_escape words ≡ false) × (fault_of repeater_app words ≡ []) × Means (given (codes "port") words) (given (codes "datagrams") words) line
 
--- What was read of the words after `repeater`: the line that they ask for, or nothing where they ask for none.
+-- What was read of the words after `repeater`: the line that they ask for, or nothing
+-- if they ask for none.
 abbrev pub IsAsked : List Text → Option RepeaterLine → Type 0
 IsAsked words (Some line) = Asks words line
 IsAsked words None = (line : RepeaterLine) → Asks words line → ⊥

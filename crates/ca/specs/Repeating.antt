@@ -1,5 +1,6 @@
--- What the host's repeater does with the datagrams that come, over any device that carries them (section "CA Repeater").
--- A datagram came, went or was refused, or a receive failed: each may lead the device from a first state to a second.
+-- What the host's repeater does with the datagrams that come, over any device that carries them
+-- (section "CA Repeater"). A datagram came, went or was refused, or a receive failed: each may lead
+-- the device from a first state to a second.
 use Rattle.std.specs.Prelude.{ℕ, ◌≡◌, ◌<◌, ◌⊎◌, ◌-◌, ◌^◌, zero, suc, not, filter, List, [], ◌∷◌, Option, None, Some, Vec, Result, Ok, Err}
 use Rattle.std.specs.declared.alloc.Global.{Global}
 use Rattle.ca_text.specs.declared.refusal.Refusal.{Refusal}
@@ -55,8 +56,9 @@ module _ {D : Type 0} (went refuses : D → Address → List ℕ → D → Type 
       Takes s members (Err OutOfMemory) t after = Lacks s members t after
       Takes s members (Err _) t after = ⊥
 
-      -- A run for n datagrams, with this outcome: it ends well only after n rounds; refused as `Device` where a receive
-      -- failed after fewer; and out of memory before it began, or at a datagram that came after fewer.
+      -- A run for n datagrams, with this outcome: it ends well only after n rounds; refused as
+      -- `Device` if a receive failed after fewer; and out of memory before it began, or at a
+      -- datagram that came after fewer.
       abbrev pub Repeats : ℕ → D → Result (Unit {0}) Refusal → D → Type 0
       Repeats n s0 (Ok _) s = (members : List Address) × Rounds n s0 s members
       Repeats n s0 (Err Device) s = (i : ℕ) × (mid : D) × (members : List Address) × (i < n) × Rounds i s0 mid members × fails mid s
@@ -75,8 +77,8 @@ module _ {D : Type 0} (went refuses : D → Address → List ℕ → D → Type 
         pub repeats : Repeats (limit_of limit) s0 outcome s
         pub told : status ≡ status_of outcome
 
-      -- The line's repeater ran on what was bound, and has this exit status: 1 where nothing was bound, or where the port
-      -- that the system chose could not be told.
+      -- The line's repeater ran on what was bound, and has this exit status: 1 if nothing was
+      -- bound, or if the port that the system chose could not be told.
       abbrev pub RepeatsFrom : Result D Fault → RepeaterLine → ℕ → Type 0
       RepeatsFrom (Err _) line status = status ≡ 1
       RepeatsFrom (Ok s0) line status = ((line.port ≡ 0) × (status ≡ 1)) ⊎ ((s : D) × RepeatsTo line.datagrams s0 s status)

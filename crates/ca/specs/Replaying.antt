@@ -1,4 +1,5 @@
--- What the replay of a script comes to: its events are run in a world, and the world's report goes to a sink.
+-- What the replay of a script comes to: its events are run in a world, and the world's
+-- report goes to a sink.
 use Rattle.std.specs.Prelude.{ℕ, ◌≡◌, ◌<◌, ◌⊎◌, List, Option, None, Some, Result, Ok, Err, take}
 use Rattle.ca_replay.specs.Replayed.{IsNotRead, Reported}
 use Rattle.ca_text.specs.declared.refusal.Refusal.{Refusal}
@@ -20,9 +21,9 @@ module _ {K : Type 0} (takes : K → List ℕ → K → Type 0) (faults : K → 
   abbrev pub BreaksOff : Type 0
   BreaksOff = (stop : Option Refusal) × (text : List ℕ) × (n : ℕ) × Reported script seed stop text × takes k0 (take n text) k × (faults k0 < faults k)
 
-  -- The replay ended so: well with the report of all events; at an event that cannot be done with the report of those
-  -- before it; out of memory with such a report or with nothing; with nothing where the script does not read; refused as
-  -- `Device` where the sink failed.
+  -- The replay ended so: well with the report of all events; at an event that cannot be done with
+  -- the report of those before it; out of memory with such a report or with nothing; with nothing
+  -- if the script does not read; refused as `Device` if the sink failed.
   abbrev pub Replays : Result (Unit {0}) Refusal → Type 0
   Replays (Ok _) = Tells None
   Replays (Err BadText) = (k ≡ k0) × IsNotRead script

@@ -14,7 +14,8 @@ Says None file = file ≡ record { records = standing; rules = [] }
 Says (Some text) file = SaysFile text file
 
 module _ {S K : Type 0} (gives : S → List ℕ → S → Type 0) (takes : K → List ℕ → K → Type 0) (calls : S → ℕ) (calls' : K → ℕ) (faults : S → ℕ) (faults' : K → ℕ) (s0 s : S) (k0 k : K) where
-  -- The records were served to this outcome; or they could not be read, and nothing was read or written of the circuit.
+  -- The records were served to this outcome; or they could not be read, and nothing was read or
+  -- written of the circuit.
   abbrev pub Serves : Option (List ℕ) → Result (Unit {0}) Refusal → Type 0
   Serves text outcome =
       ((file : FileReading) × Says text file × Streams gives takes calls calls' faults faults' file.rules file.records s0 s k0 k outcome)

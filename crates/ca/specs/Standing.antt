@@ -1,4 +1,4 @@
--- The records that are served where no file names others.
+-- The records that are served if no file names others.
 use Rattle.std.specs.Prelude.{◌++◌, List, [], ◌∷◌, pos, true, false, codes, replicate}
 use Rattle.ca_dbr.specs.Elements.{doubles, longs, strings}
 use Rattle.ca_records.specs.Record.{RecordState, unset}

@@ -1,4 +1,5 @@
-//! The program `ca`: what its line asks for, the records that it serves, and its runs over any streams.
+//! The program `ca`: what its line asks for, the records that it serves, and its
+//! runs over any streams.
 #![tactic(auto)]
 
 mod answer;

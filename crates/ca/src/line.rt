@@ -20,7 +20,7 @@ pub enum Line<'a> {
     Replay(ReplayLine<'a>),
 }
 
-/// Reads the words after the program's name: none where they are not understood.
+/// Reads the words after the program's name: none if they are not understood.
 pub fn read_line<'a>(alloc: Global, words: &'a [String]) -> Result<Option<Line<'a>>, Refusal>
     ensures ok { IfOk result (IsLine (map string_bytes words.entry.now)) }
     ensures err { IfErr result (λ e. e ≡ OutOfMemory) }

@@ -13,8 +13,8 @@ use std::io::Write;
 use std::net::Net;
 use std::rt::Files;
 
-/// Runs the program on the words after its name, and returns the exit status. Refusals go to `err`, and how far a long run is, if that is a
-/// terminal.
+/// Runs the program on the words after its name, and returns the exit status. Refusals go to `err`,
+/// and how far a long run is, if that is a terminal.
 pub fn run<R: Net + Files, S: Source, K: Sink, W: Write>(
     system: &R,
     alloc: Global,

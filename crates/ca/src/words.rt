@@ -2,7 +2,7 @@ ghost use Rattle.std.specs.Prelude.{◌≡◌, ◌∷◌, ℕ, List, MatchOption
 ghost use Rattle.std.specs.List.{list_any};
 ghost use Rattle.std.specs.Str.{bytes_eq};
 
-/// The words after this one, where it is the first.
+/// The words after this one, if it is the first.
 pub(crate) fn after<'a>(words: &'a [String], wanted: &str) -> Option<&'a [String]>
     ensures { MatchOption result ((rest : List (List ℕ))
         → map string_bytes words.entry.now ≡ wanted.now ∷ rest → ⊥)

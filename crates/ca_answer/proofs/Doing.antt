@@ -45,7 +45,8 @@ known-or false = inr refl
 
 -- ---- busy records
 
--- Of the actions that a put with notification alone does: it makes the record of its channel busy, or it waits for one that is busy.
+-- Of the actions that a put with notification alone does: it makes the record of its channel busy,
+-- or it waits for one that is busy.
 abbrev pub Busies : Knows → Fields → Action → Type 0
 Busies k m (Applies name value true) = Is command.WriteNotify m × ((c : Serves k m.p1) × (c.channel.name ≡ name))
 Busies k m (action.Waits name value) = (c : Serves k m.p1) × (c.known.busy ≡ true)

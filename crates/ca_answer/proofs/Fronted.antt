@@ -1,4 +1,5 @@
--- Bytes of earlier messages wait on a circuit, in front of the others: what is done to its server is done as if they were not there.
+-- Bytes of earlier messages wait on a circuit, in front of the others: what is done to its server
+-- is done as if they were not there.
 use Rattle.std.proofs.Common.{◌≡◌, ℕ, ◌<◌, ◌≤◌, ◌+◌, ◌⊎◌, inl, inr, Bool, true, false, cond, List, [], ◌∷◌, ◌++◌, append_assoc, drop, take, length, length-append, Option, Some, None, refl, sym, ap, ◌∙◌, subst, arith}
 use Rattle.std.specs.Prelude.{Result, Ok, Err, is_some, option_map}
 use Rattle.std.specs.List.{FoldsTo}

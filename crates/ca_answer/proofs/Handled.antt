@@ -1,4 +1,5 @@
--- A message is handled on a circuit that was served: it is answered by what waits then, or the circuit's end has ended out of memory.
+-- A message is handled on a circuit that was served: it is answered by what waits then, or the
+-- circuit's end has ended out of memory.
 use Rattle.std.proofs.Common.{◌≡◌, ℕ, ◌⊎◌, inl, inr, true, false, List, [], ◌∷◌, ◌++◌, append_assoc, drop, length, Option, Some, None, refl, sym, ap, ◌∙◌, subst}
 use Rattle.std.proofs.lemmas.List.{append-nil}
 use Rattle.ca_arena.specs.declared.handle.Handle.{Handle}

@@ -11,8 +11,8 @@ use Rattle.ca_records.specs.Record.{RecordState}
 use Rattle.ca_records.specs.Rules.{Rule}
 use Rattle.ca_model.specs.Answer.{Answered}
 
--- The bytes are readings of these messages, then the rest; the messages are answered by a text; and what the sink took since k0, with what
--- waits after it, is that text.
+-- The bytes are readings of these messages, then the rest; the messages are answered by a text; and
+-- what the sink took since k0, with what waits after it, is that text.
 pub record Written {K : Type 0} (takes : K → List ℕ → K → Type 0) (rules : List Rule) (states : List RecordState) (k0 : K) (bytes : List ℕ) (k : K) (rest waits : List ℕ) : Type 0 where
   pub ms : List Fields
   pub begins : Begins bytes ms rest
@@ -22,7 +22,8 @@ pub record Written {K : Type 0} (takes : K → List ℕ → K → Type 0) (rules
   pub wrote : Moves takes k0 writes k
   pub parts : concat writes ++ waits ≡ text
 
--- From s0 to s the source gave these chunks, and from k0 to k the sink took the answers, but for those that wait.
+-- From s0 to s the source gave these chunks, and from k0 to k the sink took the answers, but
+-- for those that wait.
 pub record Turned {S K : Type 0} (gives : S → List ℕ → S → Type 0) (takes : K → List ℕ → K → Type 0) (rules : List Rule) (states : List RecordState) (s0 s : S) (k0 k : K) (chunks : List (List ℕ)) (rest waits : List ℕ) : Type 0 where
   pub came : Moves gives s0 chunks s
   pub written : Written takes rules states k0 (concat chunks) k rest waits
@@ -49,7 +50,7 @@ pub record BreaksOff {S K : Type 0} (gives : S → List ℕ → S → Type 0) (t
   pub waits : List ℕ
   pub turned : Turned gives takes rules states s0 s k0 k chunks rest waits
 
--- The source failed after it had given these chunks. All whole messages in them were answered.
+-- The source failed after it had given these chunks. All complete messages in them were answered.
 pub record SourceFails {S K : Type 0} (gives : S → List ℕ → S → Type 0) (takes : K → List ℕ → K → Type 0) (rules : List Rule) (states : List RecordState) (s0 : S) (k0 k : K) : Type 0 where
   pub last : S
   pub chunks : List (List ℕ)
@@ -57,8 +58,8 @@ pub record SourceFails {S K : Type 0} (gives : S → List ℕ → S → Type 0) 
   pub turned : Turned gives takes rules states s0 last k0 k chunks rest []
   pub whole : NoneBegins rest
 
--- What the engine did, by its answer. Refusal 23 comes where the source failed, where the sink
--- failed, or where the calls of the two are used up.
+-- What the engine did, by its answer. Refusal 23 comes if the source failed, the sink failed, or
+-- the calls of the two are used up.
 abbrev pub Streams : {S K : Type 0} → (S → List ℕ → S → Type 0) → (K → List ℕ → K → Type 0) → (S → ℕ) → (K → ℕ) → (S → ℕ) → (K → ℕ) → List Rule → List RecordState → S → S → K → K → Result (Unit {0}) Refusal → Type 0
 Streams gives takes calls calls' faults faults' rules states s0 s k0 k (Ok _) = ReadsAll gives takes rules states s0 s k0 k
 Streams gives takes calls calls' faults faults' rules states s0 s k0 k (Err Misaligned) = MeetsBad gives takes rules states s0 s k0 k Misaligned

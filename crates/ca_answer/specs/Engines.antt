@@ -39,7 +39,7 @@ unread c = []
 abbrev pub unread_size : EngineState → ℕ
 unread_size x = length (unread (under x.core.circuits x.circuit))
 
--- the refusal that tells why the end of a circuit ended
+-- the refusal that says why the end of a circuit ended
 abbrev pub refusal_for : Why → Refusal
 refusal_for why.Misaligned = refusal.Misaligned
 refusal_for why.TooLarge = refusal.TooLarge

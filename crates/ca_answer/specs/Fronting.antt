@@ -1,4 +1,5 @@
--- Working: a circuit on which bytes of earlier messages wait still, in front of what it would have without them.
+-- Working: a circuit on which bytes of earlier messages wait still, in front of what it
+-- would have without them.
 use Rattle.std.specs.Prelude.{◌++◌, ℕ, List, if◌then◌else◌}
 use Rattle.ca_arena.specs.declared.handle.Handle.{Handle}
 use Rattle.ca_ids.specs.Table.{same_handle, with_each}

@@ -27,7 +27,8 @@ use Rattle.ca_answer.specs.Fronting.{fronting}
 abbrev pub AreFree : List Record → Type 0
 AreFree rs = (r : Record) → In rs r → (r.busy ≡ None) × (r.waiting ≡ [])
 
--- The bytes are readings of messages, and the rest; the messages were answered by this text, which left this server.
+-- The bytes are readings of messages, and the rest; the messages were answered by this text,
+-- which left this server.
 pub record Past (rules : List Rule) (states : List RecordState) (bytes : List ℕ) (h : Handle) (now : Server) (text rest : List ℕ) : Type 0 where
   pub ms : List Fields
   pub begins : Begins bytes ms rest
@@ -35,7 +36,8 @@ pub record Past (rules : List Rule) (states : List RecordState) (bytes : List �
   pub accepts : Accepts (new_server server_port 0 rules states) (Ok h) start
   pub answers : Answers h start ms text now
 
--- The circuit is open, and all messages before what is not read were answered. Bytes may have come since.
+-- The circuit is open, and all messages before what is not read were answered. Bytes
+-- may have come since.
 pub record Served (rules : List Rule) (states : List RecordState) (bytes : List ℕ) (h : Handle) (y : Server) (text : List ℕ) : Type 0 where
   pub now : Server
   pub e : ServerEnd
@@ -55,7 +57,8 @@ pub record Over (rules : List Rule) (states : List RecordState) (bytes : List �
   pub left : List ℕ
   pub ended : under y.circuits h ≡ Some (Ended why.OutOfMemory left)
 
--- This text was written, but for what waits on the circuit, which stands in this server as it would without that.
+-- This text was written, but for what waits on the circuit, which is in this server as
+-- it would without that.
 pub record IsWritten {K : Type 0} (takes : K → List ℕ → K → Type 0) (k0 k : K) (x : EngineState) (now : Server) (text : List ℕ) : Type 0 where
   pub waits : List ℕ
   pub many : x.waiting ≡ length waits
@@ -71,7 +74,8 @@ pub record Serving {K : Type 0} (takes : K → List ℕ → K → Type 0) (rules
   pub stands : Served rules states bytes x.circuit now text ⊎ Over rules states bytes x.circuit now text
   pub written : IsWritten takes k0 k x now text
 
--- The circuit is open, no whole message is left to be read, and all that was answered was written.
+-- The circuit is open, no complete message is left to be read, and all that was
+-- answered was written.
 pub record Rested {K : Type 0} (takes : K → List ℕ → K → Type 0) (rules : List Rule) (states : List RecordState) (k0 : K) (bytes : List ℕ) (k : K) (x : EngineState) : Type 0 where
   pub text : List ℕ
   pub served : Served rules states bytes x.circuit x.core text
@@ -82,7 +86,8 @@ pub record Rested {K : Type 0} (takes : K → List ℕ → K → Type 0) (rules 
   pub whole : NoneBegins served.link.input.bytes
   pub good : NotBad served.link.input.bytes
 
--- A message was handled, and what its handling made busy was finished; its updates were not pumped yet.
+-- A message was handled, and what its handling made busy was finished; its updates
+-- were not pumped yet.
 pub record Stepping {K : Type 0} (takes : K → List ℕ → K → Type 0) (rules : List Rule) (states : List RecordState) (k0 : K) (bytes : List ℕ) (k : K) (x : EngineState) : Type 0 where
   pub text : List ℕ
   pub old : Server
@@ -156,7 +161,8 @@ Pumped takes faults rules states k k' x x' turns result = LeadsOn takes faults r
 abbrev pub MakesRoom : {K : Type 0} → (K → List ℕ → K → Type 0) → (K → ℕ) → List Rule → List RecordState → K → K → EngineState → EngineState → ℕ → Result (Unit {0}) Refusal → Type 0
 MakesRoom takes faults rules states k k' x x' turns result = LeadsOn takes faults rules states (λ k0 bytes. Filled takes rules states k0 bytes k x) k k' x' turns result
 
--- The next message was asked for: it was answered; or none is complete, the next is bad, or there is no memory.
+-- The next message was asked for: it was answered; or none is complete, the next is bad,
+-- or there is no memory.
 abbrev pub Comes : {K : Type 0} → (K → List ℕ → K → Type 0) → (K → ℕ) → List Rule → List RecordState → K → K → EngineState → EngineState → ℕ → Result Bool Refusal → Type 0
 Comes takes faults rules states k k' x x' turns (Ok true) = (faults k' ≡ faults k) × ServesOn takes rules states k x k' x'
 Comes takes faults rules states k k' x x' turns (Ok false) = (faults k' ≡ faults k) × EndsRested takes rules states k x k' x'

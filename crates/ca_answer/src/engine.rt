@@ -1,3 +1,4 @@
+//! A server with one circuit, between a source of messages and a sink of answers.
 ghost use Rattle.std.specs.Prelude.{◌≡◌, ◌+◌, ◌<◌, ◌≤◌, ◌^◌, List, IfErr, IfOk, OnOk, take, true};
 ghost use Rattle.ca_text.specs.declared.refusal.Refusal.TheVariants as refusal;
 ghost use Rattle.ca_text.specs.Limits.{engine_turns, output_limit};
@@ -20,7 +21,8 @@ use ca_text::{ENGINE_TURNS, OUTPUT_LIMIT, Refusal, SERVER_PORT};
 use ca_wire::Pipe;
 use std::marker::Model;
 
-/// A server with one circuit, and how many bytes wait on it to be handed to the sink: the answers to the messages that were handled.
+/// A server with one circuit, and how many bytes wait on it to be handed to the sink: the answers
+/// to the messages that were handled.
 #[derive(Drop)]
 pub(crate) struct Engine {
     core: ServerCore,
@@ -59,7 +61,8 @@ impl Engine {
         self.core.give(self.circuit, bytes)
     }
 
-    // Answers the messages that came, and hands the answers to the sink: as soon as many bytes wait, and before it ends.
+    // Answers the messages that came, and hands the answers to the sink: as soon as many bytes
+    // wait, and before it ends.
     pub(crate) fn drain<K: Sink>(&mut self, sink: &mut K, turns: &mut u64) -> Result<(), Refusal>
         requires few { self.old.waiting < output_limit }
         requires within { turns.old ≤ engine_turns }
@@ -106,12 +109,13 @@ impl Engine {
                 self.flush(sink, turns)?;
                 Ok(false)
             }
-            // This does not come: fewer bytes wait.
+            // It cannot happen: fewer bytes wait than that.
             Step::OutputFull => Ok(false),
         }
     }
 
-    // Handles the next message, finishes the record that it made busy, and pumps once. So many bytes wait then.
+    // Handles the next message, finishes the record that it made busy, and pumps once. It says how
+    // many bytes wait then.
     fn serve_next(&mut self, waiting: &mut usize) -> Step
         ensures served { ServesAndPumps self.old.core self.old.circuit (stepped result) waiting.new
             self.new.core }
@@ -120,8 +124,8 @@ impl Engine {
         self.core.serve_and_pump(self.circuit, waiting)
     }
 
-    // So many bytes wait after a message and a pump, which was made as if nothing had waited before. Then so little waits that the next message
-    // is handled.
+    // After a message and a pump this many bytes wait. The pump was made as if nothing had waited
+    // before: so then little enough waits for the next message to be handled.
     fn keep<K: Sink>(
         &mut self,
         waiting: usize,
@@ -145,12 +149,14 @@ impl Engine {
         if waiting >= OUTPUT_LIMIT {
             return self.make_room(sink, turns);
         }
-        // Fewer bytes than before wait where the end has ended, without memory for an update. Then it left them.
+        // If the end has ended, out of memory for an update, fewer bytes wait than
+        // before: those were left.
         self.waiting = self.waiting.max(waiting);
         Ok(())
     }
 
-    // So much waits that a pump had to stop. Hands over what waited before the message, pumps on, and hands over the rest.
+    // As much waits as stops a pump. Hands over what waited before the message, pumps on, and
+    // hands over the rest.
     #[inline(never)]
     fn make_room<K: Sink>(&mut self, sink: &mut K, turns: &mut u64) -> Result<(), Refusal>
         requires within { turns.old ≤ engine_turns }
@@ -176,8 +182,9 @@ impl Engine {
         Ok(())
     }
 
-    // Hands what waited to the sink, of what an end has left. What it left after that belongs to a message that was not answered whole. In line, since
-    // for a call each step would be put into memory, where it is large.
+    // Hands to the sink what waited, of what an end has left. What it left after that belongs to
+    // a message that was not answered completely. It is inlined, since a call would copy each
+    // step, which is large.
     #[inline(always)]
     fn hand_left<K: Sink>(&self, left: &Pipe, sink: &mut K, turns: &mut u64) -> Result<(), Refusal>
         requires within { turns.old ≤ engine_turns }
@@ -192,7 +199,7 @@ impl Engine {
         hand(sink, turns, first(left.bytes(), self.waiting))
     }
 
-    // Hands what waits to the sink, in one call; makes none where nothing waits.
+    // Hands what waits to the sink, in one call; makes none if nothing waits.
     fn flush<K: Sink>(&mut self, sink: &mut K, turns: &mut u64) -> Result<(), Refusal>
         requires within { turns.old ≤ engine_turns }
         requires calls { K.call_count sink.old < 2 ^ 63 + turns.old }
@@ -220,7 +227,7 @@ fn first(bytes: &[u8], n: usize) -> &[u8]
     if n < bytes.len() { &bytes[..n] } else { bytes }
 }
 
-// Hands bytes to the sink in one call, or makes none where there are none.
+// Hands bytes to the sink in one call, or makes none if there are none.
 #[inline(never)]
 fn hand<K: Sink>(sink: &mut K, turns: &mut u64, bytes: &[u8]) -> Result<(), Refusal>
     requires within { turns.old ≤ engine_turns }

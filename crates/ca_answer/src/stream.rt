@@ -1,3 +1,4 @@
+//! One circuit is served from a source to a sink.
 ghost use Rattle.std.specs.Prelude.{◌+◌, ◌<◌, ◌≤◌, ◌^◌};
 ghost use Rattle.ca_text.specs.Limits.{engine_turns};
 ghost use Rattle.ca_answer.specs.Answering.{Streams};
@@ -10,12 +11,13 @@ use ca_text::{ENGINE_TURNS, Refusal};
 /// Bytes that are asked for in a read.
 const READ_SIZE: usize = 65_536;
 
-/// Serves one circuit, with these records under these rules: reads the messages that the source gives, and writes what they are answered by
-/// to the sink before it reads again. After each message all busy records are finished, and updates are pumped once.
+/// Serves one circuit, with these records under these rules: reads the messages that the source
+/// gives, and writes what they are answered by to the sink before it reads again. After each
+/// message all busy records are finished, and updates are pumped once.
 ///
-/// It ends without refusal at the end of input, also inside a message. 2 and 3 come at a bad header, after all messages
-/// before it were answered; 23 where the source or the sink failed, or another call of theirs is needed after 1,048,576
-/// of them; 1 where there was no memory.
+/// It ends without refusal at the end of input, also inside a message. 2 and 3 come at a bad
+/// header, after all messages before it were answered; 23 if the source or the sink failed, or
+/// another call of theirs is needed after 1,048,576 of them; 1 if there was no memory.
 pub fn answer_stream<S: Source, K: Sink>(
     source: &mut S,
     sink: &mut K,

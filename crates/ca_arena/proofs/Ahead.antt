@@ -80,7 +80,7 @@ module _ {T : Type 0} where
     pub free : free_slots b + length es ≡ free_slots a
     pub after : (n : ℕ) → handle_after b n ≡ handle_after a (length es + n)
 
-  -- so many of these handles are those that come next
+  -- n of these handles are those that come next
   abbrev pub AreNext : Contents T → List (Handle × T) → ℕ → Type 0
   AreNext a es n = (k : ℕ) (e : Handle × T) → k < n → slice_get es k ≡ Some e → (k < free_slots a) × (e.0 ≡ handle_after a k)
 

@@ -1,9 +1,12 @@
--- What is owned of a block and what a `&` to one shows, taken apart and made, for walks. Assumes `Logic`.
---     items_at, room_after, right_at      the parts of what a block owns, at the place where its first slot is
+-- What is owned of a block and what a `&` to one shows, taken apart and made, for
+-- walks. Assumes `Logic`.
+--     items_at, room_after, right_at      the parts of what a block owns, at the place
+--         where its first slot is
 --     taken, made      what is owned of a block: its one machine value, and the parts
---     opened, closed      the same behind a `&mut`
+--     opened, closed      the same of a `&mut`
 --     item_of      the item at an index that there is
---     shown, none_at_null, item_shown      what a `&` holds: the pointer and the items, which do not lie at null; one of them
+--     shown, none_at_null, item_shown      what a `&` holds: the pointer and the items, which do
+--         not lie at null; one of them
 use Rattle.std.proofs.Common.{◌≡◌, ℕ, ◌+◌, ◌-◌, ◌*◌, ◌<◌, ◌^◌, zero, suc, List, [], ◌∷◌, ◌++◌, length, get_or, slice_get, Some, refl, sym, ap, ◌∙◌, subst, arith, T}
 use base.Fraction.{full_share}
 use base.Fml.{Lft, GName, Share, Fml, fsep, flt, flft, froom, fobs, fauth, fbor, fobor, fhide}
@@ -86,7 +89,8 @@ module _ (E : El) {M : Type 1} {𝓤 : Ura M} {𝓛 : Logic 𝓤} {K : Type 0} {
       fjoin t $ rewrite t 0 (λ p. ‵ (fsep ((Words E).own_val (p, (tt, tt)) (value_of (block_ptr b o) ∷ [])) (owns_slots (R E) (token E.al d.alloc) p d.items))) (sym at) refl $ s)
 
 module _ (E : El) {M : Type 1} {𝓤 : Ura M} {𝓛 : Logic 𝓤} {K : Type 0} {Γ : List (Item 𝓤)} {G : Goal 𝓤 𝓛.H} where
-  -- [the items; the room after them; the right to free; the block's cell; the open borrow; obs; auth]
+  -- [the items; the room after them; the right to free; the block's cell; the
+  -- open borrow; obs; auth]
   pub opened : K → Soaks G → {κ : Lft} {q : Share} {γ : GName} (d : Held E) (rb ro : ℕ)
       → ((b o : ℕ) → d.first ≡ block_ptr b o → block_slots * sz E < 2 ^ 63
       → Seq K 𝓛 (‵ (items_at E d b o) ∷ ‵ (room_after E d b o) ∷ ‵ (right_at E d b o) ∷ ‵ (cell_at full_share (Row E).mir (value_of (block_ptr b o) ∷ []) rb ro) ∷ ‵ (fobor κ q (Body (mem (Row E)) rb ro γ)) ∷ ‵ (fobs γ ((Row E).coded.code d)) ∷ ‵ (fauth γ ((Row E).coded.code d)) ∷ Γ) G)

@@ -1,4 +1,4 @@
--- What stands at an index of an arena, before and after each change.
+-- What is at an index of an arena, before and after each change.
 use Rattle.std.proofs.Common.{◌≡◌, ◌≢◌, ℕ, ◌+◌, ◌<◌, ◌≤◌, Bool, true, false, List, [], ◌∷◌, ◌++◌, length, set, Option, Some, None, is_some, IsSome, cond, eqb, refl, sym, ap, ◌∙◌, inl, inr, arith, reverse, length-append, length-set, lit≤}
 use Rattle.std.specs.List.{AllByRecursion}
 use Rattle.std.proofs.lemmas.Bool.{eqb-true, eqb-false, cases_eq, cases_lt}

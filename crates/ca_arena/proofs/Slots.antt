@@ -14,7 +14,7 @@ use Rattle.ca_arena.specs.Sound.{IsSound, IsFree}
 use Rattle.ca_arena.specs.Layout.{contents_of, freed_end, freed_from, link_read, IsLaidOut}
 use Rattle.ca_arena.proofs.Places.{one_if, value_for-some, within_from_value, live_count-set, live_value, apart_from_value, IsSound-appended, IsSound-filled, IsSound-removed, IsSound-written}
 
--- what stands at an index of a list that was changed at one index
+-- what is at an index of a list that was changed at one index
 module _ {X : Type 0} where
   get-set_same : (xs : List X) (index : ℕ) (x : X) → index < length xs → slice_get (set xs index x) index ≡ Some x
   get-set_same [] index x within = absurd (omega arith)
@@ -39,7 +39,7 @@ module _ {T : Type 0} where
   abbrev pub places : List (Slot T) → List (Place T)
   places slots = map place_of slots
 
-  -- what stands at an index, by what its slot has
+  -- what is at an index, by what its slot has
   abbrev pub place_read : Option (Slot T) → Place T
   place_read None = blank
   place_read (Some slot) = place_of slot

@@ -1,4 +1,5 @@
--- A handle that finds nothing, and is no later than the last of its index, finds nothing ever after.
+-- A handle that finds nothing, and is no later than the last of its index,
+-- finds nothing ever after.
 use Rattle.std.proofs.Common.{◌≡◌, ◌≢◌, ℕ, ◌+◌, ◌<◌, ◌≤◌, List, [], ◌∷◌, ◌++◌, length, set, Some, None, Ok, refl, sym, ap, ◌∙◌, subst, inl, inr, arith}
 use Rattle.std.proofs.lemmas.Bool.{cases_eq, cases_lt, ne_eqb, eq-eqb}
 use Rattle.std.proofs.lemmas.List.{get_or-set_same, get_or-set_other, get_or_push, get_or_append_left, get_or_past, length_push}
@@ -35,7 +36,7 @@ module _ {T : Type 0} where
   abbrev pub IsGone : Contents T → Handle → Type 0
   IsGone a handle = IsPast handle.generation (place_at a.given handle.index)
 
-  -- another place stands at its index
+  -- another place is at its index
   moved : (a b : Contents T) (handle : Handle) → place_at b.given handle.index ≡ place_at a.given handle.index → IsGone a handle → IsGone b handle
   moved a b handle same gone = subst (IsPast handle.generation) (sym same) gone
 

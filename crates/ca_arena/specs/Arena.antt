@@ -1,4 +1,5 @@
--- What an arena is: a finite map from handles to values, which remembers for each index the generation given last.
+-- What an arena is: a finite map from handles to values, which remembers for each index the
+-- generation given last.
 use Rattle.std.specs.Prelude.{ℕ, ◌≡◌, ◌≢◌, ◌+◌, ◌-◌, ◌<◌, ◌≤◌, ◌==◌, if◌then◌else◌, List, [], ◌∷◌, ◌++◌, length, Option, Some, None, IsSome, is_some, count_by, slice_index_or, slice_set, drop, Result, Ok, Err, Vec, refl}
 use Rattle.std.specs.Coded.{Coded, code_by, coded×, coded_ℕ, coded_list, coded_option}
 use Rattle.std.specs.declared.alloc.Global.{Global}
@@ -8,13 +9,13 @@ use Rattle.ca_text.specs.Limits.{arena_slots}
 use Rattle.ca_arena.specs.declared.handle.Handle.{Handle}
 use Rattle.ca_text.specs.Limits.{last_generation}
 
--- what stands at an index: the generation given last, and the value, until it is removed
+-- what is at an index: the generation given last, and the value, until it is removed
 pub record Place (T : Type 0) : Type 0 where
   pub generation : ℕ
   pub value : Option T
 
--- the places of the indices given so far, from index 0 on, and those of these indices that are free again, the one
--- freed last first; after them come the indices that were never given, in order
+-- the places of the indices given so far, from index 0 on, and those of these indices that are free
+-- again, the one freed last first; after them come the indices that were never given, in order
 pub record Contents (T : Type 0) : Type 0 where
   pub given : List (Place T)
   pub freed : List ℕ
@@ -53,11 +54,11 @@ module _ {T : Type 0} where
   abbrev pub empty : Contents T
   empty = record { given = []; freed = [] }
 
-  -- what stands at an index that was never given: generation 0, and no value
+  -- what is at an index that was never given: generation 0, and no value
   abbrev pub blank : Place T
   blank = record { generation = 0; value = None }
 
-  -- what stands at an index
+  -- what is at an index
   abbrev pub place_at : List (Place T) → ℕ → Place T
   place_at given index = slice_index_or given index blank
 
@@ -69,7 +70,8 @@ module _ {T : Type 0} where
   abbrev pub value_for : ℕ → Place T → Option T
   value_for generation place = if place.generation == generation then place.value else None
 
-  -- the value of a handle: there is one only while its generation is the one given last at its index
+  -- the value of a handle: there is one only while its generation is the one
+  -- given last at its index
   abbrev pub find : Contents T → Handle → Option T
   find a handle = value_for handle.generation (place_at a.given handle.index)
 
@@ -111,8 +113,8 @@ module _ {T : Type 0} where
   written a handle value =
       record { given = slice_set a.given handle.index (record { generation = handle.generation; value = Some value }); freed = a.freed }
 
-  -- the contents without the value of a handle that has one: its index goes before the others that are free, and at
-  -- its last generation it is given up for good
+  -- the contents without the value of a handle that has one: its index goes before the others that
+  -- are free, and at its last generation it is given up for good
   abbrev pub removed : Contents T → Handle → Contents T
   removed a handle = record {
     given = slice_set a.given handle.index (record { generation = handle.generation; value = None });
@@ -124,20 +126,22 @@ module _ {T : Type 0} where
     pub unused : (other : Handle) → other.index ≡ handle.index → find a other ≡ None
     pub later : last_at a handle.index < handle.generation
 
-  -- From old, this value was inserted, with this answer, and left new. Memory is asked for only where no index is
-  -- free again.
+  -- From old, this value was inserted, with this answer, and left new. Memory is asked for only if
+  -- no index is free again.
   abbrev pub Inserts : Contents T → T → Result Handle (T × Refusal) → Contents T → Type 0
   Inserts old value (Ok handle) new = (0 < free_slots old) × (handle ≡ next_handle old) × (new ≡ inserted old value)
   Inserts old value (Err (back, ArenaFull)) new = (free_slots old ≡ 0) × (back ≡ value) × (new ≡ old)
   Inserts old value (Err (back, OutOfMemory)) new = (old.freed ≡ []) × (0 < free_slots old) × (back ≡ value) × (new ≡ old)
   Inserts old value (Err _) new = ⊥
 
-  -- From old, this value was inserted under a handle that was asked for, with this answer, and left new.
+  -- From old, this value was inserted under a handle that was asked for, with this
+  -- answer, and left new.
   abbrev pub InsertsAt : Contents T → Handle → T → Result (Unit {0}) T → Contents T → Type 0
   InsertsAt old handle value (Ok _) new = Inserts old value (Ok handle) new
   InsertsAt old handle value (Err back) new = (back ≡ value) × (new ≡ old)
 
-  -- From old, these values were inserted one after another, each under its handle, and that left new.
+  -- From old, these values were inserted one after another, each under its
+  -- handle, and that left new.
   abbrev pub InsertsEach : Contents T → List (Handle × T) → Contents T → Type 0
   InsertsEach old [] new = new ≡ old
   InsertsEach old (e ∷ es) new = (0 < free_slots old) × (e.0 ≡ next_handle old) × InsertsEach (inserted old e.1) es new
@@ -147,7 +151,8 @@ module _ {T : Type 0} where
   TellsAfter a es (Ok o) = (b : Contents T) × InsertsEach a es b × (o ≡ (if free_slots b == 0 then None else Some (next_handle b)))
   TellsAfter a es (Err _) = es ≢ []
 
-  -- From old, these values were inserted, each under its handle, with this answer, and left new: all, or none.
+  -- From old, these values were inserted, each under its handle, with this answer, and
+  -- left new: all, or none.
   abbrev pub InsertsAll : Contents T → Vec (Handle × T) Global → Result (Unit {0}) (Vec (Handle × T) Global) → Contents T → Type 0
   InsertsAll old values (Ok _) new = InsertsEach old values.items new
   InsertsAll old values (Err back) new = (values.items ≢ []) × (back ≡ values) × (new ≡ old)

@@ -19,7 +19,8 @@ module _ (R : RattleType) where
   abbrev pub slots_fit : Fml
   slots_fit = flt (block_slots * type_size R) (2 ^ 63)
 
-  -- the items side by side from the first slot on, room in the others, and the right to give the memory back
+  -- the items side by side from the first slot on, room in the others, and the right to
+  -- give the memory back
   abbrev pub owns_slots : (Ty → Ptr → Fml) → Ptr → List R.Denot → Fml
   owns_slots right first items = fsep slots_fit (in_block first (block_with_items right R first (length items) block_slots items))
 

@@ -1,4 +1,4 @@
--- What a block ends as, where its items are others, and where a `&mut` to one of them was handed out.
+-- What a block ends as, when its items are others, and when a `&mut` to one of them was handed out.
 use Rattle.std.specs.Prelude.{ℕ, List, slice_set}
 use Rattle.std.specs.Borrow.{Fml, RattleType, MutBor, Lends}
 use Rattle.core.specs.declared.alloc.Allocator.{Ghosts}

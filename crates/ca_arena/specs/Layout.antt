@@ -12,7 +12,7 @@ module _ {T : Type 0} where
   link_read None = 0
   link_read (Some slot) = link_of slot
 
-  -- so many free indices, from this one on: the slot of each names the one that was freed before it
+  -- n free indices, from this one on: the slot of each names the one that was freed before it
   abbrev pub freed_from : List (Slot T) → ℕ → ℕ → List ℕ
   freed_from slots zero index = []
   freed_from slots (suc count) index = index ∷ freed_from slots count (link_read (slice_get slots index))
@@ -22,11 +22,13 @@ module _ {T : Type 0} where
   freed_end slots zero index = index
   freed_end slots (suc count) index = freed_end slots count (link_read (slice_get slots index))
 
-  -- what the fields stand for: the slots, how many indices are free again, and which one was freed last
+  -- what the fields stand for: the slots, how many indices are free again, and
+  -- which one was freed last
   abbrev pub contents_of : List (Slot T) → ℕ → ℕ → Contents T
   contents_of slots freed first = record { given = map place_of slots; freed = freed_from slots freed first }
 
-  -- the fields stand for something sound; each index has a value, is free or is retired; and after the last of the free ones comes none
+  -- the fields stand for something sound; each index has a value, is free or is retired; and after
+  -- the last of the free ones comes none
   pub record IsLaidOut (slots : List (Slot T)) (freed first retired : ℕ) : Type 0 where
     pub sound : IsSound (contents_of slots freed first)
     pub counted : live_count (map place_of slots) + freed + retired ≡ length slots

@@ -5,7 +5,7 @@ use Rattle.ca_arena.specs.declared.slot.Slot.TheVariants.{Filled, Vacant}
 use Rattle.ca_arena.specs.Arena.{Place}
 
 module _ {T : Type 0} where
-  -- what stands at its index
+  -- what is at its index
   abbrev pub place_of : Slot T → Place T
   place_of (Vacant generation next) = record { generation = generation; value = None }
   place_of (Filled generation value) = record { generation = generation; value = Some value }

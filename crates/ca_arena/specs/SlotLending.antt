@@ -1,4 +1,4 @@
--- What a slot ends as, where a `&mut` to its value was handed out.
+-- What a slot ends as, when a `&mut` to its value was handed out.
 use Rattle.std.specs.Borrow.{Lends, Fml, RattleType, MutBor}
 use Rattle.ca_arena.specs.declared.slot.Slot.{Slot}
 use Rattle.ca_arena.specs.declared.slot.Slot.TheVariants.{Filled}

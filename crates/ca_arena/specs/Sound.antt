@@ -17,13 +17,14 @@ module _ {T : Type 0} where
     pub vacant : (place_at given index).value ≡ None
     pub lasting : (place_at given index).generation < last_generation
 
-  -- all of these are free, and each stands here once
+  -- all of these are free, and each is here once
   abbrev pub AreFree : List (Place T) → List ℕ → Type 0
   AreFree given [] = Unit {0}
   AreFree given (index ∷ rest) = IsFree given index × AllByRecursion (λ other. other ≢ index) rest × AreFree given rest
 
-  -- there are at most n indices, and no generation beyond the last; what is listed as free is free, and all that
-  -- is free is listed; and the free indices and those with a value are together no more than were given
+  -- there are at most n indices, and no generation beyond the last; what is listed as free is free,
+  -- and all that is free is listed; and the free indices and those with a value are together no
+  -- more than were given
   pub record IsSound (a : Contents T) : Type 0 where
     pub limit : length a.given ≤ arena_slots
     pub fits : (index : ℕ) → (place_at a.given index).generation ≤ last_generation

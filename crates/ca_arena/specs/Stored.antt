@@ -1,4 +1,4 @@
--- What stands in the blocks of an arena.
+-- What is in the blocks of an arena.
 use Rattle.std.specs.Prelude.{ℕ, ◌++◌, [], ◌∷◌, List, slice_set, refl}
 use Rattle.std.specs.Coded.{Coded, code_by, coded×, coded_ℕ, coded_list}
 

@@ -14,7 +14,7 @@ module _ {X A : Type 0} where
   abbrev pub stored_of : List (Block X A) → Stored X
   stored_of blocks = record { items = all_items blocks; room = length blocks * block_slots }
 
-  -- there are so many items, and each block is full before the next has one
+  -- there are n items, and each block is full before the next has one
   abbrev pub AreFilled : ℕ → List (Block X A) → Type 0
   AreFilled count [] = count ≡ 0
   AreFilled count (block ∷ rest) = (length block.items ≡ min block_slots count) × AreFilled (count - block_slots) rest

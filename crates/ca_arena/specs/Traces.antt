@@ -4,7 +4,8 @@ use Rattle.std.specs.List.{AllByRecursion}
 use Rattle.ca_arena.specs.declared.handle.Handle.{Handle}
 use Rattle.ca_arena.specs.Arena.{Contents, IsLive, Inserts, Removes, written}
 
--- a value was inserted and had this handle, was taken out under its handle, or was written over another one
+-- a value was inserted and had this handle, was taken out under its handle, or was
+-- written over another one
 pub data Call (T : Type 0) : Type 0 where
   Inserted : T → Handle → Call T
   Removed : Handle → T → Call T

@@ -14,13 +14,14 @@ use std::marker::Model;
 
 /// Values under handles, at most 65,536 at a time.
 ///
-/// The index freed last is given first, then those never given, in order. A removed value's index comes back with the
-/// next generation; at its last generation it is retired.
+/// The index freed last is given first, then those never given, in order. A removed value's index
+/// comes back with the next generation; at its last generation it is retired.
 #[derive(Drop)]
 pub struct Arena<T> {
     // The index that was freed last, or `ARENA_SLOTS`, which is no index, if none is free again.
     first_freed: usize,
-    // A slot for each index that was given. Those of the free indices name each other, from the one freed last on.
+    // A slot for each index that was given. Those of the free indices name each other, from
+    // the one freed last on.
     slots: Blocks<Slot<T>>,
     // How many indices are free again.
     freed: usize,
@@ -96,9 +97,10 @@ impl<T> Arena<T> {
         self.handle_after(0, self.first_freed)
     }
 
-    /// The handle that `insert` gives once these values are inserted under their handles. None if no index is free then.
+    /// The handle that `insert` gives once these values are inserted under their handles. None if
+    /// no index is free then.
     ///
-    /// It is refused where these handles are not those that come next.
+    /// It is refused if these handles are not those that come next.
     pub fn vacant_after(&self, ahead: &[(Handle, T)]) -> Result<Option<Handle>, Refusal>
         ensures { TellsAfter self.now ahead.now result }
     {
@@ -115,7 +117,8 @@ impl<T> Arena<T> {
         Ok(self.handle_after(ahead.len(), index))
     }
 
-    // The handle that comes after so many others. None if no index is free then. Where one that was given before is, it is this one.
+    // The handle that comes after n others. None if no index is free then. If it reuses a freed
+    // index, that is this one.
     #[inline(always)]
     fn handle_after(&self, count: usize, index: usize) -> Option<Handle>
         requires { count < length self.now.freed → index ≡ slice_index_or self.now.freed count 0 }
@@ -235,7 +238,7 @@ impl<T> Arena<T> {
 
     /// Puts `value` under a handle that was never given before.
     ///
-    /// It is refused, and handed back, where no index is free, and where the room for one more is missing.
+    /// It is refused, and handed back, if no index is free, or if the room for one more is missing.
     #[inline(always)]
     pub fn insert(&mut self, value: T) -> Result<Handle, (T, Refusal)>
         ensures inserts { Inserts self.old value result self.new }
@@ -244,7 +247,8 @@ impl<T> Arena<T> {
     {
         // Not a test of `freed`: after a removal the compiler knows that this one fails.
         if self.first_freed == ARENA_SLOTS {
-            // Built here on both paths, the handle stays in registers on the one that makes no call.
+            // Built here on both paths, the handle stays in registers on the
+            // one that makes no call.
             let Handle { index, generation } = self.append(value)?;
             return Ok(Handle { index, generation });
         }
@@ -256,15 +260,17 @@ impl<T> Arena<T> {
         Ok(Handle { index, generation })
     }
 
-    /// `insert` under the handle that `vacant` tells, for whoever has to know it before.
+    /// `insert` under the handle that `vacant` returns, for whoever has to know it before.
     ///
-    /// The value is handed back if another handle is the next, and where the room for one more is missing.
+    /// The value is handed back if another handle is the next, or if the room for
+    /// one more is missing.
     #[inline(always)]
     pub fn insert_at(&mut self, vacant: Handle, value: T) -> Result<(), T>
         ensures inserts { InsertsAt self.old vacant value result self.new }
         ensures sound { OnOk result (IsSound self.new) }
     {
-        // Inlined, as what it shares with `vacant` is, which its callers ask before: 4 % of a client's pipelined read.
+        // Inlined, as what it shares with `vacant` is, which its callers ask before: 4 % of a
+        // client's pipelined read.
         let Some(next) = self.vacant() else {
             return Err(value);
         };
@@ -280,10 +286,11 @@ impl<T> Arena<T> {
         }
     }
 
-    /// Puts these values under their handles, which `vacant_after` told, one after another: all, or none.
+    /// Puts these values under their handles, which `vacant_after` told, one after
+    /// another: all, or none.
     ///
-    /// They are refused, and handed back, where these handles are not those that come next, and where the room for them is missing. No
-    /// values are never refused.
+    /// They are refused, and handed back, if these handles are not those that come next, or if the
+    /// room for them is missing. No values are never refused.
     pub fn insert_all(&mut self, values: Vec<(Handle, T)>) -> Result<(), Vec<(Handle, T)>>
     where
         T: Drop,
@@ -298,7 +305,8 @@ impl<T> Arena<T> {
         self.put_all(values)
     }
 
-    // Puts these values under their handles, which are those that come next. It makes all room before it changes anything.
+    // Puts these values under their handles, which are those that come next. It makes all room
+    // before it changes anything.
     fn put_all(&mut self, values: Vec<(Handle, T)>) -> Result<(), Vec<(Handle, T)>>
     where
         T: Drop,
@@ -325,9 +333,10 @@ impl<T> Arena<T> {
         Ok(())
     }
 
-    // `insert` at the first index that was never given. It makes all room before it changes anything.
+    // `insert` at the first index that was never given. It makes all room before
+    // it changes anything.
     //
-    // Inlined, it would make `insert` save registers also where an index is free again.
+    // Inlined, it would make `insert` save registers also if an index is free again.
     #[inline(never)]
     fn append(&mut self, value: T) -> Result<Handle, (T, Refusal)>
         requires { self.old.freed ≡ [] }
@@ -354,7 +363,8 @@ impl<T> Arena<T> {
 
     /// Takes the value of this handle out. The handle is stale from then on.
     ///
-    /// A stale handle is refused. No memory is asked for: the slot itself says which index was freed before.
+    /// A stale handle is refused. No memory is asked for: the slot itself says which
+    /// index was freed before.
     pub fn remove(&mut self, handle: Handle) -> Result<T, Refusal>
         ensures { Removes self.old handle result self.new }
     {

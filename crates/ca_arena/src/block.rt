@@ -1,4 +1,5 @@
-//! A block of the arena: 64 slots in memory of their own, which never move. Items go into them in order.
+//! A block of the arena: 64 slots in memory of their own, which never move. Items
+//! go into them in order.
 ghost use Rattle.std.specs.Prelude.{◌≡◌, ◌+◌, ◌++◌, ◌∷◌, ◌<◌, List, Some, [], length, slice_get, IfOk};
 ghost use Rattle.std.specs.Borrow.{sem};
 ghost use Rattle.std.specs.Vec.Ownership.{FitsInBlock};
@@ -11,7 +12,8 @@ use std::mem::{align_of, size_of};
 /// How many slots a block has.
 pub(crate) const BLOCK_SLOTS: usize = 64;
 
-/// The owner of 64 slots, of which the first ones hold an item each, and of the right to give their memory back.
+/// The owner of 64 slots, of which the first ones hold an item each, and of the right to
+/// give their memory back.
 pub struct Block<T, A: Allocator> {
     first: *mut T,
     by: PhantomData<A>,

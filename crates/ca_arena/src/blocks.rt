@@ -13,7 +13,7 @@ use std_alloc::room::may_hold;
 /// Items by index from 0 on, in blocks of 64 that never move.
 pub struct Blocks<T> {
     blocks: Vec<Block<T, Global>>,
-    // How many items there are. They stand in the first places.
+    // How many items there are. They are in the first places.
     len: usize,
     alloc: Global,
 }
@@ -93,9 +93,10 @@ impl<T> Blocks<T> {
         self.blocks[index / BLOCK_SLOTS].take_out(index % BLOCK_SLOTS)
     }
 
-    // Makes blocks until there is room for so many more items. It changes no item.
+    // Makes blocks until there is room for n more items. It changes no item.
     //
-    // Inlined, its loop would have the compiler clear the room for what `append` returns at each `insert`: 7 % of a round.
+    // Inlined, its loop would have the compiler clear the room for what `append` returns at each
+    // `insert`: 7 % of a round.
     #[inline(never)]
     pub(crate) fn make_room(&mut self, more: usize) -> Result<(), AllocError>
         requires { length self.old.items + more ≤ arena_slots }

@@ -3,7 +3,8 @@ ghost use Rattle.ca_arena.specs.declared.handle.Handle.{Handle};
 ghost use Rattle.ca_arena.specs.Arena.{Contents, empty, find, Removes};
 ghost use Rattle.ca_arena.specs.Traces.{Call, Leads, given_by, AreApart};
 
-/// Whatever is inserted into an arena and removed from it, from its beginning on, no handle is given twice.
+/// Whatever is inserted into an arena and removed from it, from its beginning on, no
+/// handle is given twice.
 pub fn no_handle_twice<T>()
     ensures { (calls : List (Call T)) (after : Contents T) → Leads empty calls after
         → AreApart (given_by calls) }

@@ -1,7 +1,8 @@
 //! An arena: values under handles. No handle is ever given twice.
 //!
-//! A handle is an index and a generation. The index of a removed value is given again, with the next generation,
-//! so the handle that stood there before finds nothing. All tables of both ends stand on it.
+//! A handle is an index and a generation. The index of a removed value is given again, with the
+//! next generation, so the handle that stood there before finds nothing. All tables of both
+//! ends are built on it.
 #![tactic(auto)]
 
 mod arena;

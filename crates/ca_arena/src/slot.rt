@@ -7,8 +7,8 @@ ghost use Rattle.ca_arena.specs.declared.slot.Slot.TheVariants.{Filled, Vacant};
 
 use std::mem;
 
-/// What there is at an index that was given: the generation given last, and a value, or the index that was freed before this one, which
-/// is `ARENA_SLOTS` if there is none.
+/// What there is at an index that was given: the generation given last, and a value, or the index
+/// that was freed before this one, which is `ARENA_SLOTS` if there is none.
 #[derive(Drop)]
 pub enum Slot<T> {
     Vacant { generation: u32, next: usize },
@@ -49,8 +49,8 @@ impl<T> Slot<T> {
     pub(crate) fn value_for(&self, wanted: u32) -> Option<&T>
         ensures { option_copied result ≡ value_for wanted (place_of self.now) }
     {
-        // Both are tested, without a jump between them: after a look-up that found the value the compiler knows how a
-        // second one ends.
+        // Both are tested, without a jump between them: after a look-up that found the value the
+        // compiler knows how a second one ends.
         if (self.generation() == wanted) & self.is_filled() {
             Some(self.value())
         } else {
@@ -81,7 +81,8 @@ impl<T> Slot<T> {
         }
     }
 
-    // Puts a value under this generation into a vacant slot, and returns the index that was freed before.
+    // Puts a value under this generation into a vacant slot, and returns the index
+    // that was freed before.
     pub(crate) fn fill(&mut self, generation: u32, value: T) -> usize
         requires { (place_of self.old).value ≡ None }
         ensures next { result ≡ link_of self.old }

@@ -15,7 +15,7 @@ use Rattle.ca_text.specs.declared.refusal.Refusal.TheVariants.{OutOfMemory}
 use Rattle.ca_text.specs.Limits.{beacon_servers}
 use Rattle.ca_beacon.specs.Table.{Hears, IsTable, Servers, noted, restored}
 
--- the number that stands at a server
+-- the number that is at a server
 abbrev pub last_in : List (ℕ × ℕ) → ℕ → Option ℕ
 last_in es q = lookup (is_at (nat_cmp q)) es
 

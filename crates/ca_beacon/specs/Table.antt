@@ -14,8 +14,8 @@ server address port = address * 65536 + port
 abbrev pub Servers : Type 0
 Servers = map.FinMap nat_cmp ℕ
 
--- A beacon of this number is an anomaly where its server is not known, or the number is not one more, modulo 2^32,
--- than the last.
+-- A beacon of this number is an anomaly if its server is not known, or the number is not one more,
+-- modulo 2^32, than the last.
 abbrev pub anomaly : Option ℕ → ℕ → Bool
 anomaly None number = true
 anomaly (Some last) number = not (nat_eq number ((last + 1) % 2 ^ 32))
@@ -24,13 +24,15 @@ anomaly (Some last) number = not (nat_eq number ((last + 1) % 2 ^ 32))
 abbrev pub noted : Servers → ℕ → ℕ → Servers
 noted old s number = if is_some (map.get old s) || nat_lt (map.len old) beacon_servers then map.insert old s number else old
 
--- Hearing this number of this server, with this answer, leaves new. Only a server that is kept again takes memory.
+-- Hearing this number of this server, with this answer, leaves new. Only a server that is
+-- kept again takes memory.
 abbrev pub Hears : Servers → ℕ → ℕ → Result Bool Refusal → Servers → Type 0
 Hears old s number (Ok told) new = (told ≡ anomaly (map.get old s) number) × (new ≡ noted old s number)
 Hears old s number (Err OutOfMemory) new = (map.get old s ≡ None) × (map.len old < beacon_servers) × (new ≡ old)
 Hears old s number (Err _) new = ⊥
 
--- the table in which the last number of a server is again this one, or none; of a server that is not kept there is none
+-- the table in which the last number of a server is again this one, or none; of a server that is
+-- not kept there is none
 abbrev pub restored : Servers → ℕ → Option ℕ → Servers
 restored t s None = map.remove t s
 restored t s (Some number) = if is_some (map.get t s) then map.insert t s number else t

@@ -2,8 +2,9 @@ ghost use Rattle.std.specs.Prelude.{◌≡◌, ◌+◌, ◌*◌, ◌^◌, ◌%�
 ghost use Rattle.ca_text.specs.Waits.{latest, wait};
 ghost use Rattle.ca_beacon.specs.Clock.{fresh, run};
 
-/// Whatever the moments of the beacons: the first has the number 0 and is due at the start; after the n-th the next
-/// has the number n, modulo 2^32, and is due `20 * 2^(n-1)` milliseconds after it, at most 15,000.
+/// Whatever the moments of the beacons: the first has the number 0 and is due at the start;
+/// after the n-th the next has the number n, modulo 2^32, and is due `20 * 2^(n-1)` milliseconds
+/// after it, at most 15,000.
 pub fn waits_double()
     ensures doubled { (n : ℕ) → wait 20 15000 n ≡ min (20 * 2 ^ n) 15000 }
     ensures number { (start : ℕ) (moments : List ℕ)

@@ -42,8 +42,9 @@ impl BeaconTable {
         }
     }
 
-    /// Notes a beacon of the server at this address and TCP port, and tells whether it is an anomaly: the first one of
-    /// its server, or one whose number does not follow the last. A server beyond the 1,024 is an anomaly each time.
+    /// Notes a beacon of the server at this address and TCP port, and says whether it is an
+    /// anomaly: the first one of its server, or one whose number does not follow the last. A server
+    /// beyond the 1,024 is an anomaly each time.
     ///
     /// A refusal changes nothing.
     pub fn heard(&mut self, address: Ipv4Addr, port: u16, number: u32) -> Result<bool, Refusal>
@@ -65,7 +66,8 @@ impl BeaconTable {
         self.last.get(&key(address, port)).copied()
     }
 
-    /// Takes a beacon of this server back, whose last number was this one before, or none. No memory is asked for.
+    /// Takes a beacon of this server back, whose last number was this one before, or none. No
+    /// memory is asked for.
     pub fn take_back(&mut self, address: Ipv4Addr, port: u16, last: Option<u32>)
         ensures { self.new ≡ restored self.old (server (ipv4_bits address) port) last }
     {

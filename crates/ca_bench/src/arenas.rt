@@ -3,7 +3,8 @@ use ca_text::Refusal;
 use slab::Slab;
 use std::alloc::Global;
 
-/// Rounds on an arena of n values: one at a random place is looked up, removed, and another inserted.
+/// Rounds on an arena of n values: one at a random place is looked up, removed,
+/// and another inserted.
 pub fn arenas(alloc: Global, live: u32, rounds: u32) -> Result<(), Refusal> {
     let mut arena = Arena::new(alloc);
     let mut handles = Vec::new(alloc);
@@ -20,7 +21,7 @@ pub fn arenas(alloc: Global, live: u32, rounds: u32) -> Result<(), Refusal> {
     Ok(())
 }
 
-/// The same on a slab.
+/// Rounds on a slab of n values, as `arenas` does them on an arena.
 pub fn slabs(alloc: Global, live: u32, rounds: u32) -> Result<(), Refusal> {
     let mut slab = Slab::new(alloc);
     let mut keys = Vec::new(alloc);
@@ -37,8 +38,8 @@ pub fn slabs(alloc: Global, live: u32, rounds: u32) -> Result<(), Refusal> {
     Ok(())
 }
 
-// Each round is one call that is not inlined, here and on the slab: neither is kept in registers from round to round, as no
-// caller keeps a table.
+// Each round is one call that is not inlined, here and on the slab: neither is kept in registers
+// from round to round, as no caller keeps a table.
 #[inline(never)]
 fn renew(arena: &mut Arena<u64>, handle: Handle) -> Result<Handle, Refusal> {
     let seen = arena.get(handle).copied().unwrap_or(0);

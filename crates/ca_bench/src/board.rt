@@ -36,7 +36,7 @@ fn board_rounds(alloc: Global, rounds: u32) -> Result<(), Refusal> {
     go_round(&board, &mut core, &mut caller, rounds)
 }
 
-/// Arm, fill, collect and recycle, so often.
+/// Arm, fill, collect and recycle, this many times.
 fn go_round(
     board: &Board,
     core: &mut CoreSeat,
@@ -54,7 +54,7 @@ fn go_round(
     Ok(())
 }
 
-/// The same round through a queue under a lock: put in and take out.
+/// Rounds through a queue under a lock, to compare: each puts an outcome in and takes it out.
 fn queue_rounds(rt: &impl Wait, alloc: Global, rounds: u32) -> Result<(), Refusal> {
     let queue = Mutex::new(VecDeque::new(alloc));
     for _round in 0..rounds {
@@ -73,7 +73,7 @@ fn take(rt: &impl Wait, queue: &Mutex<VecDeque<Outcome>>) -> bool {
     queue.lock(rt).pop_front().is_some()
 }
 
-/// So many outcomes in each cell, from one core to four callers, each in a thread of its own.
+/// This many outcomes in each cell, from one core to four callers, each in a thread of its own.
 fn board_callers<R: Threads + Wait + Sync>(
     rt: &R,
     alloc: Global,

@@ -1,4 +1,5 @@
-//! Boards, shown: a ticket from its arming to its end, and all cells at once with four callers in threads.
+//! Boards, shown: a ticket from its arming to its end, and all cells at once with
+//! four callers in threads.
 
 use crate::{racing, rounds, tickets};
 use ca_text::Refusal;

@@ -11,8 +11,8 @@ use std::alloc::{AllocError, Global};
 /// How many posts a round has.
 pub const POSTS: u32 = 100;
 
-/// Rounds of 100 posts, to n subscriptions in turn, and then so many takes, on an event queue.
-/// Without takes only the first 108 posts go to the back: each other one replaces an entry.
+/// Rounds of 100 posts, to n subscriptions in turn, and then n takes, on an event queue. Without
+/// takes only the first 108 posts go to the back: each other one replaces an entry.
 pub fn on_queue(alloc: Global, count: u32, rounds: u32, takes: u32) -> Result<(), Refusal> {
     let count = count.max(1);
     let mut queue = EventQueue::new(alloc);
@@ -23,7 +23,7 @@ pub fn on_queue(alloc: Global, count: u32, rounds: u32, takes: u32) -> Result<()
     Ok(())
 }
 
-/// The same on a plain ring, which knows no subscription.
+/// Rounds of 100 posts and then that many takes on a plain ring, which knows no subscription.
 pub fn on_ring(alloc: Global, count: u32, rounds: u32, takes: u32) -> Result<(), Refusal> {
     let count = count.max(1);
     let mut ring = HeapCircularBuffer::with_capacity(alloc, QUEUE_PLACES)?;
@@ -75,7 +75,7 @@ fn ring_round(
     Ok(())
 }
 
-/// Adds so many subscriptions.
+/// Adds n subscriptions.
 fn begin_all(queue: &mut EventQueue<Entry>, count: u32) -> Result<(), Refusal>
     ensures { OnOk result (HasBelow count queue.new.0.subscriptions) }
 {

@@ -43,7 +43,8 @@ fn race(
     )
 }
 
-/// Whichever comes first: an outcome that was stored is found, and no other. In how many of 64 rounds that was so.
+/// Whichever comes first: an outcome that was stored is found, and no other. In how many of
+/// 64 rounds that was so.
 pub(crate) fn give_up_beside_fill(
     rt: &(impl Threads + Sync),
     alloc: Global,

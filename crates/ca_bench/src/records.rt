@@ -53,7 +53,7 @@ fn put(served: &mut ServedRecords, name: &[u8], value: Value) -> Result<(), Refu
     Ok(())
 }
 
-/// So many records of one LONG, on which puts take time.
+/// This many records of one LONG, on which puts take time.
 fn served(alloc: Global, count: u32) -> Result<ServedRecords, Refusal> {
     let mut served = ServedRecords::new(alloc, Vec::new(alloc));
     for i in 0..count {

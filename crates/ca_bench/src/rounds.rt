@@ -148,7 +148,8 @@ fn recycle_all(board: &Board, core: &mut CoreSeat) -> usize
     freed
 }
 
-/// Four callers with 256 tickets each, all outstanding, then no cell; each collects its own; and the same once more.
+/// Four callers with 256 tickets each, all outstanding, then no cell; each collects its own;
+/// and the same once more.
 pub(crate) fn board_round<W: Write>(
     rt: &(impl Threads + Sync),
     alloc: Global,

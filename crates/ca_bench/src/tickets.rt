@@ -7,7 +7,8 @@ use ca_dbr::Outcome;
 use ca_text::Refusal;
 use std::alloc::Global;
 
-/// A ticket's outcome is there once it is filled, for the first that collects it; and then its cell is free once.
+/// A ticket's outcome is there once it is filled, for the first that collects it; and then
+/// its cell is free once.
 pub(crate) fn outcome_is_given_once(alloc: Global) -> Result<bool, Refusal> {
     let (board, mut core) = Board::new(alloc)?;
     let mut caller = board.caller(&mut core);
@@ -19,7 +20,7 @@ pub(crate) fn outcome_is_given_once(alloc: Global) -> Result<bool, Refusal> {
     Ok(waits && given && freed && !twice)
 }
 
-// Whether a ticket that is not filled gives nothing, and keeps its cell.
+// Whether a ticket that is not filled returns nothing, and keeps its cell.
 fn still_waits(board: &Board, core: &mut CoreSeat, caller: &mut CallerSeat, ticket: Ticket) -> bool
     requires board { (core.old.board ≡ board.now) × (caller.old.board ≡ board.now) }
     requires due { IsDue core.old ticket }
@@ -50,7 +51,7 @@ fn is_given_once(
     stored && first && gone
 }
 
-// Whether a ticket gives nothing, and a give-up finds nothing.
+// Whether a ticket returns nothing, and a give-up finds nothing.
 fn is_gone(board: &Board, caller: &mut CallerSeat, ticket: Ticket) -> bool
     requires { caller.old.board ≡ board.now }
     ensures { caller.new.board ≡ board.now }
@@ -60,7 +61,7 @@ fn is_gone(board: &Board, caller: &mut CallerSeat, ticket: Ticket) -> bool
     !again && !late
 }
 
-/// A ticket whose cell was armed anew gives nothing.
+/// A ticket whose cell was armed again returns nothing.
 pub(crate) fn old_ticket_is_stale(alloc: Global) -> Result<bool, Refusal> {
     let (board, mut core) = Board::new(alloc)?;
     let mut caller = board.caller(&mut core);
@@ -90,7 +91,8 @@ fn ends_by_give_up(
     found && freed
 }
 
-// Whether the old ticket gives nothing once the new one is filled, and the new one gives its outcome.
+// Whether the old ticket returns nothing once the new one is filled, and the new
+// one gives its outcome.
 fn is_stale(
     board: &Board,
     core: &mut CoreSeat,
@@ -107,7 +109,8 @@ fn is_stale(
     gone && fresh
 }
 
-/// A cell again and again, more often than 16 bits count: how many generations gave their outcome, and then nothing.
+/// A cell again and again, more often than 16 bits count: how many generations gave their
+/// outcome, and then nothing.
 pub(crate) fn each_generation(alloc: Global) -> Result<usize, Refusal> {
     let (board, mut core) = Board::new(alloc)?;
     let mut caller = board.caller(&mut core);
@@ -135,7 +138,8 @@ fn is_given(
     Ok(ticket.generation == generation && given && freed)
 }
 
-/// The outcome of a ticket that was given up comes back to the core, also where the cell was freed before.
+/// The outcome of a ticket that was given up comes back to the core, also if the
+/// cell was freed before.
 pub(crate) fn fill_after_give_up(alloc: Global) -> Result<bool, Refusal> {
     let (board, mut core) = Board::new(alloc)?;
     let mut caller = board.caller(&mut core);
@@ -161,7 +165,8 @@ fn comes_back(board: &Board, core: &mut CoreSeat, caller: &mut CallerSeat, ticke
     gone && back && freed
 }
 
-// The same where the cell is freed before the outcome comes; and nobody collects it.
+// Whether the outcome of a ticket that was given up comes back after its cell is free, and
+// nobody collects it.
 fn comes_back_late(
     board: &Board,
     core: &mut CoreSeat,
@@ -178,7 +183,8 @@ fn comes_back_late(
     gone && freed && back && none
 }
 
-/// A ticket that is taken back gives nothing, and its cell is free, also where a caller gave it up before.
+/// A ticket that is taken back returns nothing, and its cell is free, also if a
+/// caller gave it up before.
 pub(crate) fn taken_back_is_free(alloc: Global) -> Result<bool, Refusal> {
     let (board, mut core) = Board::new(alloc)?;
     let mut caller = board.caller(&mut core);

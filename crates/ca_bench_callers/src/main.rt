@@ -1,5 +1,7 @@
-//! Reads by callers in threads, timed: what `bench/client_threads` runs. With the words PORT CALLERS READS WINDOW it prints the microseconds that so many reads of TEMP by
-//! each caller took, with so many outstanding at each, at the server at this port of this host, from when the channel was live.
+//! Reads by callers in threads, timed: what `bench/client_threads` runs. With the words PORT
+//! CALLERS READS WINDOW it prints the microseconds that READS reads of TEMP by each caller
+//! took, with WINDOW outstanding at each, at the server at this port of this host, from when
+//! the channel was live.
 //!
 //! It is a program of its own, so that tests which are added do not change what is measured.
 #![tactic(auto)]

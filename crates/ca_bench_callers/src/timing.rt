@@ -13,10 +13,11 @@ use std::sync::{Arc, Wait};
 use std::thread::{JoinHandle, Threads};
 use std::time::{Clock, Instant};
 
-/// Waits for at most so many turns.
+/// Waits for at most this many turns.
 const TURNS: u64 = 1_000_000;
 
-/// What is measured: at this port, by so many callers, so many reads of TEMP each, with so many outstanding at each.
+/// What is measured: at this port, by this many callers, with this many reads of TEMP each and this
+/// many outstanding at each.
 #[derive(Clone, Copy)]
 pub(crate) struct Course {
     pub(crate) port: u16,
@@ -109,7 +110,7 @@ impl Work for Reader {
     }
 }
 
-// So many reads, of which a window's are outstanding at once.
+// This many reads, of which a window's are outstanding at once.
 fn read_all<R: Wait + Clock>(rt: &R, reader: &Reader) -> Result<(), Refusal> {
     let mut caller = reader.context.caller(rt)?;
     let mut tickets = Vec::new(reader.alloc);

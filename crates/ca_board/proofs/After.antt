@@ -51,7 +51,8 @@ armed_after m m' ts fs rs cs k g e e' = e' ∙ ap (λ (x : Sat). (core_view (cor
 pub freed_after : (m m' : Sat) (ts : List Ticket) (fs : List Entry) (rs cs : List Ticket) (k g : ℕ) → m ≡ core_sat ts fs rs cs 0 [] → m' ≡ (core_view (core_log m.0.core.arms m.0.core.fills m.0.core.refused (m.0.core.recycles ++ ticket k g ∷ []) 0) m.0.caller, m.1) → m' ≡ core_sat ts fs rs (cs ++ ticket k g ∷ []) 0 []
 freed_after m m' ts fs rs cs k g e e' = e' ∙ ap (λ (x : Sat). (core_view (core_log x.0.core.arms x.0.core.fills x.0.core.refused (x.0.core.recycles ++ ticket k g ∷ []) 0) x.0.caller, x.1)) e
 
--- the core's seat, by what `grab` says of it: the ticket was given up, or its cell's slot is held, empty
+-- the core's seat, by what `grab` says of it: the ticket was given up, or its
+-- cell's slot is held, empty
 pub refused_sat : (t : Ticket) (m m' : Sat) (ts : List Ticket) (fs : List Entry) (rs cs : List Ticket) → m ≡ core_sat ts fs rs cs 0 [] → m' ≡ (refused_too m.0 t, []) → m' ≡ core_sat ts fs (rs ++ t ∷ []) cs 0 []
 refused_sat t m m' ts fs rs cs e f = f ∙ ap (λ (x : Sat). (refused_too x.0 t, [])) e
 

@@ -25,7 +25,7 @@ at_snoc_index [] a b (suc j) e = absurd (some-ne-none b (sym e))
 at_snoc_index (x ∷ xs) a b zero e = inl e
 at_snoc_index (x ∷ xs) a b (suc j) e = ⊎_elim (λ h. inl h) (λ h. inr (ap suc h.0, h.1)) (at_snoc_index xs a b j e)
 
--- what is at a place of a list stands before its end
+-- what is at a place of a list is before its end
 pub at_inside : {A : Type 0} (xs : List A) (i : ℕ) (x : A) → get_elem? xs i ≡ some x → i < length xs
 at_inside [] i x e = absurd (some-ne-none x (sym e))
 at_inside (y ∷ ys) zero x e = omega arith

@@ -101,7 +101,8 @@ backs_kept s id k g c ts fs rs cs cs' taker r inside seat unused un small below 
       },
     )
 
--- what the core knows of a ticket's cell, by the ticket: it was armed, has no fill, and its cell was not freed
+-- what the core knows of a ticket's cell, by the ticket: it was armed, has no fill, and
+-- its cell was not freed
 unused_now : (s : Table) (id k g : ℕ) (ts : List Ticket) (fs : List Entry) (rs cs : List Ticket) (taker : Takers) → KeptAt id (core_log ts fs rs cs 0) taker s → k < length s.homes → Has ts (ticket k g) → IsUnfilled fs (ticket k g) → ¬ (Has cs (ticket k g)) → IsUnused g (get_or s.words k 0)
 unused_now s id k g ts fs rs cs taker r inside has un kept = let n : ℕ = get_or s.words k 0 in let cell = r.each_cell k inside in
     let high : n ≤ 8 * g + 5 = dite (dec_le n (8 * g + 5)) (λ l. l) (λ l. let over = cell.state g (omega arith) in absurd (kept (cell.past g (omega arith)))) in ⊎_elim

@@ -1,4 +1,4 @@
--- The board's rule, what each step tells, and what a seat's lists are.
+-- The board's rule, what each step reports, and what a seat's lists are.
 use Rattle.std.specs.Prelude.{◌≡◌, ◌≢◌, ◌⊎◌, ℕ, suc, ◌+◌, ◌*◌, ◌<◌, ◌≤◌, List, [], ◌∷◌, ◌++◌, length, slice_index, Some, None, Option, true, false}
 use mathlib.Core.Option.{some}
 use mathlib.Core.Option as maybe
@@ -14,7 +14,7 @@ use Rattle.ca_board.specs.declared.steps.View.{View}
 abbrev pub ticket : ℕ → ℕ → Ticket
 ticket k g = record { cell = k; generation = g }
 
--- x stands somewhere in the list
+-- x is somewhere in the list
 abbrev pub Has : {A : Type 0} → List A → A → Type 0
 Has xs x = (i : ℕ) × (get_elem? xs i ≡ some x)
 
@@ -38,8 +38,8 @@ Sat = Me Slot View
 abbrev pub IsUnfilled : List Entry → Ticket → Type 0
 IsUnfilled fills t = (o : Outcome) → ¬ (Has fills (t, o))
 
--- The word of a cell is 8 times its generation, and 0 free, 1 waiting, 2 done, 3 taken, 4 empty, 5 given up; it goes to
--- the next generation when it is recycled
+-- The word of a cell is 8 times its generation, and 0 free, 1 waiting, 2 done, 3 taken, 4 empty, 5
+-- given up; it goes to the next generation when it is recycled
 abbrev pub core_log : List Ticket → List Entry → List Ticket → List Ticket → ℕ → CoreLog
 core_log arms fills refused recycles hand =
     record { arms = arms; fills = fills; refused = refused; recycles = recycles; hand = hand }
@@ -59,9 +59,10 @@ core_view log caller = record { is_core = true; core = log; caller = caller; one
 abbrev pub caller_view : CallerLog → View
 caller_view caller = record { is_core = false; core = no_core; caller = caller; one = no_caller; other = no_caller }
 
--- One cell: its word, which has one of these six states, its slot, and the core's lists. The slot is at home and empty while the cell is free, waiting, empty
--- or given up, but where the core holds it; it has the outcome of the fill while the cell is done. Each generation up to the
--- word's was armed, and each below it was recycled
+-- One cell: its word, which has one of these six states, its slot, and the core's lists. The slot
+-- is at home and empty while the cell is free, waiting, empty or given up, unless the core holds
+-- it; it has the outcome of the fill while the cell is done. Each generation up to the word's was
+-- armed, and each below it was recycled
 pub record CellOk (log : CoreLog) (k n : ℕ) (home : maybe.Option (maybe.Option Slot)) : Type 0 where
   pub free : (g : ℕ) → n ≡ 8 * g → ¬ (log.hand ≡ suc k) × (home ≡ some (some None))
   pub waiting : (g : ℕ) → n ≡ 8 * g + 1 → ¬ (log.hand ≡ suc k) → home ≡ some (some None)
@@ -100,12 +101,13 @@ WaitOk words views t =
     (slice_index words t.cell ≡ 8 * t.generation + 1)
     ⊎ ((8 * t.generation + 5 ≤ slice_index words t.cell) × IsGivenUp views t)
 
--- the slot that a caller holds between its take and its hand-back: the word is taken, by this very seat
+-- the slot that a caller holds between its take and its hand-back: the word is
+-- taken, by this very seat
 abbrev pub HandOk : (ℕ → ℕ → ℕ × ℕ) → List ℕ → ℕ → CallerLog → Type 0
 HandOk taker words j c = (k : ℕ) → c.hand ≡ suc k → (slice_index words k ≡ 8 * c.round + 3) × ((taker k c.round).0 ≡ j)
 
--- what one seat knows: its core's part is the core's lists, each of its takes and give-ups is right, and no word went back
--- after what it found
+-- what one seat knows: its core's part is the core's lists, each of its takes and give-ups is
+-- right, and no word went back after what it found
 pub record SeatOk (keeper : ℕ) (log : CoreLog) (taker : ℕ → ℕ → ℕ × ℕ) (words : List ℕ) (j : ℕ) (v : View) : Type 0 where
   pub core : v.is_core ≡ true → (j ≡ keeper) × (v.core ≡ log)
   pub takes : (i : ℕ) (e : Entry) → get_elem? v.caller.takes i ≡ some e → TakeOk log taker words j i e
@@ -113,8 +115,9 @@ pub record SeatOk (keeper : ℕ) (log : CoreLog) (taker : ℕ → ℕ → ℕ ×
   pub seen : (i : ℕ) (x : Reading) → get_elem? v.caller.seen i ≡ some x → x.1 ≤ slice_index words x.0
   pub hand : HandOk taker words j v.caller
 
--- How the words, the slots and the views of all seats fit the core's lists. The seat `keeper` is the core's; `taker` gives,
--- for a ticket that was taken, the one seat that took it and the place in its list, so no ticket is taken twice
+-- How the words, the slots and the views of all seats fit the core's lists. The seat `keeper` is
+-- the core's; `taker` gives, for a ticket that was taken, the one seat that took it and the place
+-- in its list, so no ticket is taken twice
 pub record KeptAt (keeper : ℕ) (log : CoreLog) (taker : ℕ → ℕ → ℕ × ℕ) (s : Table) : Type 0 where
   pub wide : length s.words ≡ length s.homes
   pub each_cell : (k : ℕ) → k < length s.homes → CellOk log k (slice_index s.words k) (get_elem? s.homes k)
@@ -125,7 +128,8 @@ pub record KeptAt (keeper : ℕ) (log : CoreLog) (taker : ℕ → ℕ → ℕ ×
   pub each_refusal : (i : ℕ) (t : Ticket) → get_elem? log.refused i ≡ some t → IsGivenUp s.views t
   pub each_seat : (j : ℕ) (v : View) → get_elem? s.views j ≡ some v → SeatOk keeper log taker s.words j v
 
--- The board's rule: one seat is the core's, and its lists, the words, the slots and each seat's takes and give-ups fit
+-- The board's rule: one seat is the core's, and its lists, the words, the slots and each seat's
+-- takes and give-ups fit
 abbrev pub Kept : Table → Type 0
 Kept s = (keeper : ℕ) × (log : CoreLog) × (taker : ℕ → ℕ → ℕ × ℕ) × KeptAt keeper log taker s
 
@@ -154,7 +158,7 @@ pub record IsStock (arms recycles free : List Ticket) : Type 0 where
 abbrev pub IsUntouched : List Entry → List Ticket → List Ticket → Ticket → Type 0
 IsUntouched fills refused recycles t = IsUnfilled fills t × ¬ (Has refused t) × ¬ (Has recycles t)
 
--- A view with one thing more. A core's seat then holds no slot, but where a fill came after a give-up
+-- A view with one thing more. A core's seat then holds no slot, unless a fill came after a give-up
 abbrev pub armed_too : View → Ticket → View
 armed_too v t = core_view (core_log (v.core.arms ++ t ∷ []) v.core.fills v.core.refused v.core.recycles 0) v.caller
 
@@ -185,7 +189,8 @@ given_too v t = caller_view (caller_log v.caller.takes (v.caller.gives ++ t ∷ 
 abbrev pub read_too : View → ℕ → ℕ → View
 read_too v k n = caller_view (caller_log v.caller.takes v.caller.gives (v.caller.seen ++ (k, n) ∷ []) 0 0)
 
--- What the steps tell: of the step's word and first operand, the seat before, the number that it found, the seat after
+-- What the steps tell: of the step's word and first operand, the seat before, the number that it
+-- found, the seat after
 abbrev pub armed : Step Slot → Sat → ℕ → Sat → Type 0
 armed st m r m' = (g : ℕ) → st.first ≡ 8 * g + 1
     → IsUntouched m.0.core.fills m.0.core.refused m.0.core.recycles (ticket st.word g) × (m' ≡ (armed_too m.0 (ticket st.word g), m.1))
@@ -195,7 +200,8 @@ recycled st m r m' = (g : ℕ) → (st.first ≡ 8 * g + 4) ⊎ (st.first ≡ 8 
     → (r ≡ st.first → Frees m.0.core.arms m.0.core.recycles st.word g × (m' ≡ (recycled_too m.0 (ticket st.word g), m.1)))
     × (r ≢ st.first → m' ≡ m)
 
--- the core takes back a ticket that nobody has used: it is given up, by a seat of its own, and its cell is free for the next generation, or stays given up
+-- the core takes back a ticket that nobody has used: it is given up, by a seat of its own, and its
+-- cell is free for the next generation, or stays given up
 abbrev pub taken_back : Step Slot → Sat → ℕ → Sat → Type 0
 taken_back st m r m' = (g : ℕ)
     → (st.first ≡ 8 * g + 8 → Frees m.0.core.arms m.0.core.recycles st.word g × (m' ≡ (back_too m.0 (ticket st.word g) (m.0.core.recycles ++ ticket st.word g ∷ []), m.1)))
@@ -238,7 +244,8 @@ IsLatest seen k n = (m : ℕ) → Has seen (k, m) → m ≤ n
 abbrev pub looked : ℕ → Sat → ℕ → Sat → Type 0
 looked k m r m' = IsLatest m.0.caller.seen k r × (m' ≡ (read_too m.0 k r, m.1))
 
--- a caller looked at a cell: no ticket of it past which its word is not was taken or given up by this seat, or found ended
+-- a caller looked at a cell: no ticket of it past which its word is not was taken or given up by
+-- this seat, or found ended
 abbrev pub found_out : Step Slot → Sat → ℕ → Sat → Type 0
 found_out st m r m' = looked st.word m r m'
     × ((g : ℕ) → r ≤ 8 * g + 2 → IsOpen m.0.caller.takes m.0.caller.gives m.0.caller.seen (ticket st.word g))
@@ -257,8 +264,8 @@ gave_up st m r m' = (g : ℕ) → st.first ≡ 8 * g + 1
     → (r ≡ st.first → IsOpen m.0.caller.takes m.0.caller.gives m.0.caller.seen (ticket st.word g) × (m' ≡ (given_too m.0 (ticket st.word g), m.1)))
     × (r ≢ st.first → looked st.word m r m')
 
--- What a core's view and a caller's say together: each take is a fill of that ticket with that outcome, no ticket is
--- taken twice, and none that was given up has a fill
+-- What a core's view and a caller's say together: each take is a fill of that ticket with that
+-- outcome, no ticket is taken twice, and none that was given up has a fill
 abbrev pub Agrees : List Entry → List Entry → List Ticket → Type 0
 Agrees fills takes gives = ((i : ℕ) (e : Entry) → get_elem? takes i ≡ some e → Has fills e)
     × ((i i' : ℕ) (e e' : Entry) → get_elem? takes i ≡ some e → get_elem? takes i' ≡ some e' → e.0 ≡ e'.0 → i ≡ i')
@@ -267,7 +274,8 @@ Agrees fills takes gives = ((i : ℕ) (e : Entry) → get_elem? takes i ≡ some
 abbrev pub compared : Step Slot → Sat → ℕ → Sat → Type 0
 compared st m r m' = (m' ≡ m) × Agrees m.0.core.fills m.0.caller.takes m.0.caller.gives
 
--- What two callers' views say together: no ticket was taken by both, nor taken by one and given up by the other
+-- What two callers' views say together: no ticket was taken by both, nor taken by one and
+-- given up by the other
 abbrev pub Apart : List Entry → List Ticket → List Entry → List Ticket → Type 0
 Apart takes gives takes' gives' = ((i i' : ℕ) (e e' : Entry) → get_elem? takes i ≡ some e → get_elem? takes' i' ≡ some e' → e.0 ≢ e'.0)
     × ((i i' : ℕ) (e : Entry) (t : Ticket) → get_elem? takes i ≡ some e → get_elem? gives' i' ≡ some t → e.0 ≢ t)

@@ -36,7 +36,8 @@ IsIdle s = let log = s.me.0.core in s.me ≡ (core_view (core_log log.arms log.f
 abbrev pub IsWaiting : BoardSeat → Ticket → Type 0
 IsWaiting s t = Has s.me.0.core.arms t × IsUnfilled s.me.0.core.fills t × (t.cell < board_cells)
 
--- The core's seat holds no slot, each of its tickets is of a cell of the board, and its free list is right
+-- The core's seat holds no slot, each of its tickets is of a cell of the board, and
+-- its free list is right
 pub record IsCoreSeat (s : BoardSeat) (free : List Ticket) (room : ℕ) : Type 0 where
   pub idle : IsIdle s
   pub inside : IsInside s.me.0.core.arms

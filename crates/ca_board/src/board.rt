@@ -59,8 +59,8 @@ impl Board {
         CallerSeat { seat }
     }
 
-    /// A ticket that was never armed, for a cell that is free. Refused as NoCell if every cell is in use: armed and not
-    /// recycled since. A cell at its last generation is never recycled.
+    /// A ticket that was never armed, for a cell that is free. Refused as NoCell if every cell is
+    /// in use: armed and not recycled since. A cell at its last generation is never recycled.
     pub fn arm(&self, core: &mut CoreSeat) -> Result<Ticket, Refusal>
         requires { core.old.board ≡ self.now }
         ensures { HasArmed core.old result core.new }
@@ -75,9 +75,10 @@ impl Board {
         Ok(ticket)
     }
 
-    /// Hands over the outcome of a ticket that was armed and not filled yet, or gives it back where the ticket was given
-    /// up, also after its cell was recycled.
-    // In line, since an outcome that is handed on through memory has the processor wait for what was just written.
+    /// Hands over the outcome of a ticket that was armed and not filled yet, or gives it back if
+    /// the ticket was given up, also after its cell was recycled.
+    // In line, since an outcome that is handed on through memory has the processor wait for
+    // what was just written.
     #[inline(always)]
     pub fn fill(&self, core: &mut CoreSeat, ticket: Ticket, outcome: Outcome) -> Filled
         requires board { core.old.board ≡ self.now }
@@ -105,8 +106,8 @@ impl Board {
 
     // Takes the slot of a ticket's cell, or finds that the ticket was given up, and says which.
     //
-    // The slot of any cell that waits may be taken. So a look at the word does, which costs less than an exchange; and where the cell waits under a later
-    // ticket, the fill finds that.
+    // The slot of any cell that waits may be taken. So a look at the word does, which costs less
+    // than an exchange; and where the cell waits under a later ticket, the fill finds that.
     fn grab(&self, seat: &mut BoardSeat, ticket: Ticket) -> bool
         requires board { seat.old.table_id ≡ self.now }
         requires idle { IsIdle seat.old }
@@ -127,8 +128,8 @@ impl Board {
         true
     }
 
-    /// The outcome of a ticket, if it is there. One holder of a ticket gets it, once: a ticket that has ended never gives it
-    /// again.
+    /// The outcome of a ticket, if it is there. One holder of a ticket gets it, once: a ticket that
+    /// has ended never gives it again.
     pub fn collect(&self, caller: &mut CallerSeat, ticket: Ticket) -> Option<Outcome>
         requires { caller.old.board ≡ self.now }
         ensures { HasCollected caller.old ticket result caller.new }
@@ -149,8 +150,9 @@ impl Board {
         Some(outcome.unwrap())
     }
 
-    /// Ends a ticket: none, and a later fill of it is given back; or the outcome that was there already, which is then
-    /// taken. It does nothing to a ticket that has ended, or was not armed yet.
+    /// Ends a ticket: none, and a later fill of it is given back; or the outcome that
+    /// was there already, which is then taken. It does nothing to a ticket that has
+    /// ended, or was not armed yet.
     pub fn give_up(&self, caller: &mut CallerSeat, ticket: Ticket) -> Option<Outcome>
         requires { caller.old.board ≡ self.now }
         ensures { HasGivenUp caller.old ticket result caller.new }
@@ -183,7 +185,8 @@ impl Board {
         true
     }
 
-    /// Whether a ticket has ended, so that no outcome comes of it: it was collected or given up, by whomever, or is for no cell. It is a look, which changes nothing.
+    /// Whether a ticket has ended, so that no outcome comes of it: it was collected or given up, by
+    /// whomever, or is for no cell. It is a look, which changes nothing.
     pub fn has_ended(&self, caller: &mut CallerSeat, ticket: Ticket) -> bool
         requires { caller.old.board ≡ self.now }
         ensures ended { IsTrue result → HasFoundEnded caller.old ticket caller.new }
@@ -197,8 +200,8 @@ impl Board {
         is_past(found, ticket)
     }
 
-    /// Frees a cell whose outcome was taken, or whose ticket was given up, and says whether it did. At its last generation
-    /// a cell stays in use.
+    /// Frees a cell whose outcome was taken, or whose ticket was given up, and says whether it did.
+    /// At its last generation a cell stays in use.
     pub fn recycle(&self, core: &mut CoreSeat, cell: usize) -> bool
         requires { core.old.board ≡ self.now }
         ensures freed { IsTrue result → HasRecycled core.old cell core.new }
@@ -224,8 +227,8 @@ impl Board {
         true
     }
 
-    /// Takes back a ticket that was armed and not filled, whose cell was not freed since: it is never filled then, and its cell is free again, unless its
-    /// generation was the last.
+    /// Takes back a ticket that was armed and not filled, whose cell was not freed since: it is
+    /// never filled then, and its cell is free again, unless its generation was the last.
     pub fn take_back(&self, core: &mut CoreSeat, ticket: Ticket)
         requires board { core.old.board ≡ self.now }
         requires due { IsDue core.old ticket }

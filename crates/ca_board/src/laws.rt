@@ -6,8 +6,8 @@ use crate::board::Board;
 use crate::seats::{CallerSeat, CoreSeat};
 use crate::steps::{Compares, Meets, Pairs, Separates};
 
-/// Compares two seats and gives them back: what the caller took are fills of the core, ticket by ticket, each once,
-/// and what it gave up has no fill.
+/// Compares two seats and gives them back: what the caller took are fills of the core, ticket by
+/// ticket, each once, and what it gave up has no fill.
 pub fn met(board: &Board, core: CoreSeat, caller: CallerSeat) -> (CoreSeat, CallerSeat)
     requires core { core.board ≡ board.now }
     requires caller { caller.board ≡ board.now }
@@ -24,7 +24,8 @@ pub fn met(board: &Board, core: CoreSeat, caller: CallerSeat) -> (CoreSeat, Call
     (CoreSeat { seat, free }, CallerSeat { seat: other })
 }
 
-/// Compares two callers' seats and gives them back: no ticket was taken by both, nor taken by one and given up by the other.
+/// Compares two callers' seats and gives them back: no ticket was taken by both, nor taken by one
+/// and given up by the other.
 pub fn apart(board: &Board, one: CallerSeat, other: CallerSeat) -> (CallerSeat, CallerSeat)
     requires one { one.board ≡ board.now }
     requires other { other.board ≡ board.now }

@@ -1,7 +1,7 @@
 //! A board on which one core hands outcomes over to callers in other threads, with no lock.
 //!
-//! The core arms a ticket for each request and fills it when the request completes; the caller that has the ticket
-//! collects the outcome. Each call is a few atomic steps on one word, and returns.
+//! The core arms a ticket for each request and fills it when the request completes; the caller that
+//! has the ticket collects the outcome. Each call is a few atomic steps on one word, and returns.
 #![tactic(auto)]
 
 mod board;

@@ -7,7 +7,7 @@ use std::marker::Model;
 #[derive(Drop)]
 pub struct CoreSeat {
     pub(crate) seat: BoardSeat,
-    // The next ticket of each cell that is free. The cell that was freed last stands at the end.
+    // The next ticket of each cell that is free. The cell that was freed last is at the end.
     pub(crate) free: Vec<Ticket>,
 }
 

@@ -1,6 +1,7 @@
 //! What the words and the slots hold, what a seat knows, and the steps.
 //!
-//! A cell has one word, which holds its generation and its state, and one slot. The slot has the outcome while the cell is done.
+//! A cell has one word, which holds its generation and its state, and one slot. The slot has the
+//! outcome while the cell is done.
 use crate::ticket::Ticket;
 use atomic_table::{Join, Play, Seat, Split, Table, TableRule};
 use ca_dbr::Outcome;
@@ -11,7 +12,8 @@ use std::collections::LinkedList;
 pub struct CoreLog {
     pub arms: LinkedList<Ticket>,
     pub fills: LinkedList<(Ticket, Outcome)>,
-    /// Tickets that are not filled: the fill came after a give-up, or the core took the ticket back.
+    /// Tickets that are not filled: the fill came after a give-up, or the core
+    /// took the ticket back.
     pub refused: LinkedList<Ticket>,
     pub recycles: LinkedList<Ticket>,
     /// 0, or 1 more than the cell whose slot it holds.
@@ -22,7 +24,7 @@ pub struct CoreLog {
 pub struct CallerLog {
     pub takes: LinkedList<(Ticket, Outcome)>,
     pub gives: LinkedList<Ticket>,
-    /// The words that it found where it did nothing, each with its cell.
+    /// The words that it found when it did nothing, each with its cell.
     pub seen: LinkedList<(usize, u64)>,
     /// 0, or 1 more than the cell whose slot it holds.
     pub hand: u64,
@@ -30,7 +32,8 @@ pub struct CallerLog {
     pub round: u64,
 }
 
-/// What a seat knows. A core's seat has a caller's part only while the two are compared, or until the give-up of a ticket that it took back is split off. While two callers are compared the
+/// What a seat knows. A core's seat has a caller's part only while the two are compared, or until
+/// the give-up of a ticket that it took back is split off. While two callers are compared the
 /// caller's part is what both did, and `one` and `other` are what each did.
 pub struct View {
     pub is_core: bool,

@@ -2,7 +2,8 @@ use ca_dbr::Outcome;
 
 /// The right to one outcome: a cell of the board, and which of its outcomes.
 ///
-/// A copy is the same ticket. Once it was collected by one of its holders it gives nothing to any other.
+/// A copy is the same ticket. Once it was collected by one of its holders it gives
+/// nothing to any other.
 #[derive(Clone, Copy, Debug, PartialEq, Eq)]
 pub struct Ticket {
     /// Below `BOARD_CELLS`.

@@ -4,8 +4,8 @@ ghost use Rattle.ca_board.specs.Words.{state_number, word_of};
 
 use crate::ticket::Ticket;
 
-/// What a cell is: free; its ticket waits for an outcome; the outcome is there; a caller takes it; it was taken, and the slot is back;
-/// or the ticket was given up.
+/// What a cell is: free; its ticket waits for an outcome; the outcome is there; a caller takes it;
+/// it was taken, and the slot is back; or the ticket was given up.
 #[derive(Clone, Copy)]
 pub(crate) enum State {
     Free,
@@ -23,7 +23,8 @@ pub(crate) fn word(ticket: Ticket, state: State) -> u64
     u64::from(ticket.generation) * 8 + number(state)
 }
 
-/// The ticket of a cell with this word has ended: its outcome was taken and the slot is back, or it was given up.
+/// The ticket of a cell with this word has ended: its outcome was taken and the slot is
+/// back, or it was given up.
 pub(crate) fn has_ended(word: u64) -> bool
     ensures ended { IsTrue result → (word ≡ 8 * (word / 8) + 4) ⊎ (word ≡ 8 * (word / 8) + 5) }
     ensures other { IsFalse result
@@ -32,7 +33,8 @@ pub(crate) fn has_ended(word: u64) -> bool
     word % 8 == number(State::Empty) || word % 8 == number(State::GivenUp)
 }
 
-/// The cell of a ticket, with this word, is past the ticket's outcome: that was taken, or the ticket was given up. Words only grow, so none comes.
+/// The cell of a ticket, with this word, is past the ticket's outcome: that was taken, or the
+/// ticket was given up. Words only grow, so none comes.
 pub(crate) fn is_past(word: u64, ticket: Ticket) -> bool
     ensures past { IsTrue result → 8 * ticket.generation + 2 < word }
     ensures not_yet { IsFalse result → word ≤ 8 * ticket.generation + 2 }

@@ -35,7 +35,7 @@ number_of h = h.generation * 65536 + h.index
 abbrev pub handle_of : ℕ → Handle
 handle_of n = record { index = n % 65536; generation = n / 65536 % 4294967296 }
 
--- what is written where a call succeeds
+-- what is written if a call succeeds
 abbrev pub Tells : {X Y : Type 0} → (X → Y) → Result X Refusal → (before after : Y) → Type 0
 Tells f (Ok x) before after = after ≡ f x
 Tells f (Err r) before after = after ≡ before

@@ -1,4 +1,5 @@
--- Vocabulary: what each call of C does to a client: the contract of the call of `ClientCore` that it makes, with the number that it answers.
+-- Vocabulary: what each call of C does to a client: the contract of the call of `ClientCore` that
+-- it makes, with the number that it answers.
 use Rattle.std.specs.Prelude.{ℕ, ℤ, pos, ◌≡◌, ◌<◌, ◌≢◌, ◌⊎◌, ◌++◌, ◌+◌, Bool, List, [], ◌∷◌, Option, Some, None, Result, Ok, Err, drop, if◌then◌else◌, is_some, length, map, min, option_map, slice_get, take}
 use Rattle.ca_arena.specs.declared.handle.Handle.{Handle}
 use Rattle.ca_client_core.specs.Forms.{stated}
@@ -137,7 +138,7 @@ DoesClose s n t circuit = (k : Closing) × ((sent : List Sending) × (ClientClos
 abbrev pub DoesOutput : ClientObject → ℕ → ClientObject → (circuit : ℕ) → (before after : List ℕ) → Type 0
 DoesOutput s n t circuit before after = Shows (out_bytes s.core (handle_of circuit)) n before after × (t ≡ s)
 
--- the first bytes that wait were sent; refused by OutOfRange if no so many wait
+-- the first bytes that wait were sent; refused by OutOfRange if fewer wait
 abbrev pub DoesSent : ClientObject → ℤ → ClientObject → (circuit count : ℕ) → Type 0
 DoesSent s n t circuit count =
     ((n ≡ pos 0) × (t.core ≡ handed_over (handle_of circuit) count s.core) × KeepsRest s t)

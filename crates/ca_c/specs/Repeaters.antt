@@ -1,4 +1,5 @@
--- Vocabulary: what each call of C does to a repeater: the contract of the call of `RepeaterCore` that it makes, with the number that it answers.
+-- Vocabulary: what each call of C does to a repeater: the contract of the call of `RepeaterCore`
+-- that it makes, with the number that it answers.
 use Rattle.std.specs.Prelude.{ℕ, ℤ, pos, ◌≡◌, ◌⊎◌, ◌+◌, List, [], Option, Some, None, Result, Ok, Err, Vec, filter, if◌then◌else◌, is_some, not, slice_get}
 use Rattle.std.specs.declared.alloc.Global.{Global}
 use Rattle.ca_repeat.specs.Addresses.{same}
@@ -43,6 +44,6 @@ DoesOutgoing s n t to_before to_after before after =
     let next : Option Sent = slice_get s.sends.items s.taken in
     ShowsSend next n to_before to_after before after × (t ≡ record s { taken = if is_some next then s.taken + 1 else s.taken })
 
--- the member is one no more
+-- it is no longer a member
 abbrev pub DoesRefused : RepeaterObject → ℤ → RepeaterObject → CvzAddress → Type 0
 DoesRefused s n t to = (n ≡ pos 0) × (t ≡ record s { core = filter (λ m. not (same m (place_of to))) s.core })

@@ -1,4 +1,5 @@
--- Vocabulary: what each call of C does to a server: the contract of the call of `ServerCore` that it makes, with the number that it answers.
+-- Vocabulary: what each call of C does to a server: the contract of the call of `ServerCore` that
+-- it makes, with the number that it answers.
 use Rattle.std.specs.Prelude.{ℕ, ℤ, pos, ◌≡◌, ◌<◌, ◌⊎◌, ◌++◌, ◌+◌, Bool, false, IfErr, List, [], Option, Some, None, Result, Ok, Err, drop, if◌then◌else◌, is_some, length, map, min, option_map, slice_get, take}
 use Rattle.ca_arena.specs.declared.handle.Handle.{Handle}
 use Rattle.ca_dbr.specs.declared.value.Meta.{Meta}
@@ -81,7 +82,7 @@ DoesStamp s n t seconds nanos = (n ≡ pos 0) × (t.core ≡ stamped (record { s
 abbrev pub DoesOutput : ServerObject → ℕ → ServerObject → (circuit : ℕ) → (before after : List ℕ) → Type 0
 DoesOutput s n t circuit before after = Shows (output_of (under s.core.circuits (handle_of circuit))) n before after × (t ≡ s)
 
--- the first bytes that wait were sent; refused by OutOfRange if no so many wait
+-- the first bytes that wait were sent; refused by OutOfRange if fewer wait
 abbrev pub DoesSent : ServerObject → ℤ → ServerObject → (circuit count : ℕ) → Type 0
 DoesSent s n t circuit count =
     ((n ≡ pos 0) × Sends s.core (handle_of circuit) count t.core × KeepsRest s t)
@@ -110,7 +111,8 @@ DoesPost s n t name mask number count image =
 unfoldable pub DoesFinish : ServerObject → ℤ → ServerObject → (name : List ℕ) → Type 0
 DoesFinish s n t name = (r : Result (Unit {0}) Refusal) × ((sent : List (Handle × Fields)) × ((n ≡ code_of r) × Finishes s.core name sent r t.core × KeepsRest s t))
 
--- the value for which a put makes the record busy is shown, in the record's own type; refused by NotBusy if none does
+-- the value for which a put makes the record busy is shown, in the record's own type; refused by
+-- NotBusy if none does
 abbrev pub ShowsBusy : Option Elements → ℤ → (size_before size_after : ℕ) → (before after : List ℕ) → Type 0
 ShowsBusy (Some value) n size_before size_after before after = ShowsValue (base_number (base_of value)) value unset n size_before size_after before after
 ShowsBusy None n size_before size_after before after = (n ≡ refusal_code refusal.NotBusy) × (size_after ≡ size_before) × (after ≡ before)
@@ -118,8 +120,8 @@ ShowsBusy None n size_before size_after before after = (n ≡ refusal_code refus
 unfoldable pub DoesBusy : ServerObject → ℤ → ServerObject → (name : List ℕ) → (size_before size_after : ℕ) → (before after : List ℕ) → Type 0
 DoesBusy s n t name size_before size_after before after = ShowsBusy (busy_value s.core name) n size_before size_after before after × (t ≡ s)
 
--- The record's value with its metadata is shown in this type, and its count is told; refused by UnknownRecord if there is no record, or as the
--- image is.
+-- The record's value with its metadata is shown in this type, and its count is told; refused by
+-- UnknownRecord if there is no record, or as the image is.
 abbrev pub ShowsRecord : Option RecordState → (number : ℕ) → ℤ → (count_before count_after size_before size_after : ℕ) → (before after : List ℕ) → Type 0
 ShowsRecord (Some r) number n count_before count_after size_before size_after before after =
     (x : Result (Unit {0}) Refusal) × ((n ≡ code_of x) × CopiesValue number r.value r.meta x size_before size_after before after

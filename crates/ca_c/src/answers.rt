@@ -65,7 +65,8 @@ pub(crate) fn copied(bytes: &[u8], room: &mut [u8]) -> usize
     bytes.len()
 }
 
-/// Copies the image of a value in this type, as far as there is room for it, and writes how long it is. Refused as BadType, then as OutOfMemory.
+/// Copies the image of a value in this type, as far as there is room for it, and writes how long it
+/// is. Refused as BadType, then as OutOfMemory.
 pub(crate) fn shown(
     alloc: Global,
     data_type: u16,
@@ -80,7 +81,8 @@ pub(crate) fn shown(
     code(copied_value(alloc, data_type, value, meta, room, size))
 }
 
-/// The same, before its answer is a number.
+/// Copies the image of a value in this type, as far as there is room for it, and writes how long it
+/// is, as `shown`. The answer is not yet a number.
 pub(crate) fn copied_value(
     alloc: Global,
     data_type: u16,

@@ -14,8 +14,9 @@ use ca_text::Refusal;
 use ca_wire::Pipe;
 use std::alloc::{AllocError, Global};
 
-/// Makes a client of this user at this host. It searches by datagrams to the servers, and on a circuit to each name server. One that the
-/// struct had is freed. Refused as NameLength, then as ArenaFull, or as OutOfMemory: then the struct has what it had.
+/// Makes a client of this user at this host. It searches by datagrams to the servers, and on a
+/// circuit to each name server. One that the struct had is freed. Refused as NameLength, then as
+/// ArenaFull, or as OutOfMemory: then the struct has what it had.
 #[unsafe(no_mangle)]
 pub extern "C" fn cvz_client_new(
     alloc: Global,
@@ -414,7 +415,8 @@ pub extern "C" fn cvz_client_left(alloc: Global, client: &mut CvzClient, room: &
     answer
 }
 
-/// A moment. `cvz_client_search` has the searches that are due, and `cvz_client_ended` the circuits that were silent too long.
+/// A moment. `cvz_client_search` has the searches that are due, and `cvz_client_ended` the circuits
+/// that were silent too long.
 #[unsafe(no_mangle)]
 pub extern "C" fn cvz_client_tick(alloc: Global, client: &mut CvzClient, now: u64) -> i32
     ensures { Calls no_object client.old.value result client.new.value
@@ -503,7 +505,8 @@ pub extern "C" fn cvz_client_next(
     answer
 }
 
-/// Copies the image of the value of the notice that was taken last, in this type, and says how long it is.
+/// Copies the image of the value of the notice that was taken last, in this type, and
+/// says how long it is.
 #[unsafe(no_mangle)]
 pub extern "C" fn cvz_client_value(
     alloc: Global,

@@ -46,11 +46,13 @@ pub struct CvzChannel {
 pub struct CvzNotice {
     /// The channel, the request or the subscription.
     pub of: u64,
-    /// 1 a channel is live, 2 it was lost, 3 a request is complete, 4 an update, 5 a subscription is over, 6 a write was refused.
+    /// 1 a channel is live, 2 it was lost, 3 a request is complete, 4 an update, 5 a subscription
+    /// is over, 6 a write was refused.
     pub kind: u32,
     /// Of 3 and 4: 0 a value, 1 done, 2 failed, 3 unreadable, 4 disconnected; else 0.
     pub outcome: u32,
-    /// The server's status if it failed, or at 5 and 6; why it is unreadable, as a refusal above zero; else 0.
+    /// The server's status if it failed, or at 5 and 6; why it is unreadable, as a
+    /// refusal above zero; else 0.
     pub status: u32,
     /// Of a value its type, 0 to 6, and its count.
     pub data_type: u32,

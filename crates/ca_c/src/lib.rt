@@ -1,7 +1,9 @@
-//! `libcuvezhin`: the cores of a server, a client and a repeater for C, each call of a core as one exported function. `include/cuvezhin.h` is what C sees of it.
+//! `libcuvezhin`: the cores of a server, a client and a repeater for C, each call of a core as one
+//! exported function. `include/cuvezhin.h` is what C sees of it.
 //!
-//! C holds an object as a struct of one pointer (`CvzServer`), which is null where there is none. Each export takes the object out of the
-//! struct, makes its call, and puts it back. An export for an object that is not there answers so.
+//! C holds an object as a struct of one pointer (`CvzServer`), which is null if there is none. Each
+//! export takes the object out of the struct, makes its call, and puts it back. An export for an
+//! object that is not there answers so.
 #![tactic(auto)]
 
 mod answers;

@@ -13,7 +13,8 @@ use ca_repeat::RepeaterCore;
 use ca_text::Refusal;
 use std::alloc::Global;
 
-/// Makes a repeater with no member. One that the struct had is freed. Refused as OutOfMemory: then the struct has what it had.
+/// Makes a repeater with no member. One that the struct had is freed. Refused as OutOfMemory: then
+/// the struct has what it had.
 #[unsafe(no_mangle)]
 pub extern "C" fn cvz_repeater_new(alloc: Global, repeater: &mut CvzRepeater) -> i32
     ensures { Begins result repeater.old.value repeater.new.value }
@@ -38,7 +39,8 @@ pub extern "C" fn cvz_repeater_free(alloc: Global, repeater: &mut CvzRepeater)
     let _ = repeater.take(alloc);
 }
 
-/// Takes a datagram that came from there. `cvz_repeater_outgoing` has the datagrams that are to be sent for it. Refused as OutOfMemory.
+/// Takes a datagram that came from there. `cvz_repeater_outgoing` has the datagrams that are to be
+/// sent for it. Refused as OutOfMemory.
 #[unsafe(no_mangle)]
 pub extern "C" fn cvz_repeater_datagram(
     alloc: Global,
@@ -57,7 +59,8 @@ pub extern "C" fn cvz_repeater_datagram(
     answer
 }
 
-/// Hands over the next of those datagrams, and where it goes, and says how long it is: 0 once there is none.
+/// Hands over the next of those datagrams, and where it goes, and says how long it is:
+/// 0 once there is none.
 #[unsafe(no_mangle)]
 pub extern "C" fn cvz_repeater_outgoing(
     alloc: Global,

@@ -18,8 +18,8 @@ use ca_text::Refusal;
 use ca_wire::Pipe;
 use std::alloc::{AllocError, Global};
 
-/// Makes a server of this TCP port that begins at this moment, with no record. One that the struct had is freed. Refused as OutOfMemory:
-/// then the struct has what it had.
+/// Makes a server of this TCP port that begins at this moment, with no record. One that the struct
+/// had is freed. Refused as OutOfMemory: then the struct has what it had.
 #[unsafe(no_mangle)]
 pub extern "C" fn cvz_server_new(alloc: Global, server: &mut CvzServer, port: u16, now: u64) -> i32
     ensures { Begins port now result server.old.value server.new.value }
@@ -34,8 +34,9 @@ pub extern "C" fn cvz_server_new(alloc: Global, server: &mut CvzServer, port: u1
     }
 }
 
-/// Makes a server with the records and the rules of access that the text of a record file says. One that the struct had is freed. Refused as
-/// BadText if a line is not understood, or as OutOfMemory: then the struct has what it had.
+/// Makes a server with the records and the rules of access that the text of a record file says. One
+/// that the struct had is freed. Refused as BadText if a line is not understood, or as OutOfMemory:
+/// then the struct has what it had.
 #[unsafe(no_mangle)]
 pub extern "C" fn cvz_server_load(
     alloc: Global,
@@ -98,7 +99,8 @@ pub extern "C" fn cvz_server_free(alloc: Global, server: &mut CvzServer)
     let _ = server.take(alloc);
 }
 
-/// Opens the end of a circuit that was accepted, and writes its handle. Refused as ArenaFull, then as OutOfMemory.
+/// Opens the end of a circuit that was accepted, and writes its handle. Refused as ArenaFull,
+/// then as OutOfMemory.
 #[unsafe(no_mangle)]
 pub extern "C" fn cvz_server_accept(alloc: Global, server: &mut CvzServer, circuit: &mut u64) -> i32
     ensures call { Calls no_object server.old.value result server.new.value
@@ -113,7 +115,8 @@ pub extern "C" fn cvz_server_accept(alloc: Global, server: &mut CvzServer, circu
     answer
 }
 
-/// Takes bytes that came on a circuit. Refused as CircuitClosed if its end is not open, then as OutOfMemory.
+/// Takes bytes that came on a circuit. Refused as CircuitClosed if its end is not open,
+/// then as OutOfMemory.
 #[unsafe(no_mangle)]
 pub extern "C" fn cvz_server_give(
     alloc: Global,
@@ -132,7 +135,7 @@ pub extern "C" fn cvz_server_give(
     answer
 }
 
-/// Handles the next message of a circuit, and tells what it did.
+/// Handles the next message of a circuit, and says what it did.
 #[unsafe(no_mangle)]
 pub extern "C" fn cvz_server_step(
     alloc: Global,
@@ -166,7 +169,8 @@ pub extern "C" fn cvz_server_pump(alloc: Global, server: &mut CvzServer, circuit
     answer
 }
 
-/// Copies bytes that wait to be sent on a circuit, as many as there is room for, and says how many. They wait until `cvz_server_sent`.
+/// Copies bytes that wait to be sent on a circuit, as many as there is room for, and says how many.
+/// They wait until `cvz_server_sent`.
 #[unsafe(no_mangle)]
 pub extern "C" fn cvz_server_output(
     alloc: Global,
@@ -220,7 +224,7 @@ pub extern "C" fn cvz_server_left(alloc: Global, server: &mut CvzServer, room: &
     answer
 }
 
-/// The caller cuts a circuit. A step tells that it has closed.
+/// The caller cuts a circuit. A step says that it has closed.
 #[unsafe(no_mangle)]
 pub extern "C" fn cvz_server_cut(alloc: Global, server: &mut CvzServer, circuit: u64) -> i32
     ensures { Calls no_object server.old.value result server.new.value
@@ -276,7 +280,7 @@ pub extern "C" fn cvz_server_add(
     answer
 }
 
-/// Serves a record no more.
+/// Stops serving a record.
 #[unsafe(no_mangle)]
 pub extern "C" fn cvz_server_remove(alloc: Global, server: &mut CvzServer, name: &[u8]) -> i32
     ensures { Calls no_object server.old.value result server.new.value
@@ -290,7 +294,8 @@ pub extern "C" fn cvz_server_remove(alloc: Global, server: &mut CvzServer, name:
     answer
 }
 
-/// A record has this value from now on, and it reaches all subscriptions whose mask shares a bit with this one.
+/// A record has this value from now on, and it reaches all subscriptions whose mask shares
+/// a bit with this one.
 #[unsafe(no_mangle)]
 pub extern "C" fn cvz_server_post(
     alloc: Global,
@@ -326,8 +331,8 @@ pub extern "C" fn cvz_server_finish(alloc: Global, server: &mut CvzServer, name:
     answer
 }
 
-/// Copies the image of the value for which a put makes the record busy, in the record's own type, and writes how long it is. Refused as NotBusy
-/// if no put does.
+/// Copies the image of the value for which a put makes the record busy, in the record's own type,
+/// and writes how long it is. Refused as NotBusy if no put does.
 #[unsafe(no_mangle)]
 pub extern "C" fn cvz_server_busy(
     alloc: Global,
@@ -349,8 +354,9 @@ pub extern "C" fn cvz_server_busy(
     answer
 }
 
-/// Copies the image of the record's value in this type, its own or that with status or with a time stamp too, and writes its count and how long that
-/// is. Refused as UnknownRecord, as BadType, then as OutOfMemory.
+/// Copies the image of the record's value in this type, its own or that with status or with a time
+/// stamp too, and writes its count and how long that is. Refused as UnknownRecord, as BadType,
+/// then as OutOfMemory.
 #[unsafe(no_mangle)]
 pub extern "C" fn cvz_server_value(
     alloc: Global,
@@ -375,7 +381,8 @@ pub extern "C" fn cvz_server_value(
     answer
 }
 
-/// Writes the circuit of the put that waits longest for the record, which `cvz_server_finish` applies next: 1, or 0 if none waits.
+/// Writes the circuit of the put that waits longest for the record, which `cvz_server_finish`
+/// applies next: 1, or 0 if none waits.
 #[unsafe(no_mangle)]
 pub extern "C" fn cvz_server_first(
     alloc: Global,
@@ -472,7 +479,8 @@ pub extern "C" fn cvz_server_waiting(alloc: Global, server: &mut CvzServer) -> u
     answer
 }
 
-/// The name of the record of the open channel of this SID on a circuit, and how long it is: 0 if there is none.
+/// The name of the record of the open channel of this SID on a circuit, and how long it
+/// is: 0 if there is none.
 #[unsafe(no_mangle)]
 pub extern "C" fn cvz_server_name(
     alloc: Global,
@@ -493,7 +501,8 @@ pub extern "C" fn cvz_server_name(
     answer
 }
 
-/// The user's name that the client on a circuit gave: copies it, as far as there is room for it, and says how long it is: 0 if there is none.
+/// The user's name that the client on a circuit gave: copies it, as far as there is room for it,
+/// and says how long it is: 0 if there is none.
 #[unsafe(no_mangle)]
 pub extern "C" fn cvz_server_user(
     alloc: Global,
@@ -513,7 +522,8 @@ pub extern "C" fn cvz_server_user(
     answer
 }
 
-/// The same of its host's name.
+/// The host's name that the client on a circuit gave: copies it, as far as there is room for it,
+/// and says how long it is: 0 if there is none.
 #[unsafe(no_mangle)]
 pub extern "C" fn cvz_server_host(
     alloc: Global,

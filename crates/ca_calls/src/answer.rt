@@ -32,7 +32,7 @@ impl Answer {
         self.text.as_str()
     }
 
-    /// Begins anew.
+    /// Begins again.
     pub fn clear(&mut self) {
         self.text.clear();
     }

@@ -7,7 +7,7 @@ use ca_client_core::{ChannelState, ClientCore, Closing, Left, Stepped, Ticked, W
 use ca_text::Refusal;
 use std::alloc::Global;
 
-/// A call that steps stops after so many messages.
+/// A call that steps stops after this many messages.
 const MESSAGES: u32 = 100_000;
 
 /// `USER HOST NOW SERVER.. names SERVER..`.
@@ -189,7 +189,8 @@ fn step(core: &mut ClientCore, mut words: Words<'_>, answer: &mut Answer) -> Res
     }
 }
 
-/// `hear CIRCUIT BYTES`: gives the bytes, steps until more are needed, and takes what is to be sent.
+/// `hear CIRCUIT BYTES`: gives the bytes, steps until more are needed, and
+/// takes what is to be sent.
 fn hear(
     alloc: Global,
     core: &mut ClientCore,

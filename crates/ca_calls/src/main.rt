@@ -1,16 +1,19 @@
-//! Tables of calls to one core, a client's or a server's. Each line of standard input is a call, and goes out again with its answer
-//! after ` -> `; empty lines and those that begin with `#` go out as they are.
+//! Tables of calls to one core, a client's or a server's. Each line of standard input is a
+//! call, and goes out again with its answer after ` -> `; empty lines and those that begin with
+//! `#` go out as they are.
 //!
 //! ```text
-//! client USER HOST NOW SERVER.. names SERVER..     a client begins anew: where it searches, and its name servers, as A.B.C.D:PORT
+//! client USER HOST NOW SERVER.. names SERVER..     a client begins again: where it searches,
+//!                                                  and its name servers, each as A.B.C.D:PORT
 //! record NAME TYPE COUNT quick|slow VALUE..        a record of the next server
 //! rule USER HOST NAME rw|r|w|-                     a rule of the next server
-//! server PORT NOW                                  a server begins anew
+//! server PORT NOW                                  a server begins again
 //! repeat N CALL                                    a call N times: the answer is the last one
 //! ```
 //!
-//! A handle is written `INDEX.GENERATION`, bytes as hexadecimal digits in words of any length, and a value as `TYPE COUNT BYTES`, the bytes
-//! being its image. The calls are those of `client.rt` and `server.rt`.
+//! A handle is written `INDEX.GENERATION`, bytes as hexadecimal digits in words of any length,
+//! and a value as `TYPE COUNT BYTES`, the bytes being its image. The calls are those of
+//! `client.rt` and `server.rt`.
 #![tactic(auto)]
 
 mod answer;

@@ -1,5 +1,6 @@
-//! Calls in rounds, for bench/client and bench/server, which time them: nothing is read from the line between them, and nothing is answered.
-//! The circuits and channels are the first ones, in turn: 0.1, 1.1 and so on.
+//! Calls in rounds, for bench/client and bench/server, which time them: nothing is read from the
+//! line between them, and nothing is answered. The circuits and channels are the first ones, in
+//! turn: 0.1, 1.1 and so on.
 
 use crate::words::Words;
 use ca_arena::Handle;
@@ -11,8 +12,8 @@ use std::alloc::Global;
 /// The number of the type LONG.
 const LONG: u16 = 5;
 
-/// `reads CIRCUIT CHANNELS ROUNDS BYTES`: in each round, on each channel, a read of one LONG is issued, sent and completed. The bytes are
-/// what stands after the IOID in its reply.
+/// `reads CIRCUIT CHANNELS ROUNDS BYTES`: in each round, on each channel, a read of one LONG is
+/// issued, sent and completed. The bytes are what is after the IOID in its reply.
 pub fn reads(alloc: Global, core: &mut ClientCore, mut words: Words<'_>) -> Result<(), Refusal> {
     let circuit = words.handle()?;
     let channels = words.short()?;
@@ -51,7 +52,7 @@ fn read(
     }
 }
 
-/// `ticks ROUNDS NOW`: so many ticks at one moment.
+/// `ticks ROUNDS NOW`: n ticks at one moment.
 pub fn ticks(core: &mut ClientCore, mut words: Words<'_>) -> Result<(), Refusal> {
     let rounds = words.count()?;
     let now = words.number()?;
@@ -61,7 +62,8 @@ pub fn ticks(core: &mut ClientCore, mut words: Words<'_>) -> Result<(), Refusal>
     Ok(())
 }
 
-/// `handles CIRCUITS ROUNDS BYTES`: in each round each circuit is given a message, handles it, and sends what there is to be sent.
+/// `handles CIRCUITS ROUNDS BYTES`: in each round each circuit is given a message, handles it, and
+/// sends what there is to be sent.
 pub fn handles(alloc: Global, core: &mut ServerCore, mut words: Words<'_>) -> Result<(), Refusal> {
     let circuits = words.short()?;
     let rounds = words.count()?;
@@ -83,7 +85,8 @@ fn handle(core: &mut ServerCore, circuit: Handle, message: &[u8]) -> Result<(), 
     Ok(())
 }
 
-/// `posts CIRCUITS ROUNDS NAME MASK TYPE COUNT BYTES`: in each round a record is posted to, and each circuit sends its updates.
+/// `posts CIRCUITS ROUNDS NAME MASK TYPE COUNT BYTES`: in each round a record is posted to, and
+/// each circuit sends its updates.
 pub fn posts(alloc: Global, core: &mut ServerCore, mut words: Words<'_>) -> Result<(), Refusal> {
     let circuits = words.short()?;
     let rounds = words.count()?;

@@ -9,7 +9,7 @@ use ca_text::Refusal;
 use ca_wire::Pipe;
 use std::alloc::Global;
 
-/// A call that steps stops after so many messages.
+/// A call that steps stops after this many messages.
 const MESSAGES: u32 = 100_000;
 
 /// `PORT NOW`, with these lines of records and rules.
@@ -80,7 +80,7 @@ fn step(core: &mut ServerCore, mut words: Words<'_>, answer: &mut Answer) -> Res
     }
 }
 
-/// An effect: nothing where it is quiet.
+/// An effect: nothing if it is quiet.
 fn did(effect: Effect, answer: &mut Answer) -> Result<(), Refusal> {
     match effect {
         Effect::Quiet => Ok(()),
@@ -107,7 +107,8 @@ fn on(word: &str, ids: &[u32], answer: &mut Answer) -> Result<(), Refusal> {
     Ok(())
 }
 
-/// `handle CIRCUIT BYTES`: gives the bytes, steps until no message is handled, pumps, and takes what is to be sent.
+/// `handle CIRCUIT BYTES`: gives the bytes, steps until no message is handled, pumps, and
+/// takes what is to be sent.
 fn handle(
     alloc: Global,
     core: &mut ServerCore,

@@ -32,7 +32,8 @@ impl Table {
         }
     }
 
-    /// Does what a line says, and answers it. A line that is not understood is answered as a refusal by BadText.
+    /// Does what a line says, and answers it. A line that is not understood is answered as
+    /// a refusal by BadText.
     pub fn answer(&mut self, line: &str, answer: &mut Answer) {
         answer.clear();
         if let Err(refusal) = self.do_line(line, answer) {

@@ -7,7 +7,8 @@ use std::alloc::Global;
 use std::net::SocketAddrV4;
 use std::str::SplitWhitespace;
 
-/// The words of a line that were not taken yet. A word that is not what is asked for is refused as BadText.
+/// The words of a line that were not taken yet. A word that is not what is asked for
+/// is refused as BadText.
 #[derive(Drop)]
 pub struct Words<'a> {
     left: SplitWhitespace<'a>,

@@ -60,7 +60,7 @@ module _ (c : Handle) (x : Client) (l : IsListed x) where
   told-failed e (Some (h, Creating rights)) is = still x (searched_again x h) [] [] e l is (record { requests = refl; issued = refl }) refl
   told-failed e (Some (h, Doomed)) is = still x (without_channel x h) [] [] e l is (record { requests = refl; issued = refl }) refl
 
-  -- the ids of a channel drain no more
+  -- the ids of a channel no longer drain
   told-drained : (h : Handle) → Told x [] (without_drained c h x)
   told-drained h = told-quiet x (without_drained c h x) []
       (λ q w. (let was = all-freed-back (asks_on h) x.requests q w.0 w.1 in (w.0, was.0, w.2)))

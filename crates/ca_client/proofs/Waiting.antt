@@ -1,4 +1,5 @@
--- What a client's calls do to the requests that wait: what they report completes some, each once, and the others wait on.
+-- What a client's calls do to the requests that wait: what they report completes some, each once,
+-- and the others wait on.
 use Rattle.std.proofs.Common.{◌≡◌, ℕ, inl, inr, ◌⊎◌, Bool, true, false, ◌&&◌, cond, List, [], ◌∷◌, ◌++◌, eqb, Option, Some, None, refl, sym, ap, ◌∙◌, subst, filter, ⊎_elim}
 use Rattle.std.specs.Prelude.{option_and_then, option_map, unwrap_or}
 use Rattle.std.proofs.lemmas.Bool.{both_ways}

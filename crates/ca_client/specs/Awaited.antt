@@ -1,5 +1,5 @@
--- Statement: the state under the lock. Each request that waits has a ticket of its own, which is to be filled; and what completions do with
--- tickets.
+-- Statement: the state under the lock. Each request that waits has a ticket of its own, which is to
+-- be filled; and what completions do with tickets.
 use Rattle.std.specs.Prelude.{◌≡◌, ◌⊎◌, ◌<◌, List, [], ◌∷◌, Some, filter, is_none, length, slice_index_or}
 use Rattle.atomic_table.specs.Seated.{TableId}
 use Rattle.ca_text.specs.Limits.{arena_slots}
@@ -15,7 +15,8 @@ use Rattle.ca_model.specs.Client.{Client}
 use Rattle.ca_model.specs.Placed.{IsPlaced}
 use Rattle.ca_client_core.specs.Notices.{Completion, completion}
 
--- What the lock keeps: the client, the core's seat at the board, which says of which board it is, and the table of tickets, by the indices of requests.
+-- What the lock keeps: the client, the core's seat at the board, which says of which board it is,
+-- and the table of tickets, by the indices of requests.
 pub record StateView : Type 0 where
   pub core : Client
   pub seat : CoreView
@@ -67,7 +68,8 @@ others ns = filter (λ (n : Notice). is_none (completion n)) ns
 abbrev pub Fills : CoreView → Ticket → Outcome → CoreView → Type 0
 Fills v t o w = (w ≡ with_fill v t o) ⊎ (w ≡ with_refusal v t)
 
--- For each completion, in order, the request's own ticket was filled with its outcome, and no other.
+-- For each completion, in order, the request's own ticket was filled with its
+-- outcome, and no other.
 abbrev pub FillsAll : List Ticket → CoreView → List Completion → CoreView → Type 0
 FillsAll tickets v [] w = w ≡ v
 FillsAll tickets v (c ∷ cs) w = (u : CoreView) × Fills v (ticket_of tickets c.0) c.1 u × FillsAll tickets u cs w

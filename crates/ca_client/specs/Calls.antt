@@ -46,7 +46,8 @@ RecyclesEach old new = (n : ℕ) × (n ≡ board_cells) × RecyclesBelow n old n
 abbrev pub HasArmedAfter : CoreView → Result Ticket Refusal → CoreView → Type 0
 HasArmedAfter old result new = (mid : CoreView) × RecyclesEach old mid × HasArmed mid result new
 
--- A free cell was armed; or each was in use, and was recycled if it could be: then one was armed, or each is in use still.
+-- A free cell was armed; or each was in use, and was recycled if it could be: then one was armed,
+-- or each is in use still.
 abbrev pub HasArmedOne : CoreView → Result Ticket Refusal → CoreView → Type 0
 HasArmedOne old (Ok t) new = HasArmed old (Ok t) new ⊎ (AreInUse old × HasArmedAfter old (Ok t) new)
 HasArmedOne old (Err e) new = AreInUse old × HasArmedAfter old (Err e) new
@@ -57,9 +58,10 @@ HasIssued old (request.Read h data_type count) result new =
     (sent : List Sending) × ClientReads old h (record { data_type = data_type; count = count }) result sent new
 HasIssued old (request.Put h value) result new = (sent : List Sending) × ClientPuts old h (elements value) result sent new
 
--- A request was made: a cell was armed, the core made its call, and the ticket is at the request's index. Or it was refused: as NoCell, since each cell
--- is in use, and the core was not asked; or by the core, which it left as it was, and the ticket was taken back: its cell is free again, unless its
--- generation was the last.
+-- A request was made: a cell was armed, the core made its call, and the ticket is at the request's
+-- index. Or it was refused: as NoCell, since each cell is in use, and the core was not asked; or by
+-- the core, which it left as it was, and the ticket was taken back: its cell is free again, unless
+-- its generation was the last.
 abbrev pub HasIssuedUnderLock : StateView → Request → Result (Handle × Ticket) Refusal → StateView → Type 0
 HasIssuedUnderLock old asked (Ok r) new =
     HasArmedOne old.seat (Ok r.1) new.seat × HasIssued old.core asked (Ok r.0) new.core
@@ -85,7 +87,8 @@ told_in (answer.Refused e) = []
 abbrev pub IsReplied : List Notice → Type 0
 IsReplied ns = ((q : Handle) × (o : Outcome) × (ns ≡ core.Completed q o ∷ [])) ⊎ (ns ≡ [])
 
--- What the core answered with all its notices, and left: the answer that is handed back is that without the completions.
+-- What the core answered with all its notices, and left: the answer that is handed back is that
+-- without the completions.
 abbrev pub HasAnswered : Client → Ask → List Notice → Answer → Client → Type 0
 HasAnswered old (ask.Step c) ns (answer.Notices told) new = (sent : List Sending) × ClientSteps old c (core.Notices ns) sent new
 HasAnswered old (ask.Step c) ns answer.Filled new = IsReplied ns × ((sent : List Sending) × ClientSteps old c (core.Notices ns) sent new)
@@ -101,7 +104,8 @@ HasAnswered old (ask.Tick now) ns (answer.Ticked t) new = (sent : List Sending) 
 HasAnswered old (ask.Tick now) ns (answer.Refused e) new = (ns ≡ []) × ((sent : List Sending) × ClientTicks old now (Err e) sent new)
 HasAnswered old asked ns _ new = ⊥
 
--- The core made its call once; each completion filled its own request's ticket, and the other notices are handed back, in order.
+-- The core made its call once; each completion filled its own request's ticket, and the other
+-- notices are handed back, in order.
 abbrev pub HasSteppedUnderLock : StateView → Ask → Answer → StateView → Type 0
 HasSteppedUnderLock old asked result new =
     (ns : List Notice) × HasAnswered old.core asked ns result new.core
@@ -115,6 +119,7 @@ pub record IsFresh (setting : ClientSetting) (state : StateView) : Type 0 where
   pub core : ClientBegins setting (Ok state.core)
   pub seat : state.seat ≡ core_start state.seat.board
 
--- Nothing was begun: the core refused; or it would have begun, and memory lacked for the board or the tickets.
+-- Nothing was begun: the core refused; or it would have begun, and memory lacked for the
+-- board or the tickets.
 abbrev pub HasNotBegun : ClientSetting → Refusal → Type 0
 HasNotBegun setting e = ClientBegins setting (Err e) ⊎ ((e ≡ OutOfMemory) × ((x : Client) × ClientBegins setting (Ok x)))

@@ -8,7 +8,7 @@ use Rattle.ca_client.specs.declared.ask.Ask.TheVariants as ask
 use Rattle.ca_client.specs.Awaited.{StateView}
 use Rattle.ca_client.specs.Calls.{HasSteppedUnderLock}
 
--- so many steps of this circuit in a row, each of which read a reply
+-- n steps of this circuit in a row, each of which read a reply
 abbrev pub Replies : Handle → ℕ → StateView → StateView → Type 0
 Replies c zero old new = new ≡ old
 Replies c (suc k) old new = (mid : StateView) × Replies c k old mid × HasSteppedUnderLock mid (ask.Step c) answer.Filled new
@@ -18,7 +18,8 @@ abbrev pub IsOther : Answer → Type 0
 IsOther answer.Filled = ⊥
 IsOther r = Unit {0}
 
--- As many steps read a reply as may; or fewer did, and then one did something else, and was the last.
+-- As many steps read a reply as may; or fewer did, and then one did something
+-- else, and was the last.
 abbrev pub HasSteppedOn : Handle → ℕ → StateView → Steps → StateView → Type 0
 HasSteppedOn c most old r new =
     ((r.replies ≡ most) × (r.answer ≡ answer.Filled) × Replies c most old new)

@@ -17,20 +17,21 @@ abbrev pub with_core : Client → StateView → StateView
 with_core x v = record v { core = x }
 
 module _ {S : Type 0} (faults : S → ℕ) where
-  -- a read: so many bytes came, which are at the front of the buffer; or none yet; or a fault, and none
+  -- a read: n bytes came, which are at the front of the buffer; or none yet; or a fault, and none
   abbrev pub HasRead : (S → List ℕ → S → Type 0) → S → Moved → List ℕ → S → Type 0
   HasRead gives s (Count n) buffer s' = (n ≤ length buffer) × gives s (take n buffer) s' × (faults s' ≡ faults s)
   HasRead gives s Later buffer s' = gives s [] s' × (faults s' ≡ faults s)
   HasRead gives s Fault buffer s' = gives s [] s' × (faults s' ≡ faults s + 1)
 
-  -- a write: so many of the bytes that were offered went; or none yet; or a fault, and none
+  -- a write: n of the bytes that were offered went; or none yet; or a fault, and none
   abbrev pub HasWritten : (S → List ℕ → S → Type 0) → S → List ℕ → Moved → S → Type 0
   HasWritten takes s bytes (Count n) s' = (n ≤ length bytes) × takes s (take n bytes) s' × (faults s' ≡ faults s)
   HasWritten takes s bytes Later s' = takes s [] s' × (faults s' ≡ faults s)
   HasWritten takes s bytes Fault s' = takes s [] s' × (faults s' ≡ faults s + 1)
 
   module _ (gives takes : S → List ℕ → S → Type 0) (c : Handle) where
-    -- The socket was read, and the core was told of just the bytes that came: it took them, or the circuit was not connected.
+    -- The socket was read, and the core was told of just the bytes that came: it took them, or the
+    -- circuit was not connected.
     abbrev pub IsRead : S → StateView → S → StateView → Type 0
     IsRead s v s' v' =
         (gives s [] s' × (v' ≡ v))
@@ -51,7 +52,8 @@ module _ {S : Type 0} (faults : S → ℕ) where
         (faults s' ≡ faults s)
         × (((s' ≡ s) × (v' ≡ v)) ⊎ (IsRead s v s' v' ⊎ IsWritten s v s' v'))
 
-    -- The circuit was cut: the socket had a fault, or the core had no memory for the bytes that came.
+    -- The circuit was cut: the socket had a fault, or the core had no memory for
+    -- the bytes that came.
     abbrev pub Cuts : S → StateView → Closing → S → StateView → Type 0
     Cuts s v k s' v' =
         (((faults s' ≡ faults s + 1) × (gives s [] s' ⊎ takes s [] s'))
@@ -59,7 +61,7 @@ module _ {S : Type 0} (faults : S → ℕ) where
         × ClientGives v.core c bytes more (Err OutOfMemory) sent v.core)))
         × HasSteppedUnderLock v (Cut c) (Closed k) v'
 
-    -- so many calls, with no cut
+    -- n calls, with no cut
     abbrev pub Chain : ℕ → S → StateView → S → StateView → Type 0
     Chain zero s v s' v' = (s' ≡ s) × (v' ≡ v)
     Chain (suc k) s v s' v' = (mid : S) × (w : StateView) × Chain k s v mid w × Moves mid w s' v'

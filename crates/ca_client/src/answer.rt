@@ -1,3 +1,4 @@
+//! What a call under the lock answers.
 use ca_client_core::{Closing, Notices, Ticked};
 use ca_text::Refusal;
 
@@ -6,7 +7,8 @@ use ca_text::Refusal;
 pub enum Answer {
     /// It read a message, or cleared the channel, with these notices.
     Notices(Notices),
-    /// It read a reply, which completed one request, or which none awaited: there is no other notice.
+    /// It read a reply, which completed one request, or which none awaited:
+    /// there is no other notice.
     Filled,
     /// No complete message is there.
     NeedBytes,

@@ -1,11 +1,12 @@
+//! What is asked of a client under its lock.
 use ca_arena::Handle;
 use ca_dbr::Value;
 
 /// A request on a channel, whose outcome comes later.
 #[derive(Debug, Drop)]
 pub enum Request {
-    /// The value of this channel, as this type from 0 to 20 and with this many elements; a count of 0 asks for those that
-    /// there are.
+    /// The value of this channel, as this type from 0 to 20 and with this many elements; a count of
+    /// 0 asks for those that there are.
     Read(Handle, u16, u32),
     /// To write this value to this channel.
     Put(Handle, Value),

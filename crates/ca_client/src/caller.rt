@@ -1,3 +1,4 @@
+//! A caller's seat at the board, from which it collects outcomes.
 ghost use Rattle.std.specs.Prelude.{IsFalse, IsTrue};
 ghost use Rattle.ca_board.specs.Views.{HasCollected, HasFoundEnded, HasFoundOpen, HasGivenUp};
 
@@ -40,7 +41,8 @@ impl Caller {
         self.board.give_up(&mut self.seat, ticket)
     }
 
-    /// Whether a ticket has ended, so that no outcome comes of it. It waits for nobody, and changes nothing.
+    /// Whether a ticket has ended, so that no outcome comes of it. It waits for nobody,
+    /// and changes nothing.
     pub fn has_ended(&mut self, ticket: Ticket) -> bool
         ensures ended { IsTrue result → HasFoundEnded self.old ticket self.new }
         ensures open { IsFalse result → HasFoundOpen self.old ticket self.new }

@@ -1,3 +1,4 @@
+//! Outcomes go from the core to the tickets of their requests.
 ghost use Rattle.std.specs.Prelude.{◌≡◌, ◌∷◌, []};
 ghost use Rattle.ca_client.specs.Awaited.{Fillable, FillsAll, others};
 ghost use Rattle.ca_client_core.specs.Notices.{completions};

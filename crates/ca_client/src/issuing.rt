@@ -1,3 +1,4 @@
+//! A request is issued under the lock, with a ticket for its outcome.
 ghost use Rattle.std.specs.Prelude.{◌≡◌, IfErr, IfOk};
 ghost use Rattle.ca_board.specs.History.{Has};
 ghost use Rattle.ca_board.specs.Views.{HasTakenBack, IsDue};
@@ -12,7 +13,8 @@ use ca_text::{BOARD_CELLS, Refusal};
 
 /// Arms a cell for a request, makes it, and keeps its ticket.
 ///
-/// Refused as NoCell if every cell is in use, and then as the core refuses it; then the ticket is taken back, and its cell is free again.
+/// Refused as NoCell if every cell is in use, and then as the core refuses it; then the ticket is
+/// taken back, and its cell is free again.
 pub fn issue_under_lock(
     state: &mut ClientState,
     request: &Request,
@@ -31,7 +33,7 @@ pub fn issue_under_lock(
     Ok((handle, ticket))
 }
 
-// Arms a cell. If none is free, each is recycled first whose ticket has ended.
+// Arms a cell. If none is free, each whose ticket has ended is recycled first.
 fn arm_one(board: &Board, seat: &mut CoreSeat) -> Result<Ticket, Refusal>
     requires { seat.old.board ≡ board.now }
     ensures { HasArmedOne seat.old result seat.new }
@@ -45,7 +47,7 @@ fn arm_one(board: &Board, seat: &mut CoreSeat) -> Result<Ticket, Refusal>
     }
 }
 
-// Makes the core's call. Where it refuses, the ticket is taken back.
+// Makes the core's call. If it refuses, the ticket is taken back.
 fn issue_or_take_back(
     core: &mut ClientCore,
     board: &Board,

@@ -6,7 +6,8 @@ use crate::state::ClientState;
 use crate::stepping::{Begun, begin, finish};
 use ca_arena::Handle;
 
-/// Steps a circuit until a step does something else than to read a reply, or so many have read one. Each is as `step_under_lock`.
+/// Steps a circuit until a step does anything but read a reply, or n have read one. Each is
+/// as `step_under_lock`.
 pub fn step_all(state: &mut ClientState, circuit: Handle, most: usize) -> Steps
     ensures { HasSteppedOn circuit most state.old result state.new }
 {

@@ -1,7 +1,9 @@
+//! What the client asks of a socket.
+
 /// What a call of a socket did.
 #[derive(Clone, Copy, Debug, PartialEq, Eq)]
 pub enum Moved {
-    /// So many bytes were moved.
+    /// This many bytes were moved.
     Count(usize),
     /// None could be moved yet.
     Later,
@@ -16,7 +18,7 @@ pub trait Socket {
     // These bytes may have been read between the first state and the second.
     ghost gives: { Self → List ℕ → Self → Type 0 };
 
-    // These may have been written.
+    // These bytes may have been written between the first state and the second.
     ghost takes: { Self → List ℕ → Self → Type 0 };
 
     // How many calls failed.

@@ -1,3 +1,4 @@
+//! What is under the lock of a client.
 ghost use Rattle.std.specs.Prelude.{◌≡◌, ◌≤◌, [], IfErr, IfOk, List, length};
 ghost use Rattle.ca_board.specs.Views.{caller_start};
 ghost use Rattle.ca_dbr.specs.Elements.{elements};
@@ -18,9 +19,11 @@ use std::alloc::{AllocError, Global};
 use std::marker::Model;
 use std::sync::Arc;
 
-/// What a client's lock keeps: the core and its seat at the board, the ticket of each request that waits, and the board.
+/// What a client's lock keeps: the core and its seat at the board, the ticket of each request that
+/// waits, and the board.
 ///
-/// Each request of the core that waits has a ticket. So the core is lent to be read, and its calls that complete no request are here.
+/// Each request of the core that waits has a ticket. So the core is lent to be read, and its calls
+/// that complete no request are here.
 #[derive(Drop)]
 pub struct ClientState {
     pub(crate) core: ClientCore,
@@ -169,14 +172,16 @@ impl ClientState {
         self.core.datagram(now, from, bytes)
     }
 
-    /// A value that is used no more gives its memory to the value of a read, as `ClientCore::recycle_value`.
+    /// The memory of this value is kept for the value of a later read, as
+    /// `ClientCore::recycle_value`.
     pub fn recycle(&mut self, value: Value)
         ensures { self.new ≡ self.old }
     {
         self.core.recycle_value(value);
     }
 
-    // Takes bytes that were read on a circuit, and whether the read left more waiting, as `ClientCore::give`.
+    // Takes bytes that were read on a circuit, and whether the read left more waiting,
+    // as `ClientCore::give`.
     pub(crate) fn give(&mut self, circuit: Handle, bytes: &[u8], more: bool) -> Result<(), Refusal>
         ensures gives { (sent : List Sending)
             × ClientGives self.old.core circuit bytes.now more result sent self.new.core }

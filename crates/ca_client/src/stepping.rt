@@ -1,3 +1,4 @@
+//! Calls of the core under the lock, and the outcomes that they complete.
 ghost use Rattle.std.specs.Prelude.{◌≡◌};
 ghost use Rattle.ca_client_core.specs.Notices.{completions};
 ghost use Rattle.ca_client.specs.Awaited.{Fillable, FillsAll, StateView, others};
@@ -19,8 +20,8 @@ use ca_board::{Board, CoreSeat, Ticket};
 use ca_client_core::{Advanced, Closing, Stepped};
 use ca_client_tables::First;
 
-/// Makes one call of the core, hands the outcome of each request that it completes to the request's ticket, and hands back the other
-/// notices.
+/// Makes one call of the core, hands the outcome of each request that it completes to the request's
+/// ticket, and hands back the other notices.
 pub fn step_under_lock(state: &mut ClientState, asked: Ask) -> Answer
     ensures { HasSteppedUnderLock state.old asked result state.new }
 {
@@ -30,7 +31,8 @@ pub fn step_under_lock(state: &mut ClientState, asked: Ask) -> Answer
     step_any(state, asked)
 }
 
-// The same. Most calls are steps, and a function pays for the locals of all that it takes into itself: so the other calls stand out of line.
+// Makes one call of the core, as `step_under_lock`. Most calls are steps, and a function pays for
+// the locals of all that it takes into itself: so the other calls are out of line.
 #[inline(never)]
 fn step_any(state: &mut ClientState, asked: Ask) -> Answer
     ensures { HasSteppedUnderLock state.old asked result state.new }
@@ -55,18 +57,18 @@ fn step(state: &mut ClientState, circuit: Handle) -> Answer
     }
 }
 
-// How a step began, of which the outcome of a reply was handed over.
+// How a step began, once the outcome of a reply was handed over.
 #[derive(Drop)]
 pub(crate) enum Begun {
     // It read a reply, and is over.
     Filled,
     // No complete message is there, and it is over.
     NeedBytes,
-    // This came first. `finish` is to do the rest.
+    // Something else came first. `finish` is to do the rest.
     Other(First),
 }
 
-// Begins a step. Most messages are replies, for which that is all: so this is small.
+// Begins a step. Most messages are replies, which need no more: so this is small.
 #[inline(always)]
 pub(crate) fn begin(state: &mut ClientState, circuit: Handle) -> Begun
     ensures { Begins state.old circuit result state.new }
@@ -89,7 +91,7 @@ pub(crate) fn begin(state: &mut ClientState, circuit: Handle) -> Begun
     Begun::Other(first)
 }
 
-// Does the rest of a step that began so.
+// Does the rest of a step that began with this.
 #[inline(never)]
 pub(crate) fn finish(state: &mut ClientState, circuit: Handle, first: First) -> Answer
     requires { (before : StateView) × Begins before circuit (begun.Other first) state.old }

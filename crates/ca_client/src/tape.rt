@@ -1,3 +1,4 @@
+//! A socket in memory, for tests.
 use crate::socket::{Moved, Socket};
 
 /// A socket in memory: what it has to give, what it was given, and after how many calls it fails.
@@ -9,7 +10,7 @@ pub struct Tape {
     pub at: usize,
     /// What it was given.
     pub outgoing: Vec<u8>,
-    /// How many calls more do not fail.
+    /// How many more calls do not fail.
     pub calls_left: u64,
     /// How many calls failed.
     pub failed: u64,

@@ -1,3 +1,4 @@
+//! The core is told the time, and the tickets of ended requests are filled.
 ghost use Rattle.std.specs.Prelude.{◌≡◌};
 ghost use Rattle.ca_client_core.specs.Notices.{completions};
 ghost use Rattle.ca_client_core.specs.Ticked.{lefts_of, notices_of};

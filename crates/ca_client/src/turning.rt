@@ -1,3 +1,4 @@
+//! A turn of a circuit: bytes move between it and its socket.
 ghost use Rattle.std.specs.Prelude.{◌≡◌, ◌<◌, ◌≤◌, ◌^◌, ◌⊎◌, IsFalse, IsTrue, List, length, Ok, Err};
 ghost use Rattle.ca_text.specs.declared.refusal.Refusal.TheVariants.{CircuitClosed, OutOfMemory};
 ghost use Rattle.ca_model.specs.Answers.{Sending};
@@ -21,14 +22,15 @@ const CALLS: usize = 16;
 enum Turned {
     // There may be more to move.
     GoesOn,
-    // Nothing is to be read yet, after what waited was written as far as that could be.
+    // What waited was written as far as it could be, and there is nothing to read yet.
     Idle,
     // The circuit was cut.
     Cut(Closing),
 }
 
-/// Moves bytes between a circuit and its socket, by at most 16 reads and writes. A fault of the socket cuts the circuit, and so do bytes
-/// for which there is no memory: then it answers as a step with `Ask::Cut`.
+/// Moves bytes between a circuit and its socket, by at most 16 reads and writes. A fault of the
+/// socket cuts the circuit, and so do bytes for which there is no memory: then it answers as a
+/// step with `Ask::Cut`.
 pub fn turn_over<S: Socket>(
     state: &mut ClientState,
     circuit: Handle,

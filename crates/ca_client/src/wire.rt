@@ -1,3 +1,4 @@
+//! A socket over the system's stream.
 ghost use Rattle.std.specs.Prelude.{◌≡◌};
 
 use crate::socket::{Moved, Socket};

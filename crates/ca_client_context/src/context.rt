@@ -25,10 +25,12 @@ const WAKER: Token = Token(0);
 
 const DATAGRAMS: Token = Token(1);
 
-// So many requests are made under one hold of the lock at most: some microseconds, as long as a thread that finds the lock taken pauses between its tries.
+// This many requests are made under one hold of the lock at most: some microseconds, as long as a
+// thread that finds the lock taken pauses between its tries.
 const AT_ONCE: usize = 32;
 
-/// A client that threads share, whose subscriptions are heard by an `L` each. Its thread of input and output ends once it is dropped, as after `end`.
+/// A client that threads share, whose subscriptions are heard by an `L` each. Its thread of input
+/// and output ends once it is dropped, as after `end`.
 #[derive(Drop)]
 pub struct Context<L: Listener> {
     shared: Arc<Shared<L>>,
@@ -86,8 +88,8 @@ impl<L: Listener> Context<L> {
         self.shared.locked.lock(rt).state.caller()
     }
 
-    /// The outcome of a ticket, if it is there. It waits for nobody. If it is not there, requests that wait to be sent go out, and what came may be read, so
-    /// that a later call finds it.
+    /// The outcome of a ticket, if it is there. It waits for nobody. If it is not there, requests
+    /// that wait to be sent go out, and what came may be read, so that a later call finds it.
     pub fn collect(&self, caller: &mut Caller, ticket: Ticket) -> Option<Outcome>
         ensures { HasCollected caller.old ticket result caller.new }
     {
@@ -105,28 +107,35 @@ impl<L: Listener> Context<L> {
         caller.give_up(ticket)
     }
 
-    /// Opens a channel of this name, which is searched for from now on. Refused as `ClientCore::open`.
+    /// Opens a channel of this name, which is searched for from now on. Refused
+    /// as `ClientCore::open`.
     pub fn open<R: Wait>(&self, rt: &R, name: &[u8], priority: u16) -> Result<Handle, Refusal> {
         let opened = self.shared.locked.lock(rt).open(name, priority);
         self.wake();
         opened
     }
 
-    /// Opens a channel as `open` does, at the lowest priority at which fewer than 288 channels of this client are open.
+    /// Opens a channel as `open` does, at the lowest priority at which fewer than 288 channels of
+    /// this client are open.
     ///
-    /// A client has one circuit to a server for each priority, and a server takes 288 subscriptions on a circuit. So channels that are opened by this call can have
-    /// a subscription each, also if many thousands are of one server: 28,800 at once. The places of channels that were cleared are used again.
+    /// A client has one circuit to a server for each priority, and a server takes 288
+    /// subscriptions on a circuit. So channels that are opened by this call can have a
+    /// subscription each, also if many thousands are of one server: 28,800 at once. The places of
+    /// channels that were cleared are used again.
     ///
-    /// Refused as BadPriority if there are 288 at each of the priorities 0 to 99, and then as `open`.
+    /// Refused as BadPriority if there are 288 at each of the priorities 0 to
+    /// 99, and then as `open`.
     pub fn open_spread<R: Wait>(&self, rt: &R, name: &[u8]) -> Result<Handle, Refusal> {
         let opened = self.shared.locked.lock(rt).open_spread(name);
         self.wake();
         opened
     }
 
-    /// Asks for the value of a channel. Refused as NoCell if too many requests are in flight, and then as `ClientCore::read`.
+    /// Asks for the value of a channel. Refused as NoCell if too many requests are in flight, and
+    /// then as `ClientCore::read`.
     ///
-    /// It may go out only once a caller looks for an outcome (`collect`, `wait`), some 10 ms later at the latest: so requests in a row share a few writes.
+    /// It may go out only once a caller looks for an outcome (`collect`, `wait`), some 10 ms later
+    /// at the latest: so requests in a row share a few writes.
     pub fn get<R: Wait>(
         &self,
         rt: &R,
@@ -137,7 +146,7 @@ impl<L: Listener> Context<L> {
         self.issue(rt, &Request::Read(channel, data_type, count))
     }
 
-    /// Asks for the value of a channel as `get`, into the memory of a value that is used no more.
+    /// Asks for the value of a channel as `get`, into the memory of a value that is no longer used.
     pub fn get_into<R: Wait>(
         &self,
         rt: &R,
@@ -151,11 +160,12 @@ impl<L: Listener> Context<L> {
         self.issue_under(guard, &Request::Read(channel, data_type, count))
     }
 
-    /// Makes requests in order, each as `get` and `put_notify` do, and adds their tickets: one hold of the lock serves several. The memory of the rooms, which
-    /// are values that are used no more, is used again.
+    /// Makes requests in order, each as `get` and `put_notify` do, and adds their tickets: one hold
+    /// of the lock serves several. The memory of the rooms, which are values that are no longer
+    /// used, is used again.
     ///
-    /// It ends with the first that is refused, as `get` and `put_notify` refuse it, and as OutOfMemory where there is none for a ticket: the tickets of those
-    /// before it were added.
+    /// It ends with the first that is refused, as `get` and `put_notify` refuse it, and as
+    /// OutOfMemory if there is none for a ticket: the tickets of those before it were added.
     pub fn request_all<R: Wait>(
         &self,
         rt: &R,
@@ -186,10 +196,11 @@ impl<L: Listener> Context<L> {
         made
     }
 
-    /// Writes a value, with an outcome. Refused as NoCell if too many requests are in flight, and then as
-    /// `ClientCore::write_notify`.
+    /// Writes a value, with an outcome. Refused as NoCell if too many requests are in flight, and
+    /// then as `ClientCore::write_notify`.
     ///
-    /// It may go out only once a caller looks for an outcome (`collect`, `wait`), some 10 ms later at the latest.
+    /// It may go out only once a caller looks for an outcome (`collect`, `wait`), some 10 ms
+    /// later at the latest.
     pub fn put_notify<R: Wait>(
         &self,
         rt: &R,
@@ -231,7 +242,8 @@ impl<L: Listener> Context<L> {
         written
     }
 
-    /// Subscribes to a channel: the listener hears its updates. A refusal, as `ClientCore::subscribe`, hands the listener back.
+    /// Subscribes to a channel: the listener hears its updates. A refusal, as
+    /// `ClientCore::subscribe`, hands the listener back.
     pub fn monitor<R: Wait>(
         &self,
         rt: &R,
@@ -252,8 +264,9 @@ impl<L: Listener> Context<L> {
 
     /// Cancels a subscription. Refused as `ClientCore::unsubscribe`.
     ///
-    /// Its listener hears nothing more that was read before: but for the one update that it hears, or is about to hear, as this call is made in another thread. The call
-    /// waits for nobody, since a listener may make it.
+    /// Its listener hears nothing more that was read before: but for the one update that it hears,
+    /// or is about to hear, as this call is made in another thread. The call waits for nobody,
+    /// since a listener may make it.
     pub fn unsubscribe<R: Wait>(&self, rt: &R, subscription: Handle) -> Result<(), Refusal> {
         let ended = self.shared.locked.lock(rt).unsubscribe(subscription);
         if ended.is_ok() {
@@ -263,7 +276,8 @@ impl<L: Listener> Context<L> {
         ended
     }
 
-    /// Clears a channel: its requests are complete with Disconnected. Refused as `ClientCore::clear`.
+    /// Clears a channel: its requests are complete with Disconnected. Refused as
+    /// `ClientCore::clear`.
     pub fn clear<R: Wait>(&self, rt: &R, channel: Handle) -> Result<(), Refusal> {
         let cleared = self.shared.locked.lock(rt).clear(channel);
         self.shared.call_all();
@@ -280,7 +294,8 @@ impl<L: Listener> Context<L> {
             .channel_state(channel)
     }
 
-    /// Waits for the outcome of a ticket, for at most so many turns of 10 ms. None as `wait_for` says `TimedOut` or `Over`.
+    /// Waits for the outcome of a ticket, for at most n turns of 10 ms. None as `wait_for` says
+    /// `TimedOut` or `Over`.
     pub fn wait<R: Wait + Clock>(
         &self,
         rt: &R,
@@ -294,7 +309,8 @@ impl<L: Listener> Context<L> {
         }
     }
 
-    /// Waits for the outcome of a ticket, for so long at most. A caller that waits alone moves the bytes of circuits itself.
+    /// Waits for the outcome of a ticket, for this time at most. A caller that waits alone moves
+    /// the bytes of circuits itself.
     pub fn wait_for<R: Wait + Clock>(
         &self,
         rt: &R,
@@ -308,8 +324,8 @@ impl<L: Listener> Context<L> {
         self.wait_on(rt, caller, ticket, most)
     }
 
-    // The same, of an outcome that was not there. Most are there, once one was waited for, and a function pays for the locals of all that it takes into
-    // itself: so this stands out of line.
+    // Waits for an outcome that was not there yet. Most are there, once one was waited for, and a
+    // function pays for the locals of all that it takes into itself: so this is out of line.
     #[inline(never)]
     fn wait_on<R: Wait + Clock>(
         &self,
@@ -336,8 +352,8 @@ impl<L: Listener> Context<L> {
         }
     }
 
-    // Waits for a turn, of the thread of input and output or its own, for so long at most. It is Left if nothing is to be waited for any more: that thread, or
-    // the ticket, has ended.
+    // Waits for a turn, of the thread of input and output or its own, for this time at most. It is
+    // Left if nothing is to be waited for any more: that thread, or the ticket, has ended.
     fn wait_once<R: Wait + Clock>(
         &self,
         rt: &R,
@@ -366,7 +382,8 @@ impl<L: Listener> Context<L> {
         }
     }
 
-    // Looks for the outcome of a ticket. If it is not there, it moves bytes in the place of the thread of input and output, unless others wait.
+    // Looks for the outcome of a ticket. If it is not there, it moves bytes in the place of the
+    // thread of input and output, unless others wait.
     fn lead<R: Wait + Clock>(
         &self,
         rt: &R,
@@ -408,14 +425,15 @@ impl<L: Listener> Context<L> {
         self.shared.leave(calls);
     }
 
-    /// Waits until a channel is live, for at most so many turns of 10 ms, and says whether it is.
+    /// Waits until a channel is live, for at most n turns of 10 ms, and says whether it is.
     pub fn wait_live<R: Wait + Clock>(&self, rt: &R, channel: Handle, turns: u64) -> bool {
         let state = self.wait_live_for(rt, channel, time_of(turns));
         matches!(state, Ok(ChannelState::Live(_, _, _)))
     }
 
-    /// Waits until a channel is live, for so long at most, and tells where it is then: one that is not live once the time is over, or the client has ended, may
-    /// be so later. Refused as StaleHandle, at once, if the handle is stale.
+    /// Waits until a channel is live, for this time at most, and says where it is then: one that is
+    /// not live once the time is over, or the client has ended, may be so later. Refused as
+    /// StaleHandle, at once, if the handle is stale.
     pub fn wait_live_for<R: Wait + Clock>(
         &self,
         rt: &R,
@@ -617,7 +635,8 @@ fn waker(registry: &Registry) -> Result<Waker, Refusal> {
     }
 }
 
-// A socket for datagrams. Those that come end the wait of the thread of input and output, at either place.
+// A socket for datagrams. Those that come end the wait of the thread of input and
+// output, at either place.
 fn datagrams<R: Net>(rt: &R, sockets: &Registry, call: &Registry) -> Result<UdpSocket, Refusal> {
     let any = SocketAddr::from((Ipv4Addr::UNSPECIFIED, 0));
     let Ok(mut datagrams) = UdpSocket::bind(rt, any) else {

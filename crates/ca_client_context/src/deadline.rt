@@ -16,7 +16,7 @@ impl Deadline {
         }
     }
 
-    // How much time is left: none once it is over, or where no clock can be read.
+    // How much time is left: none once it is over, or if no clock can be read.
     pub(crate) fn left<R: Clock>(&self, rt: &R) -> Option<Duration> {
         let passed = self.began?.elapsed(rt).ok()?;
         if passed < self.most {
@@ -27,7 +27,7 @@ impl Deadline {
     }
 }
 
-// The time that so many turns take.
+// The time that n turns take.
 pub(crate) fn time_of(turns: u64) -> Duration {
     Duration::from_millis(turns.saturating_mul(TURN))
 }

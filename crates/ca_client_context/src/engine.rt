@@ -17,13 +17,14 @@ use std::thread;
 use std::thread::{JoinHandle, Threads};
 use std::time::{Clock, Duration, Instant};
 
-// While there is more to read, waits are ended only every so many milliseconds: each that ends finds more outcomes.
+// While there is more to read, waits are ended only once in this many milliseconds: each that ends
+// finds more outcomes.
 const HURRY: u64 = 2;
 
-// At most so many datagrams are read in a turn.
+// At most this many datagrams are read in a turn.
 const DATAGRAMS: usize = 64;
 
-// A turn's moment is at most so many milliseconds after that of the turn before.
+// A turn's moment is at most this many milliseconds after that of the turn before.
 const STEP: u64 = 1_000;
 
 /// Work for a thread of its own.
@@ -31,9 +32,11 @@ pub trait Work: Drop {
     fn run<R: Wait + Clock>(self, rt: &R);
 }
 
-/// Starts a thread for the work: for a client's engine, its thread of input and output. Refused as Device if the system has none.
+/// Starts a thread for the work: for a client's engine, its thread of input and output. Refused as
+/// Device if the system has none.
 ///
-/// A function that is generic in the runtime names its streams for this call: `R: Net<Stream = TcpStream, Listener = TcpListener>`, those of std.
+/// A function that is generic in the runtime names its streams for this call:
+/// `R: Net<Stream = TcpStream, Listener = TcpListener>`, those of std.
 pub fn start<R: Threads + Wait + Clock + Copy + Send + 'static, W: Work + Send + 'static>(
     rt: R,
     work: W,
@@ -62,7 +65,8 @@ pub struct Engine<N: Net + Drop, L: Listener> {
     pub(crate) moments: Moments,
 }
 
-// The moments of turns, in milliseconds. They follow the clock, but for a thread that stood still: what was not read meanwhile is no silence of a server.
+// The moments of turns, in milliseconds. They follow the clock, but for a thread that stood still:
+// what was not read meanwhile is no silence of a server.
 #[derive(Clone, Copy, Drop)]
 pub(crate) struct Moments {
     began: Instant,
@@ -130,7 +134,8 @@ impl<N: Net + Drop, L: Listener> Engine<N, L> {
         self.shared.rise();
     }
 
-    // A turn, with the lock. It says where the thread waits for the next, or that there is none, since the client ends.
+    // A turn, with the lock. It says where the thread waits for the next, or that there is none,
+    // since the client ends.
     fn work<R: Wait>(&mut self, rt: &R, now: u64) -> (Option<Place>, Brought) {
         self.shared.let_ask();
         // The context was dropped if nobody else has what the two share.
@@ -200,8 +205,9 @@ fn passed<R: Clock>(rt: &R, start: &Instant) -> u64 {
     }
 }
 
-// One turn, under the lock. What came is read before the moment is told, so that no circuit counts as silent whose bytes are there; what the moment asks and
-// what circuits begin with is sent after that.
+// One turn, under the lock. What came is read before the moment is told, so that no
+// circuit counts as silent whose bytes are there; what the moment asks and what circuits
+// begin with is sent after that.
 fn turn<N: Net, L: Listener>(
     net: &N,
     locked: &mut Locked<L>,
@@ -248,7 +254,8 @@ fn hear(state: &mut ClientState, datagrams: &UdpSocket, now: u64) -> bool {
     true
 }
 
-// A moment: its searches are sent, and circuits that were silent too long are let go, as those that were cut. It says whether there were any.
+// A moment: its searches are sent, and circuits that were silent too long are let go, as those that
+// were cut. It says whether there were any.
 fn tick<L: Listener>(locked: &mut Locked<L>, datagrams: &UdpSocket, now: u64) -> bool {
     // No moment is told without room for what it tells.
     if locked.told.reserve(locked.links.len()).is_err() {
@@ -302,7 +309,8 @@ fn tell_each<R: Wait, L: Listener>(
     }
 }
 
-// Channels that are live or lost are seen by `wait_live` and `channel_state`. A subscription that was cancelled meanwhile is told nothing more.
+// Channels that are live or lost are seen by `wait_live` and `channel_state`. A subscription that
+// was cancelled meanwhile is told nothing more.
 fn tell<R: Wait, L: Listener>(rt: &R, shared: &Shared<L>, ears: &mut Ears<L>, notice: &Notice) {
     if ears.is_behind(shared.cancels()) {
         ears.forget_cancelled(&shared.hold(rt).changes);

@@ -3,13 +3,14 @@ use std::alloc::Global;
 use std::thread;
 use std::time::{Clock, Duration};
 
-// A wait of the thread of input and output, and one for the sockets, takes at most so many milliseconds.
+// A wait of the thread of input and output, and one for the sockets, takes at most
+// this many milliseconds.
 pub(crate) const TURN: u64 = 10;
 
-// What callers did is remembered for so many times 10 ms, the time that is under way among them.
+// What callers did is remembered for this many times 10 ms, the time that is under way among them.
 pub(crate) const LATELY: u64 = 2;
 
-// A caller that leads, and was not seen for so many times 10 ms, keeps nobody else from reading.
+// A caller that leads, and was not seen for this many times 10 ms, keeps nobody else from reading.
 const LATE: u64 = 2;
 
 // Waits for the sockets. One thread at a time does.
@@ -26,7 +27,8 @@ impl SocketPoll {
     }
 }
 
-// Waits for so long at most. A wait that the system refuses takes as long, so that a fault that lasts costs no processor.
+// Waits for this time at most. A wait that the system refuses takes as long, so that a fault that
+// lasts costs no processor.
 pub(crate) fn wait_at<R: Clock>(
     rt: &R,
     poll: &mut Poll,
@@ -44,7 +46,8 @@ enum Watcher {
     Nobody,
     // The thread of input and output.
     Thread,
-    // A caller that leads: it moves bytes itself until its outcome is there, so no thread has to wake another.
+    // A caller that leads: it moves bytes itself until its outcome is there, so no thread
+    // has to wake another.
     Caller,
 }
 
@@ -54,7 +57,8 @@ pub(crate) struct Lead {
     watcher: Watcher,
     // Above 0 if a caller led lately, or would have.
     wished: u64,
-    // Whether there was a subscription. Its updates come at any time, so the thread of input and output waits for them.
+    // Whether there was a subscription. Its updates come at any time, so the thread of input and
+    // output waits for them.
     hears: bool,
     // When it was last seen that 10 ms had passed.
     ticked: u64,
@@ -98,7 +102,8 @@ impl Lead {
         matches!(self.watcher, Watcher::Caller)
     }
 
-    // Whether a caller waits for the sockets, and is to read what comes. One that was not seen for long may have no processor.
+    // Whether a caller waits for the sockets, and is to read what comes. One that was not seen for
+    // long may have no processor.
     pub(crate) fn is_read(&self) -> bool {
         self.is_led() && self.unseen < LATE
     }
@@ -134,8 +139,9 @@ impl Lead {
         true
     }
 
-    // Whether the sockets are left to callers. They are not where the thread of input and output has to serve them: several callers waited at once lately, or
-    // a socket has no room for what waits to be sent.
+    // Whether the sockets are left to callers. They are not if the thread of input and output
+    // has to serve them: several callers waited at once lately, or a socket has no room for
+    // what waits to be sent.
     pub(crate) fn is_left(&self, serves: bool) -> bool {
         self.is_led() || self.wished != 0 && !serves && !self.hears
     }

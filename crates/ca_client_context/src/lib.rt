@@ -1,5 +1,5 @@
-//! A client of Channel Access that threads share: its circuits, searches and datagrams are moved by one thread of input and output. A caller that waits
-//! alone moves what is on the circuits itself.
+//! A client of Channel Access that threads share: its circuits, searches and datagrams are moved by
+//! one thread of input and output. A caller that waits alone moves what is on the circuits itself.
 //!
 //! ```rust
 //! fn main(rt: HostRuntime) -> Result<(), Refusal> {
@@ -27,8 +27,9 @@
 //! }
 //! ```
 //!
-//! Contracts say of it only that a caller's `collect` and `give_up` do what the board's do. What lies under its lock is `ca_client`'s, with its
-//! contracts. No contract says that a wait wakes, or that threads run.
+//! Contracts say of it only that a caller's `collect` and `give_up` do what the board's do. What
+//! lies under its lock is `ca_client`'s, with its contracts. No contract says that a wait wakes,
+//! or that threads run.
 #![tactic(auto)]
 
 mod addresses;

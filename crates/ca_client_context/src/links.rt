@@ -12,13 +12,13 @@ use mio::{Interest, Registry, Token};
 use std::alloc::{AllocError, Global};
 use std::net::Net;
 
-// At most so many messages of a circuit are read in a turn.
+// At most this many messages of a circuit are read in a turn.
 const STEPS: usize = 512;
 
-// A socket with so many faults is let go: `turn_over` asks for fewer.
+// A socket with this many faults is dropped: `turn_over` asks for fewer.
 const MOST_FAULTS: u64 = 1 << 63;
 
-// A circuit that could not be connected is tried again after so many milliseconds.
+// A circuit that could not be connected is tried again after this many milliseconds.
 const REST: u64 = 1_000;
 
 // The events of circuits. Which circuit has one is not asked: each is turned over in each turn.
@@ -39,7 +39,8 @@ struct Watched<S: Socket + Drop> {
     came: bool,
     // Nothing more is read in this turn: the last read left nothing, or a caller sends.
     //
-    // What came is handled before the next read, which may find that the server has closed the circuit.
+    // What came is handled before the next read, which may find that the server
+    // has closed the circuit.
     drained: bool,
     // The last write left something, and the system may have room for it.
     behind: bool,
@@ -50,7 +51,7 @@ struct Watched<S: Socket + Drop> {
 impl<S: Socket + Drop> Socket for Watched<S> {
     ghost use Rattle.std.specs.Prelude.{◌≡◌, ◌⊎◌, []};
 
-    // The inner socket's bytes, or none where it is not read.
+    // The inner socket's bytes, or none if it is not read.
     ghost gives = { λ v bytes w.
         S.gives v.inner bytes w.inner ⊎ ((bytes ≡ []) × (w.inner ≡ v.inner)) };
 
@@ -88,7 +89,8 @@ impl<S: Socket + Drop> Socket for Watched<S> {
     }
 }
 
-// When each circuit was last tried, at the index of its handle: that of a name server is wanted again under the same handle.
+// When each circuit was last tried, at the index of its handle: that of a name server is wanted
+// again under the same handle.
 #[derive(Drop)]
 pub(crate) struct Tries {
     last: Vec<Option<(Handle, u64)>>,
@@ -204,7 +206,8 @@ pub(crate) struct Brought {
     pub(crate) any: bool,
     // Messages, or bytes, are left for the next turn, or may be.
     pub(crate) more: bool,
-    // Messages came that complete no request, or circuits ended: so there may be something to do for the thread of input and output.
+    // Messages came that complete no request, or circuits ended: so there may be something to do
+    // for the thread of input and output.
     pub(crate) news: bool,
 }
 
@@ -265,7 +268,8 @@ pub(crate) fn is_any_behind(links: &[Link]) -> bool {
     links.iter().any(|link| link.wire.behind)
 }
 
-// Sends what waits on all circuits, as far as that can be now. It says whether all went and no circuit ended.
+// Sends what waits on all circuits, as far as that can be now. It says whether all went
+// and no circuit ended.
 pub(crate) fn send_all(
     state: &mut ClientState,
     links: &mut Vec<Link>,
@@ -329,7 +333,7 @@ fn send_at(
 }
 
 fn send_one(state: &mut ClientState, link: &mut Link, told: &mut Vec<Heard>) -> Served {
-    // Nothing is sent without room for what a fault tells.
+    // Nothing is sent without room for what a fault reports.
     if told.reserve(1).is_err() || link.wire.faults() >= MOST_FAULTS {
         return Served::behind();
     }
@@ -369,7 +373,8 @@ fn serve_one(state: &mut ClientState, link: &mut Link, told: &mut Vec<Heard>) ->
 }
 
 impl Link {
-    // What is left to be moved after a turn, and may be: after bytes that make no message there may be the end of the stream, of which nothing tells again.
+    // What is left to be moved after a turn, and may be: after bytes that make no message there may
+    // be the end of the stream, of which nothing tells again.
     fn left(&self, brought: Brought) -> Brought {
         let is_behind = !self.wire.drained || self.wire.behind;
         Brought {

@@ -5,9 +5,11 @@ use std::alloc::{AllocError, Global};
 
 /// Hears the updates of a subscription, on the thread of input and output, with no lock held.
 ///
-/// While it runs nothing is read or sent for the client, and the waits of all callers go on: so it is to be quick. It may make any call of the context that does
-/// not wait: `get`, `put`, `put_notify`, `monitor`, `unsubscribe`, `clear`, `collect`, `give_up`, `open`, `channel_state` and `end`. It is not to wait for a reply:
-/// `wait`, `wait_for`, `wait_live` and `wait_live_for` find none there, and return once their time is over.
+/// While it runs nothing is read or sent for the client, and the waits of all callers go on: so it
+/// is to be quick. It may make any call of the context that does not wait: `get`, `put`,
+/// `put_notify`, `monitor`, `unsubscribe`, `clear`, `collect`, `give_up`, `open`, `channel_state`
+/// and `end`. It is not to wait for a reply: `wait`, `wait_for`, `wait_live` and `wait_live_for`
+/// find none there, and return once their time is over.
 pub trait Listener: Drop {
     /// An update; or Failed, if the server refused the subscription, which is over then.
     fn heard(&mut self, outcome: &Outcome);
@@ -37,7 +39,8 @@ pub(crate) enum Change<L: Listener> {
     Ends(Handle),
 }
 
-// The listeners, each at the index of its subscription. There is a place for each subscription that a client can have.
+// The listeners, each at the index of its subscription. There is a place for each subscription
+// that a client can have.
 #[derive(Drop)]
 pub(crate) struct Ears<L: Listener> {
     places: Vec<Option<Ear<L>>>,
@@ -67,14 +70,15 @@ impl<L: Listener> Ears<L> {
         }
     }
 
-    // Whether others were cancelled, now that so many were, since this was last asked.
+    // Whether others were cancelled, now that this many were, since this was last asked.
     pub(crate) fn is_behind(&mut self, cancels: u64) -> bool {
         let is_behind = self.cancels != cancels;
         self.cancels = cancels;
         is_behind
     }
 
-    // Drops the listeners of the subscriptions that were cancelled, before the changes are taken in: nothing more is told to them.
+    // Drops the listeners of the subscriptions that were cancelled, before the changes are taken
+    // in: nothing more is told to them.
     pub(crate) fn forget_cancelled(&mut self, changes: &[Change<L>]) {
         for change in changes {
             if let Change::Ends(subscription) = change {
@@ -102,7 +106,8 @@ impl<L: Listener> Ears<L> {
         }
     }
 
-    // Has the listener of a subscription hear an outcome. A subscription that was cancelled has none.
+    // Has the listener of a subscription hear an outcome. A subscription that
+    // was cancelled has none.
     pub(crate) fn tell(&mut self, subscription: Handle, outcome: &Outcome) {
         if let Some(Some(ear)) = self.places.get_mut(usize::from(subscription.index)) {
             if ear.subscription == subscription {

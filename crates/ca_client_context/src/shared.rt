@@ -12,19 +12,24 @@ use std::sync::atomic::{AtomicU64, Ordering};
 use std::sync::{Mutex, MutexGuard, Wait};
 use std::time::{Clock, Duration};
 
-// Requests that callers make while none of them looks for an outcome go out so many at a time: then the server answers them while the next are made.
+// Requests that callers make while none of them looks for an outcome go out this many at a time:
+// then the server answers them while the next are made.
 const TOGETHER: u64 = 256;
 
-// The thread of input and output is told of one request in so many, and of the first that was not sent.
+// The thread of input and output is told of one request in this many, and of the
+// first that was not sent.
 const SOME: u64 = 8;
 
-// A thread tries so often to have the lock before it sleeps: it is mostly held for as long as a few requests take, and to be woken takes longer.
+// A thread tries this often to have the lock before it sleeps: it is mostly held for as long as a
+// few requests take, and to be woken takes longer.
 const TRIES: usize = 64;
 
-// Between two tries it pauses, so that whoever has the lock can make several requests with what lies under it in its processor's cache.
+// Between two tries it pauses, so that whoever has the lock can make several requests with what
+// lies under it in its processor's cache.
 const BACKOFF: usize = 200;
 
-// Before a turn the thread of input and output waits until no request was made in a pause, or for so many pauses.
+// Before a turn the thread of input and output waits until no request was made in a pause, or
+// for this many pauses.
 const QUIET: usize = 400;
 
 const PATIENCE: usize = 500;
@@ -55,7 +60,8 @@ pub(crate) struct Locked<L: Listener> {
     pub(crate) spread: Spread,
     // What listeners have not been told yet.
     pub(crate) told: Vec<Heard>,
-    // What became of listeners, in the order of the calls. The thread of input and output has not followed yet.
+    // What became of listeners, in the order of the calls. The thread of input and output
+    // has not followed yet.
     pub(crate) changes: Vec<Change<L>>,
     // How many requests were made since all were last sent.
     pub(crate) unsent: u64,
@@ -86,7 +92,8 @@ impl<L: Listener> Locked<L> {
         self.unsent < TOGETHER || self.send()
     }
 
-    // Makes requests, until one is refused. It says what came of them, and whether there is nothing more to be done for those that were made.
+    // Makes requests, until one is refused. It says what came of them, and whether there is nothing
+    // more to be done for those that were made.
     pub(crate) fn request_each(
         &mut self,
         requests: &[Request],
@@ -123,7 +130,8 @@ impl<L: Listener> Locked<L> {
         self.unsent % SOME == 1
     }
 
-    // Sends what waits on all circuits, as far as that can be now. It says whether nothing is left for the thread of input and output.
+    // Sends what waits on all circuits, as far as that can be now. It says whether nothing is left
+    // for the thread of input and output.
     pub(crate) fn send(&mut self) -> bool {
         self.unsent = 0;
         send_all(&mut self.state, &mut self.links, &mut self.told)
@@ -134,8 +142,9 @@ impl<L: Listener> Locked<L> {
         self.lead.may_lead() && !self.ending
     }
 
-    // Moves bytes for the thread of input and output, and reads what came. While a caller waits for the sockets it leaves the reading to that one, who may have
-    // been told of what came, and is not late.
+    // Moves bytes for the thread of input and output, and reads what came. While a caller
+    // waits for the sockets it leaves the reading to that one, who may have been told of what
+    // came, and is not late.
     pub(crate) fn serve(&mut self) -> Brought {
         if self.lead.is_read() {
             return self.send_all();
@@ -143,7 +152,8 @@ impl<L: Listener> Locked<L> {
         self.move_all()
     }
 
-    // Sends what waits on all circuits, as far as that can be now. It says whether circuits ended, and whether something is left.
+    // Sends what waits on all circuits, as far as that can be now. It says whether circuits ended,
+    // and whether something is left.
     pub(crate) fn send_all(&mut self) -> Brought {
         let links = self.links.len();
         self.send();
@@ -161,7 +171,8 @@ impl<L: Listener> Locked<L> {
         serve(&mut self.state, &mut self.links, &mut self.told)
     }
 
-    // Whether there is something for the thread of input and output to do, after what a caller moved.
+    // Whether there is something for the thread of input and output to do, after
+    // what a caller moved.
     pub(crate) fn calls(&self, brought: Brought) -> bool {
         brought.news || self.lead.hears() || self.ending || !self.told.is_empty()
     }
@@ -171,7 +182,8 @@ impl<L: Listener> Locked<L> {
 #[derive(Drop)]
 pub(crate) struct Shared<L: Listener> {
     pub(crate) locked: Mutex<Locked<L>>,
-    // Whoever waits for the sockets has it. What lies under the other lock says who that is, so nobody waits for this one for long.
+    // Whoever waits for the sockets has it. What lies under the other lock says who that is, so
+    // nobody waits for this one for long.
     sockets: Mutex<SocketPoll>,
     // Ends a wait for the sockets.
     sockets_waker: Waker,
@@ -185,7 +197,8 @@ pub(crate) struct Shared<L: Listener> {
     turns: AtomicU64,
     // How many callers wait.
     waiting: AtomicU64,
-    // Above 0 if several callers waited at once lately. The thread of input and output serves them together.
+    // Above 0 if several callers waited at once lately. The thread of input and output
+    // serves them together.
     crowded: AtomicU64,
     // 1 if the thread of input and output has ended.
     ended: AtomicU64,
@@ -226,8 +239,9 @@ impl<L: Listener> Shared<L> {
         self.locked.lock(rt)
     }
 
-    // Waits while requests are being made, for a short time at most: a turn holds the lock for as long as many requests take, so those that make
-    // them would sleep meanwhile. Those that make many send them themselves, so that the server need not wait.
+    // Waits while requests are being made, for a short time at most: a turn holds the lock for as
+    // long as many requests take, so those that make them would sleep meanwhile. Those that make
+    // many send them themselves, so that the server need not wait.
     pub(crate) fn let_ask(&self) {
         for _ in 0..PATIENCE {
             let before = self.asked();
@@ -241,10 +255,12 @@ impl<L: Listener> Shared<L> {
         }
     }
 
-    // The thread of input and output is about to wait. It says so while it has the lock, so that whoever has it next wakes it.
+    // The thread of input and output is about to wait. It says so while it has the lock, so that
+    // whoever has it next wakes it.
     //
-    // It says that it leaves the sockets to callers before it looks whether one waits that does not lead. Such a caller says that it waits before it
-    // looks whether the sockets are left: so either the thread waits for them, or the caller wakes it.
+    // It says that it leaves the sockets to callers before it looks whether one waits that does not
+    // lead. Such a caller says that it waits before it looks whether the sockets are left: so
+    // either the thread waits for them, or the caller wakes it.
     pub(crate) fn doze(&self, locked: &mut Locked<L>) -> Place {
         self.asked.store(0, Ordering::SeqCst);
         let serves = self.crowded.load(Ordering::SeqCst) != 0 || is_any_full(&locked.links);
@@ -259,13 +275,14 @@ impl<L: Listener> Shared<L> {
         Place::Sockets
     }
 
-    // Waits for the sockets, for so long or a turn at most.
+    // Waits for the sockets, for this time or a turn at most.
     pub(crate) fn watch<R: Wait + Clock>(&self, rt: &R, most: Duration) {
         let mut guard = self.sockets.lock(rt);
         guard.watch(rt, most);
     }
 
-    // Takes the lock for a caller that leads, if this one may: no other waits, or did lately, and nobody waits for the sockets.
+    // Takes the lock for a caller that leads, if this one may: no other waits, or did lately, and
+    // nobody waits for the sockets.
     pub(crate) fn hold_to_lead<R: Wait>(&self, rt: &R) -> Option<MutexGuard<'_, Locked<L>>> {
         if self.is_crowded() {
             return None;
@@ -306,9 +323,11 @@ impl<L: Listener> Shared<L> {
         }
     }
 
-    // A caller has moved bytes. Those that wait look for their outcomes, and the thread of input and output takes over, if there are some.
+    // A caller has moved bytes. Those that wait look for their outcomes, and the thread of input
+    // and output takes over, if there are some.
     //
-    // The turn is counted before it is looked whether some wait, as `pass` says: so whoever is about to wait sees the new number.
+    // The turn is counted before it is looked whether some wait, as `pass` says: so whoever is
+    // about to wait sees the new number.
     pub(crate) fn leave(&self, calls: bool) {
         self.pass(false);
         if calls || self.is_awaited() {
@@ -316,7 +335,8 @@ impl<L: Listener> Shared<L> {
         }
     }
 
-    // Something was changed that may have ended the waits of others: all look, and the thread of input and output takes a turn.
+    // Something was changed that may have ended the waits of others: all look, and the thread of
+    // input and output takes a turn.
     pub(crate) fn call_all(&self) {
         self.pass(false);
         self.call_leader();
@@ -328,7 +348,8 @@ impl<L: Listener> Shared<L> {
         let _ = self.sockets_waker.wake();
     }
 
-    // It has woken: its next turn begins after whatever was changed under the lock until now. So nobody need wake it before that turn is over.
+    // It has woken: its next turn begins after whatever was changed under the lock until now. So
+    // nobody need wake it before that turn is over.
     pub(crate) fn rise(&self) {
         self.asleep.store(NOWHERE, Ordering::SeqCst);
     }
@@ -345,16 +366,19 @@ impl<L: Listener> Shared<L> {
 
     // Has the requests go out at once: somebody looks for an outcome.
     //
-    // Whoever finds that there are some has those of all callers sent, so that the others need not. While others wait it leaves them to the thread of
-    // input and output, which sends those of several callers together. Else it sends them itself. If it cannot have the lock, they are left to that
-    // thread too: it has the lock, and its turn began with sending them; or another caller has it, and then it is woken, if it is not at work.
+    // Whoever finds that there are some has those of all callers sent, so that the others need not.
+    // While others wait it leaves them to the thread of input and output, which sends those of
+    // several callers together. Else it sends them itself. If it cannot have the lock, they are
+    // left to that thread too: it has the lock, and its turn began with sending them; or another
+    // caller has it, and then it is woken, if it is not at work.
     pub(crate) fn flush(&self) {
         if self.asked.swap(0, Ordering::SeqCst) != 0 && (self.is_awaited() || !self.send_now()) {
             self.wake();
         }
     }
 
-    // Sends what waits on all circuits, if it can have the lock at once. It says whether nothing is left for the thread of input and output.
+    // Sends what waits on all circuits, if it can have the lock at once. It says whether nothing is
+    // left for the thread of input and output.
     fn send_now(&self) -> bool {
         match self.locked.try_lock() {
             Some(guard) => {
@@ -370,8 +394,8 @@ impl<L: Listener> Shared<L> {
         self.waiting.load(Ordering::SeqCst) != 0
     }
 
-    // Somebody looks for an outcome, and does not wait. If the sockets are left to callers it reads what came, for its next look; while several wait the
-    // thread of input and output does.
+    // Somebody looks for an outcome, and does not wait. If the sockets are left to callers it reads
+    // what came, for its next look; while several wait the thread of input and output does.
     pub(crate) fn look(&self) {
         if self.asleep.load(Ordering::SeqCst) == AT_CALL {
             if self.is_crowded() {
@@ -383,7 +407,8 @@ impl<L: Listener> Shared<L> {
         self.flush();
     }
 
-    // Moves bytes for a caller that does not wait, if it can have the lock at once, and may. It says whether it did.
+    // Moves bytes for a caller that does not wait, if it can have the lock at once, and may. It
+    // says whether it did.
     fn move_now(&self) -> bool {
         match self.locked.try_lock() {
             Some(guard) => {
@@ -414,8 +439,8 @@ impl<L: Listener> Shared<L> {
 
     // Tells those that wait that a turn is over.
     //
-    // A caller says that it waits before it looks whether a turn is over. So whom this does not find among those that wait sees the new number, and
-    // whom it finds is woken.
+    // A caller says that it waits before it looks whether a turn is over. So whom this does not
+    // find among those that wait sees the new number, and whom it finds is woken.
     pub(crate) fn pass(&self, ended: bool) {
         if ended {
             self.ended.store(1, Ordering::SeqCst);
@@ -431,7 +456,8 @@ impl<L: Listener> Shared<L> {
         self.turns.load(Ordering::SeqCst)
     }
 
-    // Waits until another turn is over, for so long at most, and says whether the thread of input and output has ended. It may return before that.
+    // Waits until another turn is over, for this time at most, and says whether the thread of input
+    // and output has ended. It may return before that.
     //
     // The time ends a wait while a listener keeps that thread, and a wait that a listener makes.
     pub(crate) fn park<R: Wait>(&self, rt: &R, seen: u64, most: Duration) -> bool {
@@ -462,7 +488,8 @@ impl<L: Listener> Shared<L> {
     }
 }
 
-// Passes some nanoseconds a step, on no memory of others and with no call of the system, which could give a whole slice of time away.
+// Passes some nanoseconds a step, on no memory of others and with no call of the system, which
+// could give a whole slice of time away.
 fn pause(steps: usize) {
     let own = AtomicU64::new(0);
     for _ in 0..steps {

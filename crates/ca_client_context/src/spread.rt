@@ -2,10 +2,11 @@ use ca_arena::Handle;
 use ca_text::ARENA_SLOTS;
 use std::alloc::{AllocError, Global};
 
-// Subscriptions of a circuit, at most: a server refuses one more. So many channels with one each are on a circuit.
+// Subscriptions of a circuit, at most: a server refuses one more. This many channels with one
+// each are on a circuit.
 const EACH: u32 = 288;
 
-// A client has a circuit to a server for each priority, of which there are so many.
+// A client has a circuit to a server for each priority, of which there are this many.
 const PRIORITIES: usize = 100;
 
 // How many channels a client has at each priority.

@@ -15,7 +15,7 @@ use Rattle.ca_wire.proofs.Numbers.{number16-at, number32-at}
 
 -- ---- whether a header begins these bytes
 
--- the number of two bytes at the front, and what stands after it
+-- the number of two bytes at the front, and what is after it
 record Two (bytes : List ℕ) : Type 0 where
   n : ℕ
   rest : List ℕ

@@ -1,4 +1,5 @@
--- A channel that was found is put on its circuit, and a circuit that is wanted is connected: what that keeps.
+-- A channel that was found is put on its circuit, and a circuit that is wanted is
+-- connected: what that keeps.
 use Rattle.std.proofs.Common.{◌≡◌, ◌∙◌, inl, inr, Bool, true, false, List, Option, Some, None, ap, if◌then◌else◌, refl, subst, sym, unwrap_or}
 use Rattle.std.specs.Prelude.{ℕ, is_none, option_and_then, option_map}
 use Rattle.ca_arena.specs.declared.handle.Handle.{Handle}

@@ -1,4 +1,5 @@
--- The channels that are live on each circuit: what keeps them listed, and that there is room to tell them.
+-- The channels that are live on each circuit: what keeps them listed, and that there
+-- is room to tell them.
 use Rattle.std.proofs.Common.{◌≡◌, inl, inr, ℕ, suc, ◌≤◌, Bool, true, false, ◌&&◌, cond, List, [], ◌∷◌, ◌++◌, Option, Some, None, append-nil, filter, is_none, length, map, option_map, refl, sym, ap, ◌∙◌, subst, unwrap_or}
 use Rattle.std.specs.Prelude.{option_and_then}
 use Rattle.std.proofs.lemmas.Bool.{both_ways}

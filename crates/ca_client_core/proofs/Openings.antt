@@ -1,4 +1,5 @@
--- A channel is opened: its CID is none that is searched for, and what is searched for is a channel still.
+-- A channel is opened: its CID is none that is searched for, and what is searched
+-- for is a channel still.
 use Rattle.std.proofs.Common.{◌≡◌, ◌≢◌, ℕ, ◌%◌, inl, inr, Bool, false, List, [], ◌∷◌, ◌++◌, length, nat_eq, Some, None, if◌then◌else◌, refl, sym, ap, ◌∙◌, subst, arith, length-append}
 use Rattle.std.proofs.lemmas.Bool.{cases_eq, cases_lt, eq-eqb, ne_eqb}
 use Rattle.std.proofs.lemmas.List.{get_or-set_other, get_or_append_left, get_or_past, get_or_push, get_or-set_same}

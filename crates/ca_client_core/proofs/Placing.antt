@@ -254,6 +254,6 @@ turns-found x c cid h p next at waits live =
 pub bare-found : (x : Client) (c : Handle) (cid : ℕ) (h : Handle) (p : Phase) → channel_on x c cid ≡ Some (h, p) → was_live p ≡ false → IsPlaced x → IsBare h x
 bare-found x c cid h p at never placed = (let found = channel-on x c cid h p at in bare-so c x h found.0 p found.1 found.3 never placed)
 
--- nor to one whose ids drain no more
+-- nor to one whose ids no longer drain
 pub drained-found : (x : Client) (c : Handle) (cid : ℕ) (h : Handle) (p : Phase) → channel_on x c cid ≡ Some (h, p) → IsPlaced x → IsBare h (without_drained c h x)
 drained-found x c cid h p at placed = (let found = channel-on x c cid h p at in drained-bare c x h found.0 p found.1 found.3 placed)

@@ -20,7 +20,7 @@ use Rattle.ca_client_core.proofs.Faults.{Faults, and_then, earlier-fault, fault-
 
 -- ---- a write
 
--- the faults of a write, but that no id is free
+-- the faults of a write, except that no id is free
 abbrev pub puts : Client → Elements → Faults
 puts x e = λ (l : LiveChannel).
     (not (may_write l.rights), refusal.NoAccess) ∷ (is_misfit l.native e, refusal.BadCount) ∷ (is_over x l.circuit, refusal.OutputFull) ∷ []

@@ -35,7 +35,7 @@ asks-or x y z n q h c asked m (Err e) all is did = did ∙ ap (cut_back c n) is 
 
 -- ---- a read
 
--- the faults of a read or of a subscription, but that no id is free
+-- the faults of a read or of a subscription, except that no id is free
 abbrev pub asks : Client → Shape → Faults
 asks x a = λ (l : LiveChannel).
     (is_none (type_of a.data_type), refusal.BadType)

@@ -47,7 +47,7 @@ datagram-noted x a ms ds cs p new sent is have few left are =
     let equal : length (map sending_of sent) ≡ length (map as_sent cs) = ap (λ (ss : List answer.Sending). length ss) are in
     ((ms, is, subst (λ (e : Effect). ReceivesAll a.from (at_moment a x) ms e) same r.1), omega (arith, long, one, other, equal, few))
 
--- one more is behind what is sent
+-- one more is after what is sent
 pub creations-more : (sent next : List Sending) (s : Sending) (o : Creation) (rest : List Creation) (total : List answer.Sending) → next ≡ sent ++ s ∷ [] → sending_of s ≡ as_sent o → map sending_of sent ++ map as_sent (o ∷ rest) ≡ total → map sending_of next ++ map as_sent rest ≡ total
 creations-more sent next s o rest total grown is all =
     ap (λ (z : List Sending). map sending_of z ++ map as_sent rest) grown

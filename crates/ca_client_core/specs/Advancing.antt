@@ -14,13 +14,15 @@ use Rattle.ca_client_core.specs.declared.stepping.Advanced.TheVariants as advanc
 use Rattle.ca_client_core.specs.Dispatch.{HearsOr}
 use Rattle.ca_client_core.specs.First.{FirstOn, MayWant}
 
--- A message came first for which there was no memory: for its payload, and it was left; or for what it does, and it was taken.
+-- A message came first for which there was no memory: for its payload, and it was left; or for what
+-- it does, and it was taken.
 abbrev pub LacksFirst : Client → Handle → Client → Type 0
 LacksFirst before c now =
     (MayWant before × FirstOn before c first.OutOfMemory now)
     ⊎ ((m : Fields) × (y : Client) × (e : AllocError) × FirstOn before c (first.Message m) y × HearsOr y c m (Err e) now)
 
--- A step of this client began, and is not over: this came first on the circuit, and nothing else was done.
+-- A step of this client began, and is not over: this came first on the circuit, and
+-- nothing else was done.
 abbrev pub HasBegun : Client → Handle → First → Client → Type 0
 HasBegun before c first.NeedBytes now = ⊥
 HasBegun before c first.OutOfMemory now = LacksFirst before c now

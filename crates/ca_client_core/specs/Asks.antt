@@ -17,7 +17,8 @@ with_request q h c asked x = record x {
   issued = x.issued ++ q ∷ [];
 }
 
--- A request was issued under the handle that was told; or what was queued after the first n bytes was taken back.
+-- A request was issued under the handle that was told; or what was queued after the first n
+-- bytes was taken back.
 abbrev pub IssuesOr : ℕ → Client → (q h c : Handle) → Asked → Result (Unit {0}) AllocError → Client → Type 0
 IssuesOr n old q h c asked (Ok _) new = MayGive old.requests q × (new ≡ with_request q h c asked old)
 IssuesOr n old q h c asked (Err _) new = new ≡ cut_back c n old
@@ -32,7 +33,8 @@ abbrev pub with_subscription : Handle → Subscription → Client → Client
 with_subscription s d x =
     record x { subscriptions = with_held s (new_subscription d.channel d.data_type d.count d.mask) x.subscriptions }
 
--- A subscription was added under the handle that was told; or what was queued after the first n bytes was taken back.
+-- A subscription was added under the handle that was told; or what was queued after the first n
+-- bytes was taken back.
 abbrev pub AddsOr : ℕ → Client → (s c : Handle) → Subscription → Result (Unit {0}) AllocError → Client → Type 0
 AddsOr n old s c d (Ok _) new = MayGive old.subscriptions s × (new ≡ with_subscription s d old)
 AddsOr n old s c d (Err _) new = new ≡ cut_back c n old

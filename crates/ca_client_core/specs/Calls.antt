@@ -1,4 +1,5 @@
--- Working: parts of what the calls of a client's user answer and leave. No clause of a caller needs it.
+-- Working: parts of what the calls of a client's user answer and leave. No clause
+-- of a caller needs it.
 use Rattle.std.specs.Prelude.{ℕ, ◌≡◌, Bool, [], ◌∷◌, true, false, not, Option, Some, None, Result, Ok, Err, is_none, nat_lt}
 use Rattle.ca_text.specs.declared.refusal.Refusal.{Refusal}
 use Rattle.ca_text.specs.declared.refusal.Refusal.TheVariants as refusal
@@ -10,7 +11,8 @@ use Rattle.ca_records.specs.Rules.{may_read}
 use Rattle.ca_model.specs.ClientCalls.{LiveChannel, Shape, event_cancel_sent, first_refusal, is_over}
 use Rattle.ca_model.specs.Faults.{type_of}
 
--- A subscription is cancelled on this circuit, under this SID: its EVENT_CANCEL goes out, and its id drains.
+-- A subscription is cancelled on this circuit, under this SID: its EVENT_CANCEL goes
+-- out, and its id drains.
 abbrev pub CancelsOn : Client → Handle → Subscription → Handle → ℕ → Result (Unit {0}) Refusal → Client → Type 0
 CancelsOn old s d c sid (Ok _) new =
     (is_over old c ≡ false)

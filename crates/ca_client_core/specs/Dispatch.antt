@@ -13,7 +13,8 @@ use Rattle.ca_model.specs.Speech.{Is}
 abbrev pub IsReply : Fields → Type 0
 IsReply m = Is command.ReadNotify m ⊎ Is command.WriteNotify m
 
--- A message that was read on this circuit had its effect; or there was no memory for it, which changed nothing.
+-- A message that was read on this circuit had its effect; or there was no memory for it,
+-- which changed nothing.
 abbrev pub HearsOr : Client → Handle → Fields → Result (List notice.Notice) AllocError → Client → Type 0
 HearsOr old c m (Ok told) new = (e : Effect) × Hears old c m e × (told ≡ e.notices) × (new ≡ e.core)
 HearsOr old c m (Err _) new = (e : Effect) × Hears old c m e × TakesMemory old m e × (new ≡ old)

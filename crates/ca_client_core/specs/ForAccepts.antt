@@ -1,4 +1,4 @@
--- Vocabulary: what whoever records histories asks of a client before a circuit is connected.
+-- Vocabulary: what a recorder of histories asks of a client before a circuit is connected.
 use Rattle.std.specs.Prelude.{ℕ, ◌++◌, List, [], Option, Some, None, filter_map, if◌then◌else◌, map, option_and_then, option_to_list, slice_get}
 use Rattle.ca_arena.specs.declared.handle.Handle.{Handle}
 use Rattle.ca_ids.specs.Table.{under}
@@ -17,7 +17,8 @@ wanted_circuit x c = option_and_then (wanted_as c) (under x.circuits c)
 abbrev pub wanted_in_place : Client → ℕ → Option WantedCircuit
 wanted_in_place x place = option_and_then (wanted_circuit x) (slice_get x.order place)
 
--- what is sent once this circuit is connected, if it is not yet: the set-up, and then the CREATE_CHANs of the channels that wait for it
+-- what is sent once this circuit is connected, if it is not yet: the set-up, and then the
+-- CREATE_CHANs of the channels that wait for it
 abbrev pub sent_once_connected : Client → Handle → Option ClientCircuit → List Sending
 sent_once_connected x c None = []
 sent_once_connected x c (Some d) = set_up x.peer c d ++ creations c x

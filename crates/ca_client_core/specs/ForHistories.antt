@@ -1,4 +1,4 @@
--- Vocabulary: what whoever records histories asks of a client.
+-- Vocabulary: what a recorder of histories asks of a client.
 use Rattle.std.specs.Prelude.{◌≡◌, ◌≢◌, ◌<◌, Bool, false, List, [], Option, Some, None, Result, Ok, Err, Vec, map, option_and_then}
 use Rattle.std.specs.declared.alloc.AllocError.{AllocError}
 use Rattle.std.specs.declared.alloc.Global.{Global}
@@ -18,7 +18,8 @@ use Rattle.ca_client_core.specs.declared.for_histories.Aim.TheVariants as aim
 use Rattle.ca_client_core.specs.declared.for_histories.Asked.{Asked}
 use Rattle.ca_client_core.specs.declared.for_histories.Sending.{Sending}
 
--- the channel of this handle is live on this circuit, under this SID, with so many elements at most; or it is not live
+-- the channel of this handle is live on this circuit, under this SID, with n elements at
+-- most; or it is not live
 abbrev pub LivesOn : Client → Handle → Option LiveOn → Type 0
 LivesOn x h (Some o) = (l : LiveChannel) × IsLive x h l × (o.circuit ≡ l.circuit) × (o.sid ≡ l.native.sid) × (o.count ≡ l.native.count)
 LivesOn x h None = (l : LiveChannel) → IsLive x h l → ⊥
@@ -28,7 +29,8 @@ abbrev pub AsksFor : Client → Handle → Option Asked → Type 0
 AsksFor x s (Some o) = (d : Subscription) × StandsAs x s d × (o.channel ≡ d.channel) × (o.data_type ≡ d.data_type) × (o.count ≡ d.count)
 AsksFor x s None = standing_under s x.subscriptions ≡ None
 
--- What is asked for on this channel is refused so while an id is free; or it may be asked for, and a message can say it.
+-- What is asked for on this channel is refused so while an id is free; or it may be asked for, and
+-- a message can say it.
 abbrev pub AsksWide : Client → Handle → Shape → Option Refusal → Type 0
 AsksWide x h a (Some e) = ask_fault x false h a ≡ Some e
 AsksWide x h a None = (ask_fault x false h a ≡ None) × (a.data_type < 65536) × (a.count < 4294967296)
@@ -62,7 +64,8 @@ SendsSome x c =
 abbrev pub NoneWaits : Client → Handle → Type 0
 NoneWaits x c = (e : Connection) → connection_at x c ≡ Some e → NoneBegins e.link.input.bytes
 
--- What the next step on this circuit sends was told: nothing, if no message waits. Or there was no memory to tell what it sends.
+-- What the next step on this circuit sends was told: nothing, if no message waits. Or there was no
+-- memory to tell what it sends.
 abbrev pub TellsNext : Client → Handle → Result (Vec Sending Global) AllocError → Type 0
 TellsNext x c (Ok foretold) = SendsNext x c foretold.items × (NoneWaits x c → foretold.items ≡ [])
 TellsNext x c (Err _) = SendsSome x c × (NoneWaits x c → ⊥)

@@ -27,7 +27,8 @@ abbrev pub completed : Option (Handle × Outcome) → List Notice
 completed None = []
 completed (Some (q, o)) = notice.Completed q o ∷ []
 
--- a reply was read that is about this request, or about none; without memory for its value nothing happens
+-- a reply was read that is about this request, or about none; without memory for its
+-- value nothing happens
 abbrev pub HearsReplyTo : Client → Fields → Option (Handle × Request) → Result (Option (Handle × Outcome)) AllocError → Client → Type 0
 HearsReplyTo old m about (Ok told) new = Answers old m about (doing [] (completed told) new)
 HearsReplyTo old m (Some (q, r)) (Err e) new = (r.stage ≡ request.Open) × HasImage m × (new ≡ old)
@@ -62,7 +63,8 @@ abbrev pub HasEffect : Client → Effect → Result (List Notice) AllocError →
 HasEffect old e (Ok told) new = (told ≡ e.notices) × (new ≡ e.core)
 HasEffect old e (Err _) new = DoesSome old e × (new ≡ old)
 
--- A search reply that came from this address was heard; or there was no memory for it, which changed nothing.
+-- A search reply that came from this address was heard; or there was no memory for it,
+-- which changed nothing.
 abbrev pub FindsOr : Client → Address → Fields → Result (Unit {0}) AllocError → Client → Type 0
 FindsOr old from m (Ok _) new = (e : Effect) × Finds old from m e × (e.notices ≡ []) × (new ≡ e.core)
 FindsOr old from m (Err _) new = (e : Effect) × Finds old from m e × DoesSome old e × (new ≡ old)

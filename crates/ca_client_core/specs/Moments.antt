@@ -1,4 +1,5 @@
--- Working: what a moment does to a client's circuits, each kind of it after the other. No clause of a caller needs it.
+-- Working: what a moment does to a client's circuits, each kind of it after the other. No clause
+-- of a caller needs it.
 use Rattle.std.specs.Prelude.{ℕ, ◌≢◌, ◌≡◌, ◌&&◌, Bool, true, false, not, List, [], Option, filter, fold, if◌then◌else◌}
 use Rattle.ca_arena.specs.declared.handle.Handle.{Handle}
 use Rattle.ca_link.specs.declared.keep.Keep.{Keep}

@@ -1,4 +1,5 @@
--- Working: searches on the circuit of a name server, one after another. No clause of a caller needs it.
+-- Working: searches on the circuit of a name server, one after another. No clause
+-- of a caller needs it.
 use Rattle.std.specs.Prelude.{List, fold, if◌then◌else◌}
 use Rattle.ca_arena.specs.declared.handle.Handle.{Handle}
 use Rattle.ca_search.specs.Searches.{Wanted}

@@ -53,7 +53,7 @@ TakesCompletion old None new = (completions old ≡ []) × (new ≡ old)
 TakesCompletion old (Some c) new =
     (before after : List notice.Notice) × (old ≡ before ++ completed c ∷ after) × (completions before ≡ []) × (new ≡ before ++ after)
 
--- a notice tells of a completion, or it is another
+-- a notice reports a completion, or it is another
 abbrev pub Parts : Notice → Result Completion Notice → Type 0
 Parts n (Ok c) = notice_of n ≡ completed c
 Parts n (Err other) = (other ≡ n) × (completion (notice_of n) ≡ None)

@@ -6,7 +6,8 @@ use Rattle.ca_model.specs.Client.{Channel, Client, On, Phase}
 use Rattle.ca_model.specs.ClientEnds.{is_connecting}
 use Rattle.ca_model.specs.Placed.{was_live}
 
--- The channel is on this circuit, and may come to this phase there: it waits as it did, and if it was live it is still taken for one that was.
+-- The channel is on this circuit, and may come to this phase there: it waits as it did, and if it
+-- was live it is still taken for one that was.
 pub record TurnsIn (h c : Handle) (next : Phase) (t : Table Channel) : Type 0 where
   pub channel : Channel
   pub there : under t h ≡ Some channel

@@ -1,3 +1,4 @@
+//! Which reads and subscriptions a client may send on a channel.
 ghost use Rattle.std.specs.Prelude.{◌≡◌, ◌<◌, IfOk, None, false};
 ghost use Rattle.ca_client_core.specs.Calls.{live_ask_fault};
 ghost use Rattle.ca_client_core.specs.Lives.{MayAsk};
@@ -29,7 +30,8 @@ impl ClientCore {
         self.askable_wide(channel, u64::from(data_type), u64::from(count))
     }
 
-    // The same of a type and a count that may be greater than any that a message carries.
+    // The live channel on which a read or a subscription may go out, of a type and a count that may
+    // be greater than any that a message carries.
     pub(crate) fn askable_wide(
         &self,
         channel: Handle,

@@ -1,3 +1,4 @@
+//! A client begins.
 ghost use Rattle.std.specs.Prelude.{◌<◌};
 ghost use Rattle.ca_model.specs.ClientEnds.{ClientBegins};
 
@@ -11,11 +12,11 @@ use ca_text::{ARENA_SLOTS, PAYLOAD_LIMIT, Refusal};
 use std::alloc::Global;
 
 impl ClientCore {
-    /// One of this user at this host that did nothing yet. Searches go in datagrams to the servers, and on a circuit to each
-    /// name server.
+    /// A client of this user at this host that did nothing yet. Searches go in datagrams to the
+    /// servers, and on a circuit to each name server.
     ///
-    /// Refused as NameLength if the user's or the host's name has no room in a message, as ArenaFull for more name servers than circuits
-    /// may be, then as OutOfMemory.
+    /// Refused as NameLength if the user's or the host's name has no room in a message, as
+    /// ArenaFull for more name servers than circuits may be, then as OutOfMemory.
     pub fn new(
         alloc: Global,
         user: Vec<u8>,

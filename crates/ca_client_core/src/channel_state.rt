@@ -1,3 +1,4 @@
+//! How far a channel is, as callers see it.
 ghost use Rattle.std.specs.Prelude.{◌≡◌};
 ghost use Rattle.ca_client_tables.specs.Forms.{standing_of};
 ghost use Rattle.ca_client_core.specs.Forms.{stated};
@@ -18,7 +19,8 @@ pub enum ChannelState {
     Connecting,
     /// It is being created.
     Creating,
-    /// It is live: its native type, its greatest count, and its access rights, the bits 1 to read and 2 to write.
+    /// It is live: its native type, its greatest count, and its access rights, the bits 1 to
+    /// read and 2 to write.
     Live(u16, u32, u32),
     /// Its record was removed.
     Leaving,

@@ -34,7 +34,7 @@ impl ClientCore {
         }
     }
 
-    // The ids of a channel whose clear is answered drain no more.
+    // The ids of a channel whose clear is answered no longer drain.
     fn end_draining(&mut self, circuit: Handle, channel: Handle)
         ensures { self.new ≡ without_drained circuit channel self.old }
     {

@@ -1,3 +1,4 @@
+//! A channel is cleared by its caller.
 ghost use Rattle.std.specs.Prelude.{◌≡◌, ◌<◌, List, Some, is_none, true};
 ghost use Rattle.ca_requests.specs.Requests.{asks_on};
 ghost use Rattle.ca_model.specs.Answers.{Sending};
@@ -17,10 +18,11 @@ use ca_text::Refusal;
 use ca_wire::{Cid, Sid, clear_request};
 
 impl ClientCore {
-    /// Clears a channel: its handle names nothing from now on, and each of its open requests is complete with Disconnected, in
-    /// order of issue.
+    /// Clears a channel: its handle names nothing from now on, and each of its open requests is
+    /// complete with Disconnected, in order of issue.
     ///
-    /// Refused as StaleHandle if the handle is stale, then as OutOfMemory, only for the CLEAR_CHANNEL of a live channel.
+    /// Refused as StaleHandle if the handle is stale, then as OutOfMemory, only for the
+    /// CLEAR_CHANNEL of a live channel.
     pub fn clear(&mut self, channel: Handle) -> Result<Notices, Refusal>
         ensures { (sent : List Sending)
             × ClientClears self.old channel result sent self.new }
@@ -59,7 +61,7 @@ impl ClientCore {
         self.monitors.free_channel(channel);
     }
 
-    // Of a channel that was not live nothing is on the way.
+    // Nothing is on the way for a channel that was not live.
     fn let_channel_go(&mut self, channel: Handle)
         requires { IsBare channel self.old }
         ensures { self.new ≡ without_channel (unsubscribed_all channel self.old) channel }
@@ -68,7 +70,7 @@ impl ClientCore {
         self.remove_channel(channel);
     }
 
-    // A channel that is being created is cleared once that is done.
+    // A channel that is being created is cleared once it is created.
     fn doom(&mut self, circuit: Handle, channel: Handle)
         requires { MayTurn channel circuit client.Doomed self.old }
         ensures { self.new
@@ -91,7 +93,8 @@ impl ClientCore {
         }
     }
 
-    // The requests and subscriptions of a channel that was live are over, and it waits for the answer to its clear.
+    // The requests and subscriptions of a channel that was live are over, and it waits for the
+    // answer to its clear.
     fn end_all(&mut self, circuit: Handle, channel: Handle) -> Notices
         requires { WasLiveOn channel circuit self.old }
         ensures told { result ≡ disconnections (asks_on channel) self.old }
@@ -108,7 +111,7 @@ impl ClientCore {
         Notices::of(told, Vec::new(self.alloc), None)
     }
 
-    // A circuit that is not connected, and on which no channel is any more, is let go.
+    // A circuit that is not connected, and that no channel wants any more, is dropped.
     fn let_unwanted_go(&mut self, circuit: Handle)
         requires { is_none (connection_at self.old circuit) ≡ true }
         ensures { self.new ≡ unwanted circuit self.old }

@@ -1,3 +1,4 @@
+//! The state of a client.
 use crate::searches::Searches;
 use ca_arena::Handle;
 use ca_beacon::BeaconTable;
@@ -10,8 +11,8 @@ use std::marker::Model;
 
 /// A client: its channels, requests and subscriptions, and its end of each circuit.
 ///
-/// Moments are milliseconds; an earlier one than the last that was given counts as that. A call that is refused leaves it as
-/// it was.
+/// Moments are milliseconds; one earlier than the last counts as the last. A call that is refused
+/// leaves it as it was.
 #[derive(Drop)]
 pub struct ClientCore {
     pub(crate) alloc: Global,
@@ -26,9 +27,11 @@ pub struct ClientCore {
     pub(crate) circuits: HeldTable<Circuit>,
     /// The channels that are live on each circuit, by its index.
     pub(crate) lives: Vec<LiveChannels>,
-    /// The circuits of name servers, in the order of their list, then the others, in the order in which they came to be wanted.
+    /// The circuits of name servers, in the order of their list, then the others, in the order in
+    /// which they came to be wanted.
     pub(crate) order: Vec<Handle>,
-    /// The channels that are searched for, or were found, by CID, in the order in which they were opened.
+    /// The channels that are searched for, or were found, by CID, in the order in
+    /// which they were opened.
     pub(crate) searches: Searches,
     pub(crate) beacons: BeaconTable,
 }

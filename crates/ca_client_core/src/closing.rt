@@ -1,3 +1,4 @@
+//! What the end of a circuit leaves to its caller.
 use crate::notices::Notices;
 use ca_client_tables::Why;
 use ca_wire::Pipe;
@@ -8,7 +9,8 @@ use std::marker::Model;
 pub struct Closing {
     /// Why.
     pub why: Why,
-    /// Its open requests complete with Disconnected, in order of issue, and then its live channels are lost, in order of index.
+    /// Its open requests complete with Disconnected, in order of issue, and then its live channels
+    /// are lost, in order of index.
     pub notices: Notices,
     /// The bytes that waited to be sent.
     pub left: Pipe,

@@ -20,8 +20,8 @@ impl ClientCore {
         }
     }
 
-    // The end of a circuit begins: its set-up waits, and then the CREATE_CHANs of the channels that waited for it. Without memory nothing
-    // changes.
+    // The end of a circuit begins: its set-up waits, and then the CREATE_CHANs of the channels that
+    // waited for it. Without memory nothing changes.
     pub(crate) fn begin(&mut self, circuit: Handle, priority: u16) -> Result<(), AllocError>
         requires wanted { option_map (λ d. d.priority) (unconnected self.old circuit)
             ≡ Some priority }

@@ -20,8 +20,8 @@ use ca_wire::{Cid, Ioid, Message, Sid, Wanted, clear_request, event_add_request}
 use std::alloc::AllocError;
 
 impl ClientCore {
-    // CREATE_CHAN: the channel is live, and is subscribed to again under the same ids; one that its caller cleared meanwhile is
-    // cleared now.
+    // CREATE_CHAN: the channel is live, and is subscribed to again under the same ids; one that its
+    // caller cleared meanwhile is cleared now.
     pub(crate) fn hear_create_channel(
         &mut self,
         circuit: Handle,
@@ -94,7 +94,8 @@ impl ClientCore {
         Ok(Notices::none(self.alloc))
     }
 
-    // The EVENT_ADDs of a channel's subscriptions wait, in order of index. Without memory none does.
+    // The EVENT_ADDs of a channel's subscriptions wait, in order of index.
+    // Without memory none does.
     fn subscribe_again(
         &mut self,
         circuit: Handle,

@@ -1,3 +1,4 @@
+//! A circuit is cut, or ended by its caller.
 ghost use Rattle.std.specs.Prelude.{List};
 ghost use Rattle.ca_model.specs.Answers.{Sending};
 ghost use Rattle.ca_model.specs.ClientEnds.{ClientCloses, ClientCuts};

@@ -45,7 +45,7 @@ impl ClientCore {
                 self.hear_clear_channel(circuit, message);
                 Ok(Notices::none(self.alloc))
             }
-            // VERSION, and what no server sends.
+            // VERSION needs no answer, and no server sends the others.
             _ => Ok(Notices::none(self.alloc)),
         }
     }

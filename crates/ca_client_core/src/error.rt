@@ -15,7 +15,7 @@ use ca_text::Command;
 use ca_wire::{Header, Message};
 
 impl ClientCore {
-    // The request failed whose header it quotes. One that quotes none is skipped.
+    // The request whose header it quotes has failed. An ERROR that quotes none is skipped.
     pub(crate) fn hear_error(&mut self, circuit: Handle, message: &Message) -> Option<Notice>
         ensures { Fails self.old circuit message.now (doing [] (noticed result) self.new) }
     {

@@ -39,7 +39,7 @@ impl ClientCore {
         Ok(Notices::one(alloc, updated(told)))
     }
 
-    // One without payload confirms a cancel.
+    // An EVENT_ADD without payload confirms a cancel.
     fn hear_confirmation(&mut self, circuit: Handle, message: &Message)
         ensures { becomes self.new
             ≡ confirmed
@@ -49,7 +49,7 @@ impl ClientCore {
         let _ = self.monitors.confirmed(circuit, message.p2());
     }
 
-    // One with a payload is an update: of which subscription, and what it means.
+    // An EVENT_ADD with a payload is an update: of which subscription, and what it means.
     fn hear_update(
         &self,
         circuit: Handle,
@@ -72,7 +72,7 @@ impl ClientCore {
         Ok(Some((subscription, outcome)))
     }
 
-    // The subscription of this id, if it stands and its channel is live on this circuit.
+    // The subscription of this id, if it is not over and its channel is live on this circuit.
     pub(crate) fn heard_by(&self, circuit: Handle, id: u32) -> Option<Handle>
         ensures { result ≡ heard_by self.now circuit id }
     {

@@ -19,7 +19,7 @@ impl ClientCore {
         found.take_first(self.alloc)
     }
 
-    // A message of a circuit that was handled gives its memory to the next one.
+    // The memory of a handled message is kept for the next one.
     #[inline(always)]
     pub(crate) fn recycle(&mut self, circuit: Handle, message: Message)
         ensures { self.new ≡ self.old }

@@ -1,4 +1,4 @@
-//! What whoever records histories asks of a client before a circuit is connected. No client needs these calls.
+//! Calls for a recorder of histories before a circuit is connected. No client needs them.
 ghost use Rattle.std.specs.Prelude.{◌≡◌, ◌≢◌, ◌<◌, ◌≤◌, ◌++◌, [], IfOk, OnErr, OnOk, length, map};
 ghost use Rattle.ca_text.specs.Limits.{priority_limit};
 ghost use Rattle.ca_arena.specs.Arena.{place_at};
@@ -38,8 +38,9 @@ pub fn wanted_at(core: &ClientCore, place: usize) -> Option<WantedCircuit>
     }
 }
 
-/// What the client sends once this circuit is connected: its set-up, and then the CREATE_CHAN of each channel that waits for it, in
-/// order of index. Nothing, if it is not wanted or is connected. Only a message takes memory.
+/// What the client sends once this circuit is connected: its set-up, and then the CREATE_CHAN of
+/// each channel that waits for it, in order of index. Nothing, if it is not wanted or is connected.
+/// Only a message takes memory.
 pub fn sent_when_connected(core: &ClientCore, circuit: Handle) -> Result<Vec<Sending>, AllocError>
     ensures ok { IfOk result (λ sent.
         map sending_of sent.items ≡ connecting_sent core.now circuit) }
@@ -57,7 +58,8 @@ pub fn sent_when_connected(core: &ClientCore, circuit: Handle) -> Result<Vec<Sen
     Ok(sent)
 }
 
-// Puts VERSION, CLIENT_NAME and HOST_NAME of a circuit behind what is sent. A name that has no room in a message counts as out of memory.
+// Puts VERSION, CLIENT_NAME and HOST_NAME of a circuit after what is sent. A name that has no room
+// in a message counts as out of memory.
 fn list_set_up(
     alloc: Global,
     priority: u16,
@@ -96,7 +98,8 @@ fn of_circuit(circuit: Handle, message: Message) -> Sending
     }
 }
 
-// Puts the CREATE_CHAN of each channel that waits for this circuit behind what is sent, in order of index.
+// Puts the CREATE_CHAN of each channel that waits for this circuit after what is
+// sent, in order of index.
 fn list_creations(
     alloc: Global,
     channels: &Channels,
@@ -112,7 +115,7 @@ fn list_creations(
     Ok(())
 }
 
-// Puts that of the channel at this index behind it, if it waits for this circuit.
+// Puts that of the channel at this index after it, if it waits for this circuit.
 fn list_creation(
     alloc: Global,
     channels: &Channels,

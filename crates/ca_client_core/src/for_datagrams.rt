@@ -1,4 +1,4 @@
-//! A datagram is taken, and what it makes a client send is told, for whoever records histories. No client needs these calls.
+//! What a datagram makes a client send, for a recorder of histories. No client needs these calls.
 ghost use Rattle.std.specs.Prelude.{◌≡◌, ◌+◌, ◌≤◌, ◌++◌, length, map, vec_capacity, vec_len};
 ghost use Rattle.ca_client_tables.specs.Noting.{as_sent};
 ghost use Rattle.ca_client_core.specs.ForDatagrams.{NotesDatagram};
@@ -11,8 +11,9 @@ use ca_client_tables::{Address, Creation, Noted, receive_all_noting};
 use ca_dgram::Datagram;
 use std::alloc::AllocError;
 
-/// Takes a datagram that came from this address, as `datagram` does: what it made the client send, in order, and no more than one message
-/// for each 16 of its bytes. Only a message in it takes memory. Without memory nothing changes.
+/// Takes a datagram that came from this address, as `datagram` does: what it made the client send,
+/// in order, and no more than one message for each 16 of its bytes. Only a message in it takes
+/// memory. Without memory nothing changes.
 pub fn take_datagram(
     core: &mut ClientCore,
     now: u64,
@@ -73,7 +74,7 @@ impl ClientCore {
     }
 }
 
-// Puts these CREATE_CHANs behind what is sent. There is room for them.
+// Puts these CREATE_CHANs after what is sent. There is room for them.
 fn push_creations(sent: &mut Vec<Sending>, creations: Vec<Creation>)
     requires { vec_len sent.old + length creations.items ≤ vec_capacity sent.old }
     ensures { map sending_of sent.new.items

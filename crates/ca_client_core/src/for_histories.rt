@@ -1,4 +1,4 @@
-//! What whoever records histories asks of a client. No client needs these calls.
+//! Calls for a recorder of histories. No client needs them.
 ghost use Rattle.std.specs.Prelude.{◌≡◌};
 ghost use Rattle.ca_client_core.specs.ForHistories.{AsksFor, AsksWide, LivesOn, TellsNext, flow_at};
 
@@ -21,7 +21,8 @@ pub enum Aim {
     Subscribe(Handle, Handle),
 }
 
-/// A message that a client is about to send without being called for it, on which circuit, and what it is for.
+/// A message that a client is about to send without being called for it, on which
+/// circuit, and what it is for.
 #[derive(Debug, Drop)]
 pub struct Sending {
     pub circuit: Handle,
@@ -29,7 +30,7 @@ pub struct Sending {
     pub aim: Aim,
 }
 
-/// Where a channel is live: on this circuit, under this SID, with so many elements at most.
+/// Where a channel is live: on this circuit, under this SID, with n elements at most.
 #[derive(Clone, Copy, Debug, PartialEq, Eq)]
 pub struct LiveOn {
     pub circuit: Handle,
@@ -51,8 +52,8 @@ pub fn live_on(core: &ClientCore, channel: Handle) -> Option<LiveOn>
     }
 }
 
-/// Why a read or a subscription of so many elements of this type is refused while an id is free for it. Both may be greater than any that a
-/// message carries.
+/// Why a read or a subscription of n elements of this type is refused while an id is free for it.
+/// Both may be greater than any that a message carries.
 pub fn ask_refusal(
     core: &ClientCore,
     channel: Handle,
@@ -71,7 +72,7 @@ pub fn ask_refusal(
     }
 }
 
-/// What a subscription asks for: on this channel, as this type, with so many elements.
+/// What a subscription asks for: on this channel, as this type, with n elements.
 #[derive(Clone, Copy, Debug, PartialEq, Eq)]
 pub struct Asked {
     pub channel: Handle,
@@ -79,7 +80,7 @@ pub struct Asked {
     pub count: u32,
 }
 
-/// What this subscription asks for, if it stands.
+/// What this subscription asks for, if it is not over.
 pub fn subscribed(core: &ClientCore, subscription: Handle) -> Option<Asked>
     ensures { AsksFor core.now subscription result }
 {
@@ -103,8 +104,8 @@ pub fn flow_of(core: &ClientCore, circuit: Handle, more: bool) -> Option<Command
     }
 }
 
-/// What the next message of a circuit will make the client send, as it is now, if a step reads one; nothing, if no complete message waits
-/// to be read. Only a message to send takes memory.
+/// What the next message of a circuit will make the client send, as it is now, if a step reads one;
+/// nothing, if no complete message waits to be read. Only a message to send takes memory.
 pub fn sent_by_step(core: &ClientCore, circuit: Handle) -> Result<Vec<Sending>, AllocError>
     ensures { TellsNext core.now circuit result }
 {

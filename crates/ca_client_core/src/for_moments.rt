@@ -1,4 +1,4 @@
-//! What a moment will make a client send, for whoever records histories. No client needs these calls.
+//! What a moment will make a client send, for a recorder of histories. No client needs these calls.
 ghost use Rattle.std.specs.Prelude.{◌≡◌, ◌≢◌, [], true, Err, IfOk, List, OnErr, OnOk};
 ghost use Rattle.ca_text.specs.declared.refusal.Refusal.TheVariants.{OutOfMemory};
 ghost use Rattle.ca_wire.specs.Fields.{Fields};
@@ -29,7 +29,7 @@ pub struct Foretold {
 
 /// What this moment will make a client send. Nothing changes.
 ///
-/// Refused only where the tick itself may be.
+/// Refused only if the tick itself may be.
 pub fn foretell(core: &mut ClientCore, now: u64) -> Result<Foretold, AllocError>
     ensures same { core.new ≡ core.old }
     ensures ok { IfOk result (Foretells core.old now) }
@@ -137,7 +137,7 @@ impl ClientCore {
         Ok(())
     }
 
-    // The same on one circuit, if it is one for them.
+    // These searches go out on this circuit, if it is one for them, and are noted.
     fn note_searched(
         &mut self,
         circuit: Handle,

@@ -17,7 +17,8 @@ use ca_wire::{Cid, Ioid, Message, Sid, Wanted, clear_request, event_add_request}
 use std::alloc::{AllocError, Global};
 
 impl ClientCore {
-    // What the next message of a circuit makes the client send, if one waits. Only a message to send takes memory.
+    // What the next message of a circuit makes the client send, if one waits. Only a message
+    // to send takes memory.
     pub(crate) fn sent_by_next(&self, circuit: Handle) -> Result<Vec<Sending>, AllocError>
         ensures { TellsNext self.now circuit result }
     {
@@ -30,7 +31,8 @@ impl ClientCore {
         self.sent_by(circuit, found.address, &head)
     }
 
-    // What this message makes the client send, on a circuit to this address. Its payload plays no part.
+    // What this message makes the client send, on a circuit to this address. Its
+    // payload plays no part.
     fn sent_by(
         &self,
         circuit: Handle,
@@ -80,7 +82,8 @@ impl ClientCore {
         )
     }
 
-    // CREATE_CHAN: a channel that is live is subscribed to again; one that its caller cleared meanwhile is cleared now.
+    // CREATE_CHAN: a channel that is live is subscribed to again; one that its caller cleared
+    // meanwhile is cleared now.
     fn sent_by_created(&self, circuit: Handle, reply: &Message) -> Result<Vec<Sending>, AllocError>
         ensures ok { IfOk result (λ sent. map sending_of sent.items
             ≡ (created

@@ -1,3 +1,4 @@
+//! Bytes that came on a circuit are taken.
 ghost use Rattle.std.specs.Prelude.{List};
 ghost use Rattle.ca_model.specs.Answers.{Sending};
 ghost use Rattle.ca_model.specs.ClientEnds.{ClientGives};
@@ -7,10 +8,11 @@ use ca_arena::Handle;
 use ca_text::Refusal;
 
 impl ClientCore {
-    /// Takes bytes that were read on a circuit, and whether the read left more waiting: after several reads in a row that did,
-    /// the client asks for a pause of updates.
+    /// Takes bytes that were read on a circuit, and whether the read left more waiting: after
+    /// several such reads in a row, the client asks for a pause of updates.
     ///
-    /// Refused as CircuitClosed if the circuit is not connected, then as OutOfMemory, only if there are bytes or a message to send.
+    /// Refused as CircuitClosed if the circuit is not connected, then as OutOfMemory, only if there
+    /// are bytes or a message to send.
     pub fn give(&mut self, circuit: Handle, bytes: &[u8], more: bool) -> Result<(), Refusal>
         ensures { (sent : List Sending)
             × ClientGives self.old circuit bytes.now more result sent self.new }

@@ -1,3 +1,4 @@
+//! A request goes out: its handle, its message, and how both are taken back without memory.
 ghost use Rattle.std.specs.Prelude.{◌≡◌};
 ghost use Rattle.ca_requests.specs.Forms.{asked_of};
 ghost use Rattle.ca_client_core.specs.Asks.{Asks, IssuesOr};
@@ -11,7 +12,8 @@ use ca_wire::Message;
 use std::alloc::AllocError;
 
 impl ClientCore {
-    // Issues a request on this channel under the handle that is given next, and queues its message. Without memory nothing changes.
+    // Issues a request on this channel under the handle that is given next, and queues its message.
+    // Without memory nothing changes.
     pub(crate) fn ask(
         &mut self,
         vacant: Handle,
@@ -36,7 +38,8 @@ impl ClientCore {
         self.issue_or_cut(waiting, vacant, channel, circuit, asked)
     }
 
-    // Issues a request whose message was queued after this many bytes; without memory the message is taken back.
+    // Issues a request whose message was queued after this many bytes; without memory the
+    // message is taken back.
     #[inline(always)]
     pub(crate) fn issue_or_cut(
         &mut self,

@@ -12,7 +12,8 @@ use ca_client_tables::{Why, let_go, list_live, take_live};
 use ca_wire::Pipe;
 
 impl ClientCore {
-    // The end of this circuit has ended for this cause: its notices, and the bytes that waited. It does not allocate.
+    // The end of this circuit has ended for this cause: its notices, and the bytes that waited.
+    // It does not allocate.
     pub(crate) fn end(&mut self, circuit: Handle, why: Why) -> Closing
         ensures told { result ≡ closing (why_is why) circuit self.old }
         ensures ended { self.new ≡ ended circuit self.old }

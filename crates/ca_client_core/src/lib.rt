@@ -1,6 +1,8 @@
-//! The client's end of Channel Access: channels, requests and subscriptions over many circuits, with no input and no output of its own.
+//! The client's end of Channel Access: channels, requests and subscriptions over many circuits,
+//! with no input and no output of its own.
 //!
-//! A caller moves the bytes, and hands in the moment. What is reported comes as answers of the calls.
+//! A caller moves the bytes, and hands in the moment. What is reported comes as
+//! answers of the calls.
 #![tactic(auto)]
 
 mod access_rights;

@@ -1,3 +1,4 @@
+//! Live channels, and what is known of one.
 ghost use Rattle.std.specs.Prelude.{◌≡◌};
 ghost use Rattle.ca_model.specs.Client.{standing_at};
 ghost use Rattle.ca_client_core.specs.Calls.{live_in};

@@ -16,8 +16,8 @@ use ca_wire::{Cid, Message, search_request};
 use std::alloc::{AllocError, Global};
 
 impl ClientCore {
-    // These searches wait on the circuits of name servers that are connected and were not silent too long, on each after a mark. Without
-    // memory the first of them may.
+    // These searches wait on the circuits of name servers that are connected and were not silent
+    // too long, on each after a mark. Without memory the first of them may.
     pub(crate) fn search_names(
         &mut self,
         searches: &[Search],
@@ -37,7 +37,7 @@ impl ClientCore {
         Ok(())
     }
 
-    // The same on one circuit.
+    // These searches wait on this circuit, after a mark, if it is one for them.
     fn search_name(
         &mut self,
         circuit: Handle,
@@ -63,7 +63,7 @@ impl ClientCore {
         self.is_name_connected(circuit) && !self.is_silent(circuit)
     }
 
-    // Whether it is that of a name server, and connected.
+    // Whether a circuit is that of a name server, and connected.
     fn is_name_connected(&self, circuit: Handle) -> bool
         ensures { result ≡ is_name_connected self.now circuit }
     {
@@ -73,7 +73,8 @@ impl ClientCore {
         }
     }
 
-    // These searches wait on a circuit, in order, as long as not too much waits there. Without memory the first of them may.
+    // These searches wait on a circuit, in order, until too much waits there. Without memory
+    // the first of them may.
     fn search_all_on(&mut self, circuit: Handle, searches: &[Search]) -> Result<(), AllocError>
         ensures ok { OnOk result (self.new ≡ searched_all circuit searches.now self.old) }
         ensures kept { (ms : List Fields) × (self.new ≡ with_messages circuit ms self.old) }

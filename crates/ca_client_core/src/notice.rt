@@ -1,3 +1,4 @@
+//! The notices of a client.
 use ca_arena::Handle;
 use ca_dbr::Outcome;
 use ca_text::Status;

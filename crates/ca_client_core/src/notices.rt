@@ -1,3 +1,4 @@
+//! The notices of one call, in order, without a list when there is one alone.
 ghost use Rattle.std.specs.Prelude.{◌≡◌, [], None, Some};
 ghost use Rattle.ca_client_core.specs.Notices.{Parts, TakesCompletion, TakesNotice, told_by};
 ghost use Rattle.ca_model.specs.Answers as notice;
@@ -8,9 +9,10 @@ use ca_dbr::Outcome;
 use std::alloc::Global;
 use std::marker::Model;
 
-/// What a call reports, in order: first the requests that are complete without an answer, then the channels that were lost, then anything else.
+/// What a call reports, in order: first the requests that are complete without an answer, then the
+/// channels that were lost, then anything else.
 ///
-/// To make it does not allocate, since its handles were listed before.
+/// It is made without allocation, since its handles were listed before.
 #[derive(Debug, Drop)]
 pub struct Notices {
     disconnected: Vec<Handle>,
@@ -34,14 +36,14 @@ impl Model for Notices {
 }
 
 impl Notices {
-    /// None.
+    /// No notices.
     pub(crate) fn none(alloc: Global) -> Notices
         ensures { result ≡ [] }
     {
         Notices::of(Vec::new(alloc), Vec::new(alloc), None)
     }
 
-    /// This one, if there is one.
+    /// This notice, if there is one.
     pub(crate) fn one(alloc: Global, last: Option<Notice>) -> Notices
         ensures { result ≡ told_by [] [] last }
     {
@@ -61,7 +63,7 @@ impl Notices {
         }
     }
 
-    /// Takes the first.
+    /// Takes the first notice.
     pub fn next(&mut self) -> Option<Notice>
         ensures { TakesNotice self.old result self.new }
     {

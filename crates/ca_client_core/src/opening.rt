@@ -1,3 +1,4 @@
+//! A channel is opened.
 ghost use Rattle.std.specs.Prelude.{[]};
 ghost use Rattle.ca_model.specs.ClientCalls.{ClientOpens};
 
@@ -9,9 +10,11 @@ use ca_search::Place;
 use ca_text::{ChannelName, PRIORITY_LIMIT, Refusal};
 
 impl ClientCore {
-    /// Opens a channel of this name, which is searched for from now on; its circuit is to have this priority.
+    /// Opens a channel of this name, which is searched for from now on; its circuit is
+    /// to have this priority.
     ///
-    /// Refused as NameLength if this is no name, as BadPriority for a priority over 99, as ArenaFull if no CID may be given, then as OutOfMemory.
+    /// Refused as NameLength if this is no name, as BadPriority for a priority over 99, as
+    /// ArenaFull if no CID may be given, then as OutOfMemory.
     pub fn open(&mut self, name: &[u8], priority: u16, now: u64) -> Result<Handle, Refusal>
         ensures { ClientOpens
             self.old

@@ -1,3 +1,4 @@
+//! Bytes that wait to be sent on a circuit.
 ghost use Rattle.std.specs.Prelude.{◌≡◌, ◌≤◌, length};
 ghost use Rattle.ca_model.specs.Client as client;
 ghost use Rattle.ca_model.specs.ClientEnds.{handed_over};

@@ -1,3 +1,4 @@
+//! What calls share: handles are looked up, and messages are queued.
 ghost use Rattle.std.specs.Prelude.{◌≡◌, ◌∷◌, [], OnErr, OnOk, option_map};
 ghost use Rattle.ca_link.specs.Link.{with_sent};
 ghost use Rattle.ca_model.specs.Client.{on_connection, standing_at};
@@ -13,7 +14,8 @@ use ca_wire::Message;
 use std::alloc::AllocError;
 
 impl ClientCore {
-    // Its requests and subscriptions are where its channels are, and these on circuits that are connected or wanted.
+    // Its requests and subscriptions are where its channels are, and these on circuits that are
+    // connected or wanted.
     pub(crate) fn know(&self)
         ensures { IsPlaced self.now }
     {

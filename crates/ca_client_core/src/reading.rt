@@ -1,3 +1,4 @@
+//! A read of a channel is asked for.
 ghost use Rattle.std.specs.Prelude.{◌≡◌, List};
 ghost use Rattle.ca_model.specs.Answers.{Sending};
 ghost use Rattle.ca_model.specs.ClientCalls.{ClientReads};
@@ -11,12 +12,12 @@ use ca_text::Refusal;
 use ca_wire::{Ioid, Sid, Wanted, read_request};
 
 impl ClientCore {
-    /// Asks for the value of a channel, as this type from 0 to 20 and with this many elements; a count of 0 asks for those that
-    /// there are.
+    /// Asks for the value of a channel, as this type from 0 to 20 and with this many elements; a
+    /// count of 0 asks for those that there are.
     ///
-    /// Refused as StaleHandle, as NotLive, as BadType for a type over 20, as NoAccess without the right to read, as BadCount for
-    /// more elements than the channel has, as OutputFull if too much waits, as ArenaFull if no IOID may be given, then as
-    /// OutOfMemory.
+    /// Refused as StaleHandle, as NotLive, as BadType for a type over 20, as NoAccess without the
+    /// right to read, as BadCount for more elements than the channel has, as OutputFull if too much
+    /// waits, as ArenaFull if no IOID may be given, then as OutOfMemory.
     pub fn read(&mut self, channel: Handle, data_type: u16, count: u32) -> Result<Handle, Refusal>
         ensures { (sent : List Sending)
             × ClientReads
@@ -45,7 +46,8 @@ impl ClientCore {
         }
     }
 
-    /// A value that is used no more gives its memory to the value of a read. Without memory to keep it, or with many kept, it is dropped.
+    /// The memory of this value is kept for the value of a later read. Without memory to keep it,
+    /// or with many kept, it is dropped.
     pub fn recycle_value(&mut self, value: Value)
         ensures { self.new ≡ self.old }
     {

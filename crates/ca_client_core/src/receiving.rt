@@ -10,7 +10,8 @@ use ca_dgram::Datagram;
 use ca_text::Refusal;
 
 impl ClientCore {
-    /// Takes a datagram that came from this address: search replies and beacons, one after another, as far as it is good.
+    /// Takes a datagram that came from this address: search replies and beacons, one after another,
+    /// as far as it is good.
     ///
     /// Refused as OutOfMemory, only if there is a message in it.
     pub fn datagram(&mut self, now: u64, from: Address, bytes: &[u8]) -> Result<(), Refusal>

@@ -34,8 +34,8 @@ impl ClientCore {
         Ok(Notices::none(self.alloc))
     }
 
-    // It came from this address: a channel that is searched for was found, and is put on the circuit to its
-    // server. That is wanted from now on if there is none.
+    // It came from this address: a channel that is searched for was found, and is put on the
+    // circuit to its server. A circuit to it is wanted from now on if there is none.
     fn hear_found(&mut self, from: Address, message: &Message) -> Result<(), AllocError>
         ensures { FindsOr self.old from message.now result self.new }
     {

@@ -1,4 +1,5 @@
-//! The searches of a client, and a moment before which none is due, so that a moment with nothing due looks at none of them.
+//! The searches of a client, and a moment before which none is due, so that a moment with nothing
+//! due looks at none of them.
 ghost use Rattle.std.specs.Prelude.{[], ◌≡◌, ◌≢◌, ◌≤◌, ◌++◌, ◌∷◌, ◌+◌, ◌<◌, IfOk, List, OnErr, OnOk, false, length, take, ℕ};
 ghost use Rattle.std.specs.List.{list_any};
 ghost use Rattle.ca_ids.specs.Wire.{wire_of};
@@ -18,13 +19,15 @@ use indexmap::IndexMap;
 use std::alloc::{AllocError, Global};
 use std::marker::Model;
 
-// The longest wait between two searches for a channel, in milliseconds: a later moment is not looked for.
+// The longest wait between two searches for a channel, in milliseconds: a later
+// moment is not looked for.
 const LONGEST_WAIT: u64 = 300_000;
 
-// So many halvings find one moment among so many.
+// This many halvings find one moment among all.
 const HALVINGS: usize = 20;
 
-/// The channels that are searched for, or were found, by CID, in the order in which they were opened.
+/// The channels that are searched for, or were found, by CID, in the order in
+/// which they were opened.
 #[derive(Drop)]
 pub(crate) struct Searches {
     places: IndexMap<u32, Place>,
@@ -46,7 +49,7 @@ impl Model for Searches {
 }
 
 impl Searches {
-    // None. It takes no memory.
+    // No searches. It does not allocate.
     pub(crate) fn new(alloc: Global) -> Searches
         ensures { result.entries ≡ [] }
     {
@@ -108,7 +111,8 @@ pub(crate) fn resume(searches: &mut Searches, cid: u32, moment: u64)
     ca_client_tables::resume(&mut searches.places, cid, moment);
 }
 
-/// The searches follow what was received: those for channels that were found are paused, and after an anomaly all others begin again.
+/// The searches follow what was received: those for channels that were found are paused, and after
+/// an anomaly all others begin again.
 pub(crate) fn settle(searches: &mut Searches, moment: u64, done: &[Received])
     ensures { searches.new.entries ≡ all_settled_in moment done.now searches.old.entries }
 {
@@ -145,7 +149,8 @@ fn is_anomaly(received: &Received) -> bool
     }
 }
 
-/// The channels of a circuit that has ended: those that were cleared are gone, the others are searched for again.
+/// The channels of a circuit that has ended: those that were cleared are gone, the others
+/// are searched for again.
 pub(crate) fn end_channels(
     channels: &mut Channels,
     searches: &mut Searches,
@@ -179,7 +184,8 @@ pub(crate) fn due_in(
     ca_search::due_in(alloc, &searches.places, now)
 }
 
-/// The searches that are due once these circuits have ended, in order. It takes memory only if there is one.
+/// The searches that are due once these circuits have ended, in order. It takes memory
+/// only if there is one.
 pub(crate) fn find_after(
     alloc: Global,
     channels: &Channels,
@@ -221,7 +227,8 @@ fn quiet_of(places: &IndexMap<u32, Place>, now: u64) -> u64
     quiet
 }
 
-// A moment before which no search up to this place is due, where before this limit none before the place is.
+// A moment before which no search up to this place is due, where before this limit none
+// before the place is.
 fn quiet_with(places: &IndexMap<u32, Place>, index: usize, now: u64, limit: u64) -> u64
     requires within { index < length places.now.entries }
     requires before { AreQuiet limit (take index places.now.entries) }
@@ -251,7 +258,8 @@ fn quiet_at(place: &Place, now: u64, limit: u64) -> u64
     quiet_between(place, now, high)
 }
 
-// The last moment between these before which no search for this channel is due, as far as it is looked for.
+// The last moment between these before which no search for this channel is due, as far
+// as it is looked for.
 fn quiet_between(place: &Place, low: u64, high: u64) -> u64
     requires between { low ≤ high }
     requires quiet { IsQuiet low place.now }
@@ -265,7 +273,7 @@ fn quiet_between(place: &Place, low: u64, high: u64) -> u64
     range.0
 }
 
-// The half of these moments in which the last one is.
+// The half of these moments that has the last one.
 fn halved(place: &Place, low: u64, high: u64) -> (u64, u64)
     requires between { low ≤ high }
     requires quiet { IsQuiet low place.now }

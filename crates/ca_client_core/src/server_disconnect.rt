@@ -16,7 +16,8 @@ use ca_wire::{Cid, Message, Sid, clear_request};
 use std::alloc::AllocError;
 
 impl ClientCore {
-    // SERVER_DISCONN: a live channel's requests complete with Disconnected, in order of issue; it is lost, and cleared.
+    // SERVER_DISCONN: a live channel's requests complete with Disconnected, in order of issue; it
+    // is lost, and cleared.
     pub(crate) fn hear_server_disconnect(
         &mut self,
         circuit: Handle,

@@ -99,7 +99,8 @@ impl ClientCore {
         Ok(())
     }
 
-    // An ECHO waits on a circuit whose silence asks for it, and for no other until bytes come. Without memory nothing changes.
+    // An ECHO waits on a circuit whose silence asks for it, and for no other until bytes come.
+    // Without memory nothing changes.
     fn echo(&mut self, circuit: Handle) -> Result<(), AllocError>
         ensures ok { OnOk result (self.new ≡ echoed circuit self.old) }
         ensures err { OnErr result (self.new ≡ self.old) }
@@ -112,7 +113,7 @@ impl ClientCore {
     }
 }
 
-// Whether an ECHO is asked for.
+// Whether it asks for an ECHO.
 fn is_echo(keep: Keep) -> bool
     ensures { result ≡ is_echo keep }
 {
@@ -123,7 +124,7 @@ fn is_echo(keep: Keep) -> bool
     }
 }
 
-// Whether the end is asked for.
+// Whether it asks for the end of the circuit.
 fn is_close(keep: Keep) -> bool
     ensures { result ≡ is_close keep }
 {

@@ -1,3 +1,4 @@
+//! A step of a circuit: its next message is read.
 ghost use Rattle.std.specs.Prelude.{◌≡◌, List, true};
 ghost use Rattle.ca_model.specs.Answers.{Sending};
 ghost use Rattle.ca_model.specs.ClientEnds.{ClientConnects, ClientSteps, gone};
@@ -29,7 +30,8 @@ pub enum Stepped {
     Closed(Closing),
 }
 
-/// How a step began. Most messages are replies, for which that is all; what else a step tells is large.
+/// How a step began. Most messages are replies, which need no more; any other
+/// report of a step is large.
 #[derive(Debug, Drop)]
 pub enum Advanced {
     /// It read a reply, which completed this request with this outcome. The step is over.
@@ -38,15 +40,15 @@ pub enum Advanced {
     Unawaited,
     /// No complete message is there. The step is over.
     NeedBytes,
-    /// This came first. `finish` is to do the rest.
+    /// Something else came first. `finish` is to do the rest.
     Begun(First),
 }
 
 impl ClientCore {
     /// Reads the next message of a circuit, if a complete one is there.
     ///
-    /// The end closes at a header that is refused, and out of memory if there is none for the message, which does nothing then. A circuit
-    /// that is not connected is reported as cut, and nothing changes.
+    /// The end closes at a header that is refused, and without memory for the message, which then
+    /// does nothing. A circuit that is not connected is reported as cut, and nothing changes.
     pub fn step(&mut self, circuit: Handle) -> Stepped
         ensures { (sent : List Sending)
             × ClientSteps self.old circuit (stepped_as result) sent self.new }
@@ -62,7 +64,8 @@ impl ClientCore {
         }
     }
 
-    /// Begins a step, which is over if the next message is a reply, or is not complete. Else `finish` is to do the rest, before any other call.
+    /// Begins a step, which is over if the next message is a reply, or is not complete. Else
+    /// `finish` is to do the rest, before any other call.
     #[inline(always)]
     pub fn advance(&mut self, circuit: Handle) -> Advanced
         ensures { HasAdvanced self.old circuit result self.new }
@@ -86,7 +89,7 @@ impl ClientCore {
         }
     }
 
-    /// Does the rest of a step that began so.
+    /// Does the rest of a step that began with this.
     #[inline(never)]
     pub fn finish(&mut self, circuit: Handle, first: First) -> Stepped
         requires { (before : Client) × HasBegun before circuit first self.old }
@@ -113,9 +116,11 @@ impl ClientCore {
         }
     }
 
-    /// A circuit that is wanted was connected: its set-up waits to be sent, and then the channels that waited for it are created.
+    /// A circuit that is wanted was connected: its set-up waits to be sent, and then the channels
+    /// that waited for it are created.
     ///
-    /// Without memory the end has ended at once. A circuit that is not wanted, or is connected, is reported as cut, and nothing changes.
+    /// Without memory the end has ended at once. A circuit that is not wanted, or is connected, is
+    /// reported as cut, and nothing changes.
     pub fn connected(&mut self, circuit: Handle) -> Option<Closing>
         ensures { (sent : List Sending)
             × ClientConnects self.old circuit result sent self.new }
@@ -139,7 +144,7 @@ fn is_reply(message: &Message) -> bool
     command == Command::ReadNotify.number() || command == Command::WriteNotify.number()
 }
 
-// How a step began that read a reply, which came to this.
+// How a step began that read a reply with this result.
 #[inline(always)]
 fn begun_by(told: Result<Option<(Handle, Outcome)>, AllocError>) -> Advanced
     ensures { result ≡ advanced_by told }
@@ -152,7 +157,7 @@ fn begun_by(told: Result<Option<(Handle, Outcome)>, AllocError>) -> Advanced
 }
 
 impl Closing {
-    // That of a circuit that is not there: it is cut, with no notices and no bytes left.
+    // The end of a circuit that is not there: it is cut, with no notices and no bytes left.
     fn gone(alloc: Global) -> Closing
         ensures { result ≡ gone }
     {
@@ -163,7 +168,7 @@ impl Closing {
         }
     }
 
-    // With these bytes left.
+    // Adds the bytes that are left.
     fn with_left(self, left: Pipe) -> Closing
         ensures { result ≡ record self { left = left } }
     {

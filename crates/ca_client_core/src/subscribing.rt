@@ -1,3 +1,4 @@
+//! A subscription begins.
 ghost use Rattle.std.specs.Prelude.{List};
 ghost use Rattle.ca_client_core.specs.Asks.{AddsOr, Subscribes};
 ghost use Rattle.ca_model.specs.Answers.{Sending};
@@ -12,12 +13,12 @@ use ca_wire::{Ioid, Message, Sid, Wanted, event_add_request};
 use std::alloc::AllocError;
 
 impl ClientCore {
-    /// Subscribes to a channel: its updates on these events are reported from now on, as this type from 0 to 20 and with this many
-    /// elements; a count of 0 asks for those that there are.
+    /// Subscribes to a channel: its updates on these events are reported from now on, as this type
+    /// from 0 to 20 and with this many elements; a count of 0 asks for those that there are.
     ///
-    /// Refused as StaleHandle, as NotLive, as BadType for a type over 20, as NoAccess without the right to read, as BadCount for
-    /// more elements than the channel has, as OutputFull if too much waits, as ArenaFull if no id may be given, then as
-    /// OutOfMemory.
+    /// Refused as StaleHandle, as NotLive, as BadType for a type over 20, as NoAccess without the
+    /// right to read, as BadCount for more elements than the channel has, as OutputFull if too much
+    /// waits, as ArenaFull if no id may be given, then as OutOfMemory.
     pub fn subscribe(
         &mut self,
         channel: Handle,
@@ -61,8 +62,8 @@ impl ClientCore {
         }
     }
 
-    // Adds a subscription that begins, under the handle that is given next, and queues its message. Without memory nothing
-    // changes.
+    // Adds a subscription that begins, under the handle that is given next, and queues its message.
+    // Without memory nothing changes.
     fn add(
         &mut self,
         vacant: Handle,
@@ -77,7 +78,8 @@ impl ClientCore {
         self.add_or_cut(waiting, vacant, circuit, added)
     }
 
-    // Adds a subscription whose message was queued after this many bytes; without memory the message is taken back.
+    // Adds a subscription whose message was queued after this many bytes; without memory the
+    // message is taken back.
     fn add_or_cut(
         &mut self,
         waiting: usize,

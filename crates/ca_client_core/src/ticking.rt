@@ -1,3 +1,4 @@
+//! The time has passed: searches, ECHOs and the ends of silent circuits are due.
 ghost use Rattle.std.specs.Prelude.{List, ◌≡◌, ◌≢◌, ◌+◌, ◌<◌, ◌≤◌, [], IfOk, OnErr, flat_map, length, map, vec_capacity, vec_len};
 ghost use Rattle.ca_search.specs.Searcher.{with_all};
 ghost use Rattle.ca_search.specs.Searches.{passed};
@@ -24,7 +25,8 @@ use std::marker::Model;
 pub struct Left {
     /// The circuit.
     pub circuit: Handle,
-    /// Its open requests complete with Disconnected, in order of issue, and then its live channels are lost, in order of index.
+    /// Its open requests complete with Disconnected, in order of issue, and then its live channels
+    /// are lost, in order of index.
     pub notices: Notices,
     /// The bytes that waited to be sent.
     pub bytes: Pipe,
@@ -53,21 +55,23 @@ impl Model for Ticked {
     } };
 }
 
-// What a moment asks of a client, when all that takes memory is done.
+// What a moment asks of a client, once all that allocates is done.
 #[derive(Debug, Drop)]
 struct Plan {
     // The circuits that were silent too long.
     ends: Vec<Handle>,
-    // None yet; there is room for one for each of those.
+    // Empty, with room for one for each of `ends`.
     closings: Vec<Left>,
     datagrams: Vec<Datagram>,
 }
 
 impl ClientCore {
-    /// A moment: on each circuit an ECHO goes out after a silence, once, or its end ends after one that is too long; and then the searches
-    /// that are due go out, in datagrams to each server, and on the circuits of name servers.
+    /// A moment: on each circuit an ECHO goes out after a silence, once, or its end ends after one
+    /// that is too long; and then the searches that are due go out, in datagrams to each server,
+    /// and on the circuits of name servers.
     ///
-    /// Refused as OutOfMemory, only if an ECHO or a search is due, or an end ends. Nothing changes then, nor does the moment.
+    /// Refused as OutOfMemory, only if an ECHO or a search is due, or an end ends. Nothing changes
+    /// then, nor does the moment.
     pub fn tick(&mut self, now: u64) -> Result<Ticked, Refusal>
         ensures { (sent : List Sending)
             × ClientTicks self.old now result sent self.new }
@@ -85,7 +89,8 @@ impl ClientCore {
         }
     }
 
-    // All of it that takes memory. What is sent goes out after marks; the ends that have to end are there still.
+    // All of it that allocates. What is sent goes out after marks; the ends that have to
+    // end are still there.
     fn plan(&mut self, marks: &mut Vec<CircuitMark>) -> Result<Plan, AllocError>
         ensures kept { undone marks.new.items self.new ≡ undone marks.old.items self.old }
         ensures ok { IfOk result (λ p. Plans self.old p self.new) }

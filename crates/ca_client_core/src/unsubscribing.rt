@@ -1,3 +1,4 @@
+//! A subscription is cancelled by its caller.
 ghost use Rattle.std.specs.Prelude.{◌≡◌, List, Ok, Some};
 ghost use Rattle.ca_ids.specs.Table.{with_freed};
 ghost use Rattle.ca_monitor.specs.Subscriptions.{standing_under};
@@ -17,8 +18,8 @@ use ca_wire::{Ioid, Sid, Wanted, event_cancel_request};
 impl ClientCore {
     /// Cancels a subscription: none of its updates is reported from now on.
     ///
-    /// Refused as StaleHandle if the handle is stale, as OutputFull if too much waits for an EVENT_CANCEL, then as OutOfMemory, only for
-    /// that message.
+    /// Refused as StaleHandle if the handle is stale, as OutputFull if too much waits for an
+    /// EVENT_CANCEL, then as OutOfMemory, only for that message.
     pub fn unsubscribe(&mut self, subscription: Handle) -> Result<(), Refusal>
         ensures { (sent : List Sending)
             × ClientUnsubscribes self.old subscription result sent self.new }
@@ -55,7 +56,7 @@ impl ClientCore {
         Ok(())
     }
 
-    // Cancels a subscription that stands, whose channel is live on this circuit.
+    // Cancels a subscription that is not over, whose channel is live on this circuit.
     fn cancel(
         &mut self,
         subscription: Handle,

@@ -1,3 +1,4 @@
+//! Writes and puts with notification go out.
 ghost use Rattle.std.specs.Prelude.{◌≡◌, OnErr, OnOk, ◌<◌, None, false, List};
 ghost use Rattle.ca_dbr.specs.Elements.{elements};
 ghost use Rattle.ca_client_tables.specs.Ends.{with_message};
@@ -59,8 +60,9 @@ impl ClientCore {
 impl ClientCore {
     /// Writes a value to a channel, with no answer if that is done.
     ///
-    /// Refused as StaleHandle, as NotLive, as NoAccess without the right to write, as BadCount for no element, more elements than
-    /// the channel has or more bytes than a message takes, as OutputFull if too much waits, then as OutOfMemory.
+    /// Refused as StaleHandle, as NotLive, as NoAccess without the right to write, as BadCount for
+    /// no element, more elements than the channel has or more bytes than a message takes, as
+    /// OutputFull if too much waits, then as OutOfMemory.
     pub fn write(&mut self, channel: Handle, value: &Value) -> Result<(), Refusal>
         ensures { (sent : List Sending)
             × ClientWrites self.old channel (elements value.now) result sent self.new }
@@ -74,9 +76,9 @@ impl ClientCore {
 
     /// Writes a value to a channel. The request completes once that is done, or failed.
     ///
-    /// Refused as StaleHandle, as NotLive, as NoAccess without the right to write, as BadCount for no element, more elements than
-    /// the channel has or more bytes than a message takes, as OutputFull if too much waits, as ArenaFull if no IOID may be given,
-    /// then as OutOfMemory.
+    /// Refused as StaleHandle, as NotLive, as NoAccess without the right to write, as BadCount for
+    /// no element, more elements than the channel has or more bytes than a message takes, as
+    /// OutputFull if too much waits, as ArenaFull if no IOID may be given, then as OutOfMemory.
     pub fn write_notify(&mut self, channel: Handle, value: &Value) -> Result<Handle, Refusal>
         ensures { (sent : List Sending)
             × ClientPuts self.old channel (elements value.now) result sent self.new }
@@ -91,7 +93,8 @@ impl ClientCore {
         }
     }
 
-    // Issues a put under the handle that is given next, and queues its message. Without memory nothing changes.
+    // Issues a put under the handle that is given next, and queues its message. Without
+    // memory nothing changes.
     fn put(
         &mut self,
         vacant: Handle,

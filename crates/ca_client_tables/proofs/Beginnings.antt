@@ -120,7 +120,7 @@ names-again names a t o has old =
     let same : distinct (names ++ a ∷ []) ≡ distinct names = distinct-push names a ∙ ap (λ (b : Bool). if b then distinct names else distinct names ++ a ∷ []) old in
     record { circuits = has.circuits ∙ ap (map place_of) (sym same); listed = has.listed }
 
--- what is read within a list does not depend on what stands past it
+-- what is read within a list does not depend on what is past it
 pub read-within : {X : Type 0} (xs : List X) (i : ℕ) (d e : X) → i < length xs → get_or xs i d ≡ get_or xs i e
 read-within [] i d e within = absurd (omega arith)
 read-within (x ∷ xs) zero d e within = refl

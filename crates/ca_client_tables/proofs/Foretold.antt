@@ -15,7 +15,7 @@ use Rattle.ca_client_tables.specs.Foretelling.{head_of}
 abbrev pub with_header : Header → Fields
 with_header h = record { command = h.command; data_type = h.data_type; count = h.count; p1 = h.p1; p2 = h.p2; payload = [] }
 
--- a whole message begins the bytes, and its header is read
+-- a complete message begins the bytes, and its header is read
 read-whole : (l : LinkState) (bytes : List ℕ) (r : One) (m : Fields) (rest : List ℕ) → bytes ≡ l.input.bytes → IsOne bytes r → TakesFirst l m rest → (head : Head) × (r ≡ one.Whole head) × (head.header ≡ header_of m)
 read-whole l bytes r m rest are is (front, spells, begins) = one-again m front rest r spells (subst (λ (b : List ℕ). IsOne b r) (are ∙ begins) is)
 

@@ -1,4 +1,5 @@
--- Lists of handles: what keeps some of them listed, and that there is room for those that a test names.
+-- Lists of handles: what keeps some of them listed, and that there is room for
+-- those that a test names.
 use Rattle.std.proofs.Common.{◌≡◌, ◌∙◌, ℕ, suc, Bool, true, false, cond, List, [], ◌∷◌, Option, Some, None, ap, arith, filter, length, nat_eq, refl, subst, sym, ◌⊎◌, inl, inr, zero, ◌+◌, ◌≤◌, ◌++◌, Contains, filter_map, option_to_list}
 use Rattle.std.proofs.lemmas.Bool.{ne_eqb}
 use Rattle.ca_text.specs.Place.{At}

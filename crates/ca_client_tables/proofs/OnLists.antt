@@ -69,7 +69,7 @@ creating-other c v = elim (cases_Bool (is_on_in is_connecting c v)) [
   | inr other ↦ inl (rw other refl)
 ]
 
--- one that is being created waits no more
+-- one that is being created no longer waits
 created-waits : (c : Handle) (v : Channel) → is_on_in is_connecting c (let w : Channel = record v { standing = On c (Creating 0) } in w) ≡ false
 created-waits c v = by_test (same_handle c c)
   where

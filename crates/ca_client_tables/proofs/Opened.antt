@@ -69,7 +69,7 @@ module _ {T : Type 0} where
 
   -- ---- what is found first by index
 
-  -- a place is put at an index, or behind the others
+  -- a place is put at an index, or after the others
   abbrev put : ℕ → Place T → Table T → Table T
   put zero p [] = p ∷ []
   put zero p (q ∷ t) = p ∷ t

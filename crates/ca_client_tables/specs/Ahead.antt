@@ -15,7 +15,8 @@ Once es = IsDistinct nat_eq (keys_of es)
 abbrev pub is_in : List Handle → Handle → Bool
 is_in cs h = list_any (same_handle h) cs
 
--- whether a channel that stands so is searched for once circuits have ended, if it was on one of them
+-- whether a channel that stands so is searched for once circuits have ended, if
+-- it was on one of them
 abbrev pub sought_in : (Handle → Bool) → Standing → Option Bool
 sought_in ends Searching = None
 sought_in ends (On c p) = if ends c then Some (not (is_cleared p)) else None

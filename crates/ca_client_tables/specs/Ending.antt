@@ -1,4 +1,5 @@
--- Working: the channels of a circuit that has ended, one after another. No clause of a caller needs it.
+-- Working: the channels of a circuit that has ended, one after another. No clause
+-- of a caller needs it.
 use Rattle.std.specs.Prelude.{ℕ, ◌≡◌, Bool, not, List, Option, Some, None, filter_map, fold, if◌then◌else◌, map, option_map, option_to_list, true}
 use Rattle.ca_arena.specs.declared.handle.Handle.{Handle}
 use Rattle.ca_arena.specs.Arena.{Place, place_at}
@@ -63,7 +64,8 @@ pub record StepsAll (f : Sought → Handle → Sought) (test : Phase → Bool) (
   pub folds : new ≡ fold f old (named_in test c old.channels)
   pub walks : new.channels ≡ map (λ (p : Place Channel). record p { value = g p.value }) old.channels
 
--- The channels of a circuit ended: those that were cleared went first, and then the others came back.
+-- The channels of a circuit ended: those that were cleared went first, and then
+-- the others came back.
 pub record EndsAll (c : Handle) (moment : ℕ) (old new : Sought) : Type 0 where
   pub between : Sought
   pub first : StepsAll gone is_cleared (gone_at c) c old between

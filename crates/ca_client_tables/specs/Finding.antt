@@ -61,7 +61,8 @@ tables_of x = record { channels = x.channels; circuits = x.circuits; order = x.o
 abbrev pub with_tables : Tables → Client → Client
 with_tables t x = record x { channels = t.channels; circuits = t.circuits; order = t.order }
 
--- the same while messages are received: some circuits are still to be opened, each with the handle that it will have
+-- the same while messages are received: some circuits are still to be opened, each with the
+-- handle that it will have
 pub record Halfway : Type 0 where
   pub channels : Table Channel
   pub circuits : Table ClientCircuit
@@ -76,7 +77,7 @@ opened t = record { channels = t.channels; circuits = with_all_held t.opening t.
 abbrev pub stood : Standing → Handle → Table Channel → Table Channel
 stood s h t = with_changed (λ (here : Channel). record here { standing = s }) h t
 
--- the client that searches no more for a channel that was found
+-- the client that no longer searches for a channel that was found
 abbrev pub paused_for : Option Handle → Client → Client
 paused_for None x = x
 paused_for (Some h) x = record x { searches = with_one paused (wire_of h) x.searches }
@@ -114,7 +115,8 @@ undone (Some f) t = found_undone f t
 abbrev pub unopened : Halfway → Tables
 unopened t = record { channels = t.channels; circuits = t.circuits; order = t.order }
 
--- A search reply that came from this address had its effect, but that this channel is searched for still.
+-- A search reply that came from this address had its effect, except that this channel
+-- is still searched for.
 abbrev pub HasFound : Tables → Address → Fields → Option Handle → Tables → Type 0
 HasFound old from m found new =
     (x : Client) → tables_of x ≡ old
@@ -129,7 +131,8 @@ abbrev pub FindsIn : Tables → Address → Fields → Result (Option Handle) Al
 FindsIn old from m (Ok found) new = HasFound old from m found new
 FindsIn old from m (Err _) new = (new ≡ old) × TakesSome old from m
 
--- It had once the circuits are opened, and can be undone; or there was no memory for it, which changed nothing.
+-- It had once the circuits are opened, and can be undone; or there was no memory for it,
+-- which changed nothing.
 abbrev pub FindsOne : Halfway → Address → Fields → Result (Option Found) AllocError → Halfway → Type 0
 FindsOne old from m (Ok found) new =
     HasFound (opened old) from m (channel_of found) (opened new)

@@ -1,4 +1,5 @@
--- Working: what comes first on a circuit, and what a search reply makes a client send, told before it is taken. No clause of a caller needs it.
+-- Working: what comes first on a circuit, and what a search reply makes a client send, told before
+-- it is taken. No clause of a caller needs it.
 use Rattle.std.specs.Prelude.{ℕ, ◌≡◌, Bool, true, List, [], Option, Some, None}
 use Rattle.ca_arena.specs.declared.handle.Handle.{Handle}
 use Rattle.ca_ids.specs.Table.{Table}

@@ -1,4 +1,5 @@
--- Working: the channels that are live on each circuit, listed beside their table. No clause of a caller needs it.
+-- Working: the channels that are live on each circuit, listed beside their table. No clause
+-- of a caller needs it.
 use Rattle.std.specs.Prelude.{ℕ, ◌≡◌, ◌⊎◌, Bool, true, false, List, [], ◌∷◌, Some, option_map, slice_index_or, unwrap_or}
 use Rattle.ca_arena.specs.declared.handle.Handle.{Handle}
 use Rattle.ca_ids.specs.Table.{Table, under}

@@ -1,4 +1,5 @@
--- Working: the circuits of name servers, as they are made one after another. No clause of a caller needs it.
+-- Working: the circuits of name servers, as they are made one after another. No clause
+-- of a caller needs it.
 use Rattle.std.specs.Prelude.{ℕ, ◌≡◌, ◌++◌, Bool, true, List, [], ◌∷◌, map, slice_index_or, take, ◌&&◌, is_some}
 use Rattle.std.specs.List.{list_any}
 use Rattle.ca_arena.specs.declared.handle.Handle.{Handle}

@@ -1,4 +1,5 @@
--- Working: the CREATE_CHANs that the messages of a datagram make a client send, noted as the messages are received. No clause of a caller needs it.
+-- Working: the CREATE_CHANs that the messages of a datagram make a client send, noted as the
+-- messages are received. No clause of a caller needs it.
 use Rattle.std.specs.Prelude.{◌≡◌, ◌≢◌, ◌==◌, ◌≤◌, ◌++◌, List, Option, None, Result, Ok, Err, if◌then◌else◌, length, map, option_to_list, []}
 use Rattle.std.specs.declared.alloc.AllocError.{AllocError}
 use Rattle.ca_ids.specs.Table.{Table}
@@ -25,12 +26,14 @@ as_sent o = record { circuit = o.circuit; message = o.message; aim = answer.Crea
 abbrev pub told_by : Table Channel → Table ClientCircuit → Address → Fields → Option Creation
 told_by channels circuits from m = if m.command == command_number command.Search then creation_by channels circuits from m else None
 
--- A message was received, and its CREATE_CHAN is behind those before; or there was no memory for it, and nothing is changed.
+-- A message was received, and its CREATE_CHAN is after those before; or there was no memory for it,
+-- and nothing is changed.
 abbrev pub NotesOne : HalfParts → Address → Fields → List Creation → Result Received AllocError → List Creation → HalfParts → Type 0
 NotesOne old from m cs (Ok d) cs' new = ReceivesIn old from m (Ok d) new × (cs' ≡ cs ++ option_to_list (told_by old.channels (opened_parts old).circuits from m))
 NotesOne old from m cs (Err _) cs' new = (new ≡ old) × (cs' ≡ cs)
 
--- These messages had their effects, one after another, and sent these; the searches are still to follow.
+-- These messages had their effects, one after another, and sent these; the searches
+-- are still to follow.
 abbrev pub HaveSent : Parts → Address → List Fields → List Received → List Creation → Parts → Type 0
 HaveSent old from ms ds cs new =
     (x : Client) → parts_of x ≡ old

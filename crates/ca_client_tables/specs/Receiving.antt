@@ -1,4 +1,5 @@
--- Working: the messages of a datagram, received one after another, and undone. No clause of a caller needs it.
+-- Working: the messages of a datagram, received one after another, and undone. No clause
+-- of a caller needs it.
 use Rattle.std.specs.Prelude.{ℕ, ◌≡◌, ◌≢◌, ◌==◌, ◌<◌, ◌≤◌, ◌^◌, Bool, List, [], ◌∷◌, Option, Some, None, Result, Ok, Err, Vec, if◌then◌else◌}
 use Rattle.std.specs.FinMap as finite
 use Rattle.std.specs.Net.Addr.{ipv4_bits}
@@ -104,7 +105,8 @@ all_undone (d ∷ ds) p = received_undone d (all_undone ds p)
 abbrev pub boosted_if : Bool → ℕ → List (ℕ × search.Channel) → List (ℕ × search.Channel)
 boosted_if b moment es = if b then with_all (search.boosted moment) es else es
 
--- the searches after a message: that for a channel that was found is paused, and after an anomaly all others begin again
+-- the searches after a message: that for a channel that was found is paused, and after an anomaly
+-- all others begin again
 abbrev pub settled_in : ℕ → Received → List (ℕ × search.Channel) → List (ℕ × search.Channel)
 settled_in moment received.Nothing es = es
 settled_in moment (received.Found f) es = with_one search.paused (wire_of f.channel) es
@@ -122,13 +124,14 @@ settled d x = record x { searches = settled_in x.moment d x.searches }
 abbrev pub all_settled : List Received → Client → Client
 all_settled ds x = record x { searches = all_settled_in x.moment ds x.searches }
 
--- A message from this address had its effect, but that the searches are still to follow.
+-- A message from this address had its effect, except that the searches are still to follow.
 abbrev pub HasReceived : Parts → Address → Fields → Received → Parts → Type 0
 HasReceived old from m d new =
     (x : Client) → parts_of x ≡ old
     → (e : Effect) × Receives from x m e × (e.notices ≡ []) × (e.core ≡ settled d (with_parts new x))
 
--- It had once the circuits are opened, and can be undone; or there was no memory for it, which changed nothing.
+-- It had once the circuits are opened, and can be undone; or there was no memory for it,
+-- which changed nothing.
 abbrev pub ReceivesIn : HalfParts → Address → Fields → Result Received AllocError → HalfParts → Type 0
 ReceivesIn old from m (Ok d) new = HasReceived (opened_parts old) from m d (opened_parts new) × (received_undone d new ≡ old)
 ReceivesIn old from m (Err _) new = new ≡ old
@@ -138,7 +141,8 @@ abbrev pub OpensOrUndoes : HalfParts → Vec Received Global → Result (Vec Rec
 OpensOrUndoes old done (Ok ds) new = (ds ≡ done) × (new ≡ opened_parts old)
 OpensOrUndoes old done (Err _) new = (old.opening ≢ []) × (new ≡ unopened_parts (all_undone done.items old))
 
--- These messages had their effects, one after another, but that the searches are still to follow.
+-- These messages had their effects, one after another, except that the searches
+-- are still to follow.
 abbrev pub HaveReceived : Parts → Address → List Fields → List Received → Parts → Type 0
 HaveReceived old from ms ds new =
     (x : Client) → parts_of x ≡ old

@@ -24,8 +24,8 @@ pub record HasCid (channels : Table Channel) (cid : ℕ) : Type 0 where
 pub record IsClient (channels : Table Channel) (searches : List (ℕ × search.Channel)) : Type 0 where
   pub searched : AllByRecursion (λ (e : ℕ × search.Channel). HasCid channels e.0) searches
 
--- And requests and subscriptions are where their channels are, channels are on circuits that are connected or wanted, and those that are
--- live are listed.
+-- And requests and subscriptions are where their channels are, channels are on circuits that are
+-- connected or wanted, and those that are live are listed.
 pub record IsSound (channels : Table Channel) (searches : List (ℕ × search.Channel)) (asked : Table Request) (subscribed : Table Subscription) (circuits : Table ClientCircuit) (lists : List (List Handle)) : Type 0 where
   pub client : IsClient channels searches
   pub placed : ArePlaced channels asked subscribed circuits

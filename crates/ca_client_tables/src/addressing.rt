@@ -40,7 +40,7 @@ pub fn to_servers(
     Ok(datagrams)
 }
 
-// These to one server, after the others.
+// These datagrams to one server, after the others.
 fn add_to_server(
     alloc: Global,
     server: Address,

@@ -10,7 +10,8 @@ use ca_wire::Message;
 use std::alloc::AllocError;
 use std::net::Ipv4Addr;
 
-/// A beacon that was heard: its server, the last number of that before, and whether it is an anomaly.
+/// A beacon that was heard: its server, the last number of that before, and
+/// whether it is an anomaly.
 #[derive(Clone, Copy, Debug)]
 pub struct Beacon {
     /// The address of its server.
@@ -19,12 +20,12 @@ pub struct Beacon {
     pub port: u16,
     /// The number of the last beacon from there before it.
     pub before: Option<u32>,
-    /// Whether it tells that a server came or came back.
+    /// Whether it says that a server came or came back.
     pub anomaly: bool,
 }
 
-// A beacon of the server at this port was heard; if it is an anomaly, all searches are still to begin again. Without memory nothing
-// changes.
+// A beacon of the server at this port was heard; if it is an anomaly, all searches are still to
+// begin again. Without memory nothing changes.
 pub(crate) fn hear_beacon(
     beacons: &mut BeaconTable,
     from: Address,
@@ -47,7 +48,7 @@ pub(crate) fn hear_beacon(
     }
 }
 
-// A beacon was not heard.
+// A beacon that was heard is undone.
 pub(crate) fn forget_beacon(beacons: &mut BeaconTable, beacon: Beacon)
     ensures { beacons.new
         ≡ restored
@@ -65,7 +66,7 @@ fn beacon_address(from: Address, message: &Message) -> Ipv4Addr
     Ipv4Addr::from_bits(beacon_host(from, message))
 }
 
-// The same, as a number.
+// The address of a beacon's server as a number.
 fn beacon_host(from: Address, message: &Message) -> u32
     ensures { result ≡ beacon_host from message.now }
 {

@@ -21,7 +21,7 @@ pub fn count_names(names: &[Address]) -> usize
     count
 }
 
-// 1 if the address at this place is none of those before it, else 0.
+// 1 if the address at this place is not among those before it, else 0.
 fn one_if_new(names: &[Address], index: usize) -> usize
     requires { index < length names.now }
     ensures { result ≡ (if seen_before index names.now then 0 else 1) }
@@ -53,7 +53,8 @@ pub(crate) fn is_same(a: Address, b: Address) -> bool
     a.host == b.host && a.port == b.port
 }
 
-/// The circuits of the name servers at these addresses, one for each address, and their order. It takes memory only if there is one.
+/// The circuits of the name servers at these addresses, one for each address, and their order. It
+/// takes memory only if there is one.
 pub fn name_circuits(
     alloc: Global,
     names: &[Address],

@@ -2,17 +2,18 @@
 ghost use Rattle.std.specs.Prelude.{◌≡◌, ◌<◌, length, slice_index_or};
 ghost use Rattle.ca_client_tables.specs.OnCircuits.{indices_of};
 
-/// The indices at which the channels of a circuit are, in order, and maybe some at which there is none.
+/// The indices at which the channels of a circuit are, in order, and maybe some at
+/// which there is none.
 #[derive(Clone, Copy, Debug)]
 pub enum Candidates<'a> {
-    /// These.
+    /// These indices.
     Listed(&'a [u16]),
-    /// So many, from 0 on: all that were given.
+    /// This many, from 0 on: all that were given.
     All(usize),
 }
 
 impl Candidates<'_> {
-    /// How many these are.
+    /// How many indices these are.
     pub(crate) fn len(self) -> usize
         ensures { result ≡ length (indices_of self.entry) }
     {
@@ -22,7 +23,7 @@ impl Candidates<'_> {
         }
     }
 
-    /// The one at this place among them.
+    /// The index at this place among them.
     pub(crate) fn at(self, place: usize) -> usize
         requires { place < length (indices_of self) }
         ensures { result ≡ slice_index_or (indices_of self.entry) place 0 }

@@ -1,3 +1,4 @@
+//! A channel as a client keeps it: its name, its priority and how far it is.
 ghost use Rattle.std.specs.Prelude.{◌≡◌, ◌≤◌, IfOk, option_map};
 ghost use Rattle.ca_text.specs.Limits.{channel_name_limit, priority_limit};
 ghost use Rattle.ca_text.specs.Name.{IsName};
@@ -15,7 +16,8 @@ use ca_wire::{Cid, Message, create_request};
 use std::alloc::{AllocError, Global};
 use std::marker::Model;
 
-/// What the reply to a CREATE_CHAN says of a channel: its SID, its native type and its greatest count.
+/// What the reply to a CREATE_CHAN says of a channel: its SID, its native type
+/// and its greatest count.
 #[derive(Clone, Copy, Debug, PartialEq, Eq)]
 pub struct Native {
     /// The id by which messages to its server name it.
@@ -48,14 +50,14 @@ pub enum Phase {
 pub enum Standing {
     /// It is searched for.
     Searching,
-    /// It is on this circuit, so far.
+    /// It is on this circuit, in this phase.
     On(Handle, Phase),
 }
 
 /// A channel as its caller opened it, and where it is.
 #[derive(Debug, Drop)]
 pub struct Channel {
-    // Each message on it looks there, so it is first, beside what its slot says.
+    // Each message on it reads this, so it is first, next to the state of its slot.
     standing: Standing,
     priority: u16,
     name: Vec<u8>,
@@ -94,7 +96,7 @@ impl Phase {
     }
 }
 
-// Whether both are one handle.
+// Whether both are the same handle.
 pub(crate) fn is_same(a: Handle, b: Handle) -> bool
     ensures { result ≡ same_handle a b }
 {
@@ -102,7 +104,7 @@ pub(crate) fn is_same(a: Handle, b: Handle) -> bool
 }
 
 impl Channel {
-    /// One that is searched for.
+    /// A channel that is searched for.
     pub fn new(name: Vec<u8>, priority: u16) -> Channel
         requires name { IsName channel_name_limit name.items }
         requires priority { priority ≤ priority_limit }
@@ -178,7 +180,7 @@ impl Channel {
         }
     }
 
-    /// It is there now.
+    /// From now on it is there.
     pub(crate) fn set_standing(&mut self, standing: Standing)
         ensures { self.new ≡ record self.old { standing = standing_of standing } }
     {

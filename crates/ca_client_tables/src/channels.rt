@@ -27,13 +27,14 @@ use indexmap::IndexMap;
 use std::alloc::Global;
 use std::marker::Model;
 
-/// The channels of a client, by their handles and by their CIDs. Those on a circuit are found without a look at the others.
+/// The channels of a client, by their handles and by their CIDs. Those on a circuit are found
+/// without a look at the others.
 #[derive(Drop)]
 pub struct Channels {
     table: HeldTable<Channel>,
-    // The indices of those on each circuit, by its index, and of some that are not on it any more.
+    // The indices of the channels on each circuit, by its index, and of some that have left it.
     circuits: IndexLists,
-    // Whether all are listed: there was memory for each so far.
+    // Whether these lists are complete: there was memory for each entry so far.
     complete: bool,
 }
 
@@ -53,7 +54,7 @@ impl Model for Channels {
 }
 
 impl Channels {
-    /// No channel. It does not allocate yet.
+    /// No channels. It does not allocate yet.
     pub fn new(alloc: Global) -> Channels
         ensures { result ≡ [] }
     {
@@ -87,7 +88,7 @@ impl Channels {
         self.table.at(index)
     }
 
-    /// The same of any index.
+    /// What has a CID of this index, and its handle, if any does.
     pub(crate) fn any_at(&self, index: usize) -> Option<(Handle, &Channel)>
         ensures { option_map (λ e. (e.0, e.1.now)) result
             ≡ held_at index (place_at self.now index) }
@@ -124,7 +125,8 @@ impl Channels {
         self.table.by_wire(wire)
     }
 
-    /// Takes the channel of this handle out. The handle is stale from then on, and its CID is free. No memory is asked for.
+    /// Takes the channel of this handle out. The handle is stale from then on, and its CID is free.
+    /// It does not allocate.
     pub fn free(&mut self, handle: Handle) -> Option<Channel>
         ensures value { result ≡ under self.old handle }
         ensures after { self.new ≡ with_freed handle self.old }
@@ -135,14 +137,14 @@ impl Channels {
         found
     }
 
-    /// The indices of those on this circuit.
+    /// The indices of the channels on this circuit.
     pub(crate) fn on(&self, circuit: Handle) -> Candidates<'_>
         ensures { MayBeOn circuit.index self.now (indices_of result) }
     {
         candidates(&self.table, &self.circuits, self.complete, circuit)
     }
 
-    // Takes an index out of the list of a circuit, unless its channel is on that.
+    // Takes an index out of the list of a circuit, unless its channel is on that circuit.
     fn leave(&mut self, circuit: Option<u16>, index: u16)
         ensures { self.new ≡ self.old }
     {
@@ -155,7 +157,7 @@ impl Channels {
         self.circuits.remove(circuit, index);
     }
 
-    // Takes those out of the list of a circuit whose channels are not on that any more.
+    // Takes out of the list of a circuit those whose channels have left it.
     fn tidy(&mut self, circuit: u16)
         ensures { self.new ≡ self.old }
     {
@@ -164,7 +166,7 @@ impl Channels {
         }
     }
 
-    // Takes the one at this place out, if that is so of it.
+    // Takes out the one at this place, if its channel has left the circuit.
     fn tidy_at(&mut self, circuit: u16, place: usize)
         ensures { self.new ≡ self.old }
     {
@@ -222,7 +224,7 @@ fn candidates<'a>(
     Candidates::Listed(circuits.of(circuit.index))
 }
 
-/// The channel of this handle is there now; a stale handle changes nothing.
+/// The channel of this handle is there from now on; a stale handle changes nothing.
 pub fn set_standing(channels: &mut Channels, handle: Handle, standing: Standing)
     ensures { channels.new
         ≡ with_changed
@@ -236,7 +238,8 @@ pub fn set_standing(channels: &mut Channels, handle: Handle, standing: Standing)
     channels.leave(before, handle.index);
 }
 
-// The index is listed for the circuit to which a channel comes, if it comes to one. Whether there was memory for it.
+// Lists the index for the circuit to which a channel moves, if it moves to one. It says whether
+// there was memory for that.
 fn list(circuits: &mut IndexLists, standing: Standing, index: u16) -> bool
     ensures kept { (t : Table client.Channel) → AreListed circuit_of t circuits.old
         → AreListed circuit_of t circuits.new }
@@ -249,7 +252,7 @@ fn list(circuits: &mut IndexLists, standing: Standing, index: u16) -> bool
     circuits.add(circuit.index, index).is_ok()
 }
 
-/// The channel of this handle is there now.
+/// The channel of this handle is there from now on.
 pub(crate) fn put(table: &mut HeldTable<Channel>, handle: Handle, standing: Standing)
     ensures { table.new
         ≡ with_changed
@@ -262,7 +265,8 @@ pub(crate) fn put(table: &mut HeldTable<Channel>, handle: Handle, standing: Stan
     }
 }
 
-/// The channels of a circuit that has ended: those that were cleared are gone, the others are searched for again.
+/// The channels of a circuit that has ended: those that were cleared are gone, the others
+/// are searched for again.
 pub fn end_channels(
     channels: &mut Channels,
     searches: &mut IndexMap<u32, Place>,
@@ -311,7 +315,7 @@ fn begin_each(table: &mut HeldTable<Channel>, on: Candidates, circuit: Handle)
     }
 }
 
-// The channel at this index is, if it waited for this circuit.
+// The channel at this index is being created, if it waited for this circuit.
 fn begin_at(table: &mut HeldTable<Channel>, index: usize, circuit: Handle)
     ensures { table.new ≡ with_place index (creating_at circuit) table.old }
 {

@@ -1,3 +1,4 @@
+//! A circuit as a client keeps it: an address and a priority, with an end once it is connected.
 ghost use Rattle.std.specs.Prelude.{◌≡◌};
 ghost use Rattle.ca_model.specs.ClientEnds.{is_name_connected};
 ghost use Rattle.ca_client_tables.specs.Names.{is_name_in};
@@ -23,11 +24,12 @@ impl Model for Connection {
 
     ghost view = { λ c. record { link = c.link; run = c.run } };
 
-    // No bad header was met: the end ends at once then.
+    // It met no bad header: such an end ends at once.
     ghost invariant = { λ c. c.link.input.closed ≡ false };
 }
 
-/// A circuit to an address, under a priority: it is a name server's, or channels want it. It has an end once it is connected.
+/// A circuit to an address, under a priority: it is a name server's, or channels want it. It has an
+/// end once it is connected.
 #[derive(Debug, Drop)]
 pub struct Circuit {
     /// Where its server is.

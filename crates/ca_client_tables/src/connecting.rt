@@ -33,8 +33,9 @@ fn send(link: &mut Link, message: &Message) -> Result<(), AllocError>
     }
 }
 
-/// The end of a circuit that is connected at this moment, under this priority: its set-up waits on it, by this user at this host, and then
-/// the CREATE_CHANs of the channels that wait for this circuit, in order of index.
+/// The end of a circuit that is connected at this moment, under this priority: its set-up waits on
+/// it, by this user at this host, and then the CREATE_CHANs of the channels that wait for this
+/// circuit, in order of index.
 ///
 /// A name that has no room in a message counts as out of memory.
 pub fn new_connection(
@@ -63,7 +64,8 @@ pub fn new_connection(
     })
 }
 
-// VERSION, CLIENT_NAME and HOST_NAME wait on a link. A name that has no room in a message counts as out of memory.
+// VERSION, CLIENT_NAME and HOST_NAME wait on a link. A name that has no room in a message
+// counts as out of memory.
 fn set_up(
     alloc: Global,
     link: &mut Link,
@@ -106,7 +108,7 @@ fn create_all(
     Ok(())
 }
 
-// That of the channel at this index, if it waits for this circuit.
+// The CREATE_CHAN of the channel at this index, if it waits for this circuit, waits on a link.
 fn create_at(
     alloc: Global,
     link: &mut Link,

@@ -39,7 +39,7 @@ pub(crate) fn let_cleared_go(
     }
 }
 
-// The channel at this index is gone, if it is one of those.
+// The channel at this index is gone, if it was cleared on this circuit.
 fn let_go_at(
     channels: &mut HeldTable<Channel>,
     searches: &mut IndexMap<u32, Place>,
@@ -67,7 +67,8 @@ fn let_go_at(
     searches.shift_remove(&WireId::of(handle).number());
 }
 
-/// The others that were on this circuit are searched for again, as from the beginning. All on it are at these indices.
+/// The others that were on this circuit are searched for again, as from the beginning. All on it
+/// are at these indices.
 pub(crate) fn search_again(
     channels: &mut HeldTable<Channel>,
     searches: &mut IndexMap<u32, Place>,
@@ -91,7 +92,7 @@ pub(crate) fn search_again(
     }
 }
 
-// The channel at this index is searched for again, if it is one of those.
+// The channel at this index is searched for again, if it was on this circuit and is not cleared.
 fn search_again_at(
     channels: &mut HeldTable<Channel>,
     searches: &mut IndexMap<u32, Place>,

@@ -1,3 +1,4 @@
+//! Addresses of servers.
 use std::marker::Model;
 
 /// An IPv4 address and a port.

@@ -49,8 +49,9 @@ pub enum How {
     Wanted,
 }
 
-/// A reply to a SEARCH came from this address: a channel that is searched for is put on the circuit to its server. It is named, since its searches
-/// are still to be paused. Without memory nothing changes.
+/// A reply to a SEARCH came from this address: a channel that is searched for is put on the
+/// circuit to its server. It is named, since its searches are still to be paused. Without
+/// memory nothing changes.
 pub fn find(
     alloc: Global,
     channels: &mut Channels,
@@ -88,7 +89,7 @@ pub fn find(
     }
 }
 
-// What was found is not, and nothing is to be opened.
+// What was found is undone, and nothing is to be opened.
 fn lose_found(
     channels: &mut Channels,
     circuits: &mut HeldTable<Circuit>,
@@ -112,8 +113,8 @@ fn lose_found(
     }
 }
 
-// As by `find`, but that a circuit that is wanted from now on is still to be opened, under the handle that it will have. Without memory nothing
-// changes.
+// As `find`, but a circuit that is wanted from now on is still to be opened, under the handle that
+// it will have. Without memory nothing changes.
 pub(crate) fn find_one(
     alloc: Global,
     channels: &mut Channels,
@@ -167,8 +168,8 @@ pub(crate) fn searched_by(channels: &Channels, cid: u32) -> Option<(Handle, &Cha
     }
 }
 
-// The channel waits for a new circuit, after the others, which is still to be opened. If no more circuits can be had, nothing happens; nor without
-// memory.
+// The channel waits for a new circuit, after the others, which is still to be opened. If no more
+// circuits can be had, nothing happens; nor without memory.
 fn want_new(
     channels: &mut Channels,
     circuits: &HeldTable<Circuit>,
@@ -272,7 +273,8 @@ pub(crate) fn found_at(from: Address, message: &Message) -> Address
     }
 }
 
-// The circuit to this address, under this priority, and whether it is connected, once those that are to be opened are.
+// The circuit to this address, under this priority, and whether it is connected, once those that
+// are to be opened are.
 pub(crate) fn circuit_to(
     circuits: &HeldTable<Circuit>,
     opening: &[(Handle, Circuit)],
@@ -324,7 +326,7 @@ fn circuit_in_table(
     None
 }
 
-// The circuit at this index, if it is that one.
+// The circuit at this index, if it goes to this address under this priority.
 fn circuit_at(
     circuits: &HeldTable<Circuit>,
     address: Address,

@@ -28,7 +28,8 @@ pub enum First {
 }
 
 impl Circuit {
-    /// Takes the first message, if it is connected. After a header that is refused nothing is left on its link.
+    /// Takes the first message, if it is connected. After a refused header nothing
+    /// is left on its link.
     #[inline(always)]
     pub fn take_first(&mut self, alloc: Global) -> First
         ensures { FirstAt self.old result self.new }
@@ -50,7 +51,7 @@ impl Circuit {
 }
 
 impl Connection {
-    // Takes the first message. After a header that is refused nothing is left on the link.
+    // Takes the first message. After a refused header nothing is left on the link.
     #[inline(always)]
     fn take_first(&mut self, alloc: Global) -> First
         ensures { FirstIn self.old result self.new }
@@ -75,7 +76,7 @@ impl Connection {
     }
 }
 
-// The end of a circuit on which a header is refused so.
+// The end of a circuit on which a header is refused for this.
 fn bad_header(refusal: Refusal) -> Why
     ensures { why_is result ≡ why_of refusal }
 {

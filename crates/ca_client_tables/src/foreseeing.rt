@@ -10,7 +10,8 @@ use ca_search::{Place, Search};
 use indexmap::IndexMap;
 use std::alloc::{AllocError, Global};
 
-/// The searches that are due once these circuits have ended, in order. It takes memory only if there is one.
+/// The searches that are due once these circuits have ended, in order. It takes memory
+/// only if there is one.
 pub fn find_after(
     alloc: Global,
     channels: &Channels,
@@ -48,7 +49,8 @@ fn is_due_after(channels: &Channels, ends: &[Handle], moment: u64, cid: u32, pla
     }
 }
 
-// Whether the channel of a CID is searched for once these circuits have ended, if it is on one of them.
+// Whether the channel of a CID is searched for once these circuits have ended, if
+// it is on one of them.
 fn is_sought(channels: &Channels, ends: &[Handle], cid: u32) -> Option<bool>
     ensures { result ≡ sought_by (is_in ends.now) channels.now cid }
 {
@@ -59,7 +61,8 @@ fn is_sought(channels: &Channels, ends: &[Handle], cid: u32) -> Option<bool>
 }
 
 impl Channel {
-    // Whether it is searched for once these circuits have ended, if it is on one of them: it was not cleared.
+    // Whether it is searched for once these circuits have ended, if it is on one of
+    // them: it was not cleared.
     fn is_sought(&self, ends: &[Handle]) -> Option<bool>
         ensures { result ≡ sought_in (is_in ends.now) self.now.standing }
     {

@@ -1,4 +1,5 @@
-//! What comes first on a circuit, and what a reply to a SEARCH makes a client send, told before it is taken.
+//! What comes first on a circuit, and what a reply to a SEARCH makes a client send,
+//! told before it is taken.
 ghost use Rattle.std.specs.Prelude.{◌≡◌, ◌≢◌, [], IfOk, None, OnErr};
 ghost use Rattle.ca_ids.specs.Table.{with_all_held};
 ghost use Rattle.ca_client_tables.specs.Foretelling.{HeadsFirst, HeadsIn, creation_by};
@@ -24,8 +25,9 @@ pub struct Creation {
     pub message: Message,
 }
 
-/// The CREATE_CHAN that a reply to a SEARCH, which came from this address, makes a client send: that of the channel that was found, if the
-/// circuit to its server is connected, once those that are to be opened are. Only a CREATE_CHAN takes memory.
+/// The CREATE_CHAN that a reply to a SEARCH, which came from this address, makes a client send:
+/// that of the channel that was found, if the circuit to its server is connected, once those that
+/// are to be opened are. Only a CREATE_CHAN takes memory.
 pub fn creation_by(
     alloc: Global,
     channels: &Channels,

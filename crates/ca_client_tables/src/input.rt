@@ -12,8 +12,8 @@ use std::alloc::{AllocError, Global};
 impl Circuit {
     /// Takes bytes of a read at this moment, and whether the read left more waiting.
     ///
-    /// Refused as CircuitClosed if it is not connected, then as OutOfMemory, only if there are bytes or a message to send. Nothing changes
-    /// then.
+    /// Refused as CircuitClosed if it is not connected, then as OutOfMemory, only if there are
+    /// bytes or a message to send. Nothing changes then.
     pub fn give(
         &mut self,
         alloc: Global,
@@ -34,7 +34,7 @@ impl Circuit {
 }
 
 impl Circuit {
-    /// What a read makes the client send, which left more waiting or none.
+    /// What a read makes the client send, by whether it left more waiting.
     pub fn sends_by_read(&self, more: bool) -> Option<Command>
         ensures { result
             ≡ option_and_then (λ (e : client.Connection). sent_by_read more e.run) self.now.connection }

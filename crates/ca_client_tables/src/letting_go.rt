@@ -1,4 +1,4 @@
-//! A circuit that has ended is let go.
+//! A circuit that has ended is dropped.
 ghost use Rattle.std.specs.Prelude.{◌≡◌, [], None, filter, if◌then◌else◌, not, option_map, unwrap_or};
 ghost use Rattle.ca_ids.specs.Table.{same_handle, with_changed, with_freed};
 ghost use Rattle.ca_client_tables.specs.Ends.{left_at, waiting_in};
@@ -10,7 +10,8 @@ use ca_ids::HeldTable;
 use ca_wire::Pipe;
 use std::alloc::Global;
 
-/// Of a circuit that has ended nothing is kept, but a name server's is wanted again: the bytes that waited.
+/// Drops a circuit that has ended, but a name server's is wanted again. It returns
+/// the bytes that waited.
 pub fn let_go(
     alloc: Global,
     circuits: &mut HeldTable<Circuit>,
@@ -37,7 +38,7 @@ pub fn let_go(
     }
 }
 
-// It is not connected any more.
+// It is no longer connected.
 fn disconnect(alloc: Global, circuits: &mut HeldTable<Circuit>, circuit: Handle) -> Pipe
     ensures left { result ≡ left_at circuits.old circuit }
     ensures gone { circuits.new
@@ -57,7 +58,7 @@ fn forget(order: &mut Vec<Handle>, circuit: Handle)
 }
 
 impl Circuit {
-    // It is not connected any more: the bytes that waited.
+    // It is no longer connected. It returns the bytes that waited.
     fn disconnect(&mut self, alloc: Global) -> Pipe
         ensures left { result ≡ waiting_in self.old }
         ensures gone { self.new ≡ record self.old { connection = None } }

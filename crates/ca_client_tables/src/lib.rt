@@ -1,7 +1,9 @@
-//! The tables of a client of Channel Access: its channels, its circuits and its searches, and what becomes of them when a circuit is
-//! connected or has ended, a channel is found, or a datagram came.
+//! The tables of a client of Channel Access: its channels, its circuits and its
+//! searches, and what becomes of them when a circuit is connected or has ended, a
+//! channel is found, or a datagram came.
 //!
-//! The client's core (`ca_client_core`) stands on it: the calls of a client, with its requests and subscriptions.
+//! The client's core (`ca_client_core`) is built on it: the calls of a client, with its
+//! requests and subscriptions.
 #![tactic(auto)]
 
 mod addressing;

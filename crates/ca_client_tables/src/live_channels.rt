@@ -1,4 +1,5 @@
-//! The channels that are live on each circuit, so that its end can tell without memory which were lost.
+//! The channels that are live on each circuit, so that its end can report without
+//! allocation which were lost.
 ghost use Rattle.std.specs.Prelude.{[], ◌≡◌, ◌≢◌, ◌+◌, ◌<◌, ◌≤◌, ◌++◌, ℕ, OnOk, length, vec_capacity, vec_len};
 ghost use Rattle.ca_model.specs.Client.{is_live};
 ghost use Rattle.ca_client_tables.specs.Ending.{named_at, named_in};
@@ -11,14 +12,15 @@ use std::alloc::{AllocError, Global};
 use std::marker::Model;
 use std::mem;
 
-// So many are listed before any is taken out.
+// This many are listed before any is taken out.
 const LEAST_LIMIT: usize = 16;
 
-/// The channels that are live on a circuit, and some that were. At the limit each that is live is listed once.
+/// The channels that are live on a circuit, and some that were. At the limit each that is
+/// live is listed once.
 #[derive(Debug, Drop)]
 pub struct LiveChannels {
     listed: Vec<Handle>,
-    // How many are listed before those that are not live any more are taken out.
+    // At this length those that are no longer live are taken out.
     limit: usize,
 }
 
@@ -32,7 +34,7 @@ impl Model for LiveChannels {
 }
 
 impl LiveChannels {
-    // Lists one more, of which nothing is known if memory lacks.
+    // Lists one more. Without memory it may be listed or not.
     fn note(&mut self, channels: &Channels, channel: Handle) -> Result<(), AllocError>
         ensures kept { KeepsLive channels.now self.old self.new }
         ensures own { OnOk result (Has self.new channel) }
@@ -42,7 +44,7 @@ impl LiveChannels {
         Ok(())
     }
 
-    // Takes those that are not live any more out once it is long.
+    // Takes out those that are no longer live, once the list is long.
     fn tidy(&mut self, channels: &Channels)
         ensures { KeepsLive channels.now self.old self.new }
     {
@@ -63,7 +65,7 @@ impl LiveChannels {
     }
 }
 
-// Takes those out of a list that are not live, and lists the others once each.
+// Takes out of a list those that are not live, and lists the others once each.
 fn forget(listed: &mut Vec<Handle>, channels: &Channels)
     ensures { KeepsLive channels.now listed.old.items listed.new.items }
 {
@@ -94,7 +96,8 @@ impl Channel {
     }
 }
 
-/// Lists a channel for this circuit. Those that are live and were listed stay listed, also without memory; others may be taken out.
+/// Lists a channel for this circuit. Those that are live and were listed stay listed, also without
+/// memory; others may be taken out.
 pub fn note_live(
     alloc: Global,
     lists: &mut Vec<LiveChannels>,
@@ -151,7 +154,8 @@ pub fn list_live(channels: &Channels, circuit: Handle, room: &mut Vec<Handle>)
     }
 }
 
-// Puts the channel at this index after the others, if it is live on this circuit. There is room for it.
+// Puts the channel at this index after the others, if it is live on this circuit.
+// There is room for it.
 fn push_live(channels: &Channels, circuit: Handle, index: usize, room: &mut Vec<Handle>)
     requires { length (named_at is_live circuit index channels.now) + vec_len room.old
         ≤ vec_capacity room.old }

@@ -1,4 +1,5 @@
-//! The messages of a datagram are received, and the CREATE_CHANs that they make a client send are noted.
+//! The messages of a datagram are received, and the CREATE_CHANs that they make a
+//! client send are noted.
 ghost use Rattle.std.specs.Prelude.{◌≡◌, ◌+◌, ◌≤◌, IfOk, vec_capacity, vec_len};
 ghost use Rattle.ca_ids.specs.Table.{with_all_held};
 ghost use Rattle.ca_client_tables.specs.Noting.{NotesAll, NotesOne, told_by};
@@ -26,8 +27,9 @@ pub struct Noted {
     pub sent: Vec<Creation>,
 }
 
-/// The messages of a datagram from this address were received, one after another, as by `receive_all`, and what they sent was noted.
-/// Only a message takes memory. Without memory nothing changes.
+/// The messages of a datagram from this address were received, one after another, as by
+/// `receive_all`, and what they sent was noted. Only a message takes memory. Without
+/// memory nothing changes.
 pub fn receive_all_noting(
     alloc: Global,
     channels: &mut Channels,
@@ -83,8 +85,8 @@ pub fn receive_all_noting(
     Ok(Noted { done, sent })
 }
 
-// A message of a datagram from this address was received, and its CREATE_CHAN noted, for which there is room. Without memory nothing
-// changes.
+// A message of a datagram from this address was received, and its CREATE_CHAN noted, for which
+// there is room. Without memory nothing changes.
 fn receive_noting(
     alloc: Global,
     channels: &mut Channels,

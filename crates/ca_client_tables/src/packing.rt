@@ -10,8 +10,8 @@ use ca_text::Refusal;
 use std::alloc::{AllocError, Global};
 use std::mem;
 
-/// The datagrams of these searches, in order: each is in the last one, unless that has no room for it. It takes memory only if there is
-/// a search.
+/// The datagrams of these searches, in order: each is in the last one, unless that has no room for
+/// it. It takes memory only if there is a search.
 pub fn packed(alloc: Global, searches: &[Search]) -> Result<Vec<Vec<u8>>, AllocError>
     ensures ok { IfOk result (λ v. map (λ d. d.items) v.items ≡ packed [] searches.now) }
     ensures some { OnErr result (searches.now ≢ []) }

@@ -38,7 +38,8 @@ pub(crate) fn waiting_on(circuits: &HeldTable<Circuit>, circuit: Handle) -> usiz
 }
 
 impl Circuit {
-    /// Puts a message after what waits, if it is connected; only then does it take memory. Without memory nothing changes.
+    /// Puts a message after what waits, if it is connected: only then it allocates. Without
+    /// memory nothing changes.
     pub fn queue(&mut self, message: &Message) -> Result<(), AllocError>
         ensures ok { OnOk result (self.new ≡ queued message.now self.old) }
         ensures err { OnErr result (self.new ≡ self.old) }

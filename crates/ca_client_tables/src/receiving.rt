@@ -30,8 +30,8 @@ pub enum Received {
     Beacon(Beacon),
 }
 
-/// The messages of a datagram from this address were received, one after another; the searches are still to follow. Without memory
-/// nothing changes.
+/// The messages of a datagram from this address were received, one after another; the searches are
+/// still to follow. Without memory nothing changes.
 pub fn receive_all(
     alloc: Global,
     channels: &mut Channels,
@@ -83,7 +83,8 @@ pub fn receive_all(
     open_or_undo(channels, circuits, opening, order, beacons, done)
 }
 
-// A message of a datagram from this address was received; the searches are still to follow. Without memory nothing changes.
+// A message of a datagram from this address was received; the searches are still to follow. Without
+// memory nothing changes.
 pub(crate) fn receive(
     alloc: Global,
     channels: &mut Channels,
@@ -146,7 +147,8 @@ fn receive_beacon(
     }
 }
 
-/// The searches follow what was received: those for channels that were found are paused, and after an anomaly all others begin again.
+/// The searches follow what was received: those for channels that were found are paused, and after
+/// an anomaly all others begin again.
 pub fn settle(searches: &mut IndexMap<u32, Place>, moment: u64, done: &[Received])
     ensures { searches.new.entries ≡ all_settled_in moment done.now searches.old.entries }
 {
@@ -159,7 +161,8 @@ pub fn settle(searches: &mut IndexMap<u32, Place>, moment: u64, done: &[Received
     }
 }
 
-// They follow one more message, but that they begin again after an anomaly: whether there was one so far.
+// They follow one more message, except that an anomaly does not yet make them begin again. It says
+// whether there was one so far.
 fn settle_one(searches: &mut IndexMap<u32, Place>, received: &Received, anomaly: bool) -> bool
     ensures { (moment : ℕ) → boosted_if result moment searches.new.entries
         ≡ settled_in moment received.now (boosted_if anomaly moment searches.old.entries) }

@@ -20,8 +20,8 @@ impl Circuit {
         }
     }
 
-    /// An ECHO waits, if it is connected; that the silence asked for it is noted. Only then does it take memory. Without memory nothing
-    /// changes.
+    /// An ECHO waits, if it is connected, and it is noted that the silence asked for it. Only then
+    /// it allocates. Without memory nothing changes.
     pub fn echo(&mut self, alloc: Global, moment: u64) -> Result<(), AllocError>
         ensures ok { OnOk result (self.new ≡ echo_in moment self.old) }
         ensures err { OnErr result (self.new ≡ self.old) }

@@ -16,7 +16,8 @@ use ca_beacon::BeaconTable;
 use ca_ids::HeldTable;
 use std::alloc::AllocError;
 
-// The circuits that are to be opened are. Without memory what was received is undone, the last message first.
+// Opens the circuits that are to be opened. Without memory what was received is undone,
+// the last message first.
 pub(crate) fn open_or_undo(
     channels: &mut Channels,
     circuits: &mut HeldTable<Circuit>,
@@ -51,7 +52,7 @@ pub(crate) fn open_or_undo(
     }
 }
 
-// These are undone, the last one first.
+// These messages are undone, the last one first.
 pub(crate) fn undo_all(
     channels: &mut Channels,
     circuits: &mut HeldTable<Circuit>,
@@ -79,7 +80,7 @@ pub(crate) fn undo_all(
     }
 }
 
-// This one is undone.
+// This message is undone.
 fn undo(
     channels: &mut Channels,
     circuits: &mut HeldTable<Circuit>,

@@ -35,8 +35,8 @@ impl Payload for Elements<'_> {
 }
 
 impl Circuit {
-    /// Puts a message with this value after what waits, if it is connected; only then does it take memory. Without memory
-    /// nothing changes.
+    /// Puts a message with this value after what waits, if it is connected: only then it allocates.
+    /// Without memory nothing changes.
     pub fn queue_value(&mut self, head: &Message, value: &Value) -> Result<(), AllocError>
         requires { IsSmall (elements value.now) }
         ensures ok { OnOk result (self.new

@@ -35,7 +35,8 @@ impl Model for WantedCircuit {
     } };
 }
 
-/// Those of these circuits that are not connected, in their order. It takes memory only if there is one.
+/// The circuits of these that are not connected, in their order. It takes memory
+/// only if there is one.
 pub fn wanted_in(
     alloc: Global,
     circuits: &HeldTable<Circuit>,

@@ -24,7 +24,7 @@ fault (Err e) = Some e
 abbrev pub Faultless : {S T : Type 0} → (S → Result T Refusal) → List S → ℕ → Type 0
 Faultless f xs i = fault (gathered f (drop i xs)) ≡ fault (gathered f xs)
 
--- the bytes of the results of the first elements stand after the old bytes
+-- the bytes of the results of the first elements are after the old bytes
 abbrev pub PutTo : {S T : Type 0} → (T → List ℕ) → (T → Type 0) → (S → Result T Refusal) → List S → ℕ → List ℕ → List ℕ → Type 0
 PutTo {S} {T} spelled fits f xs i old new = (ys : List T) × GatheredTo f xs i ys × (new ≡ old ++ flat_map spelled ys) × All fits ys
 

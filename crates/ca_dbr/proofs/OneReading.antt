@@ -168,7 +168,7 @@ IsMeta-carried form.Plain m is = record { status = omega arith; severity = omega
 IsMeta-carried form.Status m is = record { status = is.status; severity = is.severity; seconds = omega arith; nanos = omega arith }
 IsMeta-carried form.Time m is = is
 
--- what was written is read again, whatever stands after it
+-- what was written is read again, whatever is after it
 pub reads-image : (t : DataType) (e : Elements) (m : Meta) (behind : List ℕ) → t.base ≡ base_of e → IsValue e → IsMeta m → Reads t (count_of e) (image t e m ++ behind) e (carried t.form m)
 reads-image t e m behind based valued is =
     let zeros : List ℕ = replicate (padding_size t.form t.base) 0 in

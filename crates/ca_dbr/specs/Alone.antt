@@ -6,7 +6,8 @@ use Rattle.ca_dbr.specs.Types.{base_number}
 use Rattle.ca_dbr.specs.Elements.{Elements, base_of, bytes_8, bytes_of, count_of}
 use Rattle.ca_dbr.specs.Shown.{shown}
 
--- These elements are one, of the plain type of this number, and n has its bytes, with zeros up to eight.
+-- These elements are one, of the plain type of this number, and n has its bytes,
+-- with zeros up to eight.
 pub record IsAlone (e : Elements) (number n : ℕ) : Type 0 where
   pub one : count_of e ≡ 1
   pub typed : base_number (base_of e) ≡ number

@@ -18,7 +18,8 @@ abbrev pub in_unsigned : ℕ → ℤ → Bool
 in_unsigned n (pos k) = nat_lt k (2 ^ n)
 in_unsigned n (negsuc k) = false
 
--- an element with this number: none is a text that is no number, and a number may lie outside the type
+-- an element with this number: none is a text that is no number, and a number may
+-- lie outside the type
 abbrev pub numbered : {T : Type 0} → (ℤ → Bool) → (ℤ → T) → Option ℤ → Result T Refusal
 numbered within made None = Err refusal.BadText
 numbered within made (Some z) = (if within z then Ok (made z) else Err refusal.OutOfRange)
@@ -34,7 +35,7 @@ abbrev pub gathered : {S T : Type 0} → (S → Result T Refusal) → List S →
 gathered f [] = Ok []
 gathered f (x ∷ xs) = first_and (f x) (gathered f xs)
 
--- this refusal is the first one, or memory ran out where there is none
+-- this refusal is the first one, or memory ran out if there is none
 abbrev pub Fails : {A : Type 0} → Result A Refusal → Refusal → Type 0
 Fails r e = (r ≡ Err e) ⊎ ((e ≡ refusal.OutOfMemory) × IsOk r)
 
@@ -53,7 +54,8 @@ in_base number xs base.Long = then_elements longs (gathered (λ x. numbered (in_
 in_base number xs base.Float = Err refusal.NoConvert
 in_base number xs base.Double = Err refusal.NoConvert
 
--- Each type converts to itself. FLOAT and DOUBLE convert to nothing else, and nothing else converts to them.
+-- Each type converts to itself. FLOAT and DOUBLE convert to nothing else, and nothing
+-- else converts to them.
 abbrev pub converted : Elements → BaseType → Result Elements Refusal
 converted (strings xs) base.String = Ok (strings xs)
 converted (strings xs) b = in_base (λ x. number_in (text_of x)) xs b

@@ -1,4 +1,4 @@
--- Images: how a value and its metadata stand in a payload (section "Payload Data Types").
+-- Images: how a value and its metadata are in a payload (section "Payload Data Types").
 use Rattle.std.specs.Prelude.{ℕ, ◌≡◌, ◌++◌, List, [], replicate, Result, Ok, Err}
 use Rattle.ca_text.specs.declared.refusal.Refusal.{Refusal}
 use Rattle.ca_text.specs.declared.refusal.Refusal.TheVariants as refusal
@@ -24,7 +24,8 @@ pub record Types (number : ℕ) (e : Elements) (t : DataType) : Type 0 where
   pub numbered : type_number t ≡ number
   pub based : t.base ≡ base_of e
 
--- The image of these elements and this metadata was to be written after the old bytes, with this answer, and left new.
+-- The image of these elements and this metadata was to be written after the old bytes, with this
+-- answer, and left new.
 abbrev pub Writes : ℕ → Elements → Meta → List ℕ → Result (Unit {0}) Refusal → List ℕ → Type 0
 Writes number e m old (Ok _) new = (t : DataType) × Types number e t × (new ≡ old ++ image t e m)
 Writes number e m old (Err refusal.BadType) new = ((t : DataType) → Types number e t → ⊥) × (new ≡ old)

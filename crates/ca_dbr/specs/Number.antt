@@ -11,7 +11,7 @@ text_of bytes = before_first (λ c. c == 0) bytes
 abbrev pub is_space : ℕ → Bool
 is_space c = c == 32
 
--- the number of decimal digits: each digit's worth times ten to how many digits stand after it
+-- the number of decimal digits: each digit's worth times ten to how many digits are after it
 abbrev pub digits_number : List ℕ → ℕ
 digits_number [] = 0
 digits_number (c ∷ cs) = (c - 48) * 10 ^ length cs + digits_number cs
@@ -22,12 +22,12 @@ unsigned_in text =
     let count = prefix_len is_ascii_digit text in
     if nat_lt 0 count && list_all is_space (drop count text) then Some (digits_number (take count text)) else None
 
--- a minus may stand before it
+-- a minus may be before it
 abbrev pub signed_in : List ℕ → Option ℤ
 signed_in [] = None
 signed_in (c ∷ cs) = if c == 45 then option_map (λ n. neg_ℤ (pos n)) (unsigned_in cs) else option_map pos (unsigned_in (c ∷ cs))
 
--- the number that a text is, if it is one: spaces may stand before it and after it
+-- the number that a text is, if it is one: spaces may be before it and after it
 abbrev pub number_in : List ℕ → Option ℤ
 number_in text = signed_in (drop (prefix_len is_space text) text)
 
@@ -43,7 +43,8 @@ clipped (negsuc n) = negsuc (min n (2 ^ 32 - 1))
 abbrev pub spaces : ℕ → List ℕ
 spaces n = replicate n 32
 
--- a text that is a number: spaces, an optional minus, decimal digits, spaces, and the number that they write
+-- a text that is a number: spaces, an optional minus, decimal digits, spaces, and the
+-- number that they write
 pub record IsNumberText (text : List ℕ) (z : ℤ) : Type 0 where
   pub before : ℕ
   pub minus : Bool

@@ -11,7 +11,7 @@ use Rattle.ca_dbr.specs.Elements.{Elements, strings, ints, floats, enums, chars,
 use Rattle.ca_dbr.specs.Image.{image}
 use Rattle.ca_dbr.specs.Conversion.{Fails, converted}
 
--- n elements from the front, or all where there are fewer
+-- n elements from the front, or all if there are fewer
 abbrev pub first_elements : ℕ → Elements → Elements
 first_elements n (strings xs) = strings (take n xs)
 first_elements n (ints xs) = ints (take n xs)
@@ -35,16 +35,19 @@ abbrev pub zeros_behind : ℕ → Result Elements Refusal → Result Elements Re
 zeros_behind n (Ok e) = Ok (with_zeros n e)
 zeros_behind n (Err r) = Err r
 
--- A count below the present one takes the first elements, before they are converted; after the present ones elements of zero bytes follow.
+-- A count below the present one takes the first elements, before they are converted; after the
+-- present ones elements of zero bytes follow.
 abbrev pub shown : Elements → ℕ → BaseType → Result Elements Refusal
 shown e count b = zeros_behind (count - count_of e) (converted (first_elements count e) b)
 
--- The bytes of the results were put after the old bytes, with this answer, and left new: after a refusal some bytes may stand after the old ones.
+-- The bytes of the results were put after the old bytes, with this answer, and left new: after a
+-- refusal some bytes may be after the old ones.
 abbrev pub PutsAll : {T : Type 0} → (T → List ℕ) → (T → Type 0) → Result (List T) Refusal → List ℕ → Result (Unit {0}) Refusal → List ℕ → Type 0
 PutsAll {T} spelled fits to old (Ok _) new = (ys : List T) × (to ≡ Ok ys) × (new ≡ old ++ flat_map spelled ys) × All fits ys
 PutsAll spelled fits to old (Err r) new = (to ≡ Err r) × ((x : List ℕ) × (new ≡ old ++ x))
 
--- The elements of this result were put after the old bytes, with this answer, and left new: after a refusal some bytes may stand after the old ones.
+-- The elements of this result were put after the old bytes, with this answer, and left new: after a
+-- refusal some bytes may be after the old ones.
 abbrev pub Puts : Result Elements Refusal → List ℕ → Result (Unit {0}) Refusal → List ℕ → Type 0
 Puts to old (Ok _) new = (e : Elements) × (to ≡ Ok e) × (new ≡ old ++ bytes_of e) × IsValue e
 Puts to old (Err r) new = (to ≡ Err r) × ((x : List ℕ) × (new ≡ old ++ x))
@@ -54,7 +57,8 @@ abbrev pub PutsShown : DataType → ℕ → Elements → Meta → List ℕ → R
 PutsShown t count e m old (Ok _) new = (f : Elements) × (shown e count t.base ≡ Ok f) × (new ≡ old ++ image t f m) × IsValue f
 PutsShown t count e m old (Err r) new = (shown e count t.base ≡ Err r) × ((x : List ℕ) × (new ≡ old ++ x))
 
--- The image of what a read shows was to be written after the old bytes, with this answer, and left new.
+-- The image of what a read shows was to be written after the old bytes, with this
+-- answer, and left new.
 abbrev pub WritesShown : ℕ → ℕ → Elements → Meta → List ℕ → Result (Unit {0}) Refusal → List ℕ → Type 0
 WritesShown number count e m old (Ok _) new =
     (t : DataType) × (type_number t ≡ number) × ((f : Elements) × (shown e count t.base ≡ Ok f) × (new ≡ old ++ image t f m) × IsValue f)

@@ -1,4 +1,5 @@
--- Types of values (section "Payload Data Types"): a base type, plain or with metadata before the elements.
+-- Types of values (section "Payload Data Types"): a base type, plain or with metadata
+-- before the elements.
 use Rattle.std.specs.Prelude.{ℕ, ◌+◌, ◌*◌, ◌/◌, ◌%◌, ◌==◌, if◌then◌else◌}
 use Rattle.ca_dbr.specs.declared.data_type.BaseType.{BaseType}
 use Rattle.ca_dbr.specs.declared.data_type.BaseType.TheVariants as base
@@ -54,7 +55,7 @@ meta_size form.Plain = 0
 meta_size form.Status = 4
 meta_size form.Time = 12
 
--- how many bytes stand between the metadata and the elements, as C lays the structs out
+-- how many bytes are between the metadata and the elements, as C lays the structs out
 abbrev pub padding_size : Form → BaseType → ℕ
 padding_size form.Plain _ = 0
 padding_size form.Status base.String = 0

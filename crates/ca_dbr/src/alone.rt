@@ -7,8 +7,8 @@ use crate::element::Small;
 use crate::value::Value;
 
 impl Value {
-    /// The eight bytes of a payload that has its one element alone, in the plain type of this number, as one number, the first byte the highest:
-    /// if that is its own type, and not STRING.
+    /// The eight bytes of a payload that has its one element alone, in the plain type of this
+    /// number, as one number, the first byte the highest: if that is its own type, and not STRING.
     #[inline(always)]
     pub fn alone(&self, number: u16) -> Option<u64>
         ensures some { IfSome result (λ n. IsAlone (elements self.now) number n) }

@@ -59,7 +59,7 @@ fn convert_all<S: Copy + Drop, T: Drop, C: Conversion<S, T>>(
 {
     match Vec::with_capacity(alloc, items.len()) {
         Err(_) => {
-            // Want of memory is told only where no element is at fault.
+            // Out of memory is reported only if no element is at fault.
             check_all::<S, T, C>(items)?;
             Err(Refusal::OutOfMemory)
         }
@@ -146,9 +146,9 @@ pub fn has_conversion(from: BaseType, to: BaseType) -> bool
     from == to || (has_numbers(from) && has_numbers(to))
 }
 
-/// Converts a value to the plain type of this number. Refused as BadType if there is none, as NoConvert if the types do
-/// not convert, then as BadText or OutOfRange by the first element that is no number or outside the type, then as OutOfMemory, only if there
-/// are elements.
+/// Converts a value to the plain type of this number. Refused as BadType if there is none, as
+/// NoConvert if the types do not convert, then as BadText or OutOfRange by the first element that
+/// is no number or outside the type, then as OutOfMemory, only if there are elements.
 pub fn convert(alloc: Global, value: &Value, number: u16) -> Result<Value, Refusal>
     ensures ok { IfOk result (λ v.
         (b : BaseType) × (base_number b ≡ number)

@@ -22,7 +22,7 @@ pub enum BaseType {
     Double,
 }
 
-/// What stands before the elements in an image.
+/// What is before the elements in an image.
 #[derive(Clone, Copy, Debug, PartialEq, Eq)]
 pub enum Form {
     Plain,
@@ -55,7 +55,7 @@ impl BaseType {
         }
     }
 
-    /// The plain type of this number, where there is one.
+    /// The plain type of this number, if there is one.
     pub fn of(number: u16) -> Option<BaseType>
         ensures { MatchOption result (6 < number) (λ b. base_number b ≡ number) }
     {
@@ -88,7 +88,8 @@ impl BaseType {
 }
 
 impl DataType {
-    /// The number in a message's field: 0 to 6 plain, 7 to 13 with status, 14 to 20 with a time stamp.
+    /// The number in a message's field: 0 to 6 plain, 7 to 13 with status, 14 to
+    /// 20 with a time stamp.
     pub fn number(self) -> u16
         ensures { result ≡ type_number self }
     {
@@ -100,7 +101,7 @@ impl DataType {
         self.base.number() + offset
     }
 
-    /// The type of this number, where there is one.
+    /// The type of this number, if there is one.
     pub fn of(number: u16) -> Option<DataType>
         ensures { MatchOption result (20 < number) (λ t. type_number t ≡ number) }
     {
@@ -125,7 +126,7 @@ impl DataType {
         }
     }
 
-    /// How many bytes stand between the metadata and the elements.
+    /// How many bytes are between the metadata and the elements.
     pub fn padding_size(self) -> usize
         ensures { result ≡ padding_size self.form self.base }
     {

@@ -5,7 +5,7 @@ ghost use Rattle.ca_dbr.specs.Elements.{string_bytes, byte_1, bytes_2, bytes_4, 
 
 use std::alloc::{AllocError, Global};
 
-/// An element as it stands in an image.
+/// An element as it is in an image.
 pub(crate) trait Element: Copy + Drop {
     ghost SIZE: { ℕ };
 
@@ -48,7 +48,8 @@ pub(crate) fn put_bytes(bytes: &[u8], out: &mut Vec<u8>)
     }
 }
 
-/// Puts these two bytes at the end, where room was made for them. One by one, since no room is to be asked for again.
+/// Puts these two bytes at the end, where room was made for them. One by one, since no room is
+/// to be asked for again.
 fn put_two(bytes: [u8; 2], out: &mut Vec<u8>)
     requires { vec_len out.old + 2 ≤ vec_capacity out.old }
     ensures after { out.new.items ≡ out.old.items ++ bytes }
@@ -59,7 +60,7 @@ fn put_two(bytes: [u8; 2], out: &mut Vec<u8>)
     out.push_reserved(bytes[1]);
 }
 
-/// The same with four.
+/// Puts these four bytes at the end, where room was made for them.
 fn put_four(bytes: [u8; 4], out: &mut Vec<u8>)
     requires { vec_len out.old + 4 ≤ vec_capacity out.old }
     ensures after { out.new.items ≡ out.old.items ++ bytes }
@@ -345,7 +346,8 @@ fn emptied<E: Element>(room: Vec<E>, count: usize) -> Result<Vec<E>, AllocError>
     grown(items, count)
 }
 
-/// This empty room, grown to have place for n elements. It takes the room and hands it back, so that whoever has it keeps it in registers.
+/// This empty room, grown to have place for n elements. It takes the room and hands it back, so
+/// that whoever has it keeps it in registers.
 #[inline(never)]
 fn grown<E: Element>(room: Vec<E>, count: usize) -> Result<Vec<E>, AllocError>
     requires empty { room.items ≡ [] }

@@ -23,7 +23,7 @@ pub fn image_size(number: u16, count: u32) -> Result<usize, Refusal>
     }
 }
 
-/// The size of an image, or the greatest number where it is over that.
+/// The size of an image, or the greatest number if it is over that.
 pub(crate) fn size_for(data_type: DataType, count: usize) -> usize
     ensures { result ≡ min (size_of_image data_type count) (2 ^ 64 - 1) }
 {
@@ -90,8 +90,9 @@ fn put_elements(value: &Value, out: &mut Vec<u8>)
     }
 }
 
-/// Writes the image of a value at the end of the bytes. Refused as BadType if the type does not exist or is not
-/// the value's own, then as OutOfMemory, only if there is no room for it; the bytes are then as before.
+/// Writes the image of a value at the end of the bytes. Refused as BadType if the type does not
+/// exist or is not the value's own, then as OutOfMemory, only if there is no room for it; the
+/// bytes are then as before.
 pub fn write_value(
     number: u16,
     value: &Value,

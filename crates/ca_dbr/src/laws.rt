@@ -13,8 +13,9 @@ ghost use Rattle.ca_dbr.specs.Elements.{Elements, base_of, count_of, IsValue};
 ghost use Rattle.ca_dbr.specs.Image.{image};
 ghost use Rattle.ca_dbr.specs.Reading.{carried, IsMeta, Reads};
 
-/// What was written is read again, with the metadata that its type carries and whatever stands after it, and
-/// bytes are read in one way. A number names one type, and an image has the size that is told.
+/// What was written is read again, with the metadata that its type carries and whatever
+/// is after it, and bytes are read in one way. A number names one type, and an image has
+/// the size that is told.
 pub fn one_reading()
     ensures again { (t : DataType) (e : Elements) (m : Meta) (behind : List ℕ) → t.base ≡ base_of e
         → IsValue e → IsMeta m → Reads t (count_of e) (image t e m ++ behind) e (carried t.form m) }
@@ -26,8 +27,8 @@ pub fn one_reading()
     ensures named { (t : DataType) → type_at (type_number t) ≡ t }
 {}
 
-/// A text is read as the number that it writes, and as no other; a number's own text fits a STRING and is
-/// read as that number.
+/// A text is read as the number that it writes, and as no other; a number's own text fits a STRING
+/// and is read as that number.
 pub fn one_number()
     ensures read { (text : List ℕ) (z : ℤ) → IsNumberText text z → number_in text ≡ Some z }
     ensures only { (text : List ℕ) (z : ℤ) → number_in text ≡ Some z → IsNumberText text z }
@@ -35,7 +36,8 @@ pub fn one_number()
     ensures fits { (z : ℤ) → FitsSigned w64 z → length (number_text z) ≡ 40 }
 {}
 
-/// A read shows elements of the wanted type, as many as are wanted; and what it shows of a value is a value.
+/// A read shows elements of the wanted type, as many as are wanted; and what it shows
+/// of a value is a value.
 pub fn wanted_shown()
     ensures valued { (e : Elements) (count : ℕ) (b : BaseType) (f : Elements) → IsValue e
         → shown e count b ≡ Ok f → IsValue f }
@@ -43,7 +45,8 @@ pub fn wanted_shown()
         → shown e count b ≡ Ok f → (base_of f ≡ b) × (count_of f ≡ count) }
 {}
 
-/// No conversion is told exactly where there is none; every other refusal tells of an element at fault.
+/// No conversion is told exactly if there is none; every other refusal tells of
+/// an element at fault.
 pub fn why_not_shown()
     ensures none { (e : Elements) (count : ℕ) (b : BaseType) → (HasConversion (base_of e) b → ⊥)
         → shown e count b ≡ Err NoConvert }

@@ -1,5 +1,5 @@
-//! Values of channels: the seven base types, their images in payloads with and without metadata, and the
-//! conversions between them.
+//! Values of channels: the seven base types, their images in payloads with and without metadata,
+//! and the conversions between them.
 #![tactic(auto)]
 
 mod alone;

@@ -24,7 +24,7 @@ pub(crate) fn text_of(bytes: &[u8]) -> &[u8]
     bytes
 }
 
-/// How many spaces stand at the front.
+/// How many spaces are at the front.
 fn leading_spaces(bytes: &[u8]) -> usize
     ensures count { result ≡ prefix_len is_space bytes.now }
     ensures within { result ≤ length bytes.now }
@@ -37,7 +37,7 @@ fn leading_spaces(bytes: &[u8]) -> usize
     bytes.len()
 }
 
-/// How many digits stand at the front.
+/// How many digits are at the front.
 fn leading_digits(bytes: &[u8]) -> usize
     ensures count { result ≡ prefix_len is_ascii_digit bytes.now }
     ensures within { result ≤ length bytes.now }

@@ -9,7 +9,7 @@ use ca_text::Refusal;
 
 /// An element that may be a number.
 pub(crate) trait Source: Copy + Drop {
-    /// Its number: none where it is a text that is no number.
+    /// Its number: none if it is a text that is no number.
     ghost number: { Self → Option ℤ };
 
     /// The number, or the nearest that matters.

@@ -88,8 +88,9 @@ fn read_elements(
 }
 
 impl Value {
-    /// Reads one element of the plain type of this number over the one that is there: it takes no memory, and nothing is moved. False, and nothing
-    /// changes, if it is of another type than this value, if the bytes are too few, if there are several elements, and for texts.
+    /// Reads one element of the plain type of this number over the one that is there: it does not
+    /// allocate, and nothing is moved. False, and nothing changes, if it is of another type than
+    /// this value, if the bytes are too few, if there are several elements, and for texts.
     #[inline(always)]
     pub fn read_over(&mut self, number: u16, bytes: &[u8]) -> bool
         ensures { ReadsOver number bytes.now (elements self.old) result (elements self.new) }
@@ -109,7 +110,8 @@ impl Value {
     }
 }
 
-/// Reads an element over the one that is there. False, and nothing changes, if there is not just one, or the bytes are too few.
+/// Reads an element over the one that is there. False, and nothing changes, if there is not just
+/// one, or the bytes are too few.
 #[inline(always)]
 fn read_one_over<E: Element>(items: &mut Vec<E>, bytes: &[u8]) -> bool
     ensures again { result ≡ true → flat_map E.spelled items.new.items ≡ take E.SIZE bytes.now }
@@ -127,11 +129,11 @@ fn read_one_over<E: Element>(items: &mut Vec<E>, bytes: &[u8]) -> bool
     true
 }
 
-/// Reads the image of n elements. Refused as BadType if the type does not exist, as Short if the bytes are
-/// too few, then as OutOfMemory, only if there are elements.
+/// Reads the image of n elements. Refused as BadType if the type does not exist, as Short if the
+/// bytes are too few, then as OutOfMemory, only if there are elements.
 ///
-/// A STRING of count 1 may come in fewer than 40 bytes, the missing ones are zero. Padding, and bytes after the
-/// last element, are not read. Metadata that the type does not carry is zero.
+/// A STRING of count 1 may come in fewer than 40 bytes, the missing ones are zero. Padding, and
+/// bytes after the last element, are not read. Metadata that the type does not carry is zero.
 pub fn read_value(
     alloc: Global,
     number: u16,
@@ -145,7 +147,8 @@ pub fn read_value(
     read_value_into(alloc, None, number, count, bytes)
 }
 
-/// The same into the memory of a value that is used no more, if there is one and its elements are of that type.
+/// Reads the image of n elements, as `read_value`, into the memory of a value that is no longer
+/// used, if there is one and its elements are of that type.
 #[inline(always)]
 pub fn read_value_into(
     alloc: Global,
@@ -171,8 +174,8 @@ pub fn read_value_into(
     Ok((value, meta))
 }
 
-// The memory of a value of texts, or none yet. These are in line: a vector that is handed back in memory is stored as words, and a load of 16 bytes of it
-// right after has to wait.
+// The memory of a value of texts, or none yet. These are in line: a vector that is handed back in
+// memory is stored as words, and a load of 16 bytes of it right after has to wait.
 #[inline(always)]
 fn texts_in(alloc: Global, room: Option<Value>) -> Vec<[u8; 40]> {
     match room {

@@ -16,7 +16,7 @@ use crate::numeric::{Conversion, Source, ToNumber, ToText, Whole};
 use crate::value::{Meta, Value};
 use ca_text::Refusal;
 
-/// So many elements from the front, or all where there are fewer.
+/// The first n elements, or all if there are fewer.
 fn first<T>(items: &[T], count: usize) -> &[T]
     ensures value { result.now ≡ take count items.now }
     ensures len { length result.now ≡ min count (length items.now) }
@@ -47,7 +47,8 @@ fn put_converted<S: Copy + Drop, T: Element, C: Conversion<S, T>>(
     Ok(())
 }
 
-/// Puts the elements of these numbers in a type other than STRING at the end, where room was made for them.
+/// Puts the elements of these numbers in a type other than STRING at the end, where
+/// room was made for them.
 fn put_numbers<S: Source>(items: &[S], base: BaseType, out: &mut Vec<u8>) -> Result<(), Refusal>
     requires other { base ≢ base_type.String }
     requires room { vec_len out.old + length items.now * element_size base ≤ vec_capacity out.old }
@@ -201,10 +202,11 @@ fn put_shown(
 
 /// Writes the image of a read at the end of the bytes: n elements of a value, in a type.
 ///
-/// A count below the present one takes the first elements, before they are converted; after the present ones
-/// elements of zero bytes follow. Refused as BadType if the type does not exist, as NoConvert if the value does not
-/// convert to it, then as BadText or OutOfRange by the first element at fault, then as OutOfMemory, only if there is no room for it; the bytes are
-/// then as before.
+/// A count below the present one takes the first elements, before they are converted; after
+/// the present ones elements of zero bytes follow. Refused as BadType if the type does not
+/// exist, as NoConvert if the value does not convert to it, then as BadText or OutOfRange by
+/// the first element at fault, then as OutOfMemory, only if there is no room for it; the
+/// bytes are then as before.
 pub fn write_shown(
     number: u16,
     count: u32,
@@ -227,7 +229,7 @@ pub fn write_shown(
     let start = out.len();
     match out.reserve(size_for(data_type, count)) {
         Err(_) => {
-            // Want of memory is told only where no element is at fault.
+            // Out of memory is reported only if no element is at fault.
             check_first(value, count, data_type.base)?;
             Err(Refusal::OutOfMemory)
         }

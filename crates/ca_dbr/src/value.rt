@@ -103,7 +103,7 @@ impl Value {
         }
     }
 
-    /// The same elements again. Refused as OutOfMemory, only if there are elements.
+    /// A copy of the value. Refused as OutOfMemory, only if there are elements.
     pub fn copy(&self, alloc: Global) -> Result<Value, Refusal>
         ensures ok { IfOk result (λ v. elements v ≡ elements self.now) }
         ensures err { IfErr result (λ e. (e ≡ OutOfMemory) × (count_of (elements self.now) ≢ 0)) }
@@ -120,7 +120,7 @@ impl Value {
     }
 }
 
-/// The same items in a Vec of their own. None take no memory.
+/// A copy of the items in a Vec of their own. It does not allocate if there are none.
 pub(crate) fn copied<T: Copy + Drop>(alloc: Global, items: &[T]) -> Result<Vec<T>, AllocError>
     ensures ok { IfOk result (λ v. v.items ≡ items.now) }
     ensures err { OnErr result (length items.now ≢ 0) }

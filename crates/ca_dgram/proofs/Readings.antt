@@ -47,7 +47,7 @@ whole-short bytes head whole =
     let within = whole.within in
     omega (arith, whole-start bytes head whole, header-short (take head.start bytes) head.header whole.header)
 
--- what begins with a whole message has one
+-- what begins with a complete message has one
 pub whole-some : (bytes : List ℕ) (head : Head) → IsWhole bytes head → NoneBegins bytes → ⊥
 whole-some bytes head whole none =
     none (fields_at bytes head) (take (head.start + head.header.size) bytes) (drop (head.start + head.header.size) bytes) (spells-fields_at bytes head whole) (sym (take-append-drop (head.start + head.header.size) bytes))
@@ -56,7 +56,7 @@ whole-some bytes head whole none =
 pub bad-none : (bytes : List ℕ) (e : Refusal) → BadAt bytes e → NoneBegins bytes
 bad-none bytes e bad m front back s are = spells-good m front back e s (subst (λ (t : List ℕ). BadAt t e) are bad)
 
--- where no whole message is found, none begins
+-- where no complete message is found, none begins
 pub not_whole-none : (bytes : List ℕ) (one : One) → IsOne bytes one → ((head : Head) → one ≡ Whole head → ⊥) → NoneBegins bytes
 not_whole-none bytes (Whole head) is not = absurd (not head refl)
 not_whole-none bytes More is not = is.0
@@ -89,7 +89,7 @@ begins-snoc bytes rest front back [] m begins s e = (front, back, s, begins ∙ 
 begins-snoc bytes rest front back (n ∷ ms) m begins s e =
     (begins.0, begins.1, begins.2, begins.3, begins-snoc begins.1 rest front back ms m begins.4 s e)
 
--- where more messages stand after the first ones, a message begins the bytes
+-- where more messages are after the first ones, a message begins the bytes
 pub begins-some : (bytes rest : List ℕ) (ms : List Fields) → Begins bytes ms rest → (NoneBegins rest → ⊥) → NoneBegins bytes → ⊥
 begins-some bytes rest [] begins some none = some (subst NoneBegins begins none)
 begins-some bytes rest (m ∷ ms) begins some none = none m begins.0 begins.1 begins.2 begins.3

@@ -7,8 +7,8 @@ use Rattle.ca_wire.specs.Fields.{Fields}
 use Rattle.ca_wire.specs.Message.{Spells}
 use Rattle.ca_wire.specs.Stream.{IsStream}
 
--- The messages of the longest good beginning: after them stands a rest that no whole message begins, as one that is
--- cut or has a bad header. One list of messages alone has this of the bytes.
+-- The messages of the longest good beginning: after them stands a rest that no complete message
+-- begins, as one that is cut or has a bad header. One list of messages alone has this of the bytes.
 pub record IsDatagram (bytes : List ℕ) (ms : List Fields) : Type 0 where
   pub rest : List ℕ
   pub stream : IsStream bytes ms rest

@@ -5,8 +5,8 @@ use Rattle.ca_text.specs.Command.{command_number}
 use Rattle.ca_text.specs.Limits.{minor_version}
 use Rattle.ca_wire.specs.Fields.{Fields}
 
--- RSRV_IS_UP: the count is the server's TCP port, the first parameter the beacon's number; an address of zero stands
--- for the sender's
+-- RSRV_IS_UP: the count is the server's TCP port, the first parameter the beacon's number; an
+-- address of zero stands for the sender's
 abbrev pub beacon_message : ℕ → ℕ → Fields
 beacon_message number port = record { command = command_number RsrvIsUp; data_type = minor_version; count = port; p1 = number; p2 = 0; payload = [] }
 

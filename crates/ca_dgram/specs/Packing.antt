@@ -11,7 +11,8 @@ use Rattle.ca_wire.specs.Messages.{version_reply}
 abbrev pub datagram_of : List Fields → List ℕ
 datagram_of g = spelled (version_reply ∷ g)
 
--- The datagrams of these replies, in order: each one VERSION and 42 replies, and the last what is left.
+-- The datagrams of these replies, in order: each one VERSION and 42 replies, and
+-- the last what is left.
 pub record ArePacked (replies : List Fields) (datagrams : List (List ℕ)) : Type 0 where
   pub groups : List (List Fields)
   pub all : flat_map (λ (g : List Fields). g) groups ≡ replies

@@ -25,8 +25,9 @@ impl Model for Datagram {
 }
 
 impl Datagram {
-    /// The messages of the longest good beginning of these bytes, whatever they are: a message that is not whole, or
-    /// a header that is refused, ends the reading, and what stood before it counts.
+    /// The messages of the longest good beginning of these bytes, whatever they are: a
+    /// message that is not complete, or a header that is refused, ends the reading, and what
+    /// stood before it counts.
     pub fn read(alloc: Global, bytes: &[u8]) -> Result<Datagram, Refusal>
         ensures { Reads bytes.now result }
     {

@@ -11,7 +11,8 @@ use std::net::Ipv4Addr;
 
 /// The beacon of this number, of a server that listens at this TCP port (RSRV_IS_UP).
 ///
-/// It names no address, so its receiver takes the sender's. Port 65,535 is written in these 16 bytes too.
+/// It names no address, so its receiver takes the sender's. Port 65,535 is written
+/// in these 16 bytes too.
 pub fn beacon(number: u32, port: u16) -> [u8; 16]
     ensures bytes { result ≡ short_header (header_of (beacon_message number port)) }
     ensures read { Spells result (beacon_message number port) }

@@ -1,5 +1,5 @@
-//! Datagrams: what their bytes say, searches packed into one, replies packed into several, and the three fixed messages of
-//! beacons and of the host's repeater.
+//! Datagrams: what their bytes say, searches packed into one, replies packed into several, and the
+//! three fixed messages of beacons and of the host's repeater.
 #![tactic(auto)]
 
 mod datagram;

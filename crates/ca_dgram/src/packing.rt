@@ -5,7 +5,8 @@ use ca_text::DATAGRAM_REPLIES;
 use ca_wire::{Message, spell, version_reply};
 use std::alloc::{AllocError, Global};
 
-/// The datagrams of a server's replies to searches, in order: each is a VERSION and 42 of them, and the last what is left.
+/// The datagrams of a server's replies to searches, in order: each is a VERSION and 42 of them, and
+/// the last what is left.
 ///
 /// It asks for memory only if there is a reply.
 pub fn pack_replies(alloc: Global, replies: &[Message]) -> Result<Vec<Vec<u8>>, AllocError>

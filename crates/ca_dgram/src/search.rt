@@ -9,10 +9,10 @@ use std::alloc::Global;
 /// Bytes of a header.
 const HEADER: usize = 16;
 
-/// Writes the search for this name at the end of the datagram; where that is empty, the VERSION first.
+/// Writes the search for this name at the end of the datagram; if that is empty, the VERSION first.
 ///
-/// Refused as DatagramTooLong if the datagram would have more than 1,024 bytes. A refusal changes nothing; as OutOfMemory only
-/// where the buffer has no room for it.
+/// Refused as DatagramTooLong if the datagram would have more than 1,024 bytes. A refusal changes
+/// nothing; as OutOfMemory only if the buffer has no room for it.
 pub fn search_into(cid: u32, name: &ChannelName, out: &mut Vec<u8>) -> Result<(), Refusal>
     ensures searches { Searches out.old.items cid name.now result out.new.items }
     ensures room { IfErr result (λ e. e ≡ OutOfMemory
@@ -42,7 +42,7 @@ fn opening(datagram: &[u8]) -> usize
     if datagram.is_empty() { HEADER } else { 0 }
 }
 
-/// Writes the VERSION where the datagram is empty.
+/// Writes the VERSION if the datagram is empty.
 fn begin(out: &mut Vec<u8>)
     requires { length (begun out.old.items) ≤ vec_capacity out.old }
     ensures items { out.new.items ≡ begun out.old.items }

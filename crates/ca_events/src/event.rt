@@ -26,8 +26,10 @@ pub struct Addition {
     pub value: Value,
 }
 
-/// What may happen to a world. What few events carry is in a box, so that all the others are small. Clients, servers and circuits are counted from 0, circuits in the order in which they were accepted; channels,
-/// requests and subscriptions by their client's accepted calls in its present life.
+/// What may happen to a world. What few events carry is in a box, so that all the others are
+/// small. Clients, servers and circuits are counted from 0, circuits in the order in which
+/// they were accepted; channels, requests and subscriptions by their client's accepted calls
+/// in its present life.
 #[derive(Drop)]
 pub enum Event {
     /// A client opens a channel.
@@ -92,12 +94,12 @@ pub enum Event {
     Accept {
         client: u64,
     },
-    /// So many bytes of a circuit reach the server.
+    /// This many bytes of a circuit reach the server.
     Up {
         circuit: u64,
         bytes: u64,
     },
-    /// So many bytes of a circuit reach the client.
+    /// This many bytes of a circuit reach the client.
     Down {
         circuit: u64,
         bytes: u64,

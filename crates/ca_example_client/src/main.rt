@@ -1,5 +1,5 @@
-//! A complete client, and a server of one circuit for it in a thread: the client reads a record, writes it, waits until that is done, and
-//! reads it again.
+//! A complete client, and a server of one circuit for it in a thread: the client reads a record,
+//! writes it, waits until that is done, and reads it again.
 #![tactic(auto)]
 
 use ca_client_context::{Context, Engine, Nobody, Setting, start};
@@ -17,7 +17,7 @@ use std::thread;
 use std::thread::Threads;
 use std::time::Clock;
 
-/// Waits for at most so many turns, which is long on an idle machine.
+/// Waits for at most this many turns, which is long on an idle machine.
 const TURNS: u64 = 2_000;
 
 /// The server's device, which has nothing to do.

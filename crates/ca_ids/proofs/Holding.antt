@@ -217,7 +217,7 @@ module _ {T : Type 0} where
       skip p.value i p.generation id (held_from (i + 1) t) (omega arith) (λ same. absurd (omega arith))
       ∙ there t (i + 1) k j id (omega arith) is (omega arith)
 
-  -- what has a wire id stands at its index
+  -- what has a wire id is at its index
   pub by_wire-index : (a : Contents T) (id : ℕ) → IsSound a → by_wire a.given id ≡ wired id (id % 65536) (place_at a.given (id % 65536)).generation (place_at a.given (id % 65536)).value
   by_wire-index a id sound = there a.given 0 (id % 65536) (id % 65536) id (omega arith) refl (omega (arith, sound.limit))
 

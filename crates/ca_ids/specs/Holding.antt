@@ -1,4 +1,5 @@
--- Vocabulary: what the calls of a table of wire ids answer and leave, whose values hold their ids until they are free.
+-- Vocabulary: what the calls of a table of wire ids answer and leave, whose values hold their ids
+-- until they are free.
 use Rattle.std.specs.Prelude.{◌≡◌, ◌≢◌, false, List, [], Option, Some, None, Result, Ok, Err, Vec}
 use Rattle.std.specs.declared.alloc.Global.{Global}
 use Rattle.ca_text.specs.declared.refusal.Refusal.{Refusal}
@@ -7,8 +8,8 @@ use Rattle.ca_arena.specs.declared.handle.Handle.{Handle}
 use Rattle.ca_ids.specs.Table.{IsFull, MayGive, MayGiveAll, Table, has_free, is_full, with_all_held, with_held}
 
 module _ {T : Type 0} where
-  -- From old, this value was given an id, with this answer, and left new. Memory is asked for only where no index may have
-  -- another id.
+  -- From old, this value was given an id, with this answer, and left new. Memory is asked for only
+  -- if no index may have another id.
   abbrev pub Gives : Table T → T → Result Handle (T × Refusal) → Table T → Type 0
   Gives old value (Ok handle) new = MayGive old handle × (new ≡ with_held handle value old)
   Gives old value (Err (back, refusal.ArenaFull)) new = IsFull old × (back ≡ value) × (new ≡ old)
@@ -31,7 +32,8 @@ module _ {T : Type 0} where
   IsVacantAfter t es (Ok o) = MayGiveAll t es × IsVacant (with_all_held es t) o
   IsVacantAfter t es (Err _) = es ≢ []
 
-  -- From old, these values were given the ids that were told, with this answer, and left new: all, or none.
+  -- From old, these values were given the ids that were told, with this answer, and
+  -- left new: all, or none.
   abbrev pub FillsAll : Table T → Vec (Handle × T) Global → Result (Unit {0}) (Vec (Handle × T) Global) → Table T → Type 0
   FillsAll old values (Ok _) new = MayGiveAll old values.items × (new ≡ with_all_held values.items old)
   FillsAll old values (Err back) new = (values.items ≢ []) × (back ≡ values) × (new ≡ old)

@@ -70,7 +70,8 @@ module _ {T : Type 0} where
   IsNamed ids wire (Err refusal.StaleHandle) = IsUnused ids wire
   IsNamed ids wire (Err _) = ⊥
 
-  -- a walk over the open handles from this index on: the one with the least index, with none open between
+  -- a walk over the open handles from this index on: the one with the least index,
+  -- with none open between
   abbrev pub IsFirstOpen : Ids T → ℕ → Option Handle → Type 0
   IsFirstOpen ids start None = (other : Handle) → start ≤ other.index → open_at ids other ≡ None
   IsFirstOpen ids start (Some handle) =

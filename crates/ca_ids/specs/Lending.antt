@@ -1,4 +1,4 @@
--- What a table ends as, where a `&mut` to one of its values was handed out.
+-- What a table ends as, when a `&mut` to one of its values was handed out.
 use Rattle.std.specs.Prelude.{Option}
 use Rattle.std.specs.Borrow.{Lends, LendsIf, Fml, RattleType, MutBor}
 use Rattle.ca_arena.specs.declared.handle.Handle.{Handle}
@@ -15,7 +15,8 @@ use Rattle.ca_ids.specs.Table.{Table, with_changed}
 abbrev pub lends_value : (T : RattleType) → MutBor (Entry T.Denot) → Option (MutBor T.Denot) → Fml
 lends_value T e r = LendsIf (entry.the_row T) T e r Open e.now
 
--- an open handle ends with the last value that the result refers to, and otherwise the table stays as it is
+-- an open handle ends with the last value that the result refers to, and otherwise the
+-- table stays as it is
 abbrev pub lends_found : (T : RattleType) → MutBor (Ids T.Denot) → Handle → Option (MutBor T.Denot) → Fml
 lends_found T ids handle r = LendsIf (table.the_row T) T ids r (λ value. written ids.now handle (Open value)) ids.now
 
@@ -23,6 +24,7 @@ lends_found T ids handle r = LendsIf (table.the_row T) T ids r (λ value. writte
 abbrev pub lends_held : (T : RattleType) → MutBor (Table T.Denot) → Handle → MutBor T.Denot → Fml
 lends_held T t handle r = Lends (holding.the_row T) T t r (λ (value : T.Denot). with_changed (λ (v : T.Denot). value) handle t.now)
 
--- what holds the id of a handle ends with the last value that the result refers to, and for a stale handle the table stays as it is
+-- what holds the id of a handle ends with the last value that the result refers to, and for a stale
+-- handle the table stays as it is
 abbrev pub lends_changed : (T : RattleType) → MutBor (Table T.Denot) → Handle → Option (MutBor T.Denot) → Fml
 lends_changed T t handle r = LendsIf (holding.the_row T) T t r (λ (value : T.Denot). with_changed (λ (v : T.Denot). value) handle t.now) t.now

@@ -1,4 +1,5 @@
--- Vocabulary: a table of wire ids by index, as whoever gives the ids sees it (section "Message Identifiers").
+-- Vocabulary: a table of wire ids by index, as whoever gives the ids sees it (section
+-- "Message Identifiers").
 use Rattle.std.specs.Prelude.{ℕ, ◌≡◌, ◌<◌, ◌≤◌, ◌+◌, ◌==◌, ◌&&◌, Bool, true, List, [], ◌∷◌, ◌++◌, Option, Some, None, find, if◌then◌else◌, is_some, length, map, nat_le, nat_lt, not, option_map, option_to_list, slice_set}
 use Rattle.std.specs.List.{list_any}
 use Rattle.ca_text.specs.Limits.{arena_slots, last_generation}
@@ -6,7 +7,8 @@ use Rattle.ca_arena.specs.declared.handle.Handle.{Handle}
 use Rattle.ca_arena.specs.Arena.{Place, place_at, value_for}
 use Rattle.ca_ids.specs.Wire.{wire_of}
 
--- For each index that was given: the generation given last, and what holds the id, until it is free. What drains holds its id still.
+-- For each index that was given: the generation given last, and what holds the id, until it is
+-- free. What drains holds its id still.
 abbrev pub Table : Type 0 → Type 0
 Table T = List (Place T)
 
@@ -36,7 +38,8 @@ module _ {T : Type 0} where
   abbrev pub by_wire : Table T → ℕ → Option (Handle × T)
   by_wire t id = find (λ (x : Handle × T). wire_of x.0 == id) (held t)
 
-  -- An id that may be given: nothing holds its index, or none had it, and it is the next generation there.
+  -- An id that may be given: nothing holds its index, or none had it, and it is the
+  -- next generation there.
   pub record MayGive (t : Table T) (h : Handle) : Type 0 where
     pub index : h.index ≤ length t
     pub slot : h.index < arena_slots
@@ -81,7 +84,7 @@ module _ {T : Type 0} where
   abbrev pub with_all : (T → T) → Table T → Table T
   with_all f t = map (λ (p : Place T). record p { value = option_map f p.value }) t
 
-  -- what stays of a place where the test frees its id
+  -- what stays of a place if the test frees its id
   abbrev pub kept_of : (T → Bool) → Option T → Option T
   kept_of frees None = None
   kept_of frees (Some v) = if frees v then None else Some v

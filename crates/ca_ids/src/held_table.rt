@@ -86,7 +86,8 @@ impl<T> HeldTable<T> {
 
     /// Puts `value` under a handle that was never given before, whose wire id it holds from now on.
     ///
-    /// It is refused, and handed back, if no id may be given, and if there is no memory for one more index.
+    /// It is refused, and handed back, if no id may be given, and if there is no
+    /// memory for one more index.
     pub fn open(&mut self, value: T) -> Result<Handle, (T, Refusal)>
         ensures { Gives self.old value result self.new }
     {
@@ -101,10 +102,11 @@ impl<T> HeldTable<T> {
         self.entries.vacant()
     }
 
-    /// Puts `value` under the handle that `vacant` tells, whose wire id it holds from now on: for a value whose id has to be
-    /// known before.
+    /// Puts `value` under the handle that `vacant` returns, whose wire id it holds from now on: for
+    /// a value whose id has to be known before.
     ///
-    /// It is handed back if there is no memory for one more index, or if another handle is the one to be given next.
+    /// It is handed back if there is no memory for one more index, or if another handle is the
+    /// one to be given next.
     #[inline(always)]
     pub fn open_at(&mut self, vacant: Handle, value: T) -> Result<(), T>
         ensures { Fills self.old vacant value result self.new }
@@ -112,18 +114,21 @@ impl<T> HeldTable<T> {
         self.entries.insert_at(vacant, value)
     }
 
-    /// The handle that is given once these values are put under their handles. None if no id may be given then.
+    /// The handle that is given once these values are put under their handles. None if no
+    /// id may be given then.
     ///
-    /// It is refused where these handles are not those to be given next.
+    /// It is refused if these handles are not those to be given next.
     pub fn vacant_after(&self, ahead: &[(Handle, T)]) -> Result<Option<Handle>, Refusal>
         ensures { IsVacantAfter self.now ahead.now result }
     {
         self.entries.vacant_after(ahead)
     }
 
-    /// Puts these values under their handles, which `vacant_after` told, one after another: all, or none.
+    /// Puts these values under their handles, which `vacant_after` told, one after
+    /// another: all, or none.
     ///
-    /// They are handed back if there is no memory for them, or if other handles are those to be given next; no values never are.
+    /// They are handed back if there is no memory for them, or if other handles are those to be
+    /// given next; no values never are.
     pub fn open_all(&mut self, values: Vec<(Handle, T)>) -> Result<(), Vec<(Handle, T)>>
     where
         T: Drop,
@@ -178,7 +183,8 @@ impl<T> HeldTable<T> {
         }
     }
 
-    /// Takes the value of this handle out. The handle is stale from then on, and its wire id is free.
+    /// Takes the value of this handle out. The handle is stale from then on, and
+    /// its wire id is free.
     ///
     /// No memory is asked for.
     pub fn free(&mut self, handle: Handle) -> Option<T>

@@ -68,9 +68,10 @@ impl<T> IdTable<T> {
         self.entries.free_slots()
     }
 
-    /// Opens `value` under a handle that was never given before, with a wire id that nothing has that is open or drains.
+    /// Opens `value` under a handle that was never given before, with a wire id that nothing has
+    /// that is open or drains.
     ///
-    /// It is refused, and handed back, where no slot is free, and where the room for one more is missing.
+    /// It is refused, and handed back, if no slot is free, or if the room for one more is missing.
     pub fn open(&mut self, value: T) -> Result<(Handle, WireId), (T, Refusal)>
         ensures opens { Opens self.old value result self.new }
         ensures unused { IfOk result (λ given. IsUnused self.old given.1) }
@@ -105,7 +106,7 @@ impl<T> IdTable<T> {
 
     /// The open handle that this wire id stands for.
     ///
-    /// Refused as `Draining` where its handle was retired, and as `StaleHandle` where nothing has it.
+    /// Refused as `Draining` if its handle was retired, and as `StaleHandle` if nothing has it.
     pub fn by_wire(&self, wire: WireId) -> Result<Handle, Refusal>
         ensures { IsNamed self.now wire result }
     {
@@ -132,7 +133,8 @@ impl<T> IdTable<T> {
         }
     }
 
-    /// Takes the value of this handle out. The handle is stale from then on, and its wire id drains.
+    /// Takes the value of this handle out. The handle is stale from then on,
+    /// and its wire id drains.
     ///
     /// A stale handle is refused. No memory is asked for.
     pub fn retire(&mut self, handle: Handle) -> Result<T, Refusal>

@@ -4,8 +4,8 @@ ghost use Rattle.ca_ids.specs.Wire.{wire_of};
 use ca_arena::Handle;
 use std::marker::Model;
 
-/// The 32 bits that stand for a handle on the wire: its index in the low half, and above it the low half of its
-/// generation.
+/// The 32 bits that stand for a handle on the wire: its index in the low half, and above it the low
+/// half of its generation.
 #[derive(Clone, Copy, Debug, PartialEq, Eq)]
 pub struct WireId(u32);
 

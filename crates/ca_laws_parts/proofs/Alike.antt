@@ -1,4 +1,5 @@
--- Tables that hold the same ids of a circuit, and clients that do: what is held of the circuit stays so.
+-- Tables that hold the same ids of a circuit, and clients that do: what is held of
+-- the circuit stays so.
 use Rattle.std.proofs.Common.{◌≡◌, ℕ, inl, inr, Bool, true, false, List, [], ◌∷◌, length, Some, sym, ◌∙◌, subst, arith}
 use Rattle.std.proofs.lemmas.Bool.{both_ways, cases_Bool}
 use Rattle.std.proofs.lemmas.List.{length-map}

@@ -1,5 +1,5 @@
--- The reply to a CLEAR_CHANNEL was read: the channel's CID is free, and so are the ids of its requests and subscriptions that
--- drained there.
+-- The reply to a CLEAR_CHANNEL was read: the channel's CID is free, and so are the ids of its
+-- requests and subscriptions that drained there.
 use Rattle.std.proofs.Common.{◌≡◌, ℕ, ◌<◌, ◌≤◌, inl, inr, Bool, true, false, ◌&&◌, cond, length, Some, None, refl, sym, ap, ◌∙◌, subst, arith}
 use Rattle.std.specs.Prelude.{option_map, unwrap_or}
 use Rattle.std.proofs.lemmas.Bool.{both_ways, cases_Bool}

@@ -15,7 +15,8 @@ use Rattle.ca_laws_parts.specs.CircuitSteps.{Answers}
 use Rattle.ca_laws_parts.proofs.Replies.{due-few}
 use Rattle.ca_laws_parts.proofs.CircuitTold.{reply-speaks}
 
--- what suits a CREATE_CHAN is to create a channel: a reply that is no CREATE_CH_FAIL is not its last, and it ends nothing
+-- what suits a CREATE_CHAN is to create a channel: a reply that is no CREATE_CH_FAIL is not its
+-- last, and it ends nothing
 creates-last : (intent : Intent) (m q : Fields) → Suits intent m → m.command ≡ 18 → (q.command ≡ 26 → ⊥) → IsLast q intent → ⊥
 creates-last (On a Create) m q suits is other final = other final
 creates-last (On a Clear) m q suits is other final = (let e : ◌≡◌ {A = ℕ} 12 18 = sym suits ∙ is in omega (arith, e))

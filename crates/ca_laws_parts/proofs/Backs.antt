@@ -1,4 +1,5 @@
--- From one client to another nothing more is known of its channels, requests and subscriptions: each was there before.
+-- From one client to another nothing more is known of its channels, requests and subscriptions:
+-- each was there before.
 use Rattle.std.proofs.Common.{◌≡◌, ℕ, ◌⊎◌, inl, inr, Bool, true, false, cond, List, [], ◌∷◌, Option, Some, None, refl, sym, ap, ◌∙◌, subst}
 use Rattle.std.specs.Prelude.{◌==◌, fold, length, is_none, not, option_and_then, option_map, unwrap_or}
 use Rattle.ca_arena.specs.declared.handle.Handle.{Handle}

@@ -1,4 +1,5 @@
--- A step of a server's end keeps bytes as messages: it handles the message that comes first, or closes its circuit.
+-- A step of a server's end keeps bytes as messages: it handles the message that comes first,
+-- or closes its circuit.
 use Rattle.std.proofs.Common.{◌≡◌, ℕ, ◌+◌, inl, inr, Bool, true, false, ◌&&◌, cond, eqb, List, [], ◌∷◌, ◌++◌, Option, Some, None, refl, sym, ap, ◌∙◌, subst}
 use Rattle.std.specs.Prelude.{is_some, length, map, option_map, slice_get, slice_set, unwrap_or}
 use Rattle.std.proofs.lemmas.Bool.{and_from, eq-eqb, eqb-true}
@@ -231,7 +232,8 @@ module _ (w : World) (k : ℕ) (j : Joined) (y : ServerSide) (on : At w.circuits
     | inr over ↦ inr (over.0, over.1, freed-other mid.circuits g j.at_server (Ended over.0 over.1) over.2 other, over.3)
   ]
 
-  -- A step that closes the circuit: midway its circuits told nothing, and the other ends of the core go on.
+  -- A step that closes the circuit: midway its circuits told nothing, and the other
+  -- ends of the core go on.
   pub closing-streams : (mid : World) (side : ServerSide) (left : List ℕ) (e : ServerEnd) (core said : Server) → HasEnd y.core j.at_server e → left ≡ e.link.output → mid.clients ≡ w.clients → ((l : ℕ) (s : ServerSide) → At w.servers l s → (l ≡ j.server → ⊥) → At mid.servers l s)
       → ((s : ServerSide) × At mid.servers j.server s) → ((n : ℕ) (m : Joined) → At mid.circuits n m → (c : Joined) × At w.circuits n c × Tells c m [])
       → ((g : Handle) → (g ≡ j.at_server → ⊥) → Goes y.core core g []) → ((m : Joined) (o : Option (List ℕ)) (more : (m.at_server ≡ j.at_server → ⊥)) → ends_by j.server core m ≡ o → ends_by j.server said m ≡ o)

@@ -1,4 +1,5 @@
--- What an event at a server does to the ends of its circuits, and that bytes are as messages after it.
+-- What an event at a server does to the ends of its circuits, and that bytes are
+-- as messages after it.
 use Rattle.std.proofs.Common.{◌≡◌, ℕ, ◌+◌, ◌⊎◌, inl, inr, Bool, true, false, ◌&&◌, ne_eqb, cond, eqb, List, [], ◌++◌, Option, Some, None, refl, sym, ap, ◌∙◌, subst, append_assoc}
 use Rattle.std.specs.Prelude.{is_some, length, map, option_map, unwrap_or}
 use Rattle.std.proofs.lemmas.Bool.{both_ways, cases_Bool, eq-eqb}
@@ -75,7 +76,7 @@ pub record Like (c d : Joined) : Type 0 where
   pub side : (x : ClientSide) → client_end x d ≡ client_end x c
   pub up : d.lists.up ≡ c.lists.up
 
--- and its server's end is as it was, but that it sent these messages more
+-- and its server's end is as it was, except that it sent these messages more
 pub record Tells (c d : Joined) (more : List Fields) : Type 0 where
   pub like : Like c d
   pub is_open : d.lists.server_open ≡ c.lists.server_open

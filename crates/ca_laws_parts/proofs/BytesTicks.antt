@@ -1,4 +1,5 @@
--- A moment is handed to clients: what is sent waits, and an end that fell silent leaves what waited.
+-- A moment is handed to clients: what is sent waits, and an end that fell
+-- silent leaves what waited.
 use Rattle.std.proofs.Common.{◌≡◌, ℕ, suc, zero, ◌⊎◌, inl, inr, Bool, true, false, ◌&&◌, cond, eqb, List, [], ◌∷◌, ◌++◌, Option, Some, None, refl, sym, ap, ◌∙◌, subst, append_assoc}
 use Rattle.std.specs.Prelude.{filter, find, fold, is_none, is_some, map, option_and_then, option_map, unwrap_or}
 use Rattle.std.proofs.lemmas.Bool.{and_from, both_ways, cases_Bool, eq-eqb, eqb-true}

@@ -1,4 +1,5 @@
--- What a caller, a new circuit, an end and a moment leave of the ids that a client holds on one circuit: they are held on.
+-- What a caller, a new circuit, an end and a moment leave of the ids that a client holds on one
+-- circuit: they are held on.
 use Rattle.std.proofs.Common.{◌≡◌, ℕ, inl, inr, Bool, true, false, ◌&&◌, ◌||◌, cond, List, [], ◌∷◌, ◌++◌, length, Option, Some, None, refl, sym, ap, ◌∙◌, subst}
 use Rattle.std.specs.Prelude.{Ok, filter, fold, is_some, option_and_then, option_map, unwrap_or}
 use Rattle.std.proofs.lemmas.Bool.{both_ways, cases_Bool, or_left}

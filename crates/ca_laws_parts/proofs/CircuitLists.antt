@@ -12,7 +12,7 @@ nothing-past [] j le = refl
 nothing-past (x ∷ xs) zero le = absurd (omega (arith, le))
 nothing-past (x ∷ xs) (suc j) le = nothing-past xs j (omega (arith, le))
 
--- what stands in a list that grew by one, at a place before the end
+-- what is in a list that grew by one, at a place before the end
 pub At-old : {A : Type 0} (xs : List A) (x y : A) (k : ℕ) → At (xs ++ y ∷ []) k x → k < length xs → At xs k x
 At-old xs x y k at lt = At-back xs (y ∷ []) k x at lt
 

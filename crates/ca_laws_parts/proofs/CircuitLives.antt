@@ -1,5 +1,5 @@
--- The reply to a CREATE_CHAN was read: the channel is live, and the EVENT_ADDs of its subscriptions go out; or its caller cleared it
--- meanwhile, and its CLEAR_CHANNEL goes out.
+-- The reply to a CREATE_CHAN was read: the channel is live, and the EVENT_ADDs of its subscriptions
+-- go out; or its caller cleared it meanwhile, and its CLEAR_CHANNEL goes out.
 use Rattle.std.proofs.Common.{◌≡◌, ℕ, inl, inr, Bool, true, false, ◌&&◌, ◌||◌, List, [], ◌∷◌, Option, Some, refl, sym, ap, ◌∙◌, subst}
 use Rattle.std.specs.Prelude.{map, option_map, unwrap_or}
 use Rattle.std.proofs.lemmas.Bool.{and_from, and_parts, both_ways, or_cases, or_left, or_right}

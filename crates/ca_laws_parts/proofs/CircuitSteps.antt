@@ -1,5 +1,5 @@
--- What a server's events leave of the meaning of ids: a message is handled and answered, a put is finished, a record removed,
--- updates sent.
+-- What a server's events leave of the meaning of ids: a message is handled and answered, a put is
+-- finished, a record removed, updates sent.
 use Rattle.std.proofs.Common.{◌≡◌, ℕ, ◌+◌, ◌<◌, ◌≤◌, ◌⊎◌, inl, inr, List, [], ◌∷◌, ◌++◌, length, refl, sym, ◌∙◌, subst, arith}
 use Rattle.std.specs.Prelude.{map}
 use Rattle.std.proofs.lemmas.List.{append-nil, append_assoc}

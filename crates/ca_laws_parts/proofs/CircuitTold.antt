@@ -1,5 +1,5 @@
--- What a server says later of a message that it handled speaks of that message alone: a finish, a removal, an update; and its
--- replies.
+-- What a server says later of a message that it handled speaks of that message alone: a finish, a
+-- removal, an update; and its replies.
 use Rattle.std.proofs.Common.{◌≡◌, ℕ, inl, inr, List, Ok, Err, Result, refl, sym, subst}
 use Rattle.ca_text.specs.declared.command.Command.TheVariants as command
 use Rattle.ca_text.specs.declared.refusal.Refusal.{Refusal}

@@ -1,4 +1,5 @@
--- A caller clears a live channel: its CLEAR_CHANNEL goes out, its CID and the ids of its requests and subscriptions drain.
+-- A caller clears a live channel: its CLEAR_CHANNEL goes out, its CID and the ids of its requests
+-- and subscriptions drain.
 use Rattle.std.proofs.Common.{◌≡◌, ℕ, ◌<◌, ◌≤◌, inl, inr, Bool, true, false, ◌&&◌, ◌||◌, cond, [], ◌∷◌, ◌++◌, length, Option, Some, None, refl, sym, ap, ◌∙◌, subst, arith}
 use Rattle.std.specs.Prelude.{option_map, unwrap_or}
 use Rattle.std.proofs.lemmas.Bool.{and_from, and_parts, both_ways, or_cases, or_left, or_right}

@@ -1,4 +1,5 @@
--- What each call of a client's core leaves of what is known of it and one circuit, whatever its peers send; and so what it sends is legal.
+-- What each call of a client's core leaves of what is known of it and one circuit, whatever its
+-- peers send; and so what it sends is legal.
 use Rattle.std.proofs.Common.{◌≡◌, ℕ, ◌⊎◌, inl, inr, Bool, true, false, ◌<◌, cond, List, [], ◌∷◌, ◌++◌, length, Option, Some, None, refl, sym, ap, ◌∙◌, subst, arith}
 use Rattle.std.specs.Prelude.{Err, Ok, Result, filter, fold, is_none, is_some, map, option_and_then, option_map, option_to_list, unwrap_or}
 use Rattle.std.specs.List.{FoldsTo}

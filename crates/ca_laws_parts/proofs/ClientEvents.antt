@@ -1,4 +1,5 @@
--- Events at a client keep bytes as messages: its calls, what is handed out, datagrams, a step, a cut, and a new life.
+-- Events at a client keep bytes as messages: its calls, what is handed out, datagrams, a step, a
+-- cut, and a new life.
 use Rattle.std.proofs.Common.{◌≡◌, ℕ, ◌+◌, inl, inr, Bool, true, false, ◌&&◌, cond, eqb, List, [], ◌∷◌, ◌++◌, Option, Some, None, refl, sym, ap, ◌∙◌, subst}
 use Rattle.std.specs.Prelude.{is_none, length, map, slice_set}
 use Rattle.std.proofs.lemmas.Bool.{and_from, both_ways, cases_Bool, eq-eqb, eqb-true}

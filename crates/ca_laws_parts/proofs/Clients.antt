@@ -1,4 +1,5 @@
--- What an event at a client does to the ends of its circuits, and that bytes are as messages after it.
+-- What an event at a client does to the ends of its circuits, and that bytes are
+-- as messages after it.
 use Rattle.std.proofs.Common.{◌≡◌, ℕ, ◌+◌, inl, inr, Bool, true, false, ◌&&◌, cond, eqb, List, [], ◌∷◌, ◌++◌, Option, Some, None, refl, sym, ap, ◌∙◌, subst}
 use Rattle.std.specs.Prelude.{filter, is_none, length, map, option_map, slice_set, unwrap_or}
 use Rattle.std.proofs.lemmas.Bool.{and_from, both_ways, cases_Bool, eq-eqb, eqb-true}

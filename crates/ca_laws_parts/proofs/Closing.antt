@@ -1,4 +1,5 @@
--- A step of a server's end that closes its circuit and does nothing else; and what stays open as a message is handled.
+-- A step of a server's end that closes its circuit and does nothing else; and what stays open as
+-- a message is handled.
 use Rattle.std.proofs.Common.{ℕ, Bool, false, List, [], refl, sym, subst}
 use Rattle.ca_arena.specs.declared.handle.Handle.{Handle}
 use Rattle.ca_ids.specs.Table.{same_handle}

@@ -1,4 +1,5 @@
--- What it leaves of what is known of a client and one circuit that a circuit is connected, and that an end ends.
+-- What it leaves of what is known of a client and one circuit that a circuit is connected,
+-- and that an end ends.
 use Rattle.std.proofs.Common.{◌≡◌, ℕ, zero, suc, ◌+◌, ◌⊎◌, inl, inr, Bool, true, false, cond, List, [], ◌∷◌, ◌++◌, length, Option, Some, None, refl, sym, ap, ◌∙◌, subst, arith}
 use Rattle.std.specs.Prelude.{filter, filter_map, is_none, map, option_and_then}
 use Rattle.std.specs.List.{cons_option}

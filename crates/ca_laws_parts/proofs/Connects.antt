@@ -1,5 +1,5 @@
--- A circuit is connected: its set-up goes out, and the CREATE_CHANs of the channels that waited for it; and messages of a circuit as a
--- whole.
+-- A circuit is connected: its set-up goes out, and the CREATE_CHANs of the channels that waited for
+-- it; and messages of a circuit as a whole.
 use Rattle.std.proofs.Common.{◌≡◌, ℕ, ◌≤◌, inl, inr, Bool, true, false, ◌&&◌, cond, List, [], ◌∷◌, ◌++◌, length, Option, Some, None, refl, sym, ap, ◌∙◌, subst, arith}
 use Rattle.std.specs.Prelude.{map, option_map, unwrap_or}
 use Rattle.std.proofs.lemmas.Bool.{both_ways, cases_Bool, or_cases, and_parts}

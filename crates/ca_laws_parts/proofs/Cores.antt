@@ -1,4 +1,5 @@
--- What each call of a server's core makes of the ends that were open: each is open after it, or has ended, and its waiting puts are withdrawn.
+-- What each call of a server's core makes of the ends that were open: each is open after it, or has
+-- ended, and its waiting puts are withdrawn.
 use Rattle.std.proofs.Common.{◌≡◌, ℕ, zero, suc, ◌+◌, ◌⊎◌, inl, inr, Bool, true, false, cond, not, ◌&&◌, ◌||◌, List, [], ◌∷◌, Option, Some, None, refl, sym, ap, subst, ◌∙◌, arith}
 use Rattle.std.specs.Prelude.{Ok, filter, option_map}
 use Rattle.ca_arena.specs.Arena.{Place}

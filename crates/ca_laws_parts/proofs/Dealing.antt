@@ -1,4 +1,5 @@
--- What is due for a message: it is quiet, or it creates a channel, clears one, adds a subscription or drops one.
+-- What is due for a message: it is quiet, or it creates a channel, clears one, adds a
+-- subscription or drops one.
 use Rattle.std.proofs.Common.{◌≡◌, ℕ, zero, suc, inl, inr, Bool, true, false, ◌||◌, cond, eqb, List, [], ◌∷◌, refl, sym, ap, ◌∙◌, subst, arith}
 use Rattle.std.specs.Prelude.{is_some}
 use Rattle.std.proofs.lemmas.Bool.{both_ways}

@@ -180,7 +180,8 @@ and-true : (a b : Bool) → a ≡ true → a && b ≡ false → b ≡ false
 and-true true b e h = h
 and-true false b e h = absurd cc
 
--- A write that is applied is that of its message; if it makes its record busy, the message is a put, and the record is slow and idle.
+-- A write that is applied is that of its message; if it makes its record busy, the message is a
+-- put, and the record is slow and idle.
 pub due-applies : (k : Knows) (m : Fields) (replies : List Fields) (name : List ℕ) (value : Elements) (busies : Bool) → Due k m replies (Applies name value busies) → (to : WritesTo k m name value) × (busies ≡ true → Is command.WriteNotify m × (to.known.state.slow ≡ true) × (to.known.busy ≡ false))
 due-applies k m replies name value busies due = elim (writes-only k m replies (Applies name value busies) due tt) [
   | inl is ↦ elim (due.write is) [ inl served ↦ wrote served | inr stray ↦ absurd (let x : Applies name value busies ≡ Nothing = stray.3 in cc) ]

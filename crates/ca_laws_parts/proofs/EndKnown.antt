@@ -1,4 +1,5 @@
--- What a server's end knows of a circuit, by what it read and sent there alone, and what each message and removal leaves of that.
+-- What a server's end knows of a circuit, by what it read and sent there alone, and what each
+-- message and removal leaves of that.
 use Rattle.std.proofs.Common.{◌≡◌, ◌≢◌, ℕ, zero, suc, ◌+◌, ◌<◌, ◌≤◌, ◌⊎◌, inl, inr, false, List, [], ◌∷◌, ◌++◌, length, Option, Some, None, refl, sym, ap, ◌∙◌, subst, arith}
 use Rattle.std.specs.Prelude.{◌==◌, filter, map, nat_eq, not, option_map, unwrap_or}
 use Rattle.std.proofs.lemmas.Bool.{and_from, both_ways, eq-eqb}
@@ -24,13 +25,14 @@ use Rattle.ca_laws_parts.specs.Conduct.{with_all_sent, with_read}
 use Rattle.ca_laws_parts.proofs.Growing.{Grows, IsTold, grows-sent, longer}
 use Rattle.ca_laws_parts.proofs.Spoken.{NoCancel, NoClear, NoDisconnect, WasCleared, cancel-read, cancel-sent, clear-read, clear-sent, disconnect-sent, read-now, since-read, was-read, was-sent}
 
--- A channel that is open was created by the message at place i, under its SID and CID, and not cleared since; nor was its record removed,
--- unless it is retired.
+-- A channel that is open was created by the message at place i, under its SID and CID, and not
+-- cleared since; nor was its record removed, unless it is retired.
 abbrev pub ChannelKnown : Conduct → (sid : ℕ) → OpenChannel → Type 0
 ChannelKnown k sid o =
     (i : ℕ) × (m : Fields) × At k.sent i m × Creates m sid × (m.p1 ≡ o.cid) × NoClear k i sid × (o.retired ≡ false → NoDisconnect k i o.cid)
 
--- A subscription is on a channel that is open and not retired; its EVENT_ADD was read there, and no cancel of it since.
+-- A subscription is on a channel that is open and not retired; its EVENT_ADD was read there, and
+-- no cancel of it since.
 abbrev pub SubKnown : Table OpenChannel → Conduct → (sid id : ℕ) → Type 0
 SubKnown t k sid id =
     (h : Handle) × (o : OpenChannel) × (under t h ≡ Some o) × (wire_of h ≡ sid) × (o.retired ≡ false)
@@ -220,7 +222,8 @@ module _ (t : Table OpenChannel) (subs : List Subscription) (e : Conduct) (m : F
 abbrev pub NoneCreate : List Fields → Type 0
 NoneCreate ms = (q : ℕ) (m : Fields) → At ms q m → Is command.CreateChannel m → ⊥
 
--- messages by which no channel is created: those for whose CIDs a SERVER_DISCONN goes out are retired by then
+-- messages by which no channel is created: those for whose CIDs a SERVER_DISCONN goes
+-- out are retired by then
 pub end-sent : (t : Table OpenChannel) (subs : List Subscription) (e : Conduct) (ms : List Fields) → IsTold e → EndKnown t subs e → NoneCreate ms
     → ((q : ℕ) (m : Fields) (h : Handle) (o : OpenChannel) → At ms q m → IsDisconnect o.cid m → under t h ≡ Some o → o.retired ≡ false → ⊥)
     → EndKnown t subs (with_all_sent ms e)
@@ -264,7 +267,8 @@ end-sent t subs e ms told known none retired = record {
       );
 }
 
--- A channel is created: the reply is the last of these messages, under a SID that may be given, and its CID is in use by no other.
+-- A channel is created: the reply is the last of these messages, under a SID that may be given, and
+-- its CID is in use by no other.
 pub end-created : (t : Table OpenChannel) (subs : List Subscription) (e : Conduct) (first last : Fields) (h : Handle) (o : OpenChannel) → IsTold e → EndKnown t subs e → MayGive t h
     → (Is command.CreateChannel first → ⊥) → (Is command.ServerDisconnect first → ⊥) → Creates last (wire_of h) → last.p1 ≡ o.cid
     → ((g : Handle) (p : OpenChannel) → under t g ≡ Some p → p.cid ≡ o.cid → ⊥) → EndKnown (with_held h o t) subs (with_all_sent (first ∷ last ∷ []) e)

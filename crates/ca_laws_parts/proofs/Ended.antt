@@ -1,4 +1,5 @@
--- Other messages that a client reads: access rights, a creation that failed, and a cancel that is confirmed.
+-- Other messages that a client reads: access rights, a creation that failed, and a
+-- cancel that is confirmed.
 use Rattle.std.proofs.Common.{◌≡◌, ℕ, ◌<◌, ◌≤◌, ◌⊎◌, inl, inr, Bool, true, false, cond, length, Option, Some, None, refl, sym, ap, ◌∙◌, subst, arith}
 use Rattle.std.specs.Prelude.{◌&&◌, option_and_then, option_map, unwrap_or}
 use Rattle.std.proofs.lemmas.Bool.{both_ways, or_left}
@@ -202,8 +203,8 @@ on-is a n p q e = cc
 channel-is : (a b : ℕ) (p q r s : Ask) (n : ℕ) → history.On a p ≡ history.On n q → history.On b r ≡ history.On n s → a ≡ b
 channel-is a b p q r s n e f = on-is a n p q e ∙ sym (on-is b n r s f)
 
--- A confirmation that finds a cancelled subscription frees its id: before the EVENT_CANCEL it was subscribed to, and after it
--- nothing was sent about it.
+-- A confirmation that finds a cancelled subscription frees its id: before the EVENT_CANCEL it was
+-- subscribed to, and after it nothing was sent about it.
 pub confirmation-heard : (Awaits : ℕ → Type 0) (on : Handle) (n : Names) (x : Client) (c : Circuit) (g : Step) (t : Told) (s : Sent) (q : Handle) (channel number : ℕ) → Flows Awaits c → Holds Awaits on n x c → OnChannels n x c
     → At c.down (length c.heard) t → t.cause ≡ Reply → Is command.EventAdd t.message → At c.up t.place s → s.intent ≡ history.On channel (Cancel number) → confirmed_by on t.message.p2 x.subscriptions ≡ Some q
     → ((p : ℕ) (r : Sent) → At c.up p r → named (SubId (wire_of q)) r.intent ≡ Some number → ((p < t.place) × ((a : ℕ) × (r.intent ≡ history.On a (Subscribe number)))) ⊎ (p ≡ t.place))

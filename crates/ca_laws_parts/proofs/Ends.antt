@@ -1,4 +1,5 @@
--- The end of a circuit, and what else a client does on one circuit: other circuits see no difference.
+-- The end of a circuit, and what else a client does on one circuit: other
+-- circuits see no difference.
 use Rattle.std.proofs.Common.{◌≡◌, ℕ, suc, inl, inr, Bool, true, false, ◌&&◌, List, [], ◌∷◌, Option, Some, None, refl, sym, ap, ◌∙◌, subst}
 use Rattle.std.specs.Prelude.{fold, not, option_map, unwrap_or}
 use Rattle.std.proofs.lemmas.Bool.{both_ways, cases_Bool, or_cases, and_parts}
@@ -126,7 +127,7 @@ pub subscription-elsewhere : (on : Handle) (x : Client) (g : Handle) (d : Subscr
 subscription-elsewhere on x g d is away =
     with-others on x (without_subscription g x) refl (alike-itself (was_sent_on on) x.requests) (freed-alike (has_id x.channels on) x.subscriptions g d is away)
 
--- the ids of a channel drain no more on its circuit
+-- the ids of a channel no longer drain on its circuit
 drained-elsewhere : (c on h : Handle) (x : Client) → (c ≡ on → ⊥) → Attached x → ((ch : Channel) → under x.channels h ≡ Some ch → is_on_in was_live on ch ≡ false) → HoldAlike on x (without_drained c h x)
 drained-elsewhere c on h x other attached never =
     with-others on x (without_drained c h x) refl

@@ -1,4 +1,5 @@
--- What search replies and datagrams leave of what is known of a client and one circuit, whoever sent them.
+-- What search replies and datagrams leave of what is known of a client and one
+-- circuit, whoever sent them.
 use Rattle.std.proofs.Common.{◌≡◌, ℕ, ◌⊎◌, inl, inr, false, List, [], ◌∷◌, Option, Some, None, refl, sym, ap, ◌∙◌, subst, arith}
 use Rattle.std.specs.Prelude.{is_none, option_and_then}
 use Rattle.ca_text.specs.Place.{At}

@@ -1,4 +1,5 @@
--- A search reply: a channel that is searched for is put on a circuit, and what is held of each circuit of its client stays so.
+-- A search reply: a channel that is searched for is put on a circuit, and what is held of each
+-- circuit of its client stays so.
 use Rattle.std.proofs.Common.{◌≡◌, ℕ, inl, inr, false, List, [], ◌∷◌, Option, Some, None, refl, sym, ◌∙◌, subst}
 use Rattle.ca_text.specs.Place.{At}
 use Rattle.ca_arena.specs.declared.handle.Handle.{Handle}

@@ -1,4 +1,5 @@
--- The finish of a busy put keeps bytes as messages, and handles: its reply goes down the circuit on which the put came.
+-- The finish of a busy put keeps bytes as messages, and handles: its reply goes down the circuit
+-- on which the put came.
 use Rattle.std.proofs.Common.{◌≡◌, ℕ, ◌⊎◌, inl, inr, true, List, [], ◌∷◌, ◌++◌, Option, Some, None, refl, sym, ap, ◌∙◌, subst}
 use Rattle.std.specs.Prelude.{map, option_map, slice_get, slice_set, unwrap_or}
 use Rattle.std.proofs.lemmas.Bool.{cases_Bool}

@@ -100,7 +100,7 @@ pub fits-sending : (sent : List Sending) (x : Client) → ClientFits x → Clien
 fits-sending [] x f = f
 fits-sending (s ∷ sent) x f = fits-sending sent (with_one_sent x s) (fits-on _ s.circuit x f)
 
--- a channel stands elsewhere
+-- a channel is elsewhere
 pub standing-fits : (s : Standing) (h : Handle) (x : Client) → ((c : Handle) (n : Native) (r : ℕ) → s ≡ On c (Live n r) → (n.sid < 2 ^ 32) × (n.count < 2 ^ 32)) → ClientFits x → ClientFits (with_standing s h x)
 standing-fits s h x live f = record {
   user = f.user;

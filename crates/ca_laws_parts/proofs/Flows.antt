@@ -1,4 +1,5 @@
--- How the meaning of ids is kept as the lists grow: a message is sent, one is told, one is handled, one is read.
+-- How the meaning of ids is kept as the lists grow: a message is sent, one is told, one is
+-- handled, one is read.
 use Rattle.std.proofs.Common.{◌≡◌, ℕ, ◌+◌, ◌<◌, ◌≤◌, ◌⊎◌, inl, inr, List, [], ◌∷◌, ◌++◌, length, refl, sym, ap, ◌∙◌, subst, arith}
 use Rattle.ca_text.specs.Place.{At}
 use Rattle.ca_text.proofs.Places.{At-append, At-one, At-or, At-snoc, At-within}

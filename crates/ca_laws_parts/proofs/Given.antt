@@ -1,4 +1,5 @@
--- The ids that a client gives on one circuit: what it sends gives ids that it holds then, of indices that it held not.
+-- The ids that a client gives on one circuit: what it sends gives ids that it holds then, of
+-- indices that it held not.
 use Rattle.std.proofs.Common.{◌≡◌, ℕ, zero, suc, ◌+◌, ◌%◌, ◌<◌, ◌≤◌, ◌⊎◌, inl, inr, true, List, [], ◌∷◌, ◌++◌, length, Option, Some, None, refl, sym, ap, ◌∙◌, subst, arith}
 use Rattle.std.specs.List.{cons_option}
 use Rattle.std.specs.Prelude.{filter_map}
@@ -22,7 +23,8 @@ use Rattle.ca_model.proofs.Tables.{given-none, one-at-index, one-value, place, u
 use Rattle.ca_laws_parts.specs.Held.{AreFew, IsHeld, has_id, is_asked}
 use Rattle.ca_laws_parts.proofs.Rests.{FreesCid, FreesIoid, FreesSub, Rests, RestsBut}
 
--- An id, which this message gave, is held on the circuit of this handle; a request asks by the command of the message.
+-- An id, which this message gave, is held on the circuit of this handle; a request asks by the
+-- command of the message.
 abbrev pub HeldBy : (on : Handle) → Client → Fields → Id → Type 0
 HeldBy on x m (Cid n) = IsHeld (is_on_in is_asked on) x.channels n
 HeldBy on x m (Ioid n) = (q : Handle) × (r : Request) × (under x.requests q ≡ Some r) × (wire_of q ≡ n) × (was_sent_on on r ≡ true) × (m.command ≡ command_number (command_of r.asked))

@@ -1,4 +1,5 @@
--- What one end did on a circuit, as more is read and sent: what was said of earlier messages stays so.
+-- What one end did on a circuit, as more is read and sent: what was said of
+-- earlier messages stays so.
 use Rattle.std.proofs.Common.{◌≡◌, ◌≢◌, ℕ, ◌+◌, ◌<◌, ◌≤◌, ◌⊎◌, inl, inr, List, [], ◌∷◌, length, Some, refl, ◌∙◌, subst, arith}
 use Rattle.std.proofs.lemmas.List.{length-append}
 use Rattle.ca_text.specs.declared.command.Command.TheVariants as command
@@ -33,7 +34,8 @@ Asked e i cid =
     (s : Fields) × At e.sent i s × Gives s (Cid cid)
     × ((l : ℕ) (r : Fields) → i < l → At e.sent l r → Is command.ClearChannel r → r.p2 ≢ cid)
 
--- No SERVER_DISCONN for this CID was read after what was read at place j, among what was read after message i.
+-- No SERVER_DISCONN for this CID was read after what was read at place j, among what was
+-- read after message i.
 abbrev pub StaysConnected : Conduct → (i j cid : ℕ) → Type 0
 StaysConnected e i j cid = (l : ℕ) (r : Fields) → j < l → ReadsBetween e i (length e.sent) l r → IsDisconnect cid r → ⊥
 

@@ -1,4 +1,5 @@
--- A step of a server's end that handles a message: what is held of its circuit and of the others stays so.
+-- A step of a server's end that handles a message: what is held of its circuit and of
+-- the others stays so.
 use Rattle.std.proofs.Common.{◌≡◌, ℕ, Bool, true, false, ◌&&◌, cond, eqb, List, [], ◌∷◌, length, refl, sym, ◌∙◌, subst}
 use Rattle.std.specs.Prelude.{map}
 use Rattle.std.specs.List.{fold}

@@ -1,4 +1,5 @@
--- What a message that a server handles leaves of what is known of it and one circuit, whoever sent it.
+-- What a message that a server handles leaves of what is known of it and one
+-- circuit, whoever sent it.
 use Rattle.std.proofs.Common.{◌≡◌, ℕ, zero, suc, ◌+◌, ◌<◌, ◌≤◌, ◌%◌, inl, inr, Bool, true, false, List, [], ◌∷◌, length, Some, refl, sym, ap, ◌∙◌, subst, arith}
 use Rattle.std.specs.Prelude.{filter, not}
 use Rattle.std.proofs.lemmas.Bool.{both_ways}

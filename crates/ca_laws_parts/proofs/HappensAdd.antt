@@ -1,4 +1,5 @@
--- Events at a server by which no circuit ends at once: a record is added, bytes come and go, a circuit is made; and a restart.
+-- Events at a server by which no circuit ends at once: a record is added, bytes come and go, a
+-- circuit is made; and a restart.
 use Rattle.std.proofs.Common.{◌≡◌, ℕ, ◌+◌, ◌≤◌, inl, inr, Bool, true, false, cond, ◌&&◌, eq-eqb, List, [], ◌∷◌, ◌++◌, length, Option, Some, None, refl, sym, ap, subst, ◌∙◌, append-nil, arith}
 use Rattle.std.specs.Prelude.{drop, is_some, slice_set, take}
 use Rattle.std.proofs.lemmas.List.{length-append}

@@ -1,4 +1,5 @@
--- All that a client sends as it hears a message are messages, and its core fits messages after that.
+-- All that a client sends as it hears a message are messages, and its core fits
+-- messages after that.
 use Rattle.std.proofs.Common.{◌≡◌, ℕ, zero, suc, ◌^◌, ◌<◌, ◌≤◌, inl, inr, Bool, true, false, ◌==◌, ◌&&◌, cond, List, [], ◌∷◌, length, Option, Some, None, refl, sym, ap, ◌∙◌, subst}
 use Rattle.std.specs.Prelude.{filter, option_and_then, option_map}
 use Rattle.ca_arena.specs.declared.handle.Handle.{Handle}

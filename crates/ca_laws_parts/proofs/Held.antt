@@ -71,7 +71,8 @@ module _ {T : Type 0} (kind : ℕ → Id) (meant : Handle → Intent) where
       ];
     }
 
-    -- nothing that may still come speaks of the id of what is in the table and does not have its id here
+    -- nothing that may still come speaks of the id of what is in the table and does
+    -- not have its id here
     pub ids-away : (here : Handle → T → Bool) (t : Table T) (c : Circuit) (q : Handle) (u : T) → under t q ≡ Some u → here q u ≡ false → HoldsIdsBy Awaits kind here meant t c → (p : ℕ) → IsPending Awaits c p (kind (wire_of q)) → ⊥
     ids-away here t c q u is away h p pending =
         let holder = h.busy p (wire_of q) pending in
@@ -79,7 +80,8 @@ module _ {T : Type 0} (kind : ℕ → Id) (meant : Handle → Intent) where
         let value : holder.1 ≡ u = one-value t q holder.1 u (subst (λ (x : Handle). under t x ≡ Some holder.1) same holder.2) is in
         both_ways (here q u) away (subst (λ (x : Handle × T). here x.0 x.1 ≡ true) (λ i. (same i, value i)) holder.4)
 
-    -- the table and its test change, and the lists stay: what is pending stays held, and nothing is held again
+    -- the table and its test change, and the lists stay: what is pending stays held, and
+    -- nothing is held again
     pub ids-kept-by : (here there : Handle → T → Bool) (t u : Table T) (c : Circuit) → length u ≤ arena_slots
         → ((p n : ℕ) → IsPending Awaits c p (kind n) → IsHeldBy here t n → IsHeldBy there u n)
         → ((g : Handle) (v : T) → under u g ≡ Some v → there g v ≡ true → (w : T) × (under t g ≡ Some w) × (here g w ≡ true))

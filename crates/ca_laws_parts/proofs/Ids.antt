@@ -1,4 +1,5 @@
--- A message that a client reads about a request or a subscription: what it does to the client's tables.
+-- A message that a client reads about a request or a subscription: what it does to
+-- the client's tables.
 use Rattle.std.proofs.Common.{◌≡◌, ℕ, ◌⊎◌, inl, inr, Bool, true, false, ◌&&◌, ◌||◌, cond, eqb, List, [], Option, Some, None, refl, sym, ap, ◌∙◌, subst, arith}
 use Rattle.std.specs.Prelude.{option_map, unwrap_or}
 use Rattle.std.proofs.lemmas.Bool.{both_ways, cases_Bool, eqb-true}

@@ -100,7 +100,7 @@ step-switched on vs ns s = record {
 
 -- ---- a take
 
--- the entry that a take gives is in front
+-- the entry that a take returns is in front
 front-taken : {E : Type 0} (on : Bool) (q : List (SubKey × E)) (w : SubKey × E) → taken on q ≡ Some w → front q ≡ Some w
 front-taken {E} on q w is = go (may_take on q) is
   where

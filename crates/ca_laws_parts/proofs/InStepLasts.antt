@@ -1,4 +1,4 @@
--- Ends and circuits stay in step: the same subscriptions stand in both, and the same updates wait.
+-- Ends and circuits stay in step: the same subscriptions are in both, and the same updates wait.
 use Rattle.std.proofs.Common.{◌≡◌, ℕ, false, List, [], ◌∷◌, ◌++◌, refl, sym, ap, subst, ◌∙◌}
 use Rattle.std.specs.Prelude.{filter, length, map, option_map, slice_get, slice_set, unwrap_or}
 use Rattle.std.specs.List.{FoldsTo, fold}

@@ -134,7 +134,7 @@ module _ (s : Setting) (w new : World) (i l : ℕ) (y : ServerSide) (name : List
   less : l < length w.circuits → (p : ℕ) → In (kept new l) p → In (kept w l) p
   less within p there = elim (kept-from s w new (event.Finish i name) l p ok takes h happens within there) [ inl old ↦ old | inr own ↦ absurd own ]
 
-  -- the log tells that the put is finished, and was applied
+  -- the log says that the put is finished, and was applied
   own : Lives w i y
   own = h.writes.lives i y at
 
@@ -170,7 +170,7 @@ module _ (s : Setting) (w new : World) (i l : ℕ) (y : ServerSide) (name : List
       subst (λ (z : World). At z.servers i next) (sym f.leaves)
       (set-here mid.servers i side next (subst (λ (ss : List ServerSide). At ss i side) (sym (told-servers f.p f.sent told)) (set-here w.servers i y side at)))
 
-  -- no put stands at its place any more
+  -- no put is at its place any more
   no-put : Sound s new → PutIn next.records f.p → ⊥
   no-put sound put =
       let lives = sound.writes.lives i next there-next in

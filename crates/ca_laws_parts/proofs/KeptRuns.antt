@@ -1,4 +1,4 @@
--- What stands on circuits, over every event and run; and the events after which a server may send less.
+-- What is on circuits, over every event and run; and the events after which a server may send less.
 use Rattle.std.proofs.Common.{◌≡◌, ℕ, ◌⊎◌, inl, inr, true, List, length, Option, sym, subst}
 use Rattle.ca_text.specs.Place.{At}
 use Rattle.ca_text.proofs.Places.{At-within}

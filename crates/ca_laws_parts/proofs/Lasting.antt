@@ -1,4 +1,5 @@
--- What holds of each open end of a server and of its circuit stays so as an event goes by, if each change of the two keeps it.
+-- What holds of each open end of a server and of its circuit stays so as an event goes by, if each
+-- change of the two keeps it.
 use Rattle.std.proofs.Common.{◌≡◌, ℕ, ◌≤◌, ◌⊎◌, inl, inr, true, List, [], ◌++◌, length, Option, Some, refl, sym, ap, subst, ◌∙◌}
 use Rattle.std.specs.Prelude.{filter, is_some, map, replicate, slice_set}
 use Rattle.std.specs.List.{FoldsTo, fold}
@@ -78,8 +79,9 @@ module _ (P : ℕ → ServerEnd → Joined → Type 0) where
   AllEnds w = (n : ℕ) (c : Joined) (y : ServerSide) (e : ServerEnd) → At w.circuits n c → At w.servers c.server y → c.lists.server_open ≡ true
       → HasEnd y.core c.at_server e → P n e c
 
-  -- Each change of an end and its circuit, of this number, keeps it: what happens at the client, and to bytes; a post; a removal; updates
-  -- that leave their queues; and a late reply. A new circuit has it.
+  -- Each change of an end and its circuit, of this number, keeps it: what happens at the
+  -- client, and to bytes; a post; a removal; updates that leave their queues; and a late reply.
+  -- A new circuit has it.
   pub record Lasting : Type 0 where
     pub stays : (n : ℕ) (e f : ServerEnd) (c d : Joined) → SameHeld e f → Goes c d → P n e c → P n f d
     pub posted : (n : ℕ) (name : List ℕ) (mask : ℕ) (v : Stored) (e : ServerEnd) (c : Joined) → P n e c → P n (with_post name mask v e) (numbered_for name mask e c)
@@ -115,7 +117,8 @@ module _ (P : ℕ → ServerEnd → Joined → Type 0) where
         | inr old ↦ all n c z e on old.0 opened has
       ]
 
--- An event at server i, after which its core is this. The law says what it makes of each circuit of the server that is open then.
+-- An event at server i, after which its core is this. The law says what it makes of each circuit of
+-- the server that is open then.
 module _ (P : ℕ → ServerEnd → Joined → Type 0) (w : World) (i : ℕ) (y : ServerSide) (core : Server) where
   abbrev pub Back : World → Type 0
   Back new = (n : ℕ) (d : Joined) → At new.circuits n d → d.lists.server_open ≡ true

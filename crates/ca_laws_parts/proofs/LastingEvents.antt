@@ -1,4 +1,5 @@
--- What holds of open ends and their circuits stays so: bytes, circuits that are made, posts, removals, pumps, cuts and restarts.
+-- What holds of open ends and their circuits stays so: bytes, circuits that are made, posts,
+-- removals, pumps, cuts and restarts.
 use Rattle.std.proofs.Common.{◌≡◌, ℕ, ◌+◌, inl, inr, Bool, true, false, cond, ◌&&◌, eqb, ne_eqb, eq-eqb, not, List, [], ◌∷◌, ◌++◌, Option, Some, None, refl, sym, ap, subst, ◌∙◌, arith}
 use Rattle.std.specs.Prelude.{Ok, drop, filter, is_some, length, map, take}
 use Rattle.std.specs.List.{fold}
@@ -109,7 +110,8 @@ module _ (P : ℕ → ServerEnd → Joined → Type 0) (k : Lasting P) where
 
   -- ---- a post
 
-  -- A post reaches an end and its circuit; the core told the numbers when it had this end with the same subscriptions.
+  -- A post reaches an end and its circuit; the core told the numbers when it had this end with
+  -- the same subscriptions.
   pub post-ends-last : (n i : ℕ) (core mid : Server) (name : List ℕ) (mask : ℕ) (v : Stored) (gone : Handle → Bool) (c : Joined) (b e f : ServerEnd) → c.server ≡ i → c.lists.server_open ≡ true → HasEnd core c.at_server b
       → HasEnd mid c.at_server e → e.subscriptions ≡ b.subscriptions → P n e c → HasEnd (after_post name mask v gone mid) c.at_server f → P n f (numbers_posted i core name mask c)
   post-ends-last n i core mid name mask v gone c b e f mine opened before has subs p after =

@@ -1,4 +1,5 @@
--- What is held of circuits, by what their servers keep for them: calm events, and later messages that go down.
+-- What is held of circuits, by what their servers keep for them: calm events, and later
+-- messages that go down.
 use Rattle.std.proofs.Common.{◌≡◌, ℕ, suc, ◌<◌, ◌⊎◌, inl, inr, List, [], ◌∷◌, ◌++◌, length, refl, sym, ap, subst, ◌∙◌, append_assoc, append-nil}
 use Rattle.std.specs.Prelude.{option_map, slice_get, slice_set, unwrap_or}
 use Rattle.ca_arena.specs.declared.handle.Handle.{Handle}

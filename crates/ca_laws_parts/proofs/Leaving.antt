@@ -1,4 +1,5 @@
--- Puts that wait are withdrawn: those of circuits that end, those of a channel that is cleared, and those of a record that is removed.
+-- Puts that wait are withdrawn: those of circuits that end, those of a channel that is cleared, and
+-- those of a record that is removed.
 use Rattle.std.proofs.Common.{◌≡◌, ℕ, zero, suc, ◌+◌, ◌<◌, ◌≤◌, ◌⊎◌, inl, inr, Bool, true, false, cond, not, List, [], ◌∷◌, ◌++◌, length, refl, sym, ap, subst, ◌∙◌, append-nil, arith}
 use Rattle.std.specs.Prelude.{filter, map}
 use Rattle.std.specs.List.{flat_map}

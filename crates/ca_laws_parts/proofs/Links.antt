@@ -1,5 +1,5 @@
--- What a client's calls and the messages that it hears make of the ends of its circuits: the same bytes came, and what is sent waits after
--- the rest.
+-- What a client's calls and the messages that it hears make of the ends of its circuits: the same
+-- bytes came, and what is sent waits after the rest.
 use Rattle.std.proofs.Common.{◌≡◌, ℕ, inl, inr, Bool, true, false, cond, List, [], ◌∷◌, ◌++◌, Option, Some, None, refl, sym, ap, ◌∙◌, subst, append_assoc}
 use Rattle.std.specs.Prelude.{◌==◌, Ok, filter, fold, is_none, length, map, not, option_and_then, option_map, unwrap_or}
 use Rattle.std.proofs.lemmas.List.{append-nil}

@@ -1,4 +1,5 @@
--- Many messages are sent one after another, and some of them give ids of one kind to what is in a table.
+-- Many messages are sent one after another, and some of them give ids of one kind
+-- to what is in a table.
 use Rattle.std.proofs.Common.{◌≡◌, ℕ, suc, Bool, false, ◌||◌, List, [], ◌∷◌, ◌++◌, length, Some, refl, sym, ap, ◌∙◌, subst, arith}
 use Rattle.std.specs.Prelude.{map}
 use Rattle.std.proofs.lemmas.List.{append-nil, append_assoc}
@@ -30,7 +31,8 @@ pub flows-all-sent : (Awaits : ℕ → Type 0) (ss : List Sent) (c : Circuit) �
 flows-all-sent Awaits [] c may f = none-sent (Flows Awaits) c f
 flows-all-sent Awaits (s ∷ ss) c may f = all-from-first (Flows Awaits) c s ss (flows-all-sent Awaits ss (with_sent s c) may.1 (flows-sent Awaits c s may.0 f))
 
--- The message gives the id of this handle, and no other; it concerns no other; and it is about what is meant by the handle.
+-- The message gives the id of this handle, and no other; it concerns no other; and it is about what
+-- is meant by the handle.
 pub record Names (kind : ℕ → Id) (meant : Handle → Intent) (s : Sent) (q : Handle) : Type 0 where
   pub suits : Suits s.intent s.message
   pub gives : Gives s.message (kind (wire_of q))

@@ -1,4 +1,5 @@
--- The subscriptions that stand on a circuit, and its open channels, came by EVENT_ADDs and CREATE_CHANs that were handled.
+-- The subscriptions that are on a circuit, and its open channels, came by EVENT_ADDs and
+-- CREATE_CHANs that were handled.
 use Rattle.std.proofs.Common.{◌≡◌, ℕ, ◌+◌, ◌<◌, inl, inr, Bool, true, false, cond, not, eqb, List, [], ◌∷◌, ◌++◌, length, refl, sym, ap, subst, ◌∙◌, arith}
 use Rattle.std.specs.Prelude.{filter, map}
 use Rattle.std.specs.List.{fold}

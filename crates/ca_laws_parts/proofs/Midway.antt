@@ -1,4 +1,5 @@
--- The end of an event at a server: circuits that ended in it are closed, and the puts that wait there are withdrawn.
+-- The end of an event at a server: circuits that ended in it are closed, and the puts that wait
+-- there are withdrawn.
 use Rattle.std.proofs.Common.{◌≡◌, ℕ, zero, suc, ◌⊎◌, inl, inr, Bool, true, false, List, [], ◌∷◌, ◌++◌, Option, Some, refl, sym, ap, subst, ◌∙◌, append_assoc}
 use Rattle.std.specs.Prelude.{filter, is_some, map, slice_set, slice_get, unwrap_or}
 use Rattle.std.specs.List.{flat_map}

@@ -1,4 +1,5 @@
--- Bytes that come, a circuit that is connected, and a moment: all that a client sends for them are messages.
+-- Bytes that come, a circuit that is connected, and a moment: all that a client sends
+-- for them are messages.
 use Rattle.std.proofs.Common.{◌≡◌, ℕ, suc, ◌<◌, ◌≤◌, ◌^◌, Bool, true, false, cond, List, [], ◌∷◌, ◌++◌, Option, Some, None, length, refl, sym, subst, arith}
 use Rattle.std.specs.Prelude.{Ok, filter, fold, map, option_map, option_to_list, unwrap_or}
 use Rattle.ca_arena.specs.declared.handle.Handle.{Handle}

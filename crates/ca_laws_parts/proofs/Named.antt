@@ -1,4 +1,5 @@
--- A client's names, as its tables change: what they name stays what was given, and each channel keeps its number.
+-- A client's names, as its tables change: what they name stays what was given, and each
+-- channel keeps its number.
 use Rattle.std.proofs.Common.{◌≡◌, ℕ, zero, suc, ◌+◌, ◌≤◌, inl, inr, Bool, true, false, cond, List, [], ◌∷◌, ◌++◌, length, Option, Some, refl, sym, ap, ◌∙◌, subst, arith}
 use Rattle.std.specs.Prelude.{find, option_map, unwrap_or}
 use Rattle.ca_text.specs.Limits.{arena_slots}
@@ -47,7 +48,7 @@ named-thins n x y thins named = record {
 
 -- ---- names that grow
 
--- what passes a test stands at the first place that does, and stays there
+-- what passes a test is at the first place that does, and stays there
 pub place-there : {A : Type 0} (test : A → Bool) (xs ys : List A) (y : A) → At xs (place_of test xs) y → place_of test (xs ++ ys) ≡ place_of test xs
 place-there test [] ys y at = absurd cc
 place-there {A} test (x ∷ xs) ys y at = go (test x) refl at (place-there test xs ys y)

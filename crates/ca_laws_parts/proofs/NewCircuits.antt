@@ -1,4 +1,5 @@
--- A circuit that was just made: its set-up and its CREATE_CHANs may be sent, and its client holds what they give.
+-- A circuit that was just made: its set-up and its CREATE_CHANs may be sent, and its client
+-- holds what they give.
 use Rattle.std.proofs.Common.{◌≡◌, ℕ, zero, suc, ◌<◌, inl, inr, Bool, true, false, ◌&&◌, cond, eqb, List, [], ◌∷◌, ◌++◌, length, Option, Some, None, refl, sym, ap, ◌∙◌, subst, arith}
 use Rattle.std.specs.Prelude.{filter, is_none, map, option_and_then}
 use Rattle.std.proofs.lemmas.Bool.{and_from, both_ways, eq-eqb}

@@ -1,4 +1,4 @@
--- What a server knows of a record is what the log tells.
+-- What a server knows of a record is what the log says.
 use Rattle.std.proofs.Common.{◌≡◌, ℕ, suc, true, List, [], ◌∷◌, length, Option, Some, None, refl, sym, ap, ◌∙◌}
 use Rattle.std.specs.Prelude.{is_some, map}
 use Rattle.ca_records.specs.declared.puts.Put.{Put}

@@ -1,4 +1,5 @@
--- Events that add nothing to a circuit's lists, and those of a server that end ends: what is held of each circuit stays so.
+-- Events that add nothing to a circuit's lists, and those of a server that end ends: what is held
+-- of each circuit stays so.
 use Rattle.std.proofs.Common.{◌≡◌, ℕ, inl, inr, List, [], ◌∷◌, ◌++◌, length, Option, Some, refl, sym, ap, ◌∙◌, subst}
 use Rattle.std.specs.Prelude.{map}
 use Rattle.ca_text.specs.Place.{At}

@@ -1,4 +1,5 @@
--- What a client does with a channel that is not on a circuit, or not live there: the circuit sees no difference.
+-- What a client does with a channel that is not on a circuit, or not live there: the
+-- circuit sees no difference.
 use Rattle.std.proofs.Common.{◌≡◌, ℕ, ◌⊎◌, inl, inr, Bool, true, false, ◌&&◌, ◌||◌, cond, Option, Some, None, refl, sym, ap, ◌∙◌, subst}
 use Rattle.std.specs.Prelude.{◌==◌, length, option_map, unwrap_or}
 use Rattle.std.proofs.lemmas.Bool.{both_ways, cases_Bool, or_cases, and_parts}

@@ -1,4 +1,5 @@
--- What each entry of a log makes of one record's value, of the puts that wait for it, and of the one that makes it busy.
+-- What each entry of a log makes of one record's value, of the puts that wait for it, and of the
+-- one that makes it busy.
 use Rattle.std.proofs.Common.{◌≡◌, ℕ, suc, ◌+◌, ◌<◌, inl, inr, Bool, true, false, cond, not, ◌&&◌, eqb, ne_eqb, eq-eqb, eqb-true, List, [], ◌∷◌, ◌++◌, length, Option, Some, None, refl, sym, ap, subst, ◌∙◌, append-nil, arith}
 use Rattle.std.specs.Prelude.{filter, filter_map, map}
 use Rattle.std.specs.List.{cons_option}

@@ -117,7 +117,8 @@ kept-at test (x ∷ ss) i s at = go (test x) i at (λ k there. kept-at test ss k
     go true (suc i) at rest = (let r = rest i at in (suc r.0, r.1))
     go false i at rest = (let r = rest i at in (suc r.0, r.1))
 
--- A post to a record, or a write, reaches the subscriptions of an end that it concerns: each gets the value, and its number.
+-- A post to a record, or a write, reaches the subscriptions of an end that it concerns: each gets
+-- the value, and its number.
 pub step-post : (name : List ℕ) (mask : ℕ) (v : Stored) (e : ServerEnd) (j : Joined) → map key_of e.subscriptions ≡ keys_standing j → AreApart (keys_standing j) → InStep e.queues j.queues
     → InStep (with_post name mask v e).queues (fold with_number j (keys_concerned name mask (Some (Open e)))).queues
 step-post name mask v e j keys apart step =

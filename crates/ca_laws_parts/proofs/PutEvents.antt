@@ -1,4 +1,5 @@
--- Where puts came, over every event: they were there before, or a server's end has just handled one.
+-- Where puts came, over every event: they were there before, or a server's end
+-- has just handled one.
 use Rattle.std.proofs.Common.{◌≡◌, ℕ, ◌+◌, inl, inr, Bool, not, List, ◌∷◌, ◌++◌, length, Option, Some, None, refl, sym, ap, subst, ◌∙◌}
 use Rattle.std.specs.Prelude.{drop, filter, option_map, slice_get, slice_set, take, unwrap_or}
 use Rattle.std.specs.Str.{bytes_eq}

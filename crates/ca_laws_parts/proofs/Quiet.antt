@@ -52,7 +52,7 @@ quiet-set w k j d at same = record {
   ];
 }
 
--- a circuit is changed where it stands, if it is there
+-- a circuit is changed where it is, if it is there
 quiet-at : (w : World) (k : ℕ) (f : Joined → Joined) → ((c : Joined) → (f c).lists.up ≡ c.lists.up) → Quiet w (unwrap_or (option_map (λ (c : Joined). with_circuit k (f c) w) (slice_get w.circuits k)) w)
 quiet-at w k f same = go (slice_get w.circuits k) refl
   where

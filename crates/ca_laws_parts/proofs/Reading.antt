@@ -1,4 +1,5 @@
--- What a message that a client reads leaves of what is known of it and one circuit, whoever sent it.
+-- What a message that a client reads leaves of what is known of it and one
+-- circuit, whoever sent it.
 use Rattle.std.proofs.Common.{◌≡◌, ℕ, ◌≤◌, ◌⊎◌, inl, inr, Bool, true, false, cond, eqb, ◌&&◌, List, [], ◌∷◌, length, Option, Some, None, refl, sym, ap, ◌∙◌, subst, arith}
 use Rattle.std.specs.Prelude.{option_and_then, option_map}
 use Rattle.std.specs.List.{list_any}
@@ -68,7 +69,8 @@ finds-live (Some (h, p)) = is_live p
 not-found-live : (o : Option (Handle × Phase)) → finds-live o ≡ false → (h : Handle) (n : Native) (rights : ℕ) → o ≡ Some (h, Live n rights) → ⊥
 not-found-live o none h n rights is = both_ways (finds-live o) none (ap finds-live is)
 
--- Message m was read on circuit c. What is known since of the client before, on the circuit of handle on.
+-- Message m was read on circuit c. What is known since of the client before, on the
+-- circuit of handle on.
 pub record Heard (on : Handle) (x : Client) (c : Handle) (m : Fields) (e : Conduct) : Type 0 where
   pub base : Base on x e
   -- of its channels all, but of those for which this was a SERVER_DISCONN
@@ -166,7 +168,7 @@ module _ (on : Handle) (x : Client) (c : Handle) (m : Fields) (e : Conduct) (hea
   read-failed known (Some (h, Doomed)) is =
       quiet known (becomes (without_channel x h)) is refl (backs-channels (without_channel x h).channels (back-freed on x.channels h) (without_channel x h) refl refl refl)
 
-  -- the ids of a channel drain no more, and it is elsewhere
+  -- the ids of a channel no longer drain, and it is elsewhere
   backs-drained : (h : Handle) (z : Client) → BacksOn on x.channels z.channels → z.requests ≡ (without_drained c h x).requests → z.subscriptions ≡ (without_drained c h x).subscriptions
       → Backs on x z
   backs-drained h z back requests subscriptions = record {
@@ -259,7 +261,8 @@ module _ (on : Handle) (x : Client) (c : Handle) (m : Fields) (e : Conduct) (hea
   clear-only : (sid : ℕ) (h : Handle) (n : ℕ) → ((clear_sent c sid h).message).command ≡ n → (n ≡ 12 → ⊥) → ⊥
   clear-only sid h n is differ = differ (sym is)
 
-  -- the channel, which was on circuit c, is in this phase there now, in which nothing is known of it
+  -- the channel, which was on circuit c, is in this phase there now, in which
+  -- nothing is known of it
   cleared-turn : (z : Client) (sid : ℕ) (h : Handle) (ch : Channel) (q : Phase) → under x.channels h ≡ Some ch → is_kept q ≡ false
       → z.channels ≡ with_changed (λ (k : Channel). record k { standing = On c q }) h x.channels → AsksAs x.requests z.requests → z.subscriptions ≡ x.subscriptions
       → f.core ≡ sending (clear_sent c sid h ∷ []) z → f.sent ≡ clear_sent c sid h ∷ []
@@ -435,7 +438,7 @@ module _ (on : Handle) (x : Client) (c : Handle) (m : Fields) (e : Conduct) (hea
     keeps-live : f ≡ created x c m (Some (h, Creating rights)) → Keeps x y-live
     keeps-live is = subst (λ (v : Effect). Keeps x v.core) is keeps
 
-    -- a subscription that stands on the channel has its EVENT_ADD among them
+    -- a subscription that is on the channel has its EVENT_ADD among them
     added-there : (g : Handle) (d : Subscription) → under x.subscriptions g ≡ Some d → stands_in d.stage ≡ true → d.channel ≡ h
         → (i : ℕ) × At adds i (event_add_sent c m.p2 g d)
     added-there g d row it to =

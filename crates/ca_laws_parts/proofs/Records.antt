@@ -320,7 +320,8 @@ module _ (Is : PutPlace → Put → Type 0) where
         slow = a.slow;
       }
 
-  -- Of the puts that wait for it those are withdrawn that two tests name, which agree; the log withdraws these, and perhaps others.
+  -- Of the puts that wait for it those are withdrawn that two tests name, which agree; the log
+  -- withdraws these, and perhaps others.
   pub agrees-withdrawn : (y : List Entry) (c : Record) (r : RecordSide) (ws : List PutPlace) (which : PutPlace → Bool) (test : Put → Bool) → ((p : PutPlace) → In r.waiting p → is_among ws (pair_of p) ≡ which p) → ((i : ℕ) (p : PutPlace) (w : WaitingPut) → At r.waiting i p → At c.waiting i w → which p ≡ test w.put) → Agrees Is y c r → Agrees Is (y ++ withdrawing ws) (without_puts test c) (record r { waiting = filter (λ (p : PutPlace). not (which p)) r.waiting })
   agrees-withdrawn y c r ws which test among agree a = record {
     name = a.name;

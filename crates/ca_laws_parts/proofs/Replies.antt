@@ -174,7 +174,8 @@ clear-speaks m id is h = go id (heads m id (λ e. clash m.command 12 11 is e (λ
       | inr x ↦ ap Cid (sym x.1)
     ]
 
--- An ERROR speaks of the request whose header it quotes: of a WRITE by the CID, of another by the id that it gave.
+-- An ERROR speaks of the request whose header it quotes: of a WRITE by the CID, of another by
+-- the id that it gave.
 pub error-speaks : (cid status : ℕ) (m : Fields) (id : Id) → HeaderFits (header_of m) → Speaks (error_reply cid status m) id → Quotes cid (header_of m) id
 error-speaks cid status m id fits h = elim h [
   | inl heads ↦ absurd (none id heads)

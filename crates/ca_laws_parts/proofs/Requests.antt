@@ -150,7 +150,8 @@ module _ (on : Handle) (meant : Handle → Intent) where
       own = λ k w there' here. h.own k w (freed-back t k q w there').1 here;
     }
 
-    -- requests of which nothing may still come are freed, as those of a channel whose clear is answered
+    -- requests of which nothing may still come are freed, as those of a channel
+    -- whose clear is answered
     pub requests-freed : (frees : Request → Bool) (t : Table Request) (c : Circuit) → ((p n : ℕ) (q : Handle) (r : Request) → IsPending Awaits c p (Ioid n) → under t q ≡ Some r → wire_of q ≡ n → was_sent_on on r ≡ true → frees r ≡ false)
         → HoldsRequests Awaits on meant t c → HoldsRequests Awaits on meant (with_all_freed frees t) c
     requests-freed frees t c stay h = record {

@@ -1,4 +1,5 @@
--- What each change of a client leaves of the ids that it holds on one circuit: they are held on, or what was read frees them.
+-- What each change of a client leaves of the ids that it holds on one circuit: they are held on, or
+-- what was read frees them.
 use Rattle.std.proofs.Common.{◌≡◌, ℕ, ◌⊎◌, inl, inr, Bool, true, false, ◌&&◌, ◌||◌, cond, eqb, List, [], ◌∷◌, Option, Some, None, refl, sym, ap, ◌∙◌, subst}
 use Rattle.std.specs.Prelude.{option_map, unwrap_or}
 use Rattle.std.proofs.lemmas.Bool.{and_parts, both_ways, cases_Bool, eqb-true, or_cases}
@@ -34,7 +35,8 @@ use Rattle.ca_laws_parts.proofs.CircuitHeard.{answered-is, has-too}
 use Rattle.ca_laws_parts.proofs.Others.{passes-alike}
 use Rattle.ca_laws_parts.proofs.Refused.{heard-is}
 
--- What the one client holds on the circuit of this handle, the other holds too; requests ask the same.
+-- What the one client holds on the circuit of this handle, the other holds too;
+-- requests ask the same.
 pub record Rests (on : Handle) (x y : Client) : Type 0 where
   pub channels : (h : Handle) (v : Channel) → under x.channels h ≡ Some v → is_on_in is_asked on v ≡ true
       → (w : Channel) × (under y.channels h ≡ Some w) × (is_on_in is_asked on w ≡ true)
@@ -43,7 +45,8 @@ pub record Rests (on : Handle) (x y : Client) : Type 0 where
   pub subscriptions : (g : Handle) (d : Subscription) → under x.subscriptions g ≡ Some d → has_id x.channels on d ≡ true
       → (e : Subscription) × (under y.subscriptions g ≡ Some e) × (has_id y.channels on e ≡ true)
 
--- The message that was read on circuit c frees the CID of this handle, the IOID of this request, the id of this subscription.
+-- The message that was read on circuit c frees the CID of this handle, the IOID of this request,
+-- the id of this subscription.
 abbrev pub FreesCid : Fields → Handle → Type 0
 FreesCid m h = (Is command.CreateChannelFail m × (m.p1 ≡ wire_of h)) ⊎ (Is command.ClearChannel m × (m.p2 ≡ wire_of h))
 
@@ -134,7 +137,7 @@ rests-alike on x y a asks = record { channels = a.asked.keeps; requests = asks; 
 
 -- ---- one channel stands otherwise, or is gone
 
--- what passes on a circuit stands there
+-- what passes on a circuit is there
 pub stands-there : (test : Phase → Bool) (on o : Handle) (ch : Channel) (p : Phase) → ch.standing ≡ On o p → is_on_in test on ch ≡ true → o ≡ on
 stands-there test on o ch p stands pass = elim (cases_Bool (same_handle o on)) [
   | inl same ↦ same-is o on same
@@ -162,7 +165,8 @@ rests-stood on x h s ch there asked subscribed = record {
   subscriptions = λ g d is pass. (d, is, has-too on x.channels (with_standing s h x).channels d (λ w is_w pass_w. stood-row is_subscribed on x.channels h s ch there subscribed d.channel w is_w pass_w) pass);
 }
 
--- from one phase to another on its circuit, which a test does not tell apart, or of which it does not name the first
+-- from one phase to another on its circuit, which a test does not tell apart, or of which it
+-- does not name the first
 pub same-phase : (test : Phase → Bool) (on o : Handle) (ch : Channel) (p q : Phase) → ch.standing ≡ On o p → test p ≡ test q → is_on_in test on ch ≡ true → is_on_in test on (record ch { standing = On o q }) ≡ true
 same-phase test on o ch p q stands like pass = sym (passes-alike test on o ch p q stands like) ∙ pass
 
@@ -282,7 +286,7 @@ module _ (on : Handle) (x : Client) (e : Effect) (c : Handle) (m : Fields) where
       frees-so [] (without_channel x h) is
       (gone-bare h Doomed f.0 f.1 f.3 (inl (fails, sym f.2)) refl (with_freed h x.channels) (λ k w there other. freed-other x.channels k h w there other) (without_channel x h) refl refl refl)
 
-  -- what was live on a circuit stands there
+  -- what was live on a circuit is there
   was-there : (h : Handle) (p : Phase) (ch : Channel) → under x.channels h ≡ Some ch → ch.standing ≡ On c p → (g o : Handle) (v : Channel)
       → under x.channels g ≡ Some v → g ≡ h → is_on_in was_live o v ≡ true → c ≡ o
   was-there h p ch there stands g o v is same pass =

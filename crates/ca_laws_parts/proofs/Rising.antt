@@ -114,7 +114,7 @@ module _ {E : Type 0} (stamp : ℕ → E) (key : SubKey) where
   rising-other-post gone next k entry q other r =
       rising-same gone next q (posted k entry q) (others_posted q.events_on k key entry q.waiting other) r
 
-  -- a take gives the first number that waits
+  -- a take returns the first number that waits
   pub rising-taken : (gone : List ℕ) (next : ℕ) (entry : E) (q : Queue E) → taken q.events_on q.waiting ≡ Some (key, entry) → Rising stamp key gone next q
       → (n : ℕ) × (entry ≡ stamp n) × Rising stamp key (gone ++ n ∷ []) next (with_front_taken q)
   rising-taken gone next entry q given r = go r.wait refl

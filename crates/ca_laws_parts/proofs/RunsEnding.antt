@@ -1,4 +1,5 @@
--- A caller clears a channel or ends a subscription: what is held of each circuit of its client stays so.
+-- A caller clears a channel or ends a subscription: what is held of each circuit of
+-- its client stays so.
 use Rattle.std.proofs.Common.{◌≡◌, ℕ, inl, inr, Bool, true, false, ◌&&◌, ◌||◌, cond, List, [], ◌∷◌, Option, Some, None, refl, sym, ap, ◌∙◌, subst}
 use Rattle.std.specs.Prelude.{Ok, option_and_then, option_map, unwrap_or}
 use Rattle.std.proofs.lemmas.Bool.{both_ways}

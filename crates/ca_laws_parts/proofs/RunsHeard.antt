@@ -1,4 +1,5 @@
--- A message that a client reads: what it does to the client's tables, and what it sends, on its own circuit and seen from others.
+-- A message that a client reads: what it does to the client's tables, and what it sends, on its own
+-- circuit and seen from others.
 use Rattle.std.proofs.Common.{◌≡◌, ℕ, zero, suc, true, false, ◌&&◌, List, [], ◌∷◌, Option, Some, None, refl, sym, ap, ◌∙◌, subst, arith}
 use Rattle.std.specs.Prelude.{map, option_map, unwrap_or}
 use Rattle.ca_text.specs.declared.command.Command.TheVariants as command
@@ -39,8 +40,9 @@ use Rattle.ca_laws_parts.specs.Circuit.{IsKnown, stamped}
 AllOn : (on : Handle) → List Sending → Type 0
 AllOn on ss = (i : ℕ) (s : Sending) → At ss i s → s.circuit ≡ on
 
--- What a message did: what it sent, on the circuit on which it was read, and the client before that waits there; what other circuits see
--- of it, which is nothing; and that on its own it may be sent and what is held stays so.
+-- What a message did: what it sent, on the circuit on which it was read, and the client before that
+-- waits there; what other circuits see of it, which is nothing; and that on its own it may be sent
+-- and what is held stays so.
 pub record Did (kept : List ℕ) (on : Handle) (n : Names) (x : Client) (c : Circuit) (g : Step) (e : Effect) : Type 0 where
   pub sends : List Sending
   pub z : Client

@@ -53,7 +53,8 @@ none-sent-to kept i n now x y j h keeps stays = go (eqb j.client i && j.lists.cl
     go true = as-was
     go false = as-was
 
--- One message is sent: on its circuit it may be, and what is held stays so; what is held of the others stays so too.
+-- One message is sent: on its circuit it may be, and what is held stays so; what is held of the
+-- others stays so too.
 pub one-sent : (kept : List ℕ) (i : ℕ) (n now : Names) (x y : Client) (j : Joined) (s : Sending) → HeldOn kept n x j → j.client ≡ i → KeepNames n now
     → ((channel : ℕ) → (stamped now s).intent ≡ On channel Create → (h : Handle) × At now.channels channel h × (s.message.p1 ≡ wire_of h))
     → (j.lists.client_open ≡ true → s.circuit ≡ j.at_client → Holds (Awaits j.lists kept) j.at_client n x j.lists
@@ -98,7 +99,7 @@ new-name names t q given may =
       | inl same ↦ absurd (not-given t q may (subst (λ (k : Handle). WasGiven t k) (same-is e.0 q same) (given i e at)))
     ])
 
--- what stands at the first place that passes a test passes
+-- what is at the first place that passes a test passes
 pub place-passes : {A : Type 0} (test : A → Bool) (xs : List A) (y : A) → At xs (place_of test xs) y → test y ≡ true
 place-passes test [] y at = absurd cc
 place-passes {A} test (x ∷ xs) y at = go (test x) refl at (λ h. place-passes test xs y h)

@@ -1,4 +1,5 @@
--- A moment is handed to clients: ends that were silent too long are closed, and what is held of each other circuit stays so.
+-- A moment is handed to clients: ends that were silent too long are closed, and what is held of
+-- each other circuit stays so.
 use Rattle.std.proofs.Common.{◌≡◌, ℕ, inl, inr, Bool, true, false, ◌&&◌, cond, eqb, List, [], ◌∷◌, ◌++◌, length, Option, Some, None, refl, sym, ◌∙◌, subst, arith}
 use Rattle.std.specs.Prelude.{filter, find, fold, map, option_map, slice_set, unwrap_or}
 use Rattle.std.specs.List.{FoldsTo}

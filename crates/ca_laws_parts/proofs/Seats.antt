@@ -27,7 +27,8 @@ use Rattle.ca_laws_parts.proofs.WritesMoves.{moves-keep, same-or}
 
 -- ---- whether circuits end, by the core
 
--- Of each open circuit of server i it is known whether it ends, by its handle; if it does not, the core has its end.
+-- Of each open circuit of server i it is known whether it ends, by its handle; if it does not,
+-- the core has its end.
 abbrev pub EndsAt : (i : ℕ) → (old new : Server) → (ends : Joined → Option (List ℕ)) → (gone : Handle → Bool) → Type 0
 EndsAt i old new ends gone = (c : Joined) (e : ServerEnd) → c.server ≡ i → c.lists.server_open ≡ true → HasEnd old c.at_server e
     → ((is_some (ends c) ≡ true) × (gone c.at_server ≡ true))
@@ -101,7 +102,8 @@ bad-at i j left old c e same opened has = go (same_handle c.at_server j.at_serve
 
 -- ---- logs and settings
 
--- an event at server i, by which each step that a circuit handled was handled before, or ended within the log
+-- an event at server i, by which each step that a circuit handled was handled before, or
+-- ended within the log
 pub sound-moves : (s : Setting) (w new : World) (i : ℕ) (y next : ServerSide) (log more : List Entry) → At w.server_logs y.life log → Moves w new i y next log more
     → ((n : ℕ) (d : Joined) → At new.circuits n d → (c : Joined) × At w.circuits n c × (d.lists.server ≡ c.lists.server)
     × ((k : ℕ) (h : Step) → At d.lists.handled k h → At c.lists.handled k h ⊎ ((d.lists.server ≡ y.life) × (h.after ≤ length (log ++ more)))))

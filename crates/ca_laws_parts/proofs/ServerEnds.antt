@@ -1,5 +1,5 @@
--- What each call of a server's core makes of the bytes of its ends: the same bytes came, what is sent waits after the rest, and an end that
--- ends leaves a beginning of that.
+-- What each call of a server's core makes of the bytes of its ends: the same bytes came, what is
+-- sent waits after the rest, and an end that ends leaves a beginning of that.
 use Rattle.std.proofs.Common.{◌≡◌, ℕ, ◌⊎◌, inl, inr, Bool, true, false, cond, List, [], ◌∷◌, ◌++◌, Some, refl, sym, ap, ◌∙◌, subst, append_assoc}
 use Rattle.std.specs.Prelude.{drop, map, take}
 use Rattle.std.specs.List.{FoldsTo}

@@ -1,4 +1,5 @@
--- Events at a server keep bytes as messages: posts, removals, additions, pumps, cuts, and a new life.
+-- Events at a server keep bytes as messages: posts, removals, additions, pumps,
+-- cuts, and a new life.
 use Rattle.std.proofs.Common.{◌≡◌, ℕ, suc, zero, inl, inr, Bool, true, false, ◌&&◌, cond, eqb, List, [], ◌∷◌, ◌++◌, Option, Some, None, refl, sym, ap, ◌∙◌, subst}
 use Rattle.std.specs.Prelude.{filter, length, map, not, option_map, slice_get, slice_set, take, unwrap_or}
 use Rattle.std.specs.List.{fold, list_any}
@@ -54,7 +55,7 @@ pub next-tells : (i : ℕ) (core : Server) (name : List ℕ) (ws : List WaitingP
 next-tells i core name [] c = tells-itself c
 next-tells i core name (w ∷ ws) c = posted-tells i core name 3 c
 
--- each circuit is changed so, and tells nothing
+-- each circuit is changed so, and reports nothing
 pub mapped-back : (w : World) (f : Joined → Joined) (core new : Server) (i : ℕ) → ((c : Joined) → Tells c (f c) []) → AllGo core new → (n : ℕ) (m : Joined) → At (map f w.circuits) n m
     → (c : Joined) × At w.circuits n c × (more : List Fields) × Tells c m more × (c.server ≡ i → c.lists.server_open ≡ true → Goes core new c.at_server more)
     × ((c.server ≡ i → c.lists.server_open ≡ true → ⊥) → more ≡ [])

@@ -1,4 +1,5 @@
--- What a pump and a removal leave of what is known of a server and one circuit: the updates and SERVER_DISCONNs that go out are legal.
+-- What a pump and a removal leave of what is known of a server and one circuit: the updates and
+-- SERVER_DISCONNs that go out are legal.
 use Rattle.std.proofs.Common.{◌≡◌, ◌≢◌, ℕ, zero, suc, ◌+◌, ◌<◌, ◌≤◌, inl, inr, Bool, true, false, ◌&&◌, ◌||◌, List, [], ◌∷◌, ◌++◌, length, Some, refl, sym, ap, ◌∙◌, subst, arith}
 use Rattle.std.specs.Prelude.{◌==◌, Ok, Err, Result, not}
 use Rattle.std.specs.List.{FoldsTo}

@@ -1,4 +1,5 @@
--- What each call of a server's core leaves of what is known of it and one circuit, whatever its peers send; and so what it sends is legal.
+-- What each call of a server's core leaves of what is known of it and one circuit, whatever its
+-- peers send; and so what it sends is legal.
 use Rattle.std.proofs.Common.{◌≡◌, ℕ, zero, suc, ◌≤◌, ◌⊎◌, inl, inr, Bool, true, false, cond, List, [], ◌∷◌, ◌++◌, Option, Some, None, refl, sym, ap, ◌∙◌, subst, arith}
 use Rattle.std.specs.Prelude.{Ok, Err, Result, filter, map, take}
 use Rattle.std.specs.List.{FoldsTo}

@@ -125,7 +125,7 @@ after-servers w mid i side ends core others said fit f =
     one-server w (server_after i side ends core mid) i _ (λ l s at. elim (At-set mid.servers i _ l s at) [ inl here ↦ inl here | inr old ↦ inr (others l s old.0 old.1) ])
     (said-then w.circuits mid.circuits (map (ending ends) mid.circuits) said (said-ending mid.circuits ends)) (reported-fits core fit) f
 
--- a circuit is changed where it stands, if it is there
+-- a circuit is changed where it is, if it is there
 at-servers : (w : World) (k : ℕ) (g : Joined → Joined) → ((c : Joined) → More c (g c)) → ServersFit w → ServersFit (unwrap_or (option_map (λ (c : Joined). with_circuit k (g c) w) (slice_get w.circuits k)) w)
 at-servers w k g more f = go (slice_get w.circuits k) refl
   where

@@ -1,4 +1,5 @@
--- The events of a server keep what holds of all clients: none of them changes, and ends of circuits there stay as they are.
+-- The events of a server keep what holds of all clients: none of them changes, and ends of circuits
+-- there stay as they are.
 use Rattle.std.proofs.Common.{◌≡◌, ℕ, inl, inr, Bool, true, false, ◌&&◌, cond, eqb, List, [], ◌∷◌, ◌++◌, length, Option, Some, None, refl, sym, ◌∙◌, subst}
 use Rattle.std.specs.List.{list_any}
 use Rattle.ca_ids.specs.Wire.{wire_of}
@@ -26,7 +27,7 @@ use Rattle.ca_laws_parts.proofs.Stands.{IsEndOf, end-ending, end-itself, end-lik
 plain : (a j : Joined) → j.client ≡ a.client → j.at_client ≡ a.at_client → j.lists.client_open ≡ a.lists.client_open → IsEndOf a j
 plain a j client handle opens = record { client = client; handle = handle; opens = λ o. sym opens ∙ o }
 
--- a circuit is noted, or changed where it stands
+-- a circuit is noted, or changed where it is
 stands-at : (w : World) (k : ℕ) (f : Joined → Joined) → ((a : Joined) → IsEndOf a (f a)) → ClientsStand w → ClientsStand (unwrap_or (option_map (λ (c : Joined). with_circuit k (f c) w) (slice_get w.circuits k)) w)
 stands-at w k f ends s = go (slice_get w.circuits k) refl
   where

@@ -79,7 +79,8 @@ module _ (Awaits : ℕ → Type 0) where
         | inr sent ↦ inr (sent.0, sent.1, sent.2, (let late : length (c.heard ++ h ∷ []) ≤ sent.0 = sent.3 in omega (arith, late, len)), sent.4, sent.5)
       ]
 
-  -- once its last message was read an id that a message gave is free, if nothing after it concerns the id
+  -- once its last message was read an id that a message gave is free, if nothing
+  -- after it concerns the id
   pub settled : (c : Circuit) (h : Step) (t : Told) (s : Sent) (id : Id) → Flows Awaits c → At c.down (length c.heard) t → t.cause ≡ Reply → At c.up t.place s → IsLast t.message s.intent
       → Gives s.message id → Speaks t.message id → ((p : ℕ) → t.place < p → Concerns c.up p id → ⊥) → (p : ℕ) → IsPending Awaits (with_heard h c) p id → ⊥
   settled c h t s id f at cause there is gives speaks none p pending =

@@ -1,4 +1,5 @@
--- How the meaning of SIDs is kept as the lists grow, and that a message is handled on the channel that was meant.
+-- How the meaning of SIDs is kept as the lists grow, and that a message is handled on the
+-- channel that was meant.
 use Rattle.std.proofs.Common.{◌≡◌, ℕ, zero, suc, ◌+◌, ◌<◌, ◌≤◌, inl, inr, List, [], ◌∷◌, ◌++◌, length, take, sym, ap, ◌∙◌, subst, arith}
 use Rattle.ca_text.specs.Place.{At}
 use Rattle.ca_text.proofs.Places.{At-append, At-one, At-snoc, At-within}
@@ -201,7 +202,7 @@ one-live c a d i j k l sid b f x y =
           absurd (y.uncleared (within-wider c.up sid l k b (let e : k < b = x.early in omega (arith, e)) cleared))
     ]
 
--- what stands in the beginning of a list
+-- what is in the beginning of a list
 At-taken : {A : Type 0} (n : ℕ) (xs : List A) (k : ℕ) (x : A) → At xs k x → k < n → At (take n xs) k x
 At-taken zero xs k x at lt = absurd (omega (arith, lt))
 At-taken (suc n) [] k x at lt = absurd cc

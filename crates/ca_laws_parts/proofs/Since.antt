@@ -24,7 +24,8 @@ use Rattle.ca_laws_parts.proofs.WritesLists.{In-kept, In-snoc}
 
 -- ---- from one circuit to the next
 
--- The circuit joins the same server, and what stands or is open on it stood or was open before, or came by a message at one of these places.
+-- The circuit joins the same server, and what stands or is open on it stood or was open before, or
+-- came by a message at one of these places.
 pub record Grows (Extra : ℕ → Type 0) (c d : Joined) : Type 0 where
   pub server : d.server ≡ c.server
   pub up : (p : ℕ) (s : Sent) → At c.lists.up p s → At d.lists.up p s
@@ -132,7 +133,8 @@ handled-grows Extra place step replies did c extra =
 
 -- ---- since a world
 
--- Circuits that were there since a world: what they have now they had then, or it came by a message at a place of theirs.
+-- Circuits that were there since a world: what they have now they had then, or it came by a message
+-- at a place of theirs.
 module _ (w : World) (Extra : (n : ℕ) → ℕ → Type 0) where
   abbrev pub Since : ℕ → ServerEnd → Joined → Type 0
   Since n f d = ((c : Joined) × At w.circuits n c × (c.lists.server_open ≡ true) × Grows (Extra n) c d) ⊎ (length w.circuits ≤ n)

@@ -1,4 +1,5 @@
--- What a client's core holds of one circuit, by what it sent and read there alone, and how that stays so.
+-- What a client's core holds of one circuit, by what it sent and read there alone,
+-- and how that stays so.
 use Rattle.std.proofs.Common.{◌≡◌, ◌≢◌, ℕ, ◌+◌, ◌<◌, ◌⊎◌, inl, inr, Bool, true, false, List, [], length, Some, refl, sym, ap, ◌∙◌, subst, arith}
 use Rattle.std.specs.Prelude.{filter, is_none}
 use Rattle.std.proofs.lemmas.Bool.{both_ways}
@@ -26,15 +27,15 @@ use Rattle.ca_laws_parts.proofs.Filtered.{filter-order}
 use Rattle.ca_laws_parts.proofs.Given.{Given, HeldBy}
 use Rattle.ca_laws_parts.proofs.Growing.{Added, Asked, Grows, HasNow, IsTold, NoneCleared, StaysConnected, Went, added-now, added-sent, asked-now, asked-sent, channel-later, connected-later, free-forth, grows-sent, has-sent, longer, on-channel-forth, told-sent, uncancelled-forth, uncancelled-sent, went-forth}
 
--- What is known of a channel with this CID that stands in this phase on the circuit.
+-- What is known of a channel with this CID that is in this phase on the circuit.
 abbrev pub Stands : Conduct → (cid : ℕ) → Phase → Type 0
 Stands e cid (Creating rights) = (i : ℕ) × Asked e i cid
 Stands e cid Doomed = (i : ℕ) × Asked e i cid
 Stands e cid (Live n rights) = (i j : ℕ) × HasNow e i j cid n.sid
 Stands e cid p = Unit {0}
 
--- An id that message s at place l gave is held: by a request or a subscription on the channel on which the message went out; and no
--- EVENT_CANCEL went out for one that stands.
+-- An id that message s at place l gave is held: by a request or a subscription on the channel on
+-- which the message went out; and no EVENT_CANCEL went out for one that stands.
 abbrev pub HeldAs : (on : Handle) → Client → Conduct → (l : ℕ) → Fields → Id → Type 0
 HeldAs on x e l s (Cid n) = HeldBy on x s (Cid n)
 HeldAs on x e l s (Ioid n) =
@@ -67,7 +68,8 @@ pub record Sound (on : Handle) (x : Client) (e : Conduct) : Type 0 where
 
 -- ---- a call, after what it read
 
--- A message on a channel goes out on one that the client has; it is that of the request or the subscription whose id the message gives.
+-- A message on a channel goes out on one that the client has; it is that of the request or the
+-- subscription whose id the message gives.
 abbrev pub GoesOn : Client → Conduct → Fields → Type 0
 GoesOn y e m =
     (i j cid : ℕ) × HasChannel e (length e.sent) i j cid (sid_in m)

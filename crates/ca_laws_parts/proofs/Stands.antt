@@ -1,4 +1,5 @@
--- What an event leaves of the clients of a world, by what it leaves of one client and of the ends of circuits there.
+-- What an event leaves of the clients of a world, by what it leaves of one client and of the
+-- ends of circuits there.
 use Rattle.std.proofs.Common.{◌≡◌, ℕ, inl, inr, true, false, List, Option, Some, None, refl, sym, ap, ◌∙◌, subst}
 use Rattle.std.specs.Prelude.{is_none, map, slice_set, unwrap_or, option_map}
 use Rattle.std.proofs.lemmas.Bool.{both_ways}

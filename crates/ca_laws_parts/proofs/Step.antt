@@ -120,7 +120,8 @@ module _ (N : List Joined) (i life : ℕ) (log : List Entry) (rs : List RecordSi
         ioid = ap (λ (x : Put). x.ioid) is.2;
       }
 
--- A write that comes is applied, when it is handled or as its circuit closes: records and log go on in agreement.
+-- A write that comes is applied, when it is handled or as its circuit closes: records and
+-- log go on in agreement.
 pub life-write : (N : List Joined) (i life : ℕ) (log : List Entry) (rs : List RecordSide) (n : ℕ) (old : Server) (h : Handle) (e : ServerEnd) (p : PutPlace) (s : Sent) (replies : List Fields) (name : List ℕ) (value : Elements) (busies : Bool) (new : Server) → Comes N i life log h p s → Due (knows old e) s.message replies (Applies name value busies) → Records old h e s.message (Applies name value busies) new → Life N i life log old.records rs n
     → Life N i life (log ++ logged_by old h p (Applies name value busies) rs) new.records (records_after old h p (Applies name value busies) rs) n
 life-write N i life log rs n old h e p s replies name value false new t due makes a =
@@ -203,8 +204,8 @@ module _ (N : List Joined) (i life : ℕ) (log : List Entry) (rs : List RecordSi
         );
       }
 
--- What a message does to records and log: a write is applied or comes to wait, or the puts of a channel are withdrawn. The step logs
--- something if it writes.
+-- What a message does to records and log: a write is applied or comes to wait, or the puts of a
+-- channel are withdrawn. The step logs something if it writes.
 pub life-step : (N : List Joined) (i life : ℕ) (log : List Entry) (rs : List RecordSide) (n : ℕ) (old : Server) (h : Handle) (e : ServerEnd) (p : PutPlace) (s : Sent) (replies : List Fields) (did : Action) (new : Server) → (t : Takes N i life log rs h p s) → t.step.logged + length (logged_by old h p did rs) ≤ t.step.after → Due (knows old e) s.message replies did → Records old h e s.message did new → Life N i life log old.records rs n
     → Life N i life (log ++ logged_by old h p did rs) new.records (records_after old h p did rs) n
 life-step N i life log rs n old h e p s replies (Applies name value busies) new t grows due makes a =

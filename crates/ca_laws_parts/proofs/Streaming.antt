@@ -1,4 +1,5 @@
--- How the ends of a circuit may go on: bytes come, a message is read, more is sent, and an end ends.
+-- How the ends of a circuit may go on: bytes come, a message is read, more is
+-- sent, and an end ends.
 use Rattle.std.proofs.Common.{◌≡◌, ℕ, zero, suc, ◌+◌, ◌≤◌, ◌<◌, ◌⊎◌, inl, inr, Bool, true, false, List, [], ◌∷◌, ◌++◌, refl, sym, ap, ◌∙◌, subst, arith, append_assoc}
 use Rattle.std.specs.Prelude.{drop, length, take}
 use Rattle.std.proofs.lemmas.Bool.{both_ways}
@@ -65,8 +66,8 @@ Reads a b =
     ((b.came ≡ a.came) × (b.read ≡ a.read))
     ⊎ ((m : Fields) × (front : List ℕ) × Spells front m × (a.came ≡ front ++ b.came) × (b.read ≡ a.read + 1))
 
--- An end goes on as this: it sends these messages more, which wait after the others; or it ends, and leaves a beginning of what waits
--- then. One that has ended does nothing.
+-- An end goes on as this: it sends these messages more, which wait after the others; or it ends,
+-- and leaves a beginning of what waits then. One that has ended does nothing.
 pub record Acts (a b : CircuitEnd) : Type 0 where
   pub more : List Fields
   pub sends : b.sent ≡ a.sent ++ more

@@ -1,4 +1,5 @@
--- A caller subscribes on a live channel, or ends a subscription there: its EVENT_ADD or EVENT_CANCEL goes out.
+-- A caller subscribes on a live channel, or ends a subscription there: its EVENT_ADD or
+-- EVENT_CANCEL goes out.
 use Rattle.std.proofs.Common.{◌≡◌, ℕ, ◌<◌, ◌≤◌, inl, inr, Bool, true, false, ◌&&◌, ◌||◌, [], ◌∷◌, ◌++◌, length, Option, Some, refl, sym, ap, ◌∙◌, subst, arith}
 use Rattle.std.specs.Prelude.{option_map, unwrap_or}
 use Rattle.ca_text.specs.declared.command.Command.TheVariants as command

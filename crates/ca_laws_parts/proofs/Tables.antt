@@ -1,4 +1,5 @@
--- What each call of a server's core keeps of its table of circuits: what was given stays so, and nothing new has a handle.
+-- What each call of a server's core keeps of its table of circuits: what was given stays so, and
+-- nothing new has a handle.
 use Rattle.std.proofs.Common.{◌≡◌, ℕ, zero, suc, ◌+◌, ◌≤◌, inl, inr, Bool, List, [], ◌∷◌, length, Option, Some, None, refl, sym, ap, subst, arith}
 use Rattle.std.specs.Prelude.{Ok, is_some, option_map}
 use Rattle.ca_arena.specs.Arena.{Place}

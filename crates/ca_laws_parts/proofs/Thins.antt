@@ -1,4 +1,5 @@
--- What a server keeps for a circuit it kept before, or it came by the message that its end has just handled.
+-- What a server keeps for a circuit it kept before, or it came by the message that its
+-- end has just handled.
 use Rattle.std.proofs.Common.{◌≡◌, ℕ, zero, suc, ◌<◌, ◌⊎◌, inl, inr, Bool, true, false, cond, ◌&&◌, ◌||◌, eqb, ltb, eqb-true, eq-eqb, lt-ltb, List, [], ◌∷◌, length, Option, Some, None, refl, sym, ap, subst, ◌∙◌, arith}
 use Rattle.std.specs.Prelude.{filter, map, option_map, slice_get, unwrap_or}
 use Rattle.std.proofs.lemmas.Bool.{ltb-true}
@@ -132,7 +133,8 @@ sid-is c p s at = ap (λ (o : Option Sent). unwrap_or (option_map (λ (s : Sent)
 
 -- ---- what is known of a put
 
--- A put of a server's records came on a circuit of that server, as a message that was handled, if the circuit's end is open.
+-- A put of a server's records came on a circuit of that server, as a message that was handled, if
+-- the circuit's end is open.
 pub record PutFacts (w : World) (i : ℕ) (q : PutPlace) : Type 0 where
   pub c : Joined
   pub on : At w.circuits q.circuit c

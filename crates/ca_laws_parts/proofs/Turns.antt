@@ -1,4 +1,5 @@
--- How what is known of a client and one circuit stays known, where nothing on a channel is sent, and how a turn is put together.
+-- How what is known of a client and one circuit stays known, where nothing on a channel is sent,
+-- and how a turn is put together.
 use Rattle.std.proofs.Common.{◌≡◌, ℕ, ◌<◌, ◌≤◌, ◌⊎◌, inl, inr, Bool, true, false, ◌||◌, eqb, List, [], length, Some, refl, sym, ap, ◌∙◌, subst, arith}
 use Rattle.std.specs.Prelude.{is_none}
 use Rattle.std.proofs.lemmas.Bool.{both_ways}

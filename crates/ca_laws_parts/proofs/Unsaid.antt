@@ -1,4 +1,5 @@
--- A step of a server's end that closes its circuit out of memory, after the write of its message was applied, or before.
+-- A step of a server's end that closes its circuit out of memory, after the write of its message
+-- was applied, or before.
 use Rattle.std.proofs.Common.{◌≡◌, ℕ, ◌<◌, ◌≤◌, ◌⊎◌, inl, inr, Bool, true, false, not, ◌||◌, List, ◌++◌, length, Option, Some, None, refl, sym, ap, subst, ◌∙◌, append_assoc, arith}
 use Rattle.std.specs.Prelude.{filter, is_some, map, slice_set, unwrap_or}
 use Rattle.std.specs.List.{flat_map}

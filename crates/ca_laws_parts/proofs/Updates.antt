@@ -86,7 +86,7 @@ stamps-later ks c (u ∷ us) e after j (mid, one, rest) step numbers m keeps t t
         }
     go (suc k) at st here a b is s held later = later (k, at)
 
--- What a pump sends is about subscriptions that stand on its circuit.
+-- What a pump sends is about subscriptions that are on its circuit.
 pub pump-later : (w new : World) (k : ℕ) (j : Joined) (y : ServerSide) (f : HappensPump w k j y new) → At w.circuits k j → At w.servers j.server y → j.lists.server_open ≡ true → AllInStep w → AllNumbers w → AllMessages w
     → (t : Told) → In (stamped_told f.updates j) t → IsLater (kept w k) j.lists t
 pump-later w new k j y f at server opened steps numbers messages t there = go f.pumps

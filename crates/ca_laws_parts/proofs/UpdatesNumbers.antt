@@ -1,4 +1,4 @@
--- Numbers that rise, and the things that stand at them.
+-- Numbers that rise, and the things that are at them.
 use Rattle.std.proofs.Common.{◌≡◌, ℕ, zero, suc, ◌+◌, ◌<◌, ◌≤◌, List, [], ◌∷◌, ◌++◌, length, take, Option, Some, None, refl, sym, ap, ◌∙◌, subst, inl, inr, arith}
 use Rattle.std.specs.Prelude.{filter_map, slice_get, unwrap_or}
 use Rattle.std.specs.List.{cons_option}
@@ -55,9 +55,9 @@ part-front xs more ys p = record {
   rises = λ i j lt within. p.rises i j lt (let l : length (xs ++ more) ≡ length xs + length more = length-append xs more in omega (arith, l, within));
 }
 
--- ---- what stands at these numbers
+-- ---- what is at these numbers
 
--- what stands at these numbers of a list
+-- what is at these numbers of a list
 abbrev pub pick : {A : Type 0} → List A → List ℕ → List A
 pick posts ns = filter_map (slice_get posts) ns
 

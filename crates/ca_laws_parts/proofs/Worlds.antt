@@ -1,4 +1,5 @@
--- What an event of a client leaves of each circuit of a world, by what it leaves of those of that client.
+-- What an event of a client leaves of each circuit of a world, by what it leaves of
+-- those of that client.
 use Rattle.std.proofs.Common.{◌≡◌, ℕ, inl, inr, Bool, true, false, ◌&&◌, cond, eqb, List, [], ◌++◌, refl, sym, ap, ◌∙◌, subst}
 use Rattle.std.specs.Prelude.{filter, map, slice_set}
 use Rattle.std.proofs.lemmas.Bool.{eqb-true}
@@ -32,7 +33,8 @@ more-writes kept n x j writes h = record {
   holds = λ o. (let r = h.holds o in record { channels = r.channels; requests = r.requests; subscriptions = r.subscriptions });
 }
 
--- A call of client i: what is held of its circuits after it, and of the others, is held in the world after it.
+-- A call of client i: what is held of its circuits after it, and of the others, is held
+-- in the world after it.
 pub after-call : (kept : List ℕ) (w : World) (i k : ℕ) (x : ClientSide) (spoken : Names) (o : Outcomes) → At w.clients i x
     → ((j : Joined) → At w.circuits k j → j.client ≡ i → HeldOn kept x.names x.core j → HeldOn kept o.names o.core (sent_to i spoken o.sent j)) → HeldAt kept w k → HeldAt kept (client_after i x spoken o w) k
 after-call kept w i k x spoken o at keeps held =
@@ -89,7 +91,8 @@ client-changed kept w i k x new at keeps held =
       | inr other ↦ (j, held.1, held.2, At-set-other w.clients i j.client held.1 new held.3 other, held.4)
     ]
 
--- A step of a client on circuit k: what is held of that after it, and of the client's others, is held in the world after it.
+-- A step of a client on circuit k: what is held of that after it, and of the client's others, is
+-- held in the world after it.
 pub after-step : (kept : List ℕ) (w : World) (k l : ℕ) (j next : Joined) (x : ClientSide) (spoken : Names) (o : Outcomes) → At w.circuits k j → At w.clients j.client x → next.client ≡ j.client
     → (HeldOn kept x.names x.core j → HeldOn kept o.names o.core (sent_to j.client spoken o.sent next))
     → ((a : Joined) → At w.circuits l a → (l ≡ k → ⊥) → a.client ≡ j.client → HeldOn kept x.names x.core a → HeldOn kept o.names o.core (sent_to j.client spoken o.sent a))

@@ -1,4 +1,5 @@
--- A caller writes to a live channel without an answer: its WRITE goes out, which gives no id, and concerns the channel's CID.
+-- A caller writes to a live channel without an answer: its WRITE goes out, which gives no id, and
+-- concerns the channel's CID.
 use Rattle.std.proofs.Common.{◌≡◌, ℕ, ◌<◌, inl, inr, true, List, [], ◌∷◌, ◌++◌, length, Some, sym, ap, ◌∙◌, subst, arith}
 use Rattle.ca_text.specs.declared.command.Command.TheVariants as command
 use Rattle.ca_text.specs.Place.{At}

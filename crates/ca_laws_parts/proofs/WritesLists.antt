@@ -94,7 +94,7 @@ module _ {A B : Type 0} where
       subst (λ (t : A × B). Q t.0 t.1) (λ i. (some_is a x p i, some_is b y q i)) both.0
   both-at Q (a ∷ xs) (b ∷ ys) (suc i) x y both p q = both-at Q xs ys i x y both.1 p q
 
-  -- what stands beside an item
+  -- what is beside an item
   pub beside-left : (Q : A → B → Type 0) (xs : List A) (ys : List B) (i : ℕ) (x : A) → Both Q xs ys → At xs i x → (y : B) × At ys i y × Q x y
   beside-left Q [] ys i x both p = absurd (none_at i x p)
   beside-left Q (a ∷ xs) [] i x both p = absurd both

@@ -147,7 +147,8 @@ module _ (Came : PutPlace → (i : ℕ) → Elements → Type 0) (Lost : PutPlac
       let there = beside-right (Agrees Is y) cs rs i r a.each at in
       subst (λ (z : ℕ). z < n) is (a.numbers r.number (Added r.number there.2.first) there.2.added refl)
 
-  -- a write may be told as applied to a record that is there, if nothing was told of it, or it waits there
+  -- a write may be told as applied to a record that is there, if nothing was told of
+  -- it, or it waits there
   may-apply : (y : List Entry) (c : Record) (r : RecordSide) (p : PutPlace) (v : Stored) (b : Bool) → base_of v.value ≡ base_of c.state.value → IsUntold y p → Agrees Is y c r → Came p (length y) v.value → MayTell Came Lost y (Applied p.circuit p.place r.number v b)
   may-apply y c r p v b same untold a came = (
     λ h. untold (Applied p.circuit p.place h.0 h.1 h.2) h.3 refl,

@@ -1,4 +1,4 @@
--- Working: a server's records beside the log of its life: what each record is, the log tells.
+-- Working: a server's records beside the log of its life: what each record is, the log says.
 use Rattle.std.specs.Prelude.{ℕ, ◌≡◌, ◌<◌, ◌≤◌, ◌⊎◌, Bool, true, List, [], ◌∷◌, Option, Some, None, filter_map, length, map}
 use Rattle.ca_text.specs.Place.{At}
 use Rattle.ca_dbr.specs.Elements.{Elements, base_of}
@@ -20,7 +20,8 @@ use Rattle.ca_laws_parts.specs.Once.{IsApplied, IsFinished, IsWithdrawn, Once}
 abbrev pub IsIdle : List Entry → (r : ℕ) → Type 0
 IsIdle y r = (n k : ℕ) (v : Stored) → In y (Applied n k r v true) → In y (Finished n k)
 
--- This put makes record r busy: it was applied last of those that did, and it alone is not finished.
+-- This put makes record r busy: it was applied last of those that did, and it
+-- alone is not finished.
 pub record IsBusyWith (y : List Entry) (r : ℕ) (p : PutPlace) : Type 0 where
   pub i : ℕ
   pub v : Stored
@@ -40,7 +41,8 @@ IsBusyBy y r (Some p) = IsBusyWith y r p
 abbrev pub pair_of : PutPlace → ℕ × ℕ
 pair_of p = (p.circuit, p.place)
 
--- By this log the put came to wait for record r with this value, and was neither applied nor withdrawn.
+-- By this log the put came to wait for record r with this value, and was neither
+-- applied nor withdrawn.
 pub record StillWaits (y : List Entry) (r : ℕ) (p : PutPlace) (value : Elements) : Type 0 where
   pub v : Stored
   pub came : In y (Waits p.circuit p.place r v)
@@ -48,7 +50,7 @@ pub record StillWaits (y : List Entry) (r : ℕ) (p : PutPlace) (value : Element
   pub unapplied : IsApplied y p → ⊥
   pub kept : IsWithdrawn y p → ⊥
 
--- no two stand at one place
+-- no two are at one place
 abbrev pub AreApart : List PutPlace → Type 0
 AreApart [] = Unit {0}
 AreApart (p ∷ ps) = (In ps p → ⊥) × AreApart ps
@@ -76,8 +78,9 @@ module _ (Is : PutPlace → Put → Type 0) where
   IsBusyAs (Some p) None = ⊥
   IsBusyAs (Some p) (Some b) = Is p b
 
-  -- A record as its server has it, and by numbers, is what this log tells: it was added and not removed, and of that only its value
-  -- changed, which is that of the last write or post; the puts that wait, in order; and the one that makes it busy.
+  -- A record as its server has it, and by numbers, is what this log says: it was added and not
+  -- removed, and of that only its value changed, which is that of the last write or post; the puts
+  -- that wait, in order; and the one that makes it busy.
   pub record Agrees (y : List Entry) (c : Record) (r : RecordSide) : Type 0 where
     pub name : c.state.name ≡ r.name
     pub first : RecordState
@@ -131,7 +134,8 @@ IsOf r (Applied n k i v busies) = i ≡ r
 IsOf r (Finished n k) = ⊥
 IsOf r (Withdrawn n k) = ⊥
 
--- A server's life: its log has each write once, and its records, of which n were added, are what the log tells.
+-- A server's life: its log has each write once, and its records, of which n were added,
+-- are what the log says.
 pub record Agree (Came : PutPlace → (i : ℕ) → Elements → Type 0) (Lost : PutPlace → (i : ℕ) → Type 0) (Is : PutPlace → Put → Type 0) (y : List Entry) (records : List Record)
     (sides : List RecordSide) (added : ℕ) : Type 0 where
   pub once : Once Came Lost y

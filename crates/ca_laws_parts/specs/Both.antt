@@ -1,7 +1,7 @@
 -- Working: two lists side by side.
 use Rattle.std.specs.Prelude.{List, [], ◌∷◌}
 
--- The lists are as long, and what stands at one place of both is so.
+-- The lists are as long, and what is at one place of both is so.
 abbrev pub Both : {A B : Type 0} → (A → B → Type 0) → List A → List B → Type 0
 Both Q [] [] = Unit {0}
 Both Q [] (y ∷ ys) = ⊥

@@ -2,7 +2,8 @@
 use Rattle.ca_model.specs.Events.{Event}
 use Rattle.ca_model.specs.Events as event
 
--- All but a step of a client or of a server, updates that leave their queues, a finish and a removal.
+-- All but a step of a client or of a server, updates that leave their queues, a
+-- finish and a removal.
 abbrev pub IsCalm : Event → Type 0
 IsCalm (event.ClientStep k) = ⊥
 IsCalm (event.ServerStep k) = ⊥

@@ -15,7 +15,8 @@ use Rattle.ca_model.specs.World.{Creation, Joined, ServerSide, World}
 abbrev pub has_sid : ℕ → Creation → Bool
 has_sid sid c = c.sid == sid
 
--- Each open channel of the end was created on its circuit under its SID, by a CREATE_CHAN with its CID; and each that is noted so is open.
+-- Each open channel of the end was created on its circuit under its SID, by a CREATE_CHAN with its
+-- CID; and each that is noted so is open.
 pub record ChannelsOn (e : ServerEnd) (c : Joined) : Type 0 where
   pub few : length e.channels ≤ arena_slots
   pub opens : (h : Handle) (ch : OpenChannel) → under e.channels h ≡ Some ch

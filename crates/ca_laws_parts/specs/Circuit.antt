@@ -39,8 +39,8 @@ abbrev pub AreCids : Names → Circuit → Type 0
 AreCids n c = (k channel : ℕ) (s : Sent) → At c.up k s → s.intent ≡ On channel Create
     → (h : Handle) × At n.channels channel h × (s.message.p1 ≡ wire_of h)
 
--- The ids in flight on a circuit mean their own, and while its end is open its client holds them. These places are those for which its
--- server keeps something.
+-- The ids in flight on a circuit mean their own, and while its end is open its client holds them.
+-- These places are those for which its server keeps something.
 pub record HeldOn (kept : List ℕ) (n : Names) (x : Client) (j : Joined) : Type 0 where
   pub flows : Flows (Awaits j.lists kept) j.lists
   pub cids : j.lists.client_open ≡ true → AreCids n j.lists
@@ -64,13 +64,15 @@ HaveHandles w = (k l : ℕ) (a b : Joined) → At w.circuits k a → At w.circui
 abbrev pub IsQuiet : Circuit → (place channel : ℕ) → Type 0
 IsQuiet c place channel = (l : ℕ) (r : Sent) (ask : Ask) → place < l → At c.up l r → r.intent ≡ On channel ask → ⊥
 
--- Before this place the subscription of this number was subscribed to, and after it nothing was sent about it.
+-- Before this place the subscription of this number was subscribed to, and after it
+-- nothing was sent about it.
 abbrev pub IsLastCancel : Circuit → (place : ℕ) → Id → (number : ℕ) → Type 0
 IsLastCancel c place id number = (p : ℕ) (r : Sent) → At c.up p r → named id r.intent ≡ Some number
     → ((p < place) × ((a : ℕ) × (r.intent ≡ On a (Subscribe number)))) ⊎ (p ≡ place)
 
--- What is known of the message that a client reads next on a circuit: it is about one that the client sent; whether it is a reply, and
--- what was meant by what it is about, by what it finds in the client's tables; and that nothing was sent since on a channel that it ends.
+-- What is known of the message that a client reads next on a circuit: it is about one that the
+-- client sent; whether it is a reply, and what was meant by what it is about, by what it finds in
+-- the client's tables; and that nothing was sent since on a channel that it ends.
 pub record IsKnown (n : Names) (x : Client) (on : Handle) (c : Circuit) (m : Fields) : Type 0 where
   pub t : Told
   pub at : At c.down (length c.heard) t
@@ -94,9 +96,10 @@ pub record IsKnown (n : Names) (x : Client) (on : Handle) (c : Circuit) (m : Fie
 abbrev pub AreNumbered : Names → Client → Type 0
 AreNumbered n x = (h : Handle) (ch : Channel) → under x.channels h ≡ Some ch → At n.channels (channel_number n h) h
 
--- What is known of the message that a server handles next on a circuit, with these replies, if it keeps something for other places then:
--- it is one that the client sent; a WRITE is handled on the channel for which it was meant; the server keeps nothing new but for this
--- message, and nothing for it if it has its one reply, nor for what it ends.
+-- What is known of the message that a server handles next on a circuit, with these replies, if it
+-- keeps something for other places then: it is one that the client sent; a WRITE is handled on the
+-- channel for which it was meant; the server keeps nothing new but for this message, and nothing
+-- for it if it has its one reply, nor for what it ends.
 pub record IsNext (kept now : List ℕ) (c : Circuit) (k : Knows) (m : Fields) (replies : List Fields) : Type 0 where
   pub s : Sent
   pub at : At c.up (length c.handled) s

@@ -11,16 +11,18 @@ use Rattle.ca_laws_parts.specs.Flows.{Concerns, Ends, IsLast}
 abbrev pub replied : (place : ℕ) → Fields → Told
 replied place m = record { message = m; place = place; cause = Reply }
 
--- the SERVER_DISCONN for the channel that was created at this place, and an update of the EVENT_ADD there with this post
+-- the SERVER_DISCONN for the channel that was created at this place, and an update of the EVENT_ADD
+-- there with this post
 abbrev pub removal_of : (place cid : ℕ) → Told
 removal_of place cid = record { message = disconnect cid; place = place; cause = Removal }
 
 abbrev pub update_of : (place number : ℕ) → Fields → Told
 update_of place number m = record { message = m; place = place; cause = Update number }
 
--- The replies to the message s, which is handled next, if the server keeps something for these places then. They speak of what s
--- concerns. One reply that is the last leaves nothing that is kept for s, and nothing for what s ends; two are those to a
--- CREATE_CHAN, and end nothing; there are no more.
+-- The replies to the message s, which is handled next, if the server keeps something for
+-- these places then. They speak of what s concerns. One reply that is the last leaves nothing
+-- that is kept for s, and nothing for what s ends; two are those to a CREATE_CHAN, and end
+-- nothing; there are no more.
 pub record Answers (c : Circuit) (now : List ℕ) (s : Sent) (replies : List Fields) : Type 0 where
   pub speaks : (i : ℕ) (m : Fields) → At replies i m → (id : Id) → Speaks m id → Concerns c.up (length c.handled) id
   pub last : (m : Fields) → replies ≡ m ∷ [] → IsLast m s.intent → In now (length c.handled) → ⊥

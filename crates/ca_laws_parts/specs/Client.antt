@@ -5,8 +5,8 @@ use Rattle.ca_laws_parts.specs.Held.{AreFew, MeanToSubscribe}
 use Rattle.ca_laws_parts.specs.Circuit.{AreGiven, AreNumbered}
 use Rattle.ca_model.specs.Placed.{IsPlaced}
 
--- Each channel has a number; requests and subscriptions are named by handles that were given, and so never twice; and what is meant by
--- each subscription is to subscribe.
+-- Each channel has a number; requests and subscriptions are named by handles that were given, and
+-- so never twice; and what is meant by each subscription is to subscribe.
 pub record IsNamed (n : Names) (x : Client) : Type 0 where
   pub few : AreFew x
   pub numbered : AreNumbered n x

@@ -1,4 +1,5 @@
--- Statement: one client's core alone: rows of its calls, with any answers and whatever its peers send, and what it did on each circuit.
+-- Statement: one client's core alone: rows of its calls, with any answers and whatever its peers
+-- send, and what it did on each circuit.
 use Rattle.std.specs.Prelude.{ℕ, ◌≡◌, Bool, List, [], Option, Some, None, Result, Ok, filter, if◌then◌else◌, map}
 use Rattle.std.specs.List.{FoldsTo}
 use Rattle.ca_text.specs.declared.refusal.Refusal.{Refusal}
@@ -13,7 +14,8 @@ use Rattle.ca_model.specs.ClientEnds.{Arrival, ClientBegins, ClientCloses, Clien
 use Rattle.ca_model.specs.Sends.{Conduct, LegalClient}
 use Rattle.ca_laws_parts.specs.Conduct.{nothing_done, with_all_sent, with_read}
 
--- One call of a client's core, with its answer; of a step with the message that it read, if it read one.
+-- One call of a client's core, with its answer; of a step with the message that it
+-- read, if it read one.
 pub data Call : Type 0 where
   Open : Opening → Result Handle Refusal → Call
   Read : Handle → Shape → Result Handle Refusal → Call
@@ -31,7 +33,8 @@ pub data Call : Type 0 where
   Tick : ℕ → Result Ticked Refusal → Call
   Datagram : Arrival → Result (Unit {0}) Refusal → Call
 
--- A step read this message: the first of what its peer sent, and was not read before. One that answers no notices read none.
+-- A step read this message: the first of what its peer sent, and was not read before. One that
+-- answers no notices read none.
 abbrev pub Reads : Client → Handle → Option Fields → Stepped → List Sending → Client → Type 0
 Reads old c (Some m) (Notices told) sent new =
     (d : Connection) × (connection_at old c ≡ Some d) × (t : Takes old c d (record { core = new; sent = sent; notices = told }))
@@ -62,8 +65,8 @@ Does old (Datagram a answer) sent new = ClientReceives old a answer sent new
 abbrev pub sent_on : Handle → List Sending → List Fields
 sent_on c sent = map (λ (s : Sending). s.message) (filter (λ (s : Sending). same_handle s.circuit c) sent)
 
--- what the client did on a circuit by the time that a call sends: as a circuit is connected, also once more under the same handle, it did
--- nothing on it yet; and a step on it read a message
+-- what the client did on a circuit by the time that a call sends: as a circuit is connected, also
+-- again under the same handle, it did nothing on it yet; and a step on it read a message
 abbrev pub before_sending : Handle → Call → Conduct → Conduct
 before_sending c (Connected d None) e = if same_handle d c then nothing_done else e
 before_sending c (Step d read answer) e = if same_handle d c then with_read read e else e
@@ -80,11 +83,13 @@ Leads c old call new =
     (sent : List Sending) × Does old.core call sent new.core
     × (new.conduct ≡ with_all_sent (sent_on c sent) (before_sending c call old.conduct))
 
--- A row of calls, from a new client's core on, leads here: to this core, and to what it did on circuit c since that was connected last.
+-- A row of calls, from a new client's core on, leads here: to this core, and to what it did on
+-- circuit c since that was connected last.
 abbrev pub Rows : Handle → ClientSetting → List Call → Alone → Type 0
 Rows c a calls now =
     (x : Client) × ClientBegins a (Ok x) × FoldsTo (Leads c) (record { core = x; conduct = nothing_done }) calls now
 
--- After any row of calls, what the client sent on any circuit is legal: whatever was called, whatever its peers sent.
+-- After any row of calls, what the client sent on any circuit is legal: whatever was called,
+-- whatever its peers sent.
 abbrev pub ClientsSendLegally : Type 0
 ClientsSendLegally = (c : Handle) (a : ClientSetting) (calls : List Call) (now : Alone) → Rows c a calls now → LegalClient now.conduct

@@ -28,14 +28,16 @@ RequestsAreSentOnce =
     (old : Client) (call : Call) (sent : List Sending) (new : Client) → Does old call sent new
     → (i : ℕ) (s : Sending) → At sent i s → IsRequest s.message → AsksForOne call × (sent ≡ s ∷ [])
 
--- In this call the reply was read by which the channel of this handle comes to be live on circuit c.
+-- In this call the reply was read by which the channel of this handle comes to
+-- be live on circuit c.
 abbrev pub MakesLive : Client → Call → (c h : Handle) → Fields → Type 0
 MakesLive old call c h m =
     (told : List Notice) × (call ≡ Step c (Some m) (Notices told)) × Is command.CreateChannel m
     × ((rights : ℕ) × (channel_on old c m.p1 ≡ Some (h, Creating rights)))
 
--- An EVENT_ADD goes out in its own call, or as its channel comes to be live: then for each subscription that stands on that, and no other,
--- under the channel's new SID and the subscription's own id.
+-- An EVENT_ADD goes out in its own call, or as its channel comes to be live: then for each
+-- subscription that is on that, and no other, under the channel's new SID and the
+-- subscription's own id.
 pub record AddsAreSent : Type 0 where
   pub only : (old : Client) (call : Call) (sent : List Sending) (new : Client) → Does old call sent new
       → (i : ℕ) (s : Sending) → At sent i s → Is command.EventAdd s.message

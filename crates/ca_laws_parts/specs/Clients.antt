@@ -6,7 +6,8 @@ use Rattle.ca_model.specs.World.{ClientSide, Joined, World}
 use Rattle.ca_laws_parts.specs.Circuit.{HaveHandles}
 use Rattle.ca_laws_parts.specs.Client.{IsSound}
 
--- Each client is sound; an end that is open is connected in its client's core, and has a handle of its own there.
+-- Each client is sound; an end that is open is connected in its client's core, and has a
+-- handle of its own there.
 pub record ClientsStand (w : World) : Type 0 where
   pub sound : (i : ℕ) (x : ClientSide) → At w.clients i x → IsSound x.names x.core
   pub connected : (k : ℕ) (j : Joined) (x : ClientSide) → At w.circuits k j → At w.clients j.client x → j.lists.client_open ≡ true

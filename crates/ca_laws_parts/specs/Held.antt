@@ -1,4 +1,5 @@
--- Working: what a client's tables hold of one circuit: each id that may still come back, and what it was given to.
+-- Working: what a client's tables hold of one circuit: each id that may still come back, and
+-- what it was given to.
 use Rattle.std.specs.Prelude.{ℕ, ◌≡◌, ◌≤◌, ◌⊎◌, ◌&&◌, ◌||◌, ◌++◌, Bool, true, false, List, [], ◌∷◌, Some, None}
 use Rattle.std.specs.Prelude.{filter, find, length, option_map, unwrap_or}
 use Rattle.ca_text.specs.declared.command.Command.TheVariants as command
@@ -28,18 +29,20 @@ IsMeant c intent id = (k number : ℕ) × IsGiven c.up id k number × (named id 
 abbrev pub IsHeldBy : {T : Type 0} → (here : Handle → T → Bool) → Table T → (n : ℕ) → Type 0
 IsHeldBy {T} here t n = (h : Handle) × (v : T) × (under t h ≡ Some v) × (wire_of h ≡ n) × (here h v ≡ true)
 
--- A table whose handles' wire ids are ids of one kind: those that pass the test have theirs on this circuit. What is meant by a
--- handle is told by its client's names.
+-- A table whose handles' wire ids are ids of one kind: those that pass the test have theirs on this
+-- circuit. What is meant by a handle is told by its client's names.
 pub record HoldsIdsBy {T : Type 0} (Awaits : ℕ → Type 0) (kind : ℕ → Id) (here : Handle → T → Bool)
     (meant : Handle → Intent) (t : Table T) (c : Circuit) : Type 0 where
   -- there are no more indices than ids have
   pub few : length t ≤ arena_slots
-  -- For `own` of AnswersOwn: an id that may still come back is held, so that it is given to nothing else.
+  -- For `own` of AnswersOwn: an id that may still come back is held, so that it is
+  -- given to nothing else.
   pub busy : (p n : ℕ) → IsPending Awaits c p (kind n) → IsHeldBy here t n
-  -- For `told` of CompletesOnce: what holds an id was given it last, so that the message that finds it is about it.
+  -- For `told` of CompletesOnce: what holds an id was given it last, so that the message that
+  -- finds it is about it.
   pub own : (h : Handle) (v : T) → under t h ≡ Some v → here h v ≡ true → IsMeant c (meant h) (kind (wire_of h))
 
--- the same where the test does not look at handles
+-- the same if the test does not look at handles
 abbrev pub IsHeld : {T : Type 0} → (here : T → Bool) → Table T → (n : ℕ) → Type 0
 IsHeld {T} here t n = IsHeldBy (λ (h : Handle). here) t n
 
@@ -62,7 +65,7 @@ is_asked p = true
 abbrev pub HoldsChannels : (Awaits : ℕ → Type 0) (on : Handle) (number : Handle → ℕ) → Table Channel → Circuit → Type 0
 HoldsChannels Awaits on number t c = HoldsIds Awaits Cid (is_on_in is_asked on) (λ (h : Handle). On (number h) Create) t c
 
--- ---- subscriptions: those that stand on a channel that is live or leaves there, or drain there
+-- ---- subscriptions: those that are on a channel that is live or leaves there, or drain there
 
 -- the channel's EVENT_ADDs went out, and its clear was not answered; its caller did not clear it
 abbrev pub is_subscribed : Phase → Bool
@@ -78,7 +81,8 @@ abbrev pub HoldsSubscriptions : (Awaits : ℕ → Type 0) (on : Handle) (meant :
     → Circuit → Type 0
 HoldsSubscriptions Awaits on meant channels t c = HoldsIds Awaits SubId (has_id channels on) meant t c
 
--- ---- all three: what a client's core, whose handles these names name, holds of the circuit of this handle
+-- ---- all three: what a client's core, whose handles these names name, holds of the
+-- circuit of this handle
 
 pub record Holds (Awaits : ℕ → Type 0) (on : Handle) (n : Names) (x : Client) (c : Circuit) : Type 0 where
   pub channels : HoldsChannels Awaits on (channel_number n) x.channels c
@@ -151,8 +155,8 @@ IsNew named q = find (λ (x : Handle × Intent). same_handle x.0 q) named ≡ No
 
 -- ---- what names and lists have in common
 
--- A request, and a subscription, is on one channel: by its number, if its message gives the IOID (plain writes have numbers of
--- their own).
+-- A request, and a subscription, is on one channel: by its number, if its message gives the IOID
+-- (plain writes have numbers of their own).
 pub record OnChannels (n : Names) (x : Client) (c : Circuit) : Type 0 where
   pub requests : (p number : ℕ) (s : Sent) (q : Handle) (r : Request) → At c.up p s → Gives s.message (Ioid (wire_of q))
       → under x.requests q ≡ Some r → named (Ioid (wire_of q)) s.intent ≡ Some number

@@ -9,7 +9,8 @@ use Rattle.ca_model.specs.Speech.{Stored}
 use Rattle.ca_model.specs.History.{Cause, Update}
 use Rattle.ca_model.specs.World.{Joined, Standing}
 
--- an update that waits: the value that it carries, the place of its EVENT_ADD, and the number of its post
+-- an update that waits: the value that it carries, the place of its EVENT_ADD, and
+-- the number of its post
 pub record Numbered : Type 0 where
   pub value : Stored
   pub place : ℕ
@@ -28,11 +29,11 @@ pub record InStep (values : List (Queue Stored)) (numbers : List (Queue (ℕ × 
   pub values_are : values ≡ map (queue_images value_in) both
   pub numbers_are : numbers ≡ map (queue_images number_in) both
 
--- the keys of the subscriptions that stand on a circuit, in the order of their EVENT_ADDs
+-- the keys of the subscriptions that are on a circuit, in the order of their EVENT_ADDs
 abbrev pub keys_standing : Joined → List SubKey
 keys_standing j = map (λ (s : Standing). s.key) j.standing
 
--- So are an open end and its circuit: the same subscriptions stand in both, each once.
+-- So are an open end and its circuit: the same subscriptions are in both, each once.
 pub record EndInStep (e : ServerEnd) (j : Joined) : Type 0 where
   pub queues : InStep e.queues j.queues
   pub keys : map key_of e.subscriptions ≡ keys_standing j

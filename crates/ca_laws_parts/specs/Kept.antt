@@ -1,4 +1,5 @@
--- Working: for which messages of a client its server keeps something, so that it may still send messages about them.
+-- Working: for which messages of a client its server keeps something, so that it may still send
+-- messages about them.
 use Rattle.std.specs.Prelude.{ℕ, ◌==◌, ◌&&◌, ◌++◌, Bool, List, [], filter, if◌then◌else◌, map, nat_lt, option_map, option_to_list, slice_get, unwrap_or}
 use Rattle.std.specs.List.{flat_map, list_any}
 use Rattle.ca_model.specs.History.{Circuit, Sent}
@@ -17,7 +18,8 @@ put_places records = flat_map puts_of records
 abbrev pub sid_at : Circuit → ℕ → ℕ
 sid_at c p = unwrap_or (option_map (λ (s : Sent). sid_in s.message) (slice_get c.up p)) 0
 
--- The channel of the message at this place is open still: one is open under its SID that was created before it.
+-- The channel of the message at this place is open still: one is open under its SID that
+-- was created before it.
 abbrev pub has_channel : Joined → ℕ → Bool
 has_channel j p = list_any (λ (c : Creation). c.sid == sid_at j.lists p && nat_lt c.place p) j.creations
 
@@ -25,7 +27,8 @@ has_channel j p = list_any (λ (c : Creation). c.sid == sid_at j.lists p && nat_
 abbrev pub is_kept : (n : ℕ) → Joined → PutPlace → Bool
 is_kept n j p = p.circuit == n && has_channel j p.place
 
--- of circuit n, with these records at its server: its puts on open channels, its subscriptions, and its channels
+-- of circuit n, with these records at its server: its puts on open channels, its
+-- subscriptions, and its channels
 abbrev pub kept_of : (n : ℕ) → List RecordSide → Joined → List ℕ
 kept_of n records j =
     map (λ (p : PutPlace). p.place) (filter (is_kept n j) (put_places records))

@@ -27,8 +27,8 @@ use Rattle.ca_laws_parts.specs.Once.{IsApplied, Once, write_in}
 abbrev pub IsWriting : Fields → Type 0
 IsWriting m = Is command.Write m ⊎ Is command.WriteNotify m
 
--- The write came at this place of a circuit that joins this life, and entry i was made when it was handled. Its message has elements
--- that are the value in that value's type.
+-- The write came at this place of a circuit that joins this life, and entry i was made when it was
+-- handled. Its message has elements that are the value in that value's type.
 pub record CameOn (circuits : List Joined) (life : ℕ) (p : PutPlace) (i : ℕ) (value : Elements) : Type 0 where
   pub c : Joined
   pub on : At circuits p.circuit c
@@ -61,14 +61,16 @@ pub record IsPutOf (circuits : List Joined) (server : ℕ) (p : PutPlace) (b : P
   pub sid : wire_of b.channel ≡ sid_in s.message
   pub ioid : b.ioid ≡ s.message.p2
 
--- A server's life on these circuits: its log has each write once, and its records are what the log tells.
+-- A server's life on these circuits: its log has each write once, and its records
+-- are what the log says.
 abbrev pub Life : List Joined → (server life : ℕ) → List Entry → List Record → List RecordSide → (added : ℕ) → Type 0
 Life circuits server life y records sides added =
     Agree (CameOn circuits life) (LostOn circuits) (IsPutOf circuits server) y records sides added
 
 -- ---- circuits go on
 
--- What a circuit became: it joins the same ends, its lists grew, and an end that ended handles nothing more.
+-- What a circuit became: it joins the same ends, its lists grew, and an end that ended
+-- handles nothing more.
 pub record Later (c d : Joined) : Type 0 where
   pub server : d.server ≡ c.server
   pub handle : d.at_server ≡ c.at_server
@@ -87,8 +89,9 @@ AreLater old new = (n : ℕ) (c : Joined) → At old n c → (d : Joined) × At 
 abbrev pub LogsOnce : World → Type 0
 LogsOnce w = (life : ℕ) (y : List Entry) → At w.server_logs life y → Once (CameOn w.circuits life) (LostOn w.circuits) y
 
--- The server's part of what an applied write is: the message at its place carries the value, in the type of the record, which was
--- there; and it was applied when it was handled, or the server's end closed on it, or after it had waited.
+-- The server's part of what an applied write is: the message at its place carries the value, in the
+-- type of the record, which was there; and it was applied when it was handled, or the server's end
+-- closed on it, or after it had waited.
 pub record IsOfMessage (w : World) (n k life i r : ℕ) (v : Stored) : Type 0 where
   pub c : Joined
   pub on : At w.circuits n c
@@ -107,8 +110,8 @@ pub record IsOfMessage (w : World) (n k life i r : ℕ) (v : Stored) : Type 0 wh
 
 -- ---- replies
 
--- What a reply to the write at this place says is so by the log: a put that is told Done is applied, and of a write that is told
--- Failed the log never tells.
+-- What a reply to the write at this place says is so by the log: a put that is told Done is
+-- applied, and of a write that is told Failed the log never tells.
 pub record SaysSo (y : List Entry) (p : PutPlace) (s : Sent) (m : Fields) : Type 0 where
   pub done : Is command.WriteNotify s.message → Means m Done → IsApplied y p
   pub failed : (status : Status) → IsWriting s.message → Means m (Failed status) → (e : Entry) → In y e → write_in e ≡ Some p → ⊥
@@ -145,7 +148,8 @@ IsWrite (Applies name value busies) = Unit {0}
 IsWrite (action.Waits name value) = Unit {0}
 IsWrite did = ⊥
 
--- A message writes this value to the record of this name, as the server knows it: its elements in the type of the record.
+-- A message writes this value to the record of this name, as the server knows it: its elements in
+-- the type of the record.
 pub record WritesTo (k : Knows) (m : Fields) (name : List ℕ) (value : Elements) : Type 0 where
   pub known : KnownRecord
   pub named : k.record_of name ≡ Some known

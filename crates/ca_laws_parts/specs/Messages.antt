@@ -7,7 +7,8 @@ use Rattle.ca_model.specs.History.{Sent}
 use Rattle.ca_model.specs.Speech.{In, Is}
 use Rattle.ca_model.specs.World.{Creation, Joined, Standing, World}
 
--- Each subscription that stands came by an EVENT_ADD with its key, and each open channel by a CREATE_CHAN; both were handled.
+-- Each subscription that stands came by an EVENT_ADD with its key, and each open channel by a
+-- CREATE_CHAN; both were handled.
 pub record Messages (c : Joined) : Type 0 where
   pub subs : (st : Standing) → In c.standing st
       → (s : Sent) × At c.lists.up st.place s × Is command.EventAdd s.message × (key_in s.message ≡ st.key) × (st.place < length c.lists.handled)

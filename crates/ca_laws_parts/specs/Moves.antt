@@ -26,8 +26,9 @@ pub record Lives (w : World) (i : ℕ) (y : ServerSide) : Type 0 where
   pub life : Life w.circuits i y.life log y.core.records y.records y.added
   pub still_open : AreOpen w.circuits y.records
 
--- The writes of a world: the records of each server are what the log of its life tells, no two servers have one life, the logs of all
--- lives have each write once, and what they tell of was handled.
+-- The writes of a world: the records of each server are what the log of its life tells, no
+-- two servers have one life, the logs of all lives have each write once, and what they
+-- tell of was handled.
 pub record Writes (w : World) : Type 0 where
   pub lives : (i : ℕ) (y : ServerSide) → At w.servers i y → Lives w i y
   pub apart : (i j : ℕ) (y z : ServerSide) → At w.servers i y → At w.servers j z → y.life ≡ z.life → i ≡ j
@@ -35,9 +36,9 @@ pub record Writes (w : World) : Type 0 where
   pub handled : (life : ℕ) (y : List Entry) (e : Entry) (p : PutPlace) → At w.server_logs life y → In y e → write_in e ≡ Some p
       → WasHandled w.circuits p
 
--- What an event at server i does: the server goes on as this, its log has these entries more, other servers and logs stay, and
--- circuits go on. Its records are what its log tells now, and the puts that wait, there and at other servers, are on circuits that are
--- open.
+-- What an event at server i does: the server goes on as this, its log has these entries more, other
+-- servers and logs stay, and circuits go on. Its records are what its log says now, and the puts
+-- that wait, there and at other servers, are on circuits that are open.
 pub record Moves (w new : World) (i : ℕ) (y next : ServerSide) (log more : List Entry) : Type 0 where
   pub is : At w.servers i y
   pub server : (j : ℕ) (z : ServerSide) → At new.servers j z → ((j ≡ i) × (z ≡ next)) ⊎ (At w.servers j z × (j ≡ i → ⊥))
@@ -51,8 +52,8 @@ pub record Moves (w new : World) (i : ℕ) (y next : ServerSide) (log more : Lis
   pub others_open : (j : ℕ) (z : ServerSide) → At w.servers j z → (j ≡ i → ⊥) → AreOpen new.circuits z.records
   pub handled : (e : Entry) (p : PutPlace) → In more e → write_in e ≡ Some p → WasHandled new.circuits p
 
--- An event at server i before circuits end: its log has these entries, and its core has these records, from which those puts are not
--- withdrawn yet that wait on circuits that end.
+-- An event at server i before circuits end: its log has these entries, and its core has these
+-- records, from which those puts are not withdrawn yet that wait on circuits that end.
 pub record Midway (w mid : World) (i : ℕ) (y side : ServerSide) (log more : List Entry) (records : List Record) : Type 0 where
   pub is : At w.servers i y
   pub others : (j : ℕ) (z : ServerSide) → At mid.servers j z → (j ≡ i → ⊥) → At w.servers j z

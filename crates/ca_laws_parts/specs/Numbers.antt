@@ -8,7 +8,8 @@ use Rattle.ca_model.specs.History.{Cause, Update}
 use Rattle.ca_model.specs.Speech.{In}
 use Rattle.ca_model.specs.World.{Joined, Standing, World}
 
--- Each number in a queue is that of a subscription which the queue has and which stands, beside the place of its EVENT_ADD.
+-- Each number in a queue is that of a subscription which the queue has and which stands, beside the
+-- place of its EVENT_ADD.
 abbrev pub IsNumberOf : List Standing → SubKey × (ℕ × Cause) → Type 0
 IsNumberOf ss w = (st : Standing) × In ss st × (st.key ≡ w.0) × ((a : ℕ) × (w.1 ≡ (st.place, Update a)))
 

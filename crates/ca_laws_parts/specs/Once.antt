@@ -10,7 +10,7 @@ use Rattle.ca_model.specs.World.{PutPlace}
 
 -- ---- what is told of the write at a place
 
--- where the write came of which an entry tells
+-- where the write came that an entry reports
 abbrev pub write_in : Entry → Option PutPlace
 write_in (Waits n k r v) = Some (record { circuit = n; place = k })
 write_in (Applied n k r v busies) = Some (record { circuit = n; place = k })
@@ -38,15 +38,16 @@ HadWaited y p i r value = (e : ℕ) × (v : Stored) × (e < i) × At y e (Waits 
 
 -- ---- each write once
 
--- The write at a place came with this value, and was told in entry i first; it was lost before entry i.
+-- The write at a place came with this value, and was told in entry i first; it was
+-- lost before entry i.
 module _ (Came : PutPlace → (i : ℕ) → Elements → Type 0) (Lost : PutPlace → (i : ℕ) → Type 0) where
   -- A put that had waited is withdrawn at entry i: its record was removed before, or it is lost.
   abbrev pub IsLost : List Entry → PutPlace → (i : ℕ) → Type 0
   IsLost y p i = (r : ℕ) × (value : Elements) × HadWaited y p i r value × (In (take i y) (Removed r) ⊎ Lost p i)
 
-  -- A write is applied once, to a record that is there, with the value with which it came, then or when it came to wait. It comes to
-  -- wait once, and is applied or withdrawn, not both; withdrawn with its record, or lost. A record finishes one put at a time, each
-  -- once.
+  -- A write is applied once, to a record that is there, with the value with which it came, then or
+  -- when it came to wait. It comes to wait once, and is applied or withdrawn, not both; withdrawn
+  -- with its record, or lost. A record finishes one put at a time, each once.
   pub record Once (y : List Entry) : Type 0 where
     pub applied : (i j n k r q : ℕ) (v u : Stored) (b d : Bool) → At y i (Applied n k r v b) → At y j (Applied n k q u d) → i ≡ j
     pub there : (i n k r : ℕ) (v : Stored) (b : Bool) → At y i (Applied n k r v b)

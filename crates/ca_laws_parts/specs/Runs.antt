@@ -19,14 +19,15 @@ use Rattle.ca_laws_parts.specs.Worlds.{AllStream, ClientsSpeak, HandlesStand}
 abbrev pub IsReached : World → Type 0
 IsReached w = (s : Setting) × (es : List Event) × (stopped : Option Event) × IsSetting s × Runs s es stopped w
 
--- What clients sent are messages; and each client's core fits messages, as do the names that it is given.
+-- What clients sent are messages; and each client's core fits messages, as do the
+-- names that it is given.
 pub record AllFit (w : World) : Type 0 where
   pub sent : ClientsSpeak w
   pub cores : (i : ℕ) (x : ClientSide) → At w.clients i x → ClientFits x.core
   pub given : (i : ℕ) (x : ClientSide) → At w.clients i x → NamesFit x.setting.peer
 
--- Writes are sound, clients and handles stand, what clients send are messages, each as it was meant, and the bytes on all circuits are
--- those of what was sent and not read.
+-- Writes are sound, clients and handles stand, what clients send are messages, each as it was
+-- meant, and the bytes on all circuits are those of what was sent and not read.
 pub record Stands (s : Setting) (w : World) : Type 0 where
   pub sound : Sound s w
   pub clients : ClientsStand w

@@ -15,7 +15,8 @@ use Rattle.ca_model.specs.ServerEvents.{stamped}
 use Rattle.ca_model.specs.World.{Joined, ServerSide, World, port_of, rules_of, told}
 use Rattle.ca_laws_parts.specs.Lives.{SayWhatIsSo}
 
--- The reply is about a message that the client sent; and that was handled, or the reply fails nothing.
+-- The reply is about a message that the client sent; and that was handled, or the
+-- reply fails nothing.
 abbrev pub IsAbout : Joined → Told → Type 0
 IsAbout c t =
     ((s : Sent) × At c.lists.up t.place s) × ((t.place < length c.lists.handled) ⊎ ((s : Status) → Means t.message (Failed s) → ⊥))
@@ -37,6 +38,7 @@ AreNumbered w = (k : ℕ) (j : Joined) (y : ServerSide) (updates : List Update) 
 abbrev pub AllAsked : World → Type 0
 AllAsked w = (n k : ℕ) (c : Joined) (s : Sent) → At w.circuits n c → At c.lists.up k s → Suits s.intent s.message
 
--- a notice in a client's log tells what the reply to its own message means, or that this is lost; and each request is at one place
+-- a notice in a client's log says what the reply to its own message means, or that this is lost;
+-- and each request is at one place
 abbrev pub CompleteOnce : World → Type 0
 CompleteOnce w = OfClients (told w) (CompletesOnce (IsDue (port_of w) (rules_of w)) Shows Means (told w))

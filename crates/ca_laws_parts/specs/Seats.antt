@@ -1,4 +1,5 @@
--- Working: the circuits of a world whose ends at their servers are open, and those ends; and what holds of all writes.
+-- Working: the circuits of a world whose ends at their servers are open, and those ends; and what
+-- holds of all writes.
 use Rattle.std.specs.Prelude.{ℕ, ◌≡◌, ◌≤◌, true, List, length, take}
 use Rattle.std.specs.List.{FoldsTo}
 use Rattle.ca_link.specs.Link.{TakesFirst}
@@ -12,7 +13,8 @@ use Rattle.ca_model.specs.Runs.{Happens}
 use Rattle.ca_model.specs.World.{Joined, ServerSide, Setting, World}
 use Rattle.ca_laws_parts.specs.Moves.{Writes}
 
--- The circuit joins the present life of its server, whose core has an open end under the circuit's handle.
+-- The circuit joins the present life of its server, whose core has an open end under
+-- the circuit's handle.
 pub record HasSeat (w : World) (c : Joined) : Type 0 where
   pub y : ServerSide
   pub at : At w.servers c.server y
@@ -35,7 +37,8 @@ WithinLogs w = (n : ℕ) (c : Joined) → At w.circuits n c
 abbrev pub AsGiven : Setting → World → Type 0
 AsGiven s w = (i : ℕ) (y : ServerSide) → At w.servers i y → At s.servers i y.setting
 
--- What holds of the writes of a world, from this setting on, and of the servers' ends by which it stays so.
+-- What holds of the writes of a world, from this setting on, and of the servers' ends
+-- by which it stays so.
 pub record Sound (s : Setting) (w : World) : Type 0 where
   pub writes : Writes w
   pub seated : Seated w

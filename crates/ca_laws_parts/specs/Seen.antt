@@ -24,10 +24,11 @@ is_update_of k u = if u.0 == k then is_update u.1 else false
 abbrev pub updates_of : (k : ℕ) → List Told → List Told
 updates_of k down = filter (λ (t : Told). is_update_of k (t.place, t.cause)) down
 
--- What the updates of the EVENT_ADD s show, those that were sent and then those that are queued, is a subsequence of its record's
--- posts: first the value that the record had when the EVENT_ADD was handled, and then each write and post that shares a bit with
--- its mask. While the subscription lasts it ends in the newest post. So too for those that were read so far: they are the
--- beginning of those that were sent.
+-- What the updates of the EVENT_ADD s show, those that were sent and then those that are queued, is
+-- a subsequence of its record's posts: first the value that the record had when the EVENT_ADD was
+-- handled, and then each write and post that shares a bit with its mask. While the subscription
+-- lasts it ends in the newest post. So too for those that were read so far: they are the beginning
+-- of those that were sent.
 pub record SeesPosts (c : Circuit) (y : List Entry) (k r : ℕ) (s : Sent) (h : Step) : Type 0 where
   pub sent : List Stored
   pub queued : List Stored

@@ -1,4 +1,5 @@
--- Statement: one server's core alone: rows of its calls, with any answers and whatever its peers send, and what it did on each circuit.
+-- Statement: one server's core alone: rows of its calls, with any answers and whatever its peers
+-- send, and what it did on each circuit.
 use Rattle.std.specs.Prelude.{ℕ, ◌≡◌, ◌<◌, ◌^◌, Bool, false, List, [], Option, Some, None, Result, Ok, Err, filter, if◌then◌else◌, map, take}
 use Rattle.std.specs.List.{FoldsTo}
 use Rattle.ca_text.specs.declared.refusal.Refusal.{Refusal}
@@ -32,7 +33,8 @@ pub data Call : Type 0 where
   SetStamp : Stamp → Call
   Beacon : ℕ → Option (List ℕ) → Call
 
--- What a call did on one circuit: the message that it read there, if it read one, and what it sent after that.
+-- What a call did on one circuit: the message that it read there, if it read one, and
+-- what it sent after that.
 pub record Did : Type 0 where
   pub read : Option Fields
   pub sent : List Fields
@@ -49,14 +51,16 @@ only_sent sent = record { read = None; sent = sent }
 abbrev pub on_circuit : (c h : Handle) → Did → Did
 on_circuit c h d = if same_handle h c then d else nothing
 
--- A step that handled a message read it, and sent the replies that were due. Any other read and sent nothing.
+-- A step that handled a message read it, and sent the replies that were due. Any other
+-- read and sent nothing.
 abbrev pub StepDoes : Server → Handle → Stepped → Did → Server → Type 0
 StepDoes old h Handled d new =
     (e : ServerEnd) × HasEnd old h e × (next : Next old h e) × (gone : Handle → Bool) × (gone h ≡ false) × Reaches next.action gone next.after new
     × (d ≡ record { read = Some next.m; sent = next.replies })
 StepDoes old h answer d new = Steps old h answer new × (d ≡ nothing)
 
--- the SERVER_DISCONNs that a removal sent on a circuit: all that were due, or as many of them as were left by an end that ended out of memory
+-- the SERVER_DISCONNs that a removal sent on a circuit: all that were due, or as many of them as
+-- were left by an end that ended out of memory
 abbrev pub removal_sent : List ℕ → Bool → ℕ → Option ServerCircuit → List Fields
 removal_sent name gone left (Some (Open e)) = if gone then take left (disconnects name e) else disconnects name e
 removal_sent name gone left c = []
@@ -72,7 +76,8 @@ RemovalDoes c old name answer d new =
     (gone : Handle → Bool) × (left : Handle → ℕ) × Removes old name gone left answer new
     × (d ≡ only_sent (of_ok answer (removal_sent name (gone c) (left c) (under old.circuits c))))
 
--- From old the call did this on circuit c, and left new: by the statement's definition of each call.
+-- From old the call did this on circuit c, and left new: by the statement's
+-- definition of each call.
 abbrev pub Does : Handle → Server → Call → Did → Server → Type 0
 Does c old (Accept answer) d new = Accepts old answer new × (d ≡ nothing)
 Does c old (Give h bytes answer) d new = Gives old h bytes answer new × (d ≡ nothing)
@@ -123,12 +128,14 @@ pub record IsSetting (a : ServerSetting) : Type 0 where
   pub port : a.port < 2 ^ 16
   pub records : (i : ℕ) (r : RecordState) → At a.states i r → IsRecord r
 
--- A row of calls, from a new server's core on, leads here: to this core, and to what it did on circuit c.
+-- A row of calls, from a new server's core on, leads here: to this core, and to what
+-- it did on circuit c.
 abbrev pub Rows : Handle → ServerSetting → List Call → Alone → Type 0
 Rows c a calls now =
     FoldsTo (Leads c) (record { core = new_server a.port a.now a.rules a.states; conduct = nothing_done }) calls now
 
--- After any row of calls, what the server sent on any circuit is legal: whatever was called, whatever its peers sent.
+-- After any row of calls, what the server sent on any circuit is legal: whatever was called,
+-- whatever its peers sent.
 abbrev pub ServersSendLegally : Type 0
 ServersSendLegally =
     (c : Handle) (a : ServerSetting) (calls : List Call) (now : Alone) → IsSetting a → ((i : ℕ) (it : Call) → At calls i it → IsCall it)

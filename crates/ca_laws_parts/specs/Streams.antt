@@ -4,8 +4,8 @@ use Rattle.ca_text.specs.Place.{At}
 use Rattle.ca_wire.specs.Fields.{Fields}
 use Rattle.ca_wire.specs.Message.{IsMessage, spelled}
 
--- An end of a circuit: the bytes that came and were not read; those that wait to leave it, or that it left as it ended; whether it is
--- open; the messages that it sent; and how many it read.
+-- An end of a circuit: the bytes that came and were not read; those that wait to leave it, or that
+-- it left as it ended; whether it is open; the messages that it sent; and how many it read.
 pub record CircuitEnd : Type 0 where
   pub came : List ℕ
   pub waiting : List ℕ
@@ -13,8 +13,8 @@ pub record CircuitEnd : Type 0 where
   pub sent : List Fields
   pub read : ℕ
 
--- From one end to the other: what came and what waits is what the messages are spelled that were sent and not read, followed by nothing
--- else; once the sender ended it is a beginning of that.
+-- From one end to the other: what came and what waits is what the messages are spelled that were
+-- sent and not read, followed by nothing else; once the sender ended it is a beginning of that.
 pub record Streams (sender receiver : CircuitEnd) : Type 0 where
   pub within : receiver.read ≤ length sender.sent
   pub lost : List ℕ

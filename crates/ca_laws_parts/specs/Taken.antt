@@ -12,9 +12,10 @@ use Rattle.ca_model.specs.ServerEvents.{ends_by}
 use Rattle.ca_laws_parts.specs.Lives.{EndsAgree}
 use Rattle.ca_laws_parts.specs.Once.{IsUntold}
 
--- On circuits as they will be after the step: server i takes the message at this place of circuit k, which it knows under this
--- handle. The step is noted, and logs from the log's length on. The log did not tell of the place yet; and the puts that wait on this
--- handle came on this circuit, before.
+-- On circuits as they will be after the step: server i takes the message at this place of
+-- circuit k, which it knows under this handle. The step is noted, and logs from the log's
+-- length on. The log did not tell of the place yet; and the puts that wait on this handle came
+-- on this circuit, before.
 pub record Takes (circuits : List Joined) (i life : ℕ) (log : List Entry) (rs : List RecordSide) (h : Handle) (p : PutPlace) (s : Sent) : Type 0 where
   pub d : Joined
   pub on : At circuits p.circuit d
@@ -29,8 +30,9 @@ pub record Takes (circuits : List Joined) (i life : ℕ) (log : List Entry) (rs 
   pub before : (j : ℕ) (r : RecordSide) (q : PutPlace) (c : Joined) → At rs j r → In r.waiting q → At circuits q.circuit c → c.at_server ≡ h
       → (q.circuit ≡ p.circuit) × (q.place < p.place)
 
--- On circuits as they will be after the event: server i takes the write at this place of circuit k, which it knows under this handle, and
--- tells of it next, as it is handled or as its circuit closes. The log did not tell of the place yet.
+-- On circuits as they will be after the event: server i takes the write at this place of circuit k,
+-- which it knows under this handle, and tells of it next, as it is handled or as its circuit
+-- closes. The log did not tell of the place yet.
 pub record Comes (circuits : List Joined) (i life : ℕ) (log : List Entry) (h : Handle) (p : PutPlace) (s : Sent) : Type 0 where
   pub d : Joined
   pub on : At circuits p.circuit d
@@ -41,9 +43,10 @@ pub record Comes (circuits : List Joined) (i life : ℕ) (log : List Entry) (h :
   pub untold : IsUntold log p
   pub taken : IsTaken d.lists p.place (length log)
 
--- What else holds as a step of the server's end of circuit k handles a message, after which its core is this. The end is open, and of
--- this life; the message is the first that was not handled; no other open circuit of the server has its handle; and the core ends
--- circuits, but not this one, with the puts that wait there.
+-- What else holds as a step of the server's end of circuit k handles a message, after which its
+-- core is this. The end is open, and of this life; the message is the first that was not handled;
+-- no other open circuit of the server has its handle; and the core ends circuits, but not this one,
+-- with the puts that wait there.
 pub record Handling (w : World) (k : ℕ) (j : Joined) (y : ServerSide) (core : Server) (lost : Put → Bool) (s : Sent) : Type 0 where
   pub at : At w.circuits k j
   pub server : At w.servers j.server y

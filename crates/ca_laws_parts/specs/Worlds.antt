@@ -64,7 +64,8 @@ ClientsSpeak w = (k : ℕ) (j : Joined) → At w.circuits k j → AreMessages (s
 abbrev pub ServersSpeak : World → Type 0
 ServersSpeak w = (k : ℕ) (j : Joined) → At w.circuits k j → AreMessages (sent_down j)
 
--- The handles of circuits at a server in its present life: its table gave each, and once the end there has ended nothing has it.
+-- The handles of circuits at a server in its present life: its table gave each, and once the end
+-- there has ended nothing has it.
 pub record HandlesStand (w : World) : Type 0 where
   pub given : (n : ℕ) (c : Joined) (y : ServerSide) → At w.circuits n c → At w.servers c.server y → c.lists.server ≡ y.life
       → WasGiven y.core.circuits c.at_server

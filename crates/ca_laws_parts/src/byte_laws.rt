@@ -27,8 +27,8 @@ pub fn ends_take_what_was_sent()
     ensures first { (a b : CircuitEnd) (m : Fields) (front rest : List ℕ) → AreMessages a.sent
         → Streams a b → Spells front m → b.came ≡ front ++ rest
         → At a.sent b.read m × Streams a (record b { came = rest; read = b.read + 1 }) }
-    // So it is of the message that an open end takes next: at a server, where all that clients sent
-    // are messages; and at a client, where all that servers sent are.
+    // So it is of the message that an open end takes next: at a server, if all that clients sent
+    // are messages; and at a client, if all that servers sent are.
     ensures server { (w : World) → AllStream w → ClientsSpeak w → TakesSent w }
     ensures client { (w : World) → AllStream w → ServersSpeak w → HearsSent w }
 {}
@@ -52,8 +52,8 @@ pub fn bytes_are_messages_in_runs()
 /// after them; so it is as the client hears a message, whatever that is, as one of its ends ends or
 /// is connected, and as bytes come or a moment is handed in.
 ///
-/// Its core fits messages before. Where a handle is looked up, its tables have no more slots than
-/// an arena.
+/// Its core fits messages before. If a handle is looked up, its tables have no more
+/// slots than an arena.
 pub fn a_client_sends_messages()
     ensures opens { (x y : Client) (a : Opening) (q : Handle) (sent : List Sending) → ClientFits x
         → ClientOpens x a (Ok q) sent y → SpeaksWell y sent }

@@ -156,8 +156,8 @@ pub fn a_new_circuit_holds_what_it_creates()
         (with_all_sent (map (create_of n) (waiting_on on x)) c) }
 {}
 
-/// A server's events leave what a client's tables hold of the circuit as it was: it handles its next
-/// message with the replies that are due, a put is finished, and later messages go out.
+/// A server's events leave what a client's tables hold of the circuit as it was: it handles its
+/// next message with the replies that are due, a put is finished, and later messages go out.
 pub fn a_servers_events_keep_what_is_held()
     ensures step { (kept now : List ℕ) (on : Handle) (n : Names) (x : Client) (c : Circuit)
         (h : Step) (s : Sent) (k : Knows) (replies : List Fields) (action : Action)

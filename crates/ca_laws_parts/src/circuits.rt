@@ -69,8 +69,9 @@ pub fn a_clients_step_keeps_each_circuit()
         → HappensClientStep w k j x new → HeldAt kept w l → HeldAt kept new l }
 {}
 
-/// So does a step of a server's end: on its own circuit with what the server keeps for places then,
-/// by what is known of the message that it handled; on the others, and if it handled none, as it was.
+/// So does a step of a server's end: on its own circuit with what the server keeps for
+/// places then, by what is known of the message that it handled; on the others, and if it
+/// handled none, as it was.
 pub fn a_servers_step_keeps_each_circuit()
     ensures own { (kept now : List ℕ) (w new : World) (k : ℕ) (j : Joined) (y : ServerSide)
         (s : StepHandles w k j y new) → At w.circuits k j

@@ -4,10 +4,10 @@ ghost use Rattle.ca_model.specs.Runs.{Happens, Runs};
 ghost use Rattle.ca_model.specs.World.{Setting, World};
 ghost use Rattle.ca_laws_parts.specs.Clients.{ClientsStand};
 
-/// In each world to which a run leads, whatever its setting and events, all clients are sound: names
-/// name what tables gave, requests and subscriptions are where their channels were live, channels
-/// are on circuits that are connected or wanted, and each open end is connected under a handle of
-/// its own.
+/// In each world to which a run leads, whatever its setting and events, all clients are sound:
+/// names name what tables gave, requests and subscriptions are where their channels were live,
+/// channels are on circuits that are connected or wanted, and each open end is connected under
+/// a handle of its own.
 ///
 /// Every event keeps that.
 pub fn clients_stand_in_runs()

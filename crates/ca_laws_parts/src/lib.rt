@@ -1,13 +1,16 @@
-//! Laws of the parts of a world: what each call, message and event keeps of one circuit, of the records and the log of a
-//! server, of the updates of a subscription, and of the bytes between two ends; and what one core alone sends.
+//! Laws of the parts of a world: what each call, message and event keeps of one circuit, of the
+//! records and the log of a server, of the updates of a subscription, and of the bytes between two
+//! ends; and what one core alone sends.
 //!
 //! - Updates: what their numbers say of what a subscriber saw, and what a queue does to them.
-//! - Writes: the records of a server beside the log of its life, in which each write is applied once and as it came.
-//! - One circuit: what the ids in flight mean as its two lists grow, what a client's tables hold of it, and for which of a
-//!   client's messages a server may still send others; and that each event keeps it.
+//! - Writes: the records of a server beside the log of its life, in which each write is applied
+//!   once and as it came.
+//! - One circuit: what the ids in flight mean as its two lists grow, what a client's tables
+//!   hold of it, and for which of a client's messages a server may still send others; and that
+//!   each event keeps it.
 //! - Bytes: what an end of a circuit takes next is the next message that was sent to it.
-//! - One core alone, with any peer: over any row of its calls, with any answers and any bytes that come, what it sends is
-//!   legal, said by the ids in its messages.
+//! - One core alone, with any peer: over any row of its calls, with any answers and any bytes that
+//!   come, what it sends is legal, said by the ids in its messages.
 #![tactic(auto)]
 
 mod byte_laws;

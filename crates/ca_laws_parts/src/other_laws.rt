@@ -11,8 +11,8 @@ ghost use Rattle.ca_model.specs.World.{ClientSide, ServerSide, World};
 ghost use Rattle.ca_laws_parts.specs.Circuit.{HeldAt};
 ghost use Rattle.ca_laws_parts.specs.Clients.{ClientsStand};
 
-/// So does a channel that is opened, what became of a request that is handed out or given up, a post
-/// or a new record at a server, and a server that begins again.
+/// So does a channel that is opened, what became of a request that is handed out or given up, a
+/// post or a new record at a server, and a server that begins again.
 pub fn quiet_events_keep_each_circuit()
     ensures opened { (kept : List ℕ) (w new : World) (i k : ℕ) (x : ClientSide) (name : List ℕ)
         (priority : ℕ) → At w.clients i x → ClientsStand w → HappensOpen w i x name priority new
@@ -29,8 +29,8 @@ pub fn quiet_events_keep_each_circuit()
         → HappensServerRestart w i y new → HeldAt kept w k → HeldAt kept new k }
 {}
 
-/// So does a client that begins again, whose ends are closed then, a datagram that reaches one, which
-/// may create channels, a circuit that is made, and a moment that is handed in.
+/// So does a client that begins again, whose ends are closed then, a datagram that reaches one,
+/// which may create channels, a circuit that is made, and a moment that is handed in.
 pub fn a_clients_life_keeps_each_circuit()
     ensures restart { (kept : List ℕ) (w new : World) (i k : ℕ) (x : ClientSide)
         → At w.clients i x → HappensClientRestart w i x new → HeldAt kept w k → HeldAt kept new k }

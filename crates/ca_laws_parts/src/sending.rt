@@ -21,9 +21,10 @@ ghost use Rattle.ca_laws_parts.specs.Runs.{HearsSent, Stands};
 ghost use Rattle.ca_laws_parts.specs.ServerFits.{AllCaused, ServerFits, ServersFit};
 ghost use Rattle.ca_laws_parts.specs.Streams.{AreMessages};
 
-/// All that a server's calls send are messages, each field of its width, and its core fits messages
-/// after them: the replies that are due for a message that it takes, the updates that leave its
-/// queues, the reply to a put that is finished, and the SERVER_DISCONNs of a record that is removed.
+/// All that a server's calls send are messages, each field of its width, and its core fits
+/// messages after them: the replies that are due for a message that it takes, the updates
+/// that leave its queues, the reply to a put that is finished, and the SERVER_DISCONNs of a
+/// record that is removed.
 ///
 /// Its core fits messages before; and a value that is posted, or that a new record has, is one.
 pub fn a_server_sends_messages()

@@ -40,7 +40,7 @@ pub fn a_subsequence_begins_with_one<T>()
 /// taken, cancelled or turned on and off.
 pub fn a_queue_keeps_numbers_rising<T>()
     // Its own calls: its first entry has the number 0, the next post the next number, and a take
-    // gives the first that waits.
+    // returns the first that waits.
     ensures begins { (stamp : ℕ → T) (key : SubKey) (q : Queue T) → entries_of key q.waiting ≡ []
         → Rising stamp key [] 1 (posted key (stamp 0) (added key q)) }
     ensures posted { (stamp : ℕ → T) (key : SubKey) (gone : List ℕ) (next : ℕ) (q : Queue T)
@@ -106,7 +106,7 @@ pub fn values_and_numbers_stay_in_step()
 {}
 
 /// So an open end and its circuit stay in step as a message is handled, and as subscriptions end
-/// with their channel: the same subscriptions stand in both, each once, and the same updates wait.
+/// with their channel: the same subscriptions are in both, each once, and the same updates wait.
 ///
 /// A subscription begins only under a key that none has.
 pub fn an_end_and_its_circuit_stay_in_step()

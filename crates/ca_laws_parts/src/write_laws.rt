@@ -121,7 +121,7 @@ pub fn records_agree_with_their_log()
         → Life circuits server life (y ++ Added n s ∷ [])
         (take behind cs ++ new_record s ∷ drop behind cs)
         (take behind rs ++ record_begun n s ∷ drop behind rs) (n + 1) }
-    // Nothing happens but that circuits go on.
+    // Nothing happens except that circuits go on.
     ensures later { (old new : List Joined) (server life : ℕ) (y : List Entry)
         (cs : List Record) (rs : List RecordSide) (n : ℕ) → AreLater old new
         → Life old server life y cs rs n → Life new server life y cs rs n }
@@ -130,13 +130,13 @@ pub fn records_agree_with_their_log()
         (cs : List Record) (rs : List RecordSide) (n i : ℕ) (c : Record) (r : RecordSide)
         → At cs i c → At rs i r → Life circuits server life y cs rs n
         → IsNow y r.number (known_record c) × Has y r.number r.name }
-    // The number by which an event tells of a record is that of the one that has the name.
+    // The number by which an event names a record is that of the one that has the name.
     ensures numbers { (circuits : List Joined) (server life : ℕ) (y : List Entry)
         (cs : List Record) (rs : List RecordSide) (n i : ℕ) (r : RecordSide) → At rs i r
         → Life circuits server life y cs rs n → number_of r.name rs ≡ r.number }
 {}
 
-/// Where the log of each life has each write once, no write is applied twice, in all lives of all
+/// If the log of each life has each write once, no write is applied twice, in all lives of all
 /// servers; each has the value of its own message; a put that waits is dropped only with its
 /// record, its channel or its circuit; and a record finishes one put at a time, each once.
 pub fn no_write_is_applied_twice()
@@ -200,8 +200,8 @@ pub fn what_a_reply_says_stays_so()
 
 /// What holds of the writes of a world (each server's records are what the log of its life tells,
 /// and each log has each write once) holds before any event. It stays so while servers and logs
-/// stay as they are and circuits go on, as is meant for events at a client; as a record is added; and as
-/// a server begins a new life.
+/// stay as they are and circuits go on, as is meant for events at a client; as a record is added;
+/// and as a server begins a new life.
 pub fn writes_stay_as_a_world_goes_on()
     ensures begins { (s : Setting) → IsSetting s → Writes (opening s) }
     ensures stays { (w new : World) → new.servers ≡ w.servers → new.server_logs ≡ w.server_logs

@@ -27,8 +27,8 @@ pub fn each_event_keeps_writes()
         → IsSetting s → Runs s es stopped w → AllTakeSent (opening s) es → Sound s w }
 {}
 
-/// Where writes are sound, as they are after every run, no write is applied twice, in all lives of
-/// all servers; each has the value of its own message; a put that waits is dropped only with its
+/// If writes are sound, as they are after every run, no write is applied twice, in all lives of all
+/// servers; each has the value of its own message; a put that waits is dropped only with its
 /// record, its channel or its circuit; and a record finishes one put at a time, each once.
 pub fn sound_writes_are_applied_once()
     ensures once { (s : Setting) (w : World) → Sound s w → (n k l m i j r q : ℕ) (v u : Stored)
@@ -43,7 +43,7 @@ pub fn sound_writes_are_applied_once()
 {}
 
 /// What replies say of writes is so by the logs of servers, before any event, after each event, and
-/// after every run: a put that a reply tells Done is applied, and of a write that a reply tells
+/// after every run: a put that a reply reports Done is applied, and of a write that a reply reports
 /// Failed the log never tells.
 ///
 /// What the end of a circuit takes next is the message that its client sent next, in each world on
@@ -58,8 +58,8 @@ pub fn each_event_keeps_what_replies_say()
 {}
 
 /// Each circuit that is open at its server is in step with its end there: the same subscriptions
-/// stand in both, each once, and the same updates wait in both. So it is before any event, after
-/// each event, and after every run; and so each update that leaves a queue has its number in front
+/// are in both, each once, and the same updates wait in both. So it is before any event, after each
+/// event, and after every run; and so each update that leaves a queue has its number in front
 /// there, and is told as an update.
 ///
 /// What the end of a circuit takes next is the message that its client sent next, in each world on
@@ -73,8 +73,8 @@ pub fn ends_and_circuits_stay_in_step()
     ensures numbered { (w : World) → AllInStep w → AreNumbered w }
 {}
 
-/// Where replies say what is so, a put that completed Done was applied, and a write whose caller
-/// was told of a failure never is.
+/// If replies say what is so, a put that completed Done was applied, and a write whose caller was
+/// told of a failure never is.
 ///
 /// Each message of a client is what was meant, and notices tell what replies to them mean.
 pub fn callers_are_told_what_became_of_writes()

@@ -34,7 +34,7 @@ pub fn writes_are_applied_once_in_runs()
 {}
 
 /// After every run a put whose completion was told Done was applied, and a write whose caller was
-/// told of a failure never is, where notices tell what replies to their own messages mean.
+/// told of a failure never is, if notices tell what replies to their own messages mean.
 ///
 /// The setting of the run is well-formed.
 pub fn callers_are_told_right_in_runs()

@@ -1,4 +1,5 @@
--- Messages that are handled keep subscriptions beside the posts that they see; and so it is in every run.
+-- Messages that are handled keep subscriptions beside the posts that they see; and
+-- so it is in every run.
 use Rattle.std.proofs.Common.{◌≡◌, ℕ, suc, ◌+◌, ◌<◌, Bool, true, false, cond, ◌==◌, eqb, eq-eqb, eqb-true, List, [], ◌∷◌, ◌++◌, length, Option, Some, None, refl, sym, ap, subst, ◌∙◌, arith}
 use Rattle.std.specs.Prelude.{drop, filter_map, map, option_map, option_to_list, unwrap_or}
 use Rattle.std.specs.List.{cons_option}

@@ -1,4 +1,5 @@
--- On which record a message acted does not change as the lists of its circuit and the log of its server grow.
+-- On which record a message acted does not change as the lists of its circuit and the
+-- log of its server grow.
 use Rattle.std.proofs.Common.{◌≡◌, ℕ, zero, suc, ◌<◌, ◌≤◌, inl, inr, List, [], ◌∷◌, ◌++◌, length, sym, ap, subst, ◌∙◌, append-nil, append_assoc, arith}
 use Rattle.std.specs.Prelude.{take}
 use Rattle.ca_text.specs.Place.{At}
@@ -23,7 +24,7 @@ taken-at (suc n) [] i x lt at = absurd (none_at i x at)
 taken-at (suc n) (y ∷ xs) zero x lt at = at
 taken-at (suc n) (y ∷ xs) (suc i) x lt at = taken-at n xs i x (omega (arith, lt)) at
 
--- each item of the one stands in the other, at its place
+-- each item of the one is in the other, at its place
 abbrev pub Grows : {A : Type 0} → List A → List A → Type 0
 Grows {A} xs ys = (i : ℕ) (x : A) → At xs i x → At ys i x
 

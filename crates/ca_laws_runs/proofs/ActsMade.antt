@@ -1,4 +1,5 @@
--- Each channel that a server created was created for the record that it had then under the name, and before the next message was handled.
+-- Each channel that a server created was created for the record that it had then under the name,
+-- and before the next message was handled.
 use Rattle.std.proofs.Common.{◌≡◌, ℕ, ◌+◌, ◌<◌, ◌≤◌, ◌⊎◌, inl, inr, List, [], ◌∷◌, ◌++◌, length, Option, Some, None, refl, sym, ap, subst, ◌∙◌, arith}
 use Rattle.std.specs.Prelude.{option_map, slice_set, take, unwrap_or}
 use Rattle.std.specs.List.{FoldsTo}
@@ -43,8 +44,8 @@ use Rattle.ca_laws_runs.proofs.Acting.{IsLonger, longer-taken}
 use Rattle.ca_laws_runs.proofs.Known.{longer-le}
 use Rattle.ca_laws_runs.proofs.FollowsWhole.{LogsGrow, LogsThere, leaves-grew, logs-grow, logs-there}
 
--- The reply at place j created a channel: the server had a record under the name in its CREATE_CHAN, when it handled that, and it sent
--- the reply before it handled the next message.
+-- The reply at place j created a channel: the server had a record under the name in its
+-- CREATE_CHAN, when it handled that, and it sent the reply before it handled the next message.
 pub record IsMade (log : List Entry) (c : Circuit) (j : ℕ) (t : Told) : Type 0 where
   pub s : Sent
   pub sent : At c.up t.place s

@@ -1,5 +1,5 @@
--- What an event leaves of the channels that clients opened, by what it leaves of one client, of logs and of circuits: each CREATE_CHAN has the
--- name under which its channel was opened.
+-- What an event leaves of the channels that clients opened, by what it leaves of one client, of
+-- logs and of circuits: each CREATE_CHAN has the name under which its channel was opened.
 use Rattle.std.proofs.Common.{◌≡◌, ℕ, zero, suc, ◌+◌, ◌<◌, ◌≤◌, ◌⊎◌, inl, inr, Bool, true, false, ◌&&◌, cond, eqb, List, [], ◌∷◌, ◌++◌, length, Some, refl, sym, ap, ◌∙◌, subst, arith}
 use Rattle.std.specs.Prelude.{Contains, Ok, filter, map, not, slice_set, take}
 use Rattle.std.specs.List.{before_first, prefix_len}
@@ -49,8 +49,9 @@ name-is cid name whole = ap (λ (l : List ℕ). before_first (λ b. eqb b 0) l) 
 
 -- ---- what is told of channels
 
--- The channels of clients by their numbers, beside the logs of their lives: each that is there was opened under its name, and no two have one
--- number. Each CREATE_CHAN that was sent has the name under which its channel was opened.
+-- The channels of clients by their numbers, beside the logs of their lives: each that is there was
+-- opened under its name, and no two have one number. Each CREATE_CHAN that was sent has the name
+-- under which its channel was opened.
 pub record NamesStand (w : World) : Type 0 where
   pub titled : (i : ℕ) (x : ClientSide) (log : List Line) (h : Handle) (ch : Channel) → At w.clients i x → At w.client_logs x.life log → under x.core.channels h ≡ Some ch
       → In log (Opened (channel_number x.names h) ch.name) × (Contains ch.name 0 → ⊥)
@@ -58,7 +59,8 @@ pub record NamesStand (w : World) : Type 0 where
   pub once : (life : ℕ) (log : List Line) (p q c : ℕ) (a b : List ℕ) → At w.client_logs life log → At log p (Opened c a) → At log q (Opened c b) → p ≡ q
   pub said : (k p a : ℕ) (j : Joined) (log : List Line) (s : Sent) → At w.circuits k j → At w.client_logs j.lists.client log → At j.lists.up p s → s.intent ≡ On a Create → In log (Opened a (name_in s.message))
 
--- What a call leaves of that: these messages are spoken under these names, and these lines are logged.
+-- What a call leaves of that: these messages are spoken under these names, and
+-- these lines are logged.
 pub record NamesCalls (n : Names) (x : Client) (spoken : Names) (sent : List Sending) (lines : List Line) (now : Names) (y : Client) : Type 0 where
   pub stay : (h : Handle) (ch : Channel) → under y.channels h ≡ Some ch
       → ((w : Channel) × (under x.channels h ≡ Some w) × (ch.name ≡ w.name) × (channel_number now h ≡ channel_number n h))
@@ -246,7 +248,7 @@ module _ (w new : World) (i : ℕ) (x z : ClientSide) (spoken : Names) (sent : L
     | inr same ↦ same.0
   ]
 
-  -- what a log tells now it told, or is new
+  -- what a log says now it told, or is new
   pub names-moved : NamesStand new
   names-moved = record {
     titled = λ l y log h ch at there is. elim (clients l y at) [

@@ -55,7 +55,8 @@ run-creations s es stopped w ok runs =
 
 -- ---- what holds of a circuit, by its lists and the log of its server's life
 
--- What was shown of a circuit in every run: of the channels that were created there, of what the client said, and of the order of steps.
+-- What was shown of a circuit in every run: of the channels that were created there, of what the
+-- client said, and of the order of steps.
 pub record Facts (j : Joined) (log : List Entry) : Type 0 where
   pub made : AreMade log j.lists
   pub created : CreatedOn j

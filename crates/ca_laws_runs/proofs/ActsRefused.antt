@@ -183,7 +183,7 @@ module _ (n : ℕ) (c : Circuit) (y : List Entry) (keep : KeepRecords y) (after 
       first (zero, at) = some_is x m (subst (λ (l : List Fields). At l 0 m) one at)
       first (suc i, at) = absurd (none_at i m (subst (λ (l : List Fields). At l (suc i) m) one at))
 
-  -- the log tells nothing of a write that was refused
+  -- the log reports nothing of a write that was refused
   told-bad : (x m : Fields) → a.replies ≡ x ∷ [] → Means x (Failed (record { number = bad_channel })) → Is command.WriteNotify a.s.message → SayWhatIsSo y n c → IsLate n c y k m → ⊥
   told-bad x m one means asks says late =
       (says (h.sent + 0) (record { message = x; place = k; cause = Reply }) a.s (a.now 0 x (subst (λ (l : List Fields). At l 0 x) (sym one) refl)) refl a.at).failed (record { number = bad_channel }) (inr asks) means (Finished n k) late.2 refl

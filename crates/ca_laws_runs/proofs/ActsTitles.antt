@@ -1,4 +1,5 @@
--- Over each call of a client its channels keep their names, and each CREATE_CHAN that it sends has the name of its channel.
+-- Over each call of a client its channels keep their names, and each CREATE_CHAN that it sends has
+-- the name of its channel.
 use Rattle.std.proofs.Common.{◌≡◌, ℕ, zero, suc, inl, inr, Bool, true, false, cond, eqb, List, [], ◌∷◌, ◌++◌, Option, Some, None, refl, sym, ap, ◌∙◌, subst}
 use Rattle.std.specs.Prelude.{Ok, filter, fold, is_some, length, map, not, option_map, option_to_list, unwrap_or}
 use Rattle.ca_text.specs.declared.command.Command.{Command}

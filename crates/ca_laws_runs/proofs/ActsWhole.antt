@@ -1,4 +1,5 @@
--- A channel that is live has its record, or a SERVER_DISCONN for it is unread; and so the whole clause of what servers act on.
+-- A channel that is live has its record, or a SERVER_DISCONN for it is unread; and so the whole
+-- clause of what servers act on.
 use Rattle.std.proofs.Common.{◌≡◌, ℕ, ◌≤◌, ◌⊎◌, inl, inr, Bool, true, false, List, length, Option, Some, refl, sym, ap, subst, ◌∙◌, arith}
 use Rattle.ca_text.specs.Place.{At}
 use Rattle.ca_text.proofs.Places.{At-one, At-within}

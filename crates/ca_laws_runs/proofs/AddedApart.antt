@@ -1,4 +1,5 @@
--- Between two EVENT_ADDs of one subscription its channel was created again, as more messages are sent on a circuit.
+-- Between two EVENT_ADDs of one subscription its channel was created again, as more messages
+-- are sent on a circuit.
 use Rattle.std.proofs.Common.{◌≡◌, ℕ, zero, suc, ◌+◌, ◌<◌, inl, inr, Bool, true, false, cond, List, [], ◌∷◌, ◌++◌, length, refl, sym, ap, ◌∙◌, subst, arith}
 use Rattle.std.specs.Prelude.{filter, map}
 use Rattle.ca_text.specs.Place.{At}

@@ -1,4 +1,5 @@
--- A subscription that stands on a live channel has its EVENT_ADD after that channel's last CREATE_CHAN, over every event and run.
+-- A subscription that is on a live channel has its EVENT_ADD after that channel's last CREATE_CHAN,
+-- over every event and run.
 use Rattle.std.proofs.Common.{◌≡◌, ℕ, suc, ◌<◌, ◌≤◌, inl, inr, true, List, [], ◌∷◌, ◌++◌, length, Option, Some, None, refl, sym, ap, ◌∙◌, subst, arith}
 use Rattle.std.specs.List.{FoldsTo}
 use Rattle.ca_text.specs.Place.{At}
@@ -22,7 +23,8 @@ use Rattle.ca_laws_runs.proofs.Stood.{IsStood}
 use Rattle.ca_laws_runs.proofs.StoodGoing.{AddsBack, adds-still, ends-grown, event-adds, stay-still, ticks-still}
 use Rattle.ca_laws_runs.proofs.ToldGrows.{WorldsOn, event-on, on-grown}
 
--- Of each subscription that stands on a live channel the EVENT_ADD was sent, and since then no CREATE_CHAN of its channel.
+-- Of each subscription that is on a live channel the EVENT_ADD was sent, and since then no
+-- CREATE_CHAN of its channel.
 abbrev pub AllAdded : World → Type 0
 AllAdded w = (n : ℕ) (c : Joined) (x : ClientSide) (g h : Handle) → At w.circuits n c → At w.clients c.client x → c.lists.client_open ≡ true → IsStood x.core c.at_client g h
     → (a m : ℕ) × (meant_by x.names.subscriptions g ≡ On a (Subscribe m)) × IsAddedSince c.lists.up a m

@@ -1,4 +1,5 @@
--- As a channel becomes live, each of its subscriptions that stands by its client's log is added, over every event and run.
+-- As a channel becomes live, each of its subscriptions that stands by its client's log is added,
+-- over every event and run.
 use Rattle.std.proofs.Common.{◌≡◌, ℕ, suc, ◌+◌, ◌<◌, ◌≤◌, ◌⊎◌, inl, inr, true, false, ◌&&◌, List, [], ◌∷◌, ◌++◌, length, Option, Some, None, refl, sym, ap, ◌∙◌, subst, arith}
 use Rattle.std.specs.Prelude.{slice_set, take, unwrap_or}
 use Rattle.std.specs.List.{FoldsTo}
@@ -72,7 +73,8 @@ use Rattle.ca_laws_runs.proofs.Using.{AllNamedOnce, ClientsUse, named-meant, nam
 
 -- ---- what is said of a circuit
 
--- The subscription was added on the channel when this many messages had been sent, or later, and before the channel was created again.
+-- The subscription was added on the channel when this many messages had been sent, or later, and
+-- before the channel was created again.
 abbrev pub IsAnew : Circuit → (a number place sent : ℕ) → Type 0
 IsAnew c a number place sent =
     (l : ℕ) × (r : Sent) × (sent ≤ l) × At c.up l r × (r.intent ≡ On a (Subscribe number))
@@ -149,7 +151,8 @@ module _ (w new : World) (k : ℕ) (j : Joined) (x : ClientSide) (on : At w.circ
     speaks : Speaks t.message (Cid m.p1)
     speaks = inl (inl (inl creates.0, ap (λ (v : Fields). v.p1) is))
 
-    -- No reply was read that created the channel last before a later place: the one for its CREATE_CHAN is read now.
+    -- No reply was read that created the channel last before a later place: the one for its
+    -- CREATE_CHAN is read now.
     unread : (i l other p : ℕ) → IsCreatedBefore j.lists a i l other p → i < length j.lists.heard → t.place < p → ⊥
     unread i l other p b early lt =
         let place : b.t.place ≡ l = b.told.1 in
@@ -201,7 +204,7 @@ module _ (w new : World) (k : ℕ) (j : Joined) (x : ClientSide) (on : At w.circ
             | inr (inr late) ↦ create-used Create refl (c.since t.place s Create (omega (arith, late, place)) (At-within now.lists.up t.place s up_now) up_now (meant ∙ ap (λ (z : ℕ). On z Create) (sym number_is)))
           ]
 
-      -- each that stands on it is added
+      -- each that is on it is added
       added : (g : Handle) (d : Subscription) → under x.core.subscriptions g ≡ Some d → stands_in d.stage ≡ true → d.channel ≡ h
           → meant_by x.names.subscriptions g ≡ On a (Subscribe number) → IsAnew now.lists a number t.place step.sent
       added g d held_there stands channel intent_is =

@@ -1,4 +1,4 @@
--- An EVENT_ADD is sent of a subscription that stands on a live channel then: what each event sends.
+-- An EVENT_ADD is sent of a subscription that is on a live channel then: what each event sends.
 use Rattle.std.proofs.Common.{◌≡◌, ℕ, zero, suc, ◌+◌, ◌≤◌, ◌⊎◌, inl, inr, Bool, true, false, ◌&&◌, cond, eqb, List, [], ◌∷◌, ◌++◌, length, Option, Some, None, refl, sym, ap, ◌∙◌, subst, arith}
 use Rattle.std.specs.Prelude.{Ok, drop, is_none, map, option_map, slice_set, unwrap_or}
 use Rattle.std.specs.List.{FoldsTo}
@@ -56,7 +56,8 @@ use Rattle.ca_laws_runs.proofs.Stood.{IsStood}
 abbrev pub IsNoAdd : Sent → Type 0
 IsNoAdd s = (a m : ℕ) → s.intent ≡ history.On a (history.Subscribe m) → ⊥
 
--- The EVENT_ADD of a subscription that stands on a live channel in the new world, sent on its circuit since the other.
+-- The EVENT_ADD of a subscription that is on a live channel in the new world, sent on its
+-- circuit since the other.
 pub record IsAdding (w new : World) (n k : ℕ) (s : Sent) : Type 0 where
   pub c : Joined
   pub y : ClientSide
@@ -73,7 +74,8 @@ pub record IsAdding (w new : World) (n k : ℕ) (s : Sent) : Type 0 where
 abbrev pub AddingBack : (w new : World) → Type 0
 AddingBack w new = (n : ℕ) (d : Joined) (k : ℕ) (s : Sent) → At new.circuits n d → At d.lists.up k s → IsNoAdd s ⊎ (((c : Joined) × At w.circuits n c × At c.lists.up k s) ⊎ IsAdding w new n k s)
 
--- Each of these that is for a subscription is for one that stands on a channel that is live on its circuit.
+-- Each of these that is for a subscription is for one that is on a channel that is
+-- live on its circuit.
 abbrev AllStood : Client → List Sending → Type 0
 AllStood y sent = (i : ℕ) (s : Sending) → At sent i s → (h g : Handle) → s.aim ≡ aim.Subscribe h g → IsStood y s.circuit g h
 
@@ -441,7 +443,7 @@ says-called w mid new i names sent ups is other = says-after w mid new i names s
 abbrev EndUps : (w mid : World) → Type 0
 EndUps w mid = (n : ℕ) (b : Joined) → At mid.circuits n b → (c : Joined) × At w.circuits n c × (b.lists.up ≡ c.lists.up) × (b.client ≡ c.client) × (b.at_client ≡ c.at_client) × (b.lists.client_open ≡ c.lists.client_open)
 
--- What was sent for subscriptions is of those that stand at the client that is there now.
+-- What was sent for subscriptions is of those that are at the client that is there now.
 says-adding : (w mid new : World) (i : ℕ) (z : ClientSide) (sent : List Sending) → EndUps w mid → new.circuits ≡ map (sent_to i z.names sent) mid.circuits → At new.clients i z → AllStood z.core sent → Tidy z.names z.core → ((m : ℕ) (c : Joined) → At w.circuits m c → c.client ≡ i → c.lists.client_open ≡ true → c.lists.client ≡ z.life) → AddingBack w new
 says-adding w mid new i z sent ups circuits at_z stood tidy lives n d k s at there =
     let b = after-goes i z.names sent mid new circuits n d at in

@@ -1,4 +1,5 @@
--- As a channel is created again on a circuit, its subscriptions that stand are added again after that CREATE_CHAN; those that are not are over, or the channel was cleared.
+-- As a channel is created again on a circuit, its subscriptions that stand are added again after
+-- that CREATE_CHAN; those that are not are over, or the channel was cleared.
 use Rattle.std.proofs.Common.{◌≡◌, ℕ, ◌+◌, ◌<◌, ◌≤◌, ◌⊎◌, inl, inr, Bool, true, false, ◌&&◌, cond, eqb, List, [], length, Option, Some, None, refl, sym, ap, ◌∙◌, subst, arith}
 use Rattle.std.specs.Prelude.{filter, map, slice_set}
 use Rattle.std.proofs.lemmas.Bool.{and_from, both_ways, eq-eqb}
@@ -39,13 +40,15 @@ use Rattle.ca_laws_runs.proofs.Using.{AllNamedOnce, ClientsUse, IsOverAt, named-
 
 -- ---- what is said of a circuit
 
--- After this place the subscription was added, or the channel was cleared; or the subscription is over.
+-- After this place the subscription was added, or the channel was cleared; or the
+-- subscription is over.
 abbrev pub IsAgain : World → Joined → (a number place : ℕ) → Type 0
 IsAgain w c a number place =
     ((p : ℕ) × (r : Sent) × (place < p) × At c.lists.up p r × (r.intent ≡ On a (Subscribe number)))
     ⊎ (IsOverAt w c.lists.client number ⊎ ((p : ℕ) × (r : Sent) × (place < p) × At c.lists.up p r × (r.intent ≡ On a Clear)))
 
--- So it is after each CREATE_CHAN whose reply was read, of each subscription that was added on the channel before.
+-- So it is after each CREATE_CHAN whose reply was read, of each subscription that was added
+-- on the channel before.
 abbrev pub AllAgain : World → Type 0
 AllAgain w = (n : ℕ) (c : Joined) (i a sid k number : ℕ) (t : Told) (h : Step) (s q : Sent) → At w.circuits n c → At c.lists.down i t → At c.lists.heard i h → t.cause ≡ Reply → Creates t.message sid → At c.lists.up t.place s → s.intent ≡ On a Create
     → At c.lists.up k q → q.intent ≡ On a (Subscribe number) → k < t.place → IsAgain w c a number t.place

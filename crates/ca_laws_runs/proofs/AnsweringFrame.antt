@@ -1,4 +1,5 @@
--- How a message was answered does not change as the lists of its circuit and the log of its server grow.
+-- How a message was answered does not change as the lists of its circuit and the
+-- log of its server grow.
 use Rattle.std.proofs.Common.{◌≡◌, ℕ, zero, suc, ◌+◌, ◌<◌, ◌≤◌, ◌⊎◌, inl, inr, List, [], ◌∷◌, ◌++◌, length, Option, Some, None, refl, sym, ap, subst, ◌∙◌, arith}
 use Rattle.std.specs.Prelude.{option_map, slice_get, slice_set, take, unwrap_or}
 use Rattle.ca_text.specs.Place.{At}

@@ -61,7 +61,7 @@ keeps-awaited s w sound handles puts i y name c b r q e at named busy in_rs r_na
     has : HasEnd y.core put.c.at_server e
     has = subst (λ (h : Handle). HasEnd y.core h e) put.handle awaited.0
 
-    -- the log tells that it was applied, and so it came in this life
+    -- the log says that it was applied, and so it came in this life
     joins : put.c.lists.server ≡ y.life
     joins =
         let agrees : Agrees (IsPutOf w.circuits i) own.log c r = beside-named (IsPutOf w.circuits i) own.log y.core.records y.records own.life.each own.life.others c r pair.in_cs pair.in_rs pair.name in

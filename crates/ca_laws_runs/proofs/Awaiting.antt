@@ -1,4 +1,5 @@
--- Each put that waits by the log of a server's life waits for a record that is there, over every event.
+-- Each put that waits by the log of a server's life waits for a record that is
+-- there, over every event.
 use Rattle.std.proofs.Common.{◌≡◌, ℕ, zero, suc, ◌+◌, ◌<◌, ◌⊎◌, inl, inr, Bool, true, false, cond, ◌&&◌, eqb, eqb-true, eq-eqb, not, List, [], ◌∷◌, ◌++◌, length, Option, Some, None, refl, sym, ap, subst, ◌∙◌, arith}
 use Rattle.std.specs.Prelude.{drop, filter, map, option_map, slice_get, slice_set, take, unwrap_or}
 use Rattle.std.specs.List.{FoldsTo, flat_map, fold}
@@ -159,7 +160,8 @@ awaiting-after w i y ends core log at there all =
 abbrev log-of : (w : World) (i : ℕ) (y : ServerSide) → Writes w → At w.servers i y → (log : List Entry) × At w.server_logs y.life log
 log-of w i y h at = ((h.lives i y at).log, (h.lives i y at).at)
 
--- what a message does to the records and to the log, if a put that comes to wait does so for a record that is there
+-- what a message does to the records and to the log, if a put that comes to wait does so for a
+-- record that is there
 acted-plain : (w : World) (i : ℕ) (y : ServerSide) (h : Writes w) → At w.servers i y → (g : Handle) (p : PutPlace) (did : Action) → ((name : List ℕ) (value : Elements) → did ≡ action.Waits name value → (n : List ℕ) × In (titles y.records) (n, server.number_of name y.records))
     → WaitsIn y.records (logged_by y.core g p did y.records) × (titles (records_after y.core g p did y.records) ≡ titles y.records)
 acted-plain w i y h at g p did may = go did may
@@ -341,7 +343,7 @@ removal-none name rs n k r v there = all (filter (λ (x : RecordSide). bytes_eq 
       | inr new ↦ all xs (new.0, new.2)
     ]
 
--- what is withdrawn waits no more
+-- what is withdrawn no longer waits
 withdrawn-over : (r : ℕ) (es : List Entry) (ps : List (ℕ × ℕ)) (n k : ℕ) → NoWaits es → In es (Withdrawn n k) → In (fold (waiting_after r) ps es) (n, k) → ⊥
 withdrawn-over r [] ps n k none there still = none_at there.0 (Withdrawn n k) there.1
 withdrawn-over r (e ∷ es) ps n k none (zero, at) still = elim (more-or r es (waiting_after r ps e) (n, k) still) [

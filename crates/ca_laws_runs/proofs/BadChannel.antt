@@ -101,7 +101,7 @@ no-speaker n k is none (inr (inl e)) = (let f : k ≡ 19 = sym is ∙ e in let g
 no-speaker n k is none (inr (inr (inl e))) = (let f : k ≡ 18 = sym is ∙ e in let g : ◌≡◌ {A = Bool} true false = sym (ap (λ (q : ℕ). (q == 15) || ((q == 1) || ((q == 19) || ((q == 18) || (q == 11))))) f) ∙ none in cc)
 no-speaker n k is none (inr (inr (inr e))) = (let f : k ≡ 11 = sym is ∙ e in let g : ◌≡◌ {A = Bool} true false = sym (ap (λ (q : ℕ). (q == 15) || ((q == 1) || ((q == 19) || ((q == 18) || (q == 11))))) f) ∙ none in cc)
 
--- a message that tells BADCHID of a READ_NOTIFY or a WRITE_NOTIFY has that status
+-- a message that reports BADCHID of a READ_NOTIFY or a WRITE_NOTIFY has that status
 status-is : (r : Fields) → (r.command ≡ 15) ⊎ (r.command ≡ 19) → Means r (Failed bad) → r.p1 ≡ 410
 status-is r kind (inl (which, image)) = sym image.1
 status-is r kind (inr (inl put)) = sym put.1.1

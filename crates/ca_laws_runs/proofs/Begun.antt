@@ -1,4 +1,5 @@
--- A removal, updates that leave, a new circuit, and messages that are handled keep subscriptions beside the posts that they see.
+-- A removal, updates that leave, a new circuit, and messages that are handled keep subscriptions
+-- beside the posts that they see.
 use Rattle.std.proofs.Common.{◌≡◌, ℕ, zero, suc, ◌+◌, ◌⊎◌, inl, inr, Bool, true, false, cond, not, ◌&&◌, ◌||◌, eqb, eq-eqb, List, [], ◌∷◌, ◌++◌, length, Some, None, refl, sym, ap, subst, ◌∙◌, append-nil, arith}
 use Rattle.std.specs.Prelude.{filter, map, replicate}
 use Rattle.std.specs.List.{FoldsTo, cons_option, flat_map, list_any}

@@ -1,4 +1,5 @@
--- An EVENT_CANCEL is sent of a subscription that stands on a live channel, and of nothing else: what each event sends.
+-- An EVENT_CANCEL is sent of a subscription that is on a live channel, and of nothing else:
+-- what each event sends.
 use Rattle.std.proofs.Common.{◌≡◌, ℕ, zero, suc, ◌+◌, ◌⊎◌, inl, inr, Bool, true, false, ◌&&◌, cond, eqb, List, [], ◌∷◌, ◌++◌, length, Option, Some, None, refl, sym, ap, ◌∙◌, subst, arith}
 use Rattle.std.specs.Prelude.{Ok, drop, is_none, map, option_map, slice_set, unwrap_or}
 use Rattle.std.specs.List.{FoldsTo}
@@ -54,7 +55,8 @@ use Rattle.ca_laws_runs.proofs.Stood.{IsStood}
 abbrev pub IsOther : Sent → Type 0
 IsOther s = (a m : ℕ) → s.intent ≡ history.On a (Cancel m) → ⊥
 
--- The EVENT_CANCEL of a subscription that stands on a live channel, sent as the first on its circuit since this world.
+-- The EVENT_CANCEL of a subscription that is on a live channel, sent as the first on its
+-- circuit since this world.
 pub record IsCancelling (w : World) (n k : ℕ) (s : Sent) : Type 0 where
   pub c : Joined
   pub x : ClientSide

@@ -1,4 +1,5 @@
--- Over every event each circuit goes on; but for a message that a server's end handles there, what is sent on it is about messages that were handled before.
+-- Over every event each circuit goes on; but for a message that a server's end handles there, what
+-- is sent on it is about messages that were handled before.
 use Rattle.std.proofs.Common.{◌≡◌, ℕ, zero, suc, arith, ◌<◌, ◌≤◌, ◌+◌, ◌⊎◌, inl, inr, Bool, true, false, cond, ◌&&◌, eqb, eqb-true, not, List, [], ◌∷◌, ◌++◌, length, Option, Some, None, refl, sym, ap, subst, ◌∙◌, append-nil, append_assoc}
 use Rattle.std.specs.Prelude.{Err, Ok, Result, drop, filter, map, option_and_then, option_map, slice_get, slice_set, take, unwrap_or}
 use Rattle.std.specs.List.{FoldsTo, list_any}
@@ -80,8 +81,8 @@ kept-handled s w h n p c at there =
 abbrev pub IsNoRemoval : Told → Type 0
 IsNoRemoval t = (t.cause ≡ Removal → ⊥) × (Is command.ServerDisconnect t.message → ⊥)
 
--- The circuit goes on, and nothing is handled there. What is new of what its server sent comes last, and is about what was handled; only
--- a removal tells SERVER_DISCONNs.
+-- The circuit goes on, and nothing is handled there. What is new of what its server sent comes
+-- last, and is about what was handled; only a removal tells SERVER_DISCONNs.
 pub record PlacesOn (Removes : Type 0) (c d : Joined) : Type 0 where
   pub handled : d.lists.handled ≡ c.lists.handled
   pub up : (p : ℕ) (s : Sent) → At c.lists.up p s → At d.lists.up p s

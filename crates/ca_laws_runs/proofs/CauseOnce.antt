@@ -1,4 +1,5 @@
--- Over every event and run no two SERVER_DISCONNs are about one channel: it is retired with the first.
+-- Over every event and run no two SERVER_DISCONNs are about one channel: it is
+-- retired with the first.
 use Rattle.std.proofs.Common.{◌≡◌, ℕ, zero, suc, ◌+◌, ◌<◌, ◌≤◌, ◌⊎◌, inl, inr, Bool, true, false, cond, ◌&&◌, ◌||◌, eqb, eqb-true, not, List, [], ◌∷◌, ◌++◌, length, Option, Some, None, refl, sym, ap, subst, ◌∙◌, arith}
 use Rattle.std.specs.Prelude.{filter, map, option_map, slice_get, slice_set, unwrap_or}
 use Rattle.std.specs.List.{FoldsTo, fold, list_any}
@@ -51,7 +52,8 @@ use Rattle.ca_laws_runs.proofs.OrderKeeps.{run-server-steps}
 
 -- ---- an end that is open
 
--- Each SERVER_DISCONN is about what was handled; no two channels that are noted were created by one message; and a channel is retired about which one was sent.
+-- Each SERVER_DISCONN is about what was handled; no two channels that are noted were created by one
+-- message; and a channel is retired about which one was sent.
 pub record OnceOn (e : ServerEnd) (c : Joined) : Type 0 where
   pub below : (t : Told) → In c.lists.down t → t.cause ≡ Removal → t.place < length c.lists.handled
   pub one : (x z : Creation) → In c.creations x → In c.creations z → x.place ≡ z.place → x.sid ≡ z.sid

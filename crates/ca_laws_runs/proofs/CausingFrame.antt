@@ -1,4 +1,5 @@
--- Over every event each circuit goes on; what is new on it is named: a message of its server, a subscription that stands, a step.
+-- Over every event each circuit goes on; what is new on it is named: a message of its server, a
+-- subscription that stands, a step.
 use Rattle.std.proofs.Common.{◌≡◌, ℕ, ◌≤◌, ◌+◌, ◌⊎◌, inl, inr, Bool, true, false, cond, ◌&&◌, eqb, eqb-true, not, List, [], ◌∷◌, ◌++◌, length, Option, Some, None, refl, sym, ap, subst, ◌∙◌, arith}
 use Rattle.std.specs.Prelude.{drop, filter, map, option_map, slice_get, unwrap_or}
 use Rattle.std.specs.List.{fold, list_any}
@@ -45,7 +46,8 @@ use Rattle.ca_laws_runs.proofs.FollowsStanding.{stamped-is}
 
 -- ---- what may be new on a circuit
 
--- a message of its server, a subscription that stands for an EVENT_ADD at this place, a step that handled the message at this place
+-- a message of its server, a subscription that stands for an EVENT_ADD at this place, a step that
+-- handled the message at this place
 pub data News : Type 0 where
   Says : Told → News
   Stood : ℕ → News

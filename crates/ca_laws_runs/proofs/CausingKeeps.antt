@@ -1,4 +1,5 @@
--- What is known of the causes of a server's messages stays so as the lists of its circuit and the log of its life grow.
+-- What is known of the causes of a server's messages stays so as the lists of its circuit and the
+-- log of its life grow.
 use Rattle.std.proofs.Common.{◌≡◌, ℕ, ◌<◌, ◌≤◌, ◌⊎◌, inl, inr, List, length, sym, subst, arith}
 use Rattle.std.specs.Prelude.{take}
 use Rattle.ca_text.specs.Place.{At}
@@ -76,7 +77,8 @@ created-forth c d y z j k sid r ext longer within (t, s, h, at_t, place, cause, 
 
 -- ---- what is known of a circuit's steps
 
--- Steps are of messages that came, each within what was sent and logged; and what was sent is about what was handled.
+-- Steps are of messages that came, each within what was sent and logged; and what was sent is
+-- about what was handled.
 pub record Steady (log : List Entry) (c : Circuit) : Type 0 where
   pub few : length c.handled ≤ length c.up
   pub within : (m : ℕ) (h : Step) → At c.handled m h → IsWithin log c h

@@ -1,4 +1,5 @@
--- A message that is handled: the channel that it creates is one of a record that is there, and the subscription that it begins is on one.
+-- A message that is handled: the channel that it creates is one of a record that is there, and the
+-- subscription that it begins is on one.
 use Rattle.std.proofs.Common.{◌≡◌, ℕ, ◌<◌, ◌≤◌, ◌⊎◌, inl, inr, List, [], length, Option, Some, None, refl, sym, ap, subst, ◌∙◌, arith}
 use Rattle.std.specs.Prelude.{option_map, take}
 use Rattle.ca_arena.specs.declared.handle.Handle.{Handle}

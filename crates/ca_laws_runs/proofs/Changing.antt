@@ -1,4 +1,5 @@
--- What is held of an end's queues and of its circuit's numbers, as subscriptions end, begin and rest.
+-- What is held of an end's queues and of its circuit's numbers, as subscriptions
+-- end, begin and rest.
 use Rattle.std.proofs.Common.{◌≡◌, ℕ, zero, suc, ◌<◌, ◌≤◌, Bool, true, false, cond, not, ◌||◌, List, [], ◌∷◌, length, refl, sym, ap, subst, ◌∙◌, arith}
 use Rattle.std.specs.Prelude.{filter, map}
 use Rattle.std.specs.List.{fold}

@@ -1,4 +1,4 @@
--- The statement's clause of updates, of each subscription that stands at an open end.
+-- The statement's clause of updates, of each subscription that is at an open end.
 use Rattle.std.proofs.Common.{◌≡◌, ℕ, zero, suc, ◌<◌, Bool, true, false, cond, eqb, eq-eqb, eqb-true, ne_eqb, ◌||◌, List, [], ◌∷◌, ◌++◌, length, Option, Some, None, refl, sym, ap, subst, ◌∙◌, append-nil, arith}
 use Rattle.std.specs.Prelude.{filter_map, map}
 use Rattle.std.specs.List.{cons_option}
@@ -205,7 +205,7 @@ module _ (Due : ℕ → Circuit → List Entry → Fields → List Fields → Op
       gone : List ℕ
       gone = sent_numbers st.place c.lists.down
 
-      -- what waits under a key is of the one that stands under it
+      -- what waits under a key is of the one that is under it
       placed-at : (k : ℕ) (x : Queue Numbered) → At p.holds.both k x → (w : SubKey × Numbered) → In x.waiting w → (j : ℕ) × (z : Standing) × At c.standing j z × (same w.0 z.key ≡ true) × (w.1.place ≡ z.place)
       placed-at k x at w there =
           let x_has : is_among w.0 x.subscriptions ≡ true = member (is_among w.0 x.subscriptions) refl in

@@ -1,4 +1,5 @@
--- Where the puts of servers come from: a message that is handled, or the first that waits, as its record's busy put is finished.
+-- Where the puts of servers come from: a message that is handled, or the first that waits, as its
+-- record's busy put is finished.
 use Rattle.std.proofs.Common.{◌≡◌, ℕ, suc, ◌⊎◌, inl, inr, true, false, List, [], ◌∷◌, ◌++◌, length, Option, Some, refl, sym, ap, subst, ◌∙◌}
 use Rattle.ca_arena.specs.declared.handle.Handle.{Handle}
 use Rattle.ca_ids.specs.Table.{under}

@@ -1,4 +1,5 @@
--- After every run what a client is told is what became of its calls, each once, and of its channels: the whole clause.
+-- After every run what a client is told is what became of its calls, each once, and of its
+-- channels: the whole clause.
 use Rattle.std.proofs.Common.{List, Option}
 use Rattle.ca_model.specs.Events.{Event}
 use Rattle.ca_model.specs.Runs.{AreEvents, Runs}

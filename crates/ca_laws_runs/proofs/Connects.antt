@@ -1,4 +1,5 @@
--- A circuit that is connected: its set-up and the CREATE_CHANs of the channels that waited are sent on it.
+-- A circuit that is connected: its set-up and the CREATE_CHANs of the channels that
+-- waited are sent on it.
 use Rattle.std.proofs.Common.{◌≡◌, ℕ, zero, suc, ◌+◌, inl, inr, ◌⊎◌, Bool, true, false, cond, List, [], ◌∷◌, ◌++◌, length, Option, Some, None, refl, sym, ap, ◌∙◌, subst, arith}
 use Rattle.std.specs.Prelude.{filter, filter_map, is_none, map, option_and_then}
 use Rattle.std.specs.List.{cons_option}

@@ -1,4 +1,5 @@
--- What is held of an end's queues and of its circuit's numbers, as a post is numbered and as updates leave.
+-- What is held of an end's queues and of its circuit's numbers, as a post is numbered
+-- and as updates leave.
 use Rattle.std.proofs.Common.{◌≡◌, ℕ, zero, suc, ◌+◌, ◌<◌, ◌≤◌, Bool, true, false, cond, ◌||◌, List, [], ◌∷◌, ◌++◌, length, Option, refl, sym, ap, subst, ◌∙◌, arith}
 use Rattle.std.specs.Prelude.{map, unwrap_or}
 use Rattle.std.specs.List.{fold}

@@ -1,4 +1,5 @@
--- The creations that are noted on circuits were told, and are not cleared, over every event and run.
+-- The creations that are noted on circuits were told, and are not cleared, over
+-- every event and run.
 use Rattle.std.proofs.Common.{◌≡◌, ℕ, ◌+◌, ◌≤◌, ◌<◌, inl, inr, Bool, true, false, not, eqb, eq-eqb, List, [], ◌∷◌, ◌++◌, length, Option, refl, sym, ap, subst, ◌∙◌, arith}
 use Rattle.std.specs.Prelude.{filter, map, option_map, slice_get, slice_set, unwrap_or}
 use Rattle.std.specs.List.{fold}

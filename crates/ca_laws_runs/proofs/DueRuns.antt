@@ -1,4 +1,5 @@
--- What was due for each message that was handled, by what its server knew then, is what the statement says.
+-- What was due for each message that was handled, by what its server knew then, is
+-- what the statement says.
 use Rattle.std.proofs.Common.{◌≡◌, ℕ, zero, suc, ◌<◌, ◌≤◌, inl, inr, Bool, true, false, cond, eqb, eqb-true, eq-eqb, List, [], ◌∷◌, length, Option, Some, refl, sym, ap, subst, ◌∙◌, arith}
 use Rattle.std.specs.Prelude.{find, option_and_then, option_map, slice_get, take, unwrap_or}
 use Rattle.ca_records.specs.Rules.{Rule}

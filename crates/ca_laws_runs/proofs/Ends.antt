@@ -1,4 +1,5 @@
--- What an event leaves of what clients have of their circuits, by what it leaves of one client and of circuits.
+-- What an event leaves of what clients have of their circuits, by what it leaves of one
+-- client and of circuits.
 use Rattle.std.proofs.Common.{◌≡◌, ℕ, ◌≤◌, ◌<◌, inl, inr, true, false, List, [], ◌++◌, length, Option, Some, None, refl, sym, ap, ◌∙◌, subst, arith}
 use Rattle.std.specs.Prelude.{map, option_map, slice_set, unwrap_or}
 use Rattle.std.proofs.lemmas.Bool.{both_ways, cases_Bool}
@@ -129,8 +130,8 @@ facts-held w new held now k j a at_j at_a opened =
 
 -- ---- a client changes, and sent these
 
--- It is an end of the same client under the same handle; if it is open it was, and these were sent there since; if it ended then, these only
--- serve the circuit. Nothing else happened there.
+-- It is an end of the same client under the same handle; if it is open it was, and these were sent
+-- there since; if it ended then, these only serve the circuit. Nothing else happened there.
 pub record IsEndAfter (i : ℕ) (n : Names) (sent : List Sending) (a j : Joined) : Type 0 where
   pub client : j.client ≡ a.client
   pub handle : j.at_client ≡ a.at_client
@@ -141,7 +142,7 @@ pub record IsEndAfter (i : ℕ) (n : Names) (sent : List Sending) (a j : Joined)
   pub heard : length j.lists.heard ≡ length a.lists.heard
   pub handled : length j.lists.handled ≡ length a.lists.handled
 
--- The same, but that the client may have read a message there.
+-- The same, except that the client may have read a message there.
 pub record IsEnd (i : ℕ) (n : Names) (sent : List Sending) (a j : Joined) : Type 0 where
   pub client : j.client ≡ a.client
   pub handle : j.at_client ≡ a.at_client

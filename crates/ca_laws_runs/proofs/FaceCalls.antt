@@ -1,4 +1,5 @@
--- Each call of a server's core leaves its port and its rules, and at open ends what it knows of the peer.
+-- Each call of a server's core leaves its port and its rules, and at open ends what
+-- it knows of the peer.
 use Rattle.std.proofs.Common.{◌≡◌, ℕ, ◌++◌, inl, inr, Bool, true, false, cond, List, [], ◌∷◌, Some, refl, sym, ap, ◌∙◌, subst}
 use Rattle.std.specs.List.{FoldsTo}
 use Rattle.std.specs.Prelude.{Ok, is_some, take}

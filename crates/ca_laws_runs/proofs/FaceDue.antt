@@ -1,4 +1,5 @@
--- What a message makes of what a server knows of its peer, by what is due for it; and which message is answered by a creation.
+-- What a message makes of what a server knows of its peer, by what is due for it; and which message
+-- is answered by a creation.
 use Rattle.std.proofs.Common.{◌≡◌, ℕ, zero, suc, Bool, true, false, cond, ◌||◌, eqb, eq-eqb, inl, inr, List, [], ◌∷◌, refl, sym, ap, subst, ◌∙◌}
 use Rattle.std.proofs.lemmas.Bool.{both_ways}
 use Rattle.std.specs.Prelude.{is_some}

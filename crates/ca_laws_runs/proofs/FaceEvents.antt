@@ -1,5 +1,5 @@
--- Over every event each server keeps its port and its rules, and at open ends what it knows of the peer; but for a circuit that is made,
--- and the end at which a message is handled.
+-- Over every event each server keeps its port and its rules, and at open ends what it knows of the
+-- peer; but for a circuit that is made, and the end at which a message is handled.
 use Rattle.std.proofs.Common.{◌≡◌, ℕ, inl, inr, ◌⊎◌, Bool, List, Option, Some, None, refl, sym, ap, subst, ◌∙◌}
 use Rattle.std.specs.Prelude.{Ok, Result, filter, length, not, option_map, slice_get, unwrap_or}
 use Rattle.std.specs.Str.{bytes_eq}
@@ -124,8 +124,8 @@ handled-faced Q L w new k j y at f all = subst (λ (z : World). AreFaced R L z) 
 
 -- ---- every other event
 
--- what is to hold if this is the event: it is no step of a server's end, an end that is accepted may know nothing, and a
--- server may begin a new life
+-- what is to hold if this is the event: it is no step of a server's end, an end that is accepted
+-- may know nothing, and a server may begin a new life
 abbrev pub Calm : (ℕ → Handle → Face → Type 0) → (ℕ → ℕ → Type 0) → World → Event → Type 0
 Calm Q L w (event.ServerStep k) = ⊥
 Calm Q L w (event.ServerRestart i) = L i (length w.server_logs)

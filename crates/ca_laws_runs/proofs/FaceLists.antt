@@ -1,4 +1,5 @@
--- What the lists of a circuit say of its client: it stays so as they grow, and goes on with each message that is handled.
+-- What the lists of a circuit say of its client: it stays so as they grow, and goes on with each
+-- message that is handled.
 use Rattle.std.proofs.Common.{◌≡◌, ℕ, zero, suc, ◌+◌, ◌<◌, ◌≤◌, ◌⊎◌, inl, inr, Bool, true, false, cond, ◌||◌, eqb, eqb-true, eq-eqb, ne_eqb, List, [], ◌∷◌, ◌++◌, length, refl, sym, ap, subst, ◌∙◌, arith}
 use Rattle.std.proofs.lemmas.Bool.{both_ways}
 use Rattle.std.specs.List.{list_any}

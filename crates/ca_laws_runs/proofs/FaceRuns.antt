@@ -1,4 +1,5 @@
--- What each server knows of the peer on each open end is what the lists say, and servers keep their settings, over every event and run.
+-- What each server knows of the peer on each open end is what the lists say, and servers keep their
+-- settings, over every event and run.
 use Rattle.std.proofs.Common.{◌≡◌, ℕ, zero, suc, ◌+◌, ◌<◌, ◌≤◌, ◌⊎◌, inl, inr, true, List, [], ◌∷◌, ◌++◌, length, Option, Some, None, refl, sym, ap, subst, ◌∙◌, arith}
 use Rattle.std.specs.Prelude.{Ok, Result, filter, map, slice_set, take}
 use Rattle.std.specs.List.{FoldsTo, fold}
@@ -57,7 +58,8 @@ use Rattle.ca_laws_runs.proofs.FollowsWhole.{folds-snoc, logs-there}
 
 -- ---- which circuit an open end was on
 
--- The circuit was there with an open end, of the same server under the same handle; or none had its number.
+-- The circuit was there with an open end, of the same server under the same handle; or
+-- none had its number.
 abbrev SeatFrom : World → ℕ → Joined → Type 0
 SeatFrom w n c = ((b : Joined) × At w.circuits n b × (c.server ≡ b.server) × (c.at_server ≡ b.at_server) × (b.lists.server_open ≡ true)) ⊎ (length w.circuits ≤ n)
 
@@ -139,12 +141,14 @@ module _ (s : Setting) (w new : World) (ready : Ready s w) (know : KnowFaces w) 
       let b = back n d at in
       on-faces F n b.0 d (face_of f) b.1 b.2 (quiet n) (seats-from s w new e ready happens n d z f at there opened has) ((faced d.server z there).0.ends d.at_server f has)
 
--- Each circuit was there, of the same server and of the same life of it; or it joins the present life of a server.
+-- Each circuit was there, of the same server and of the same life of it; or it joins the
+-- present life of a server.
 abbrev pub Origins : World → World → Type 0
 Origins w new = (n : ℕ) (d : Joined) → At new.circuits n d → ((c : Joined) × At w.circuits n c × (d.server ≡ c.server) × (d.lists.server ≡ c.lists.server))
     ⊎ ((i : ℕ) × (y : ServerSide) × At w.servers i y × (d.server ≡ i) × (d.lists.server ≡ y.life))
 
--- What an event leaves of servers: their settings, what they know of their peers, their lives, and which circuits join these.
+-- What an event leaves of servers: their settings, what they know of their peers, their lives, and
+-- which circuits join these.
 pub record Leaving (w new : World) : Type 0 where
   pub settings : KeepSettings new
   pub faces : KnowFaces new

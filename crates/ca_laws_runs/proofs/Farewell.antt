@@ -1,4 +1,5 @@
--- What a client tells as its end of a circuit ends, or as it is handed a moment: of open requests that were sent there, and of channels that were live there.
+-- What a client tells as its end of a circuit ends, or as it is handed a moment: of open requests
+-- that were sent there, and of channels that were live there.
 use Rattle.std.proofs.Common.{◌≡◌, ℕ, zero, suc, ◌+◌, ◌<◌, inl, inr, ◌⊎◌, Bool, true, false, cond, List, [], ◌∷◌, length, Option, Some, None, refl, sym, ap, ◌∙◌, subst, arith}
 use Rattle.std.specs.List.{cons_option}
 use Rattle.std.specs.Prelude.{filter_map, fold, is_none, map, not, option_and_then, option_map, unwrap_or}
@@ -30,7 +31,8 @@ use Rattle.ca_laws_runs.proofs.OpenLive.{IsLiveOn, Opens, opens-ended, opens-sam
 use Rattle.ca_laws_runs.proofs.ToldAsked.{IsOpenIn, gone-open}
 use Rattle.ca_laws_parts.proofs.WritesLists.{none_at}
 
--- It tells that a request is lost that was open, and sent on this circuit; or a channel that was live there.
+-- It says that a request is lost that was open, and sent on this circuit; or a channel
+-- that was live there.
 abbrev pub FromFarewell : Client → (c : Handle) → Notice → Type 0
 FromFarewell x c said =
     ((q : Handle) × (said ≡ notice.Completed q outcome.Disconnected) × IsOpenIn (was_sent_on c) x q)

@@ -1,4 +1,5 @@
--- Posts, removals, updates that leave, and messages that are handled keep subscriptions beside the posts that they see.
+-- Posts, removals, updates that leave, and messages that are handled keep subscriptions beside the
+-- posts that they see.
 use Rattle.std.proofs.Common.{◌≡◌, ℕ, zero, suc, ◌+◌, ◌≤◌, inl, inr, Bool, true, false, cond, not, ◌&&◌, ◌||◌, List, [], ◌∷◌, ◌++◌, length, Option, Some, None, refl, sym, ap, subst, ◌∙◌, append-nil, arith}
 use Rattle.std.specs.Prelude.{filter, map}
 use Rattle.std.specs.List.{cons_option, fold}

@@ -1,5 +1,5 @@
--- From what is known of a circuit, the statement's clause of updates: of each EVENT_ADD that was accepted, also one whose subscription or
--- circuit has ended.
+-- From what is known of a circuit, the statement's clause of updates: of each EVENT_ADD that was
+-- accepted, also one whose subscription or circuit has ended.
 use Rattle.std.proofs.Common.{◌≡◌, ℕ, inl, inr, Bool, true, false, List, ◌++◌, refl, sym, ap, subst, ◌∙◌}
 use Rattle.std.specs.Prelude.{map}
 use Rattle.ca_queue.specs.declared.entry.SubKey.{SubKey}
@@ -103,7 +103,7 @@ module _ (w : World) (n : ℕ) (c : Joined) (log : List Entry) (x : List Line) (
       one_h : y.stands.h ≡ h
       one_h = At-one c.lists.handled k y.stands.h h (subst (λ (m : ℕ). At c.lists.handled m y.stands.h) there.3 y.stands.handled) at_h
 
-  -- ---- it does not stand at an open end
+  -- ---- it is not at an open end
   gone : (rs : List RecordSide) (e : ServerEnd) → KnownOn log rs e c → Is command.EventAdd s.message → (IsStanding c.standing k → ⊥) → Lasts (circuit_of c) log k r s → ⊥
   gone rs e p asks none lasts = elim (p.adds k s h at_s at_h asks) [
     | inl refused ↦ acc.6 refused.0 refused.1 refused.2 refused.3 refused.4

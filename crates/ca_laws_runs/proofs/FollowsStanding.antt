@@ -1,4 +1,5 @@
--- The updates of a subscription that stands show their posts; and so it is as updates leave their queues.
+-- The updates of a subscription that stands show their posts; and so it is as
+-- updates leave their queues.
 use Rattle.std.proofs.Common.{◌≡◌, ℕ, zero, suc, ◌<◌, ◌⊎◌, inl, inr, Bool, true, false, List, [], ◌∷◌, ◌++◌, refl, sym, ap, subst, ◌∙◌, append-nil, append_assoc}
 use Rattle.std.specs.Prelude.{map, option_map, slice_get, slice_set, unwrap_or}
 use Rattle.std.specs.List.{FoldsTo}

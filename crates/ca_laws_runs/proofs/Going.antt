@@ -1,4 +1,5 @@
--- What each event makes of the clients of a world: requests that were issued and open stay so, with their channels live, or are over; one is new by a read or a put.
+-- What each event makes of the clients of a world: requests that were issued and open stay so, with
+-- their channels live, or are over; one is new by a read or a put.
 use Rattle.std.proofs.Common.{◌≡◌, ℕ, ◌+◌, ◌⊎◌, inl, inr, Bool, true, false, cond, List, [], ◌∷◌, ◌++◌, length, Option, Some, None, refl, sym, ap, ◌∙◌, subst}
 use Rattle.std.specs.Prelude.{drop, is_none, map, slice_set}
 use Rattle.std.specs.List.{FoldsTo}

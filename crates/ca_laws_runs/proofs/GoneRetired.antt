@@ -1,4 +1,5 @@
--- A channel is retired only once the log removed its record, and its SERVER_DISCONN was sent: over every event and run.
+-- A channel is retired only once the log removed its record, and its SERVER_DISCONN was sent: over
+-- every event and run.
 use Rattle.std.proofs.Common.{◌≡◌, ℕ, ◌+◌, ◌≤◌, ◌⊎◌, inl, inr, Bool, true, false, not, ◌&&◌, ◌||◌, eqb, eqb-true, List, [], ◌∷◌, ◌++◌, length, Option, Some, None, refl, sym, ap, subst, ◌∙◌, arith}
 use Rattle.std.specs.Prelude.{filter, find, map, option_map, take, unwrap_or}
 use Rattle.std.specs.List.{FoldsTo, fold}

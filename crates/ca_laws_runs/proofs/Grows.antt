@@ -13,8 +13,8 @@ use Rattle.ca_laws_parts.specs.Sids.{IsClearedWithin}
 use Rattle.ca_laws_runs.specs.Under.{IsCreatedBefore, IsUse}
 use Rattle.ca_laws_runs.specs.Sides.{AreInTurn, IsLiveAs, Right, Sides}
 
--- What is known of a circuit d which c became: a channel is created again only once its last CREATE_CHAN was handled, and its reply was read;
--- and what was told is about what had been sent.
+-- What is known of a circuit d which c became: a channel is created again only once its last
+-- CREATE_CHAN was handled, and its reply was read; and what was told is about what had been sent.
 pub record Facts (c d : Circuit) : Type 0 where
   pub turn : AreInTurn d
   pub read : (p k a i sid : ℕ) (r q : Sent) (t : Told) → p < k → At d.up p r → At d.up k q → r.intent ≡ On a Create → q.intent ≡ On a Create → At d.down i t → t.place ≡ p → t.cause ≡ Reply → Creates t.message sid

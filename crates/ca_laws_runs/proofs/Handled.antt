@@ -1,4 +1,5 @@
--- A step of a server's end that handles a message: its circuit, and the records of its server, after it.
+-- A step of a server's end that handles a message: its circuit, and the records of
+-- its server, after it.
 use Rattle.std.proofs.Common.{◌≡◌, ℕ, ◌+◌, Bool, true, false, cond, ◌&&◌, eqb, List, [], ◌∷◌, length, Option, Some, None, refl, sym, ap, subst, ◌∙◌}
 use Rattle.std.specs.Prelude.{map, option_map, slice_get, slice_set, unwrap_or}
 use Rattle.std.specs.List.{fold}

@@ -1,4 +1,5 @@
--- What an event leaves of what was sent by the clients of a world, by what it leaves of one client and of circuits.
+-- What an event leaves of what was sent by the clients of a world, by what it leaves of one
+-- client and of circuits.
 use Rattle.std.proofs.Common.{◌≡◌, ℕ, inl, inr, Bool, true, false, ◌&&◌, cond, eqb, List, [], ◌++◌, Option, Some, None, refl, sym, ap, ◌∙◌, subst}
 use Rattle.std.specs.Prelude.{filter, map, option_map, slice_set, unwrap_or}
 use Rattle.std.proofs.lemmas.Bool.{and_from, both_ways, cases_Bool, eq-eqb, eqb-true}
@@ -20,7 +21,8 @@ use Rattle.ca_laws_runs.specs.Quiet.{AreAddedApart, AreCids, HaveCids, AreSubIds
 use Rattle.ca_laws_runs.proofs.CidsSaid.{cids-are}
 use Rattle.ca_laws_runs.proofs.Says.{Moved, said, sub-ids}
 
--- It is an end of the same client under the same handle; if it is open it was, and these were sent there since.
+-- It is an end of the same client under the same handle; if it is open it was, and these
+-- were sent there since.
 pub record IsEndAfter (i : ℕ) (n : Names) (sent : List Sending) (a j : Joined) : Type 0 where
   pub client : j.client ≡ a.client
   pub handle : j.at_client ≡ a.at_client

@@ -26,7 +26,7 @@ use Rattle.ca_laws_runs.proofs.HeardEnds.{IsSameEnd, all-map, all-same, all-set,
 plain : (a j : Joined) → j.client ≡ a.client → j.at_client ≡ a.at_client → j.lists.client_open ≡ a.lists.client_open → j.lists.up ≡ a.lists.up → IsSameEnd a j
 plain a j client handle opens up = record { client = client; handle = handle; opens = λ o. sym opens ∙ o; up = up }
 
--- a circuit is noted, or changed where it stands
+-- a circuit is noted, or changed where it is
 quiet-at : (w : World) (k : ℕ) (f : Joined → Joined) → ((a : Joined) → IsSameEnd a (f a)) → ClientsQuiet w → ClientsQuiet (unwrap_or (option_map (λ (c : Joined). with_circuit k (f c) w) (slice_get w.circuits k)) w)
 quiet-at w k f ends s = go (slice_get w.circuits k) refl
   where

@@ -1,4 +1,5 @@
--- Each notice of a client tells what the message that it read means, of what was meant by the message that this is about.
+-- Each notice of a client says what the message that it read means, of what was meant by the
+-- message that this is about.
 use Rattle.std.proofs.Common.{◌≡◌, ℕ, zero, suc, ◌≤◌, ◌⊎◌, inl, inr, Bool, true, false, cond, eqb, List, [], ◌∷◌, length, Option, Some, None, refl, sym, ap, ◌∙◌, subst, arith}
 use Rattle.std.proofs.lemmas.Bool.{eqb-true}
 use Rattle.ca_text.specs.Command.{command_number}
@@ -51,7 +52,7 @@ only-one P y x (suc i) at p = absurd (none-at i x at)
 abbrev intent-in : Handle × Intent → Intent
 intent-in e = e.1
 
--- a search reply tells nothing
+-- a search reply reports nothing
 silent-put : (c : Handle) (o : Option Connection) (h : Handle) (here : Channel) (x : Client) → (put_on c o h here x).notices ≡ []
 silent-put c (Some d) h here x = refl
 silent-put c None h here x = refl

@@ -1,4 +1,5 @@
--- What a client subscribed to was held by its log as it read what it had read by then, over every event and run.
+-- What a client subscribed to was held by its log as it read what it had read by then, over
+-- every event and run.
 use Rattle.std.proofs.Common.{◌≡◌, ℕ, zero, suc, ◌<◌, ◌≤◌, ◌⊎◌, inl, inr, List, [], ◌∷◌, ◌++◌, length, Option, Some, None, refl, sym, ap, ◌∙◌, subst, arith}
 use Rattle.std.specs.Prelude.{option_map, slice_get, take, unwrap_or}
 use Rattle.std.specs.List.{FoldsTo}
@@ -102,7 +103,8 @@ late-event w new e happens = each-event (StepsLate w new) w new (late-grown w ne
 
 -- ---- what a log holds
 
--- By these lines the caller ended neither the subscription nor its channel, and no notice told of its end.
+-- By these lines the caller ended neither the subscription nor its channel, and no
+-- notice told of its end.
 pub record KeptBy (y : List Line) (a m : ℕ) : Type 0 where
   pub cleared : In y (Called (On a Clear) None) → ⊥
   pub cancelled : In y (Called (On a (Cancel m)) None) → ⊥

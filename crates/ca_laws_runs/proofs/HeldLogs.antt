@@ -1,4 +1,5 @@
--- A subscription that stands on a live channel is held by its client's log, of every run: its caller ended neither it nor its channel, and nothing was told of its end.
+-- A subscription that is on a live channel is held by its client's log, of every run: its caller
+-- ended neither it nor its channel, and nothing was told of its end.
 use Rattle.std.proofs.Common.{◌≡◌, ℕ, List, Option, Some, None, true, false, refl, sym, ap, ◌∙◌, subst}
 use Rattle.std.proofs.lemmas.Bool.{both_ways}
 use Rattle.ca_text.specs.Place.{At}

@@ -1,4 +1,4 @@
--- The subscriptions that stand on a circuit are on open channels, over every run.
+-- The subscriptions that are on a circuit are on open channels, over every run.
 use Rattle.std.proofs.Common.{◌≡◌, ℕ, ◌<◌, ◌+◌, inl, inr, Bool, true, false, cond, not, eqb, eqb-true, List, [], ◌∷◌, length, refl, sym, ap, subst, ◌∙◌}
 use Rattle.std.specs.Prelude.{filter, map}
 use Rattle.std.specs.List.{fold}

@@ -1,4 +1,5 @@
--- What is held of all circuits stays so over every event and run, as far as it is known of the messages that servers take.
+-- What is held of all circuits stays so over every event and run, as far as it is known of the
+-- messages that servers take.
 use Rattle.std.proofs.Common.{◌≡◌, ℕ, suc, inl, inr, true, List, [], ◌∷◌, Option, Some, refl, sym, subst, ◌∙◌}
 use Rattle.std.specs.List.{FoldsTo}
 use Rattle.ca_text.specs.Place.{At}

@@ -53,7 +53,8 @@ use Rattle.ca_laws_runs.proofs.StepWhole.{event-serves, events-serve, opening-se
 
 -- ---- an event
 
--- A client takes next what was sent there next; what is no reply is an update or a SERVER_DISCONN; and replies answer their kind.
+-- A client takes next what was sent there next; what is no reply is an update or a SERVER_DISCONN;
+-- and replies answer their kind.
 pub record IsTold (w : World) : Type 0 where
   pub hears : HearsSent w
   pub caused : AllCaused w

@@ -1,4 +1,5 @@
--- A client's calls that give a handle: a channel that is opened, a request, a plain write, and a subscription.
+-- A client's calls that give a handle: a channel that is opened, a request, a plain
+-- write, and a subscription.
 use Rattle.std.proofs.Common.{◌≡◌, ℕ, zero, suc, ◌+◌, ◌<◌, inl, inr, Bool, true, false, cond, List, [], ◌∷◌, ◌++◌, length, Option, Some, refl, sym, ap, ◌∙◌, subst, arith}
 use Rattle.std.specs.Prelude.{Ok, find, option_map, unwrap_or}
 use Rattle.std.proofs.lemmas.List.{append-nil}

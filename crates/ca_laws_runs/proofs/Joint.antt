@@ -1,4 +1,5 @@
--- What is held of all circuits, what clients have of them, and what they said there: over every event and every run.
+-- What is held of all circuits, what clients have of them, and what they said there: over every
+-- event and every run.
 use Rattle.std.proofs.Common.{◌≡◌, ℕ, suc, ◌≤◌, inl, inr, List, [], ◌∷◌, ◌++◌, length, Option, Some, None, refl, sym, subst}
 use Rattle.std.specs.List.{FoldsTo}
 use Rattle.std.specs.Prelude.{take}

@@ -1,4 +1,5 @@
--- What is known of the EVENT_ADDs of open ends, beside the posts that subscriptions see, stays so over every event.
+-- What is known of the EVENT_ADDs of open ends, beside the posts that subscriptions see, stays
+-- so over every event.
 use Rattle.std.proofs.Common.{◌≡◌, ℕ, ◌≤◌, List, [], ◌∷◌, ◌++◌, length, sym, ap, subst, arith}
 use Rattle.std.specs.Prelude.{option_map, slice_get, slice_set, unwrap_or}
 use Rattle.ca_model.proofs.Tables.{place, under-at}

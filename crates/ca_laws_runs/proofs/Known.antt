@@ -1,4 +1,5 @@
--- What is known of the EVENT_ADDs of an open end stays so as its circuit, its records and the log of its server go on.
+-- What is known of the EVENT_ADDs of an open end stays so as its circuit, its records and the log
+-- of its server go on.
 use Rattle.std.proofs.Common.{◌≡◌, ℕ, zero, suc, ◌+◌, ◌<◌, ◌≤◌, ◌⊎◌, inl, inr, Bool, true, false, cond, not, ◌&&◌, ◌||◌, eqb, eq-eqb, eqb-true, List, [], ◌∷◌, ◌++◌, length, Some, refl, sym, ap, subst, ◌∙◌, arith}
 use Rattle.std.specs.Prelude.{drop, filter, map, take}
 use Rattle.std.specs.List.{FoldsTo, flat_map, fold, list_any}

@@ -1,4 +1,5 @@
--- A subscription that stands on a channel that its caller has not cleared: what each change of a client leaves of that.
+-- A subscription that is on a channel that its caller has not cleared: what each change of a
+-- client leaves of that.
 use Rattle.std.proofs.Common.{◌≡◌, ℕ, suc, ◌⊎◌, inl, inr, Bool, true, false, ◌&&◌, cond, eqb, List, [], ◌∷◌, ◌++◌, Option, Some, None, refl, sym, ap, ◌∙◌, subst}
 use Rattle.std.specs.Prelude.{◌==◌, Ok, filter, fold, is_some, length, not, option_map, unwrap_or}
 use Rattle.std.proofs.lemmas.Bool.{both_ways}
@@ -35,7 +36,8 @@ use Rattle.ca_laws_parts.proofs.Ended.{confirmed-is}
 use Rattle.ca_laws_runs.proofs.OnceCalls.{IsClearedBy}
 use Rattle.ca_laws_runs.proofs.OnceLess.{is_gone}
 
--- The subscription of this handle stands on a channel that is there, and that its caller has not cleared.
+-- The subscription of this handle is on a channel that is there, and that its
+-- caller has not cleared.
 pub record IsKept (x : Client) (g h : Handle) : Type 0 where
   pub d : Subscription
   pub there : under x.subscriptions g ≡ Some d

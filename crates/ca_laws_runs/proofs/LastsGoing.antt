@@ -1,4 +1,5 @@
--- What each event leaves of the subscriptions that stand: each stands on, with its channel, or the log of its client has its end.
+-- What each event leaves of the subscriptions that stand: each stands on, with its channel, or the
+-- log of its client has its end.
 use Rattle.std.proofs.Common.{◌≡◌, ℕ, ◌+◌, ◌<◌, ◌⊎◌, inl, inr, Bool, true, false, cond, List, [], ◌∷◌, ◌++◌, length, Option, Some, None, refl, sym, ap, ◌∙◌, subst, arith}
 use Rattle.std.specs.Prelude.{drop, is_none, map, slice_set}
 use Rattle.std.specs.List.{FoldsTo}
@@ -46,7 +47,8 @@ use Rattle.ca_laws_runs.proofs.Using.{AllNamedOnce, ClientsUse, named-meant}
 abbrev pub IsEndedBy : List Line → (a m : ℕ) → Type 0
 IsEndedBy log a m = In log (Called (On a Clear) None) ⊎ (In log (Called (On a (Cancel m)) None) ⊎ ((o : Outcome) × In log (Noticed (On a (Subscribe m)) o)))
 
--- Each subscription stands on, or its end is in the log of the client's life in the new world. The same are named, or one more that stands.
+-- Each subscription stands on, or its end is in the log of the client's life in the new world. The
+-- same are named, or one more that stands.
 abbrev StandOn : World → (x y : ClientSide) → Type 0
 StandOn new x y = (g h : Handle) (a m : ℕ) (log : List Line) → At x.names.subscriptions m (g, On a (Subscribe m)) → At new.client_logs y.life log → IsKept x.core g h → IsKept y.core g h ⊎ IsEndedBy log a m
 
@@ -315,7 +317,8 @@ event-last w new (event.Tick moment) c q o n happens =
 
 -- ---- what stands, and what was ended
 
--- Each subscription that is named stands on a channel that its caller has not cleared, or its client's log has its end.
+-- Each subscription that is named is on a channel that its caller has not cleared, or its
+-- client's log has its end.
 abbrev pub AllStandOrEnd : World → Type 0
 AllStandOrEnd w = (i a m : ℕ) (x : ClientSide) (g : Handle) (log : List Line) → At w.clients i x → At w.client_logs x.life log → At x.names.subscriptions m (g, On a (Subscribe m)) → ((h : Handle) × IsKept x.core g h) ⊎ IsEndedBy log a m
 

@@ -1,4 +1,5 @@
--- After every run the late reply to a message is the one that was due, in the words of the statement.
+-- After every run the late reply to a message is the one that was due, in the
+-- words of the statement.
 use Rattle.std.proofs.Common.{◌≡◌, ℕ, ◌<◌, ◌+◌, ◌⊎◌, inl, inr, List, length, Option, Some, sym, ap, subst, ◌∙◌}
 use Rattle.std.specs.List.{FoldsTo}
 use Rattle.ca_text.specs.declared.command.Command.TheVariants as command

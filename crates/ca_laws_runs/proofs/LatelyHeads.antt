@@ -1,4 +1,5 @@
--- The type and the count which a server's core keeps for a put are those of the message at its place, over every event and run.
+-- The type and the count which a server's core keeps for a put are those of the message at its
+-- place, over every event and run.
 use Rattle.std.proofs.Common.{◌≡◌, ℕ, ◌+◌, ◌<◌, ◌≤◌, ◌⊎◌, inl, inr, Bool, true, false, cond, not, ◌||◌, List, [], ◌∷◌, ◌++◌, length, Option, Some, None, refl, sym, ap, subst, ◌∙◌, arith}
 use Rattle.std.specs.Prelude.{drop, filter, map, option_map, slice_get, slice_set, take, unwrap_or}
 use Rattle.std.specs.List.{FoldsTo}

@@ -1,4 +1,5 @@
--- What is known of the late reply to a put stays so as the lists of its circuit and the log of its server grow.
+-- What is known of the late reply to a put stays so as the lists of its circuit and the
+-- log of its server grow.
 use Rattle.std.proofs.Common.{◌≡◌, ℕ, zero, suc, ◌+◌, ◌<◌, ◌≤◌, ◌⊎◌, inl, inr, Bool, true, false, List, [], ◌∷◌, ◌++◌, length, Some, refl, sym, subst, arith}
 use Rattle.ca_text.specs.Place.{At}
 use Rattle.ca_text.specs.Status.{normal}
@@ -104,7 +105,7 @@ beyond zero i le = (i, omega arith)
 beyond (suc a) zero le = absurd (omega (arith, le))
 beyond (suc a) (suc i) le = (let r = beyond a i (omega (arith, le)) in let e : i ≡ a + r.0 = r.1 in (r.0, omega (arith, e)))
 
--- Of the message at place k of circuit n, which was handled, the log tells first in its step.
+-- Of the message at place k of circuit n, which was handled, the log says first in its step.
 module _ (cs : List Joined) (life : ℕ) (z : List Entry) (once : Once (CameOn cs life) (LostOn cs) z) (n k : ℕ) (d : Joined) (on : At cs n d)
     (h : Step) (at_h : At d.lists.handled k h) where
   came-in : (i : ℕ) (value : Elements) → CameOn cs life (record { circuit = n; place = k }) i value → (h.logged ≤ i) × (i < h.after)
@@ -172,8 +173,9 @@ module _ (cs : List Joined) (life : ℕ) (y more : List Entry) (once : Once (Cam
 
 -- What a late reply is to be, of the message and of the reply.
 module _ (Answers : Fields → Fields → Type 0) where
-  -- A put that waits, or makes its record busy, has a reply only once it is finished. That is one at most, the one that is due, and it is
-  -- there if the put was finished before its channel was cleared, and the server's end is open.
+  -- A put that waits, or makes its record busy, has a reply only once it is finished. That is one
+  -- at most, the one that is due, and it is there if the put was finished before its channel was
+  -- cleared, and the server's end is open.
   pub record IsKnownLate (n : ℕ) (c : Circuit) (y : List Entry) (k : ℕ) (s : Sent) : Type 0 where
     pub place : ℕ
     pub waits : IsDelayed y n k → (j : ℕ) (m : Fields) → IsReply c k j m → In y (Finished n k)

@@ -1,4 +1,4 @@
--- The log of a server's life tells that a put is finished only by the event that finishes it.
+-- The log of a server's life says that a put is finished only by the event that finishes it.
 use Rattle.std.proofs.Common.{◌≡◌, ℕ, zero, suc, ◌⊎◌, inl, inr, Bool, List, [], ◌∷◌, ◌++◌, length, ◌+◌, Option, Some, None, refl, sym, ap, subst, ◌∙◌}
 use Rattle.std.specs.Prelude.{filter, map, not, option_map, slice_get, unwrap_or}
 use Rattle.std.specs.List.{flat_map}
@@ -38,7 +38,7 @@ use Rattle.ca_laws_runs.proofs.LoggedStep.{told-logs}
 abbrev pub TellsOnly : (F : ℕ → ℕ → Type 0) → List Entry → Type 0
 TellsOnly F es = (i n k : ℕ) → At es i (Finished n k) → F n k
 
--- What a log tells finished it told before, or it is F.
+-- What a log says finished it told before, or it is F.
 abbrev pub FinishesOr : (F : ℕ → ℕ → Type 0) → (w new : World) → Type 0
 FinishesOr F w new = (l : ℕ) (z : List Entry) (i n k : ℕ) → At new.server_logs l z → At z i (Finished n k) → ((y : List Entry) × At w.server_logs l y × At y i (Finished n k)) ⊎ F n k
 

@@ -1,5 +1,5 @@
--- A put that waits is on a channel that is open; and one that makes its record busy is, or its channel was cleared since. So over every event
--- and every run.
+-- A put that waits is on a channel that is open; and one that makes its record busy is, or its
+-- channel was cleared since. So over every event and every run.
 use Rattle.std.proofs.Common.{◌≡◌, ℕ, ◌+◌, ◌<◌, ◌≤◌, ◌⊎◌, inl, inr, true, false, List, [], ◌∷◌, ◌++◌, length, Option, Some, None, refl, sym, ap, subst, ◌∙◌, arith}
 use Rattle.std.specs.Prelude.{filter, map, option_map, unwrap_or}
 use Rattle.std.specs.List.{FoldsTo, fold}
@@ -59,7 +59,8 @@ abbrev pub HasChannel : ServerEnd → Handle → Type 0
 HasChannel e h = (ch : OpenChannel) × (under e.channels h ≡ Some ch)
 
 module _ (w : World) where
-  -- The circuit was open then, and each channel that its end had is open still, or was cleared since.
+  -- The circuit was open then, and each channel that its end had is open still,
+  -- or was cleared since.
   pub record HeldOn (n : ℕ) (f : ServerEnd) (d : Joined) : Type 0 where
     pub c : Joined
     pub on : At w.circuits n c

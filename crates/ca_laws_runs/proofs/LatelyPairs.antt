@@ -1,4 +1,5 @@
--- Puts of a server's core beside the places at which they came, place by place, as its records change.
+-- Puts of a server's core beside the places at which they came, place by place,
+-- as its records change.
 use Rattle.std.proofs.Common.{◌≡◌, ℕ, zero, suc, ◌⊎◌, inl, inr, Bool, true, false, cond, not, List, [], ◌∷◌, ◌++◌, length, Some, refl, sym, ap, subst, ◌∙◌, arith}
 use Rattle.std.specs.Prelude.{drop, filter, map, take}
 use Rattle.std.specs.Str.{bytes_eq}
@@ -111,7 +112,8 @@ last-beside (c ∷ xs) (d ∷ ys) a b same (suc k) x y p q = last-beside xs ys a
 
 -- ---- from one pair of lists to the next
 
--- Each put was there, beside the place where it was, or it is one of these; and one that waited may be busy.
+-- Each put was there, beside the place where it was, or it is one of these; and one
+-- that waited may be busy.
 module _ (Own : PutPlace → Put → Type 0) where
   pub record Lines (cs ds : List Record) (rs ss : List RecordSide) : Type 0 where
     pub busy : (q : PutPlace) (b : Put) → IsBusyAt ds ss q b → IsBusyAt cs rs q b ⊎ (IsWaitingAt cs rs q b ⊎ Own q b)

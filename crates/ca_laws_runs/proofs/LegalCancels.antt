@@ -47,8 +47,8 @@ use Rattle.ca_laws_runs.proofs.Spent.{Known}
 use Rattle.ca_laws_runs.proofs.StepWhole.{run-serves}
 use Rattle.ca_laws_runs.proofs.ToldGrows.{WorldsOn, event-on, on-grown}
 
--- The EVENT_CANCEL at place k is for the EVENT_ADD at place l: between them the channel was not created, and nothing gave the id; and it is
--- the first for that subscription.
+-- The EVENT_CANCEL at place k is for the EVENT_ADD at place l: between them the channel was not
+-- created, and nothing gave the id; and it is the first for that subscription.
 pub record IsCancelOf (up : List Sent) (k a m : ℕ) (s : Sent) : Type 0 where
   pub l : ℕ
   pub r : Sent

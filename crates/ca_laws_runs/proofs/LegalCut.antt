@@ -1,4 +1,5 @@
--- Once a client read a SERVER_DISCONN only the CLEAR_CHANNEL of its channel goes out on that: over every event and run.
+-- Once a client read a SERVER_DISCONN only the CLEAR_CHANNEL of its channel goes out on that: over
+-- every event and run.
 use Rattle.std.proofs.Common.{◌≡◌, ℕ, suc, ◌+◌, ◌<◌, ◌≤◌, inl, inr, List, [], ◌∷◌, ◌++◌, length, Option, None, refl, sym, subst, arith}
 use Rattle.std.specs.List.{FoldsTo}
 use Rattle.ca_text.specs.declared.command.Command.TheVariants as command

@@ -1,4 +1,5 @@
--- A channel became live before each EVENT_ADD on it that came after its CREATE_CHAN: so none goes out that was ended then, over every event and run.
+-- A channel became live before each EVENT_ADD on it that came after its CREATE_CHAN: so none goes
+-- out that was ended then, over every event and run.
 use Rattle.std.proofs.Common.{◌≡◌, ℕ, ◌<◌, ◌≤◌, inl, inr, List, length, Option, refl, sym, ap, subst, arith}
 use Rattle.ca_text.specs.Place.{At}
 use Rattle.ca_text.proofs.Places.{At-mapped, At-one}
@@ -19,7 +20,8 @@ use Rattle.ca_laws_runs.proofs.LegalRead.{ReadOn, run-read}
 use Rattle.ca_laws_runs.proofs.OrderKeeps.{run-heard, run-server-steps}
 use Rattle.ca_laws_runs.proofs.ToldCreated.{create-used}
 
--- The reply that created a channel was read before anything else than a CREATE_CHAN went out on it after its CREATE_CHAN.
+-- The reply that created a channel was read before anything else than a CREATE_CHAN went out on it
+-- after its CREATE_CHAN.
 pub read-first : (c : Joined) (sent log : ℕ) → CreatedOn c → ComeAfter c.lists → InOrder c.lists.heard (length c.lists.down) sent log → ReadOn c.lists
     → (a j l sid : ℕ) (t : Told) (h : Step) (r s : Sent) (ask : Ask)
     → At c.lists.up t.place r → r.intent ≡ On a Create → At c.lists.down j t → t.cause ≡ Reply → Creates t.message sid → At c.lists.heard j h

@@ -135,7 +135,8 @@ module _ (w : World) (known : Known w) (cancels : AllCancels w) (created : AllCr
   asked : (k : ℕ) (s : Sent) → At c.lists.up k s → Suits s.intent s.message
   asked = held-so.flows.asked
 
-  -- a message on a channel goes under the SID of one that the client has, whose CID is that of its handle
+  -- a message on a channel goes under the SID of one that the client has, whose CID
+  -- is that of its handle
   has-channel : (l a : ℕ) (ask : Ask) (s : Sent) (h : Handle) → At c.lists.up l s → s.intent ≡ On a ask → (ask ≡ Create → ⊥) → At x.names.channels a h
       → (i j : ℕ) × HasChannel (client_conduct c.lists) l i j (wire_of h) (sid_in s.message)
   has-channel l a ask s h at is other named_h =

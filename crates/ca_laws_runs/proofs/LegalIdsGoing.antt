@@ -57,7 +57,8 @@ IsFreedNow c d x m id = (t : Told) × (g : Step) × At d.lists.down (length c.li
 abbrev pub IsFreedNever : (c d : Joined) → ClientSide → Fields → Id → Type 0
 IsFreedNever c d x m id = ⊥
 
--- From circuit c to circuit d: what is sent gives ids of indices that are idle, each once; what is held stays held, or is freed; and what is given is held.
+-- From circuit c to circuit d: what is sent gives ids of indices that are idle, each once; what is
+-- held stays held, or is freed; and what is given is held.
 pub record IdsStep (Freed : (c d : Joined) → ClientSide → Fields → Id → Type 0) (w new : World) (c d : Joined) : Type 0 where
   pub up : (p : ℕ) (s : Sent) → At c.lists.up p s → At d.lists.up p s
   pub idle : (p : ℕ) (s : Sent) (id : Id) → length c.lists.up ≤ p → At d.lists.up p s → Gives s.message id

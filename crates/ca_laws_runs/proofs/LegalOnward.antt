@@ -1,4 +1,5 @@
--- Over every event each circuit goes on, and what is handled now is handled after all that was sent and logged; or nothing was sent on it yet.
+-- Over every event each circuit goes on, and what is handled now is handled after all that was sent
+-- and logged; or nothing was sent on it yet.
 use Rattle.std.proofs.Common.{◌≡◌, ℕ, ◌≤◌, ◌⊎◌, inl, inr, true, List, [], ◌∷◌, ◌++◌, length, Option, Some, None, refl, sym, ap, subst, ◌∙◌, arith}
 use Rattle.std.specs.Prelude.{filter, map, not, slice_set, unwrap_or}
 use Rattle.std.specs.Str.{bytes_eq}
@@ -24,7 +25,8 @@ use Rattle.ca_laws_runs.proofs.CauseKeeps.{handled-or}
 use Rattle.ca_laws_runs.proofs.CausingEvents.{Nothing-new, Ready}
 use Rattle.ca_laws_runs.proofs.CausingFrame.{Back, FinishNews, IsStill, News, Onward, PumpNews, RemoveNews, Says, StepNews, Stood, Takes, back-frame, finish-back, on-self, pump-back, removed-back, step-back, still-back, unhandled-back}
 
--- Whatever is new on a circuit: a step comes after all that was sent there and logged by its server's life.
+-- Whatever is new on a circuit: a step comes after all that was sent there and logged
+-- by its server's life.
 abbrev pub AnyNews : World → ℕ → News → Type 0
 AnyNews w l (Says t) = Unit {0}
 AnyNews w l (Stood p) = Unit {0}

@@ -1,4 +1,5 @@
--- A message on a channel goes out under a SID of whose creation the client had read then: over every event and run.
+-- A message on a channel goes out under a SID of whose creation the client had read then: over
+-- every event and run.
 use Rattle.std.proofs.Common.{◌≡◌, ℕ, suc, ◌+◌, ◌<◌, ◌≤◌, ◌⊎◌, inl, inr, Bool, true, false, ◌&&◌, cond, eqb, List, [], ◌∷◌, ◌++◌, length, Option, Some, None, refl, sym, ap, subst, ◌∙◌, arith}
 use Rattle.std.specs.Prelude.{map, option_map, slice_get, slice_set, unwrap_or}
 use Rattle.std.specs.List.{FoldsTo, list_any}
@@ -55,7 +56,8 @@ use Rattle.ca_laws_runs.proofs.Found.{clear-is}
 use Rattle.ca_laws_runs.proofs.Kept.{quiet-runs}
 use Rattle.ca_laws_runs.proofs.Under.{uncleared}
 
--- Each message on a channel, but its CREATE_CHAN, goes under the SID of a creation that was read before it was sent, and after that was asked for.
+-- Each message on a channel, but its CREATE_CHAN, goes under the SID of a creation that was read
+-- before it was sent, and after that was asked for.
 abbrev pub ReadOn : Circuit → Type 0
 ReadOn c = (p a : ℕ) (s : Sent) (ask : Ask) → At c.up p s → s.intent ≡ On a ask → (ask ≡ Create → ⊥)
     → (j k : ℕ) × (g : Step) × At c.heard j g × (g.sent ≤ p) × IsCreatedBefore c a j k (sid_in s.message) p
@@ -70,7 +72,8 @@ ReadAfter c = (j : ℕ) (g : Step) (t : Told) → At c.heard j g → At c.down j
 abbrev pub AllReadAfter : World → Type 0
 AllReadAfter w = (n : ℕ) (c : Joined) → At w.circuits n c → ReadAfter c.lists
 
--- When a SERVER_DISCONN was read, the CLEAR_CHANNEL of the channel that was created there was sent before, or as the first message then.
+-- When a SERVER_DISCONN was read, the CLEAR_CHANNEL of the channel that was created there was sent
+-- before, or as the first message then.
 abbrev pub CutOn : Circuit → Type 0
 CutOn c = (l : ℕ) (g : Step) (t : Told) → At c.heard l g → At c.down l t → t.cause ≡ Removal
     → (i sid : ℕ) × (u : Told) × At c.down i u × (u.cause ≡ Reply) × Creates u.message sid × (u.place ≡ t.place)
@@ -78,7 +81,8 @@ CutOn c = (l : ℕ) (g : Step) (t : Told) → At c.heard l g → At c.down l t �
 
 -- ---- from one world to the next
 
--- What is read now is read after all that was sent, and nothing is handled then. If it is a SERVER_DISCONN, one message is sent at most.
+-- What is read now is read after all that was sent, and nothing is handled then. If it is a
+-- SERVER_DISCONN, one message is sent at most.
 pub record HearsOn (c d : Joined) : Type 0 where
   pub up : (p : ℕ) (s : Sent) → At c.lists.up p s → At d.lists.up p s
   pub down : (i : ℕ) (t : Told) → At c.lists.down i t → At d.lists.down i t
@@ -453,7 +457,8 @@ module _ (c : Joined) (created : CreatedOn c) (under : AreUnder c.lists) (asked 
   abbrev done : Conduct
   done = client_conduct c.lists
 
-  -- no SERVER_DISCONN for a channel was read before another message than its CLEAR_CHANNEL went out on it
+  -- no SERVER_DISCONN for a channel was read before another message than its
+  -- CLEAR_CHANNEL went out on it
   uncut : (a j k p sid : ℕ) (s : Sent) → At c.lists.up p s → (b : IsCreatedBefore c.lists a j k sid p) → (Is command.ClearChannel s.message → ⊥) → (l : ℕ) (q : Fields) → j < l → ReadsBetween done k p l q → IsDisconnect b.t.message.p1 q → ⊥
   uncut a j k p sid s at_s b other l q lt reads ends =
       let v = At-mapped (λ (z : Told). z.message) c.lists.down l q reads.1 in

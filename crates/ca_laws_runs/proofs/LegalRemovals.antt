@@ -55,7 +55,8 @@ use Rattle.ca_laws_runs.proofs.LegalServers.{sent-at}
 use Rattle.ca_laws_runs.proofs.OrderKeeps.{event-served, run-served, run-server-steps}
 use Rattle.ca_laws_runs.proofs.StepWhole.{event-serves, opening-serves, takes-next}
 
--- The SERVER_DISCONN at place k tells of a removal. Its channel was created by the reply at place i, was not cleared since by what was handled before, and had none before.
+-- The SERVER_DISCONN at place k tells of a removal. Its channel was created by the reply at place
+-- i, was not cleared since by what was handled before, and had none before.
 pub record RemovedAs (c : Joined) (k : ℕ) (t : Told) : Type 0 where
   pub removal : t.cause ≡ Removal
   pub i : ℕ

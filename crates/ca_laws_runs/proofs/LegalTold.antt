@@ -1,4 +1,5 @@
--- A channel that was open when its record was removed has a SERVER_DISCONN, if the server's end is open.
+-- A channel that was open when its record was removed has a SERVER_DISCONN, if the
+-- server's end is open.
 use Rattle.std.proofs.Common.{◌≡◌, ℕ, ◌<◌, ◌≤◌, ◌⊎◌, inl, inr, Bool, true, false, List, [], ◌∷◌, ◌++◌, length, Option, Some, None, refl, sym, ap, subst, ◌∙◌, arith}
 use Rattle.std.specs.Prelude.{take}
 use Rattle.std.specs.List.{FoldsTo}

@@ -67,8 +67,9 @@ use Rattle.ca_laws_runs.proofs.CausingRuns.{ready, run-sources}
 use Rattle.ca_laws_runs.proofs.KnewStands.{run-unended}
 use Rattle.ca_laws_runs.proofs.FollowsWhole.{folds-snoc, logs-there}
 
--- The update t at place k is for the EVENT_ADD at place p, on the channel that was created by the reply at place i. By what was handled before, neither was that cleared, nor
--- the subscription cancelled; and no SERVER_DISCONN for it was sent before.
+-- The update t at place k is for the EVENT_ADD at place p, on the channel that was created by the
+-- reply at place i. By what was handled before, neither was that cleared, nor the subscription
+-- cancelled; and no SERVER_DISCONN for it was sent before.
 pub record UpdatedAs (c : Circuit) (k : ℕ) (t : Told) : Type 0 where
   pub p : ℕ
   pub add : Sent

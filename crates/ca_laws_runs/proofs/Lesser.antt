@@ -1,4 +1,5 @@
--- Changes of a client by which nothing is sent: what was sent on each circuit is as its channels, requests and subscriptions still.
+-- Changes of a client by which nothing is sent: what was sent on each circuit is as its channels,
+-- requests and subscriptions still.
 use Rattle.std.proofs.Common.{◌≡◌, ℕ, inl, inr, Bool, true, false, ◌&&◌, cond, List, [], ◌∷◌, Option, Some, None, refl, sym, ap, ◌∙◌, subst}
 use Rattle.std.specs.Prelude.{◌==◌, fold, length, not, option_map, unwrap_or}
 use Rattle.ca_arena.specs.declared.handle.Handle.{Handle}

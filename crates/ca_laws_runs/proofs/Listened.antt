@@ -1,4 +1,5 @@
--- What a message that a client reads, a search reply, a datagram or a moment makes of what was sent.
+-- What a message that a client reads, a search reply, a datagram or a moment
+-- makes of what was sent.
 use Rattle.std.proofs.Common.{◌≡◌, ℕ, zero, suc, ◌<◌, inl, inr, Bool, true, false, ◌&&◌, cond, eqb, List, [], ◌∷◌, ◌++◌, Option, Some, None, refl, sym, ap, ◌∙◌, subst}
 use Rattle.std.specs.Prelude.{filter, fold, option_map, unwrap_or}
 use Rattle.ca_text.specs.declared.command.Command.TheVariants as command
@@ -85,14 +86,15 @@ module _ (n : Names) (x : Client) (t : Tidy n x) where
         no-clear : (a b k : ℕ) → history.On a (Subscribe k) ≡ history.On b Clear → ⊥
         no-clear a b k e = cc
 
-    -- those that were sent before were sent before its CREATE_CHAN, and each of these is of another subscription
+    -- those that were sent before were sent before its CREATE_CHAN, and each of these is of
+    -- another subscription
     adds-apart : (m : Fields) (h : Handle) (rights : ℕ) → channel_on x c m.p1 ≡ Some (h, Creating rights) → (on : Handle) (up : List Sent) → Quiet n x on up → AreAddedApart up → AreAddedApart (up ++ said n on (event_adds c m.p2 h x))
     adds-apart m h rights at on up q were = apart-more up (said n on (event_adds c m.p2 h x)) olds news were
       where
         row-of : (w : Handle × Subscription) (k : ℕ) → At (held x.subscriptions) k w → (number : ℕ) × (meant_by n.subscriptions w.0 ≡ history.On (channel_number n w.1.channel) (Subscribe number))
         row-of w k there = (let meant = t.subscriptions w.0 w.1 (held-under x.subscriptions k w there) in (meant.0, meant.2))
 
-        -- each is an EVENT_ADD of a subscription that stands on the channel
+        -- each is an EVENT_ADD of a subscription that is on the channel
         add-of : (i : ℕ) (s : Sent) → At (said n on (event_adds c m.p2 h x)) i s → (w : Handle × Subscription) × (c ≡ on) × (w.1.channel ≡ h) × ((k : ℕ) × At (held x.subscriptions) k w) × (s.intent ≡ meant_by n.subscriptions w.0)
         add-of i s place =
             let a = At-mapped (stamped n) (filter (λ (z : Sending). same_handle z.circuit on) (event_adds c m.p2 h x)) i s place in

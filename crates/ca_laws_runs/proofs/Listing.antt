@@ -1,4 +1,5 @@
--- Each record that the log of a server's life added, and did not remove, is there, over every event.
+-- Each record that the log of a server's life added, and did not remove, is
+-- there, over every event.
 use Rattle.std.proofs.Common.{◌≡◌, ℕ, zero, suc, ◌+◌, ◌<◌, ◌⊎◌, inl, inr, Bool, not, List, [], ◌∷◌, ◌++◌, length, Option, Some, None, refl, sym, ap, subst, ◌∙◌, arith}
 use Rattle.std.specs.Prelude.{drop, filter, map, option_map, slice_get, slice_set, take, unwrap_or}
 use Rattle.std.specs.List.{flat_map}

@@ -1,5 +1,5 @@
--- What holds of each open end of a server and of its circuit, by the log of the server's life and its records, stays so as an event goes
--- by, if each change of these keeps it.
+-- What holds of each open end of a server and of its circuit, by the log of the server's life and
+-- its records, stays so as an event goes by, if each change of these keeps it.
 use Rattle.std.proofs.Common.{◌≡◌, ℕ, ◌⊎◌, inl, inr, true, List, [], ◌∷◌, ◌++◌, length, Option, Some, refl, sym, ap, subst, ◌∙◌}
 use Rattle.std.specs.Prelude.{drop, filter, is_some, map, not, slice_set, take}
 use Rattle.std.specs.List.{FoldsTo, flat_map}
@@ -44,8 +44,9 @@ module _ (P : ℕ → List Entry → List RecordSide → ServerEnd → Joined �
   AllEnds w = (n : ℕ) (c : Joined) (y : ServerSide) (e : ServerEnd) (log : List Entry) → At w.circuits n c → At w.servers c.server y → c.lists.server_open ≡ true
       → HasEnd y.core c.at_server e → At w.server_logs y.life log → P n log y.records e c
 
-  -- Each change of an end and its circuit keeps it: what happens at the client, and to bytes; what else the log tells; a post; a record
-  -- that is removed or added; updates that leave their queues; and a late reply.
+  -- Each change of an end and its circuit keeps it: what happens at the client, and to bytes;
+  -- what else the log says; a post; a record that is removed or added; updates that leave their
+  -- queues; and a late reply.
   pub record Lasting : Type 0 where
     pub stays : (n : ℕ) (log : List Entry) (rs : List RecordSide) (e f : ServerEnd) (c d : Joined) → SameHeld e f → Goes c d → P n log rs e c → P n log rs f d
     pub told : (n : ℕ) (log more : List Entry) (rs rt : List RecordSide) (e : ServerEnd) (c : Joined) → AreQuiet more → titles rt ≡ titles rs → P n log rs e c → P n (log ++ more) rt e c
@@ -95,8 +96,8 @@ module _ (P : ℕ → List Entry → List RecordSide → ServerEnd → Joined �
 abbrev pub AreApart : World → Type 0
 AreApart w = (i j : ℕ) (y z : ServerSide) → At w.servers i y → At w.servers j z → y.life ≡ z.life → i ≡ j
 
--- An event at server i, whose log was this, after which its core is this. The law says what it makes of each circuit of the server that is
--- open then.
+-- An event at server i, whose log was this, after which its core is this. The law says what it
+-- makes of each circuit of the server that is open then.
 module _ (P : ℕ → List Entry → List RecordSide → ServerEnd → Joined → Type 0) (w : World) (i : ℕ) (y : ServerSide) (core : Server) (log : List Entry) where
   abbrev pub Back : World → Type 0
   Back new = (n : ℕ) (d : Joined) → At new.circuits n d → d.lists.server_open ≡ true

@@ -1,4 +1,5 @@
--- What holds of open ends and their circuits by their servers' logs stays so over every event, and over runs.
+-- What holds of open ends and their circuits by their servers' logs stays so over every
+-- event, and over runs.
 use Rattle.std.proofs.Common.{◌≡◌, ℕ, suc, inl, inr, true, List, [], ◌∷◌, length, Option, Some, refl, sym, ap, subst}
 use Rattle.std.specs.List.{FoldsTo}
 use Rattle.ca_text.specs.Place.{At}

@@ -1,5 +1,5 @@
--- What holds of open ends by their servers' logs stays so: bytes, circuits that are made, posts, removals, additions, pumps, cuts and
--- restarts.
+-- What holds of open ends by their servers' logs stays so: bytes, circuits that are made, posts,
+-- removals, additions, pumps, cuts and restarts.
 use Rattle.std.proofs.Common.{◌≡◌, ℕ, ◌+◌, ◌<◌, inl, inr, Bool, true, false, cond, ◌&&◌, eq-eqb, not, List, [], ◌∷◌, ◌++◌, length, Option, Some, None, refl, sym, ap, subst, ◌∙◌, arith}
 use Rattle.std.specs.Prelude.{Ok, drop, filter, is_some, map, take}
 use Rattle.std.specs.List.{fold}
@@ -93,7 +93,8 @@ module _ (P : ℕ → List Entry → List RecordSide → ServerEnd → Joined �
 
   -- ---- a post
 
-  -- A post reaches an end and its circuit, as an entry tells; the core told the numbers when it had this end with the same subscriptions.
+  -- A post reaches an end and its circuit, as an entry says; the core told the numbers when it had
+  -- this end with the same subscriptions.
   pub post-ends-last : (n i : ℕ) (log : List Entry) (rs : List RecordSide) (core mid : Server) (name : List ℕ) (r : RecordSide) (mask : ℕ) (v : Stored) (entry : Entry) (gone : Handle → Bool) (c : Joined) (b e f : ServerEnd)
       → AreOthers rs → In rs r → r.name ≡ name → IsPost r.number mask v entry → c.server ≡ i → c.lists.server_open ≡ true → HasEnd core c.at_server b
       → HasEnd mid c.at_server e → e.subscriptions ≡ b.subscriptions → P n log rs e c → HasEnd (after_post name mask v gone mid) c.at_server f → P n (log ++ entry ∷ []) rs f (numbers_posted i core name mask c)

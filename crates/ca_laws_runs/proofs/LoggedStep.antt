@@ -190,7 +190,7 @@ module _ (P : ℕ → List Entry → List RecordSide → ServerEnd → Joined �
 
   -- ---- a finish
 
-  -- the next put is applied, as the log tells, or none waits
+  -- the next put is applied, as the log says, or none waits
   next-ends-last : (n i : ℕ) (log : List Entry) (y : ServerSide) (r : RecordSide) (mid : Server) (name : List ℕ) (ws : List WaitingPut) (ps : List PutPlace) (gone : Handle → Bool) (c : Joined) (b e f : ServerEnd)
       → (Q : PutPlace → WaitingPut → Type 0) → Both Q ps ws → AreOthers y.records → In y.records r → r.name ≡ name → mid.stamp ≡ y.core.stamp
       → c.server ≡ i → c.lists.server_open ≡ true → HasEnd y.core c.at_server b
@@ -353,7 +353,7 @@ module _ (P : ℕ → List Entry → List RecordSide → ServerEnd → Joined �
         let recorded : made.recorded.stamp ≡ y.core.stamp = write-stamp y.core h taken next.m name value busies made.recorded (subst (λ (a : Action). Records y.core h taken next.m a made.recorded) is made.records) in
         (r.0, r.1, r.2, r.3, same-stored y.core next.after value (ap (λ (x : Server). x.stamp) made.leaves ∙ recorded))
 
-    -- what it writes reaches an end, as the log tells
+    -- what it writes reaches an end, as the log says
     write-reaches : (n : ℕ) (name : List ℕ) (value : Elements) (busies : Bool) (gone : Handle → Bool) (core : Server) (c : Joined) (b d f : ServerEnd) → next.action ≡ Applies name value busies → Reaches next.action gone next.after core
         → c.server ≡ i → c.lists.server_open ≡ true → HasEnd y.core c.at_server b → HasEnd next.after c.at_server d → d.subscriptions ≡ b.subscriptions → P n own.log y.records d c → HasEnd core c.at_server f
         → P n after_log after_records f (numbers_posted i y.core name write_mask c)

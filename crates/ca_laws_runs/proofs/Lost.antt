@@ -1,4 +1,5 @@
--- What is told to be lost is lost: its circuit has ended at the client, its channel was cleared before, or the SERVER_DISCONN for its channel was read.
+-- What is told to be lost is lost: its circuit has ended at the client, its channel was cleared
+-- before, or the SERVER_DISCONN for its channel was read.
 use Rattle.std.proofs.Common.{◌≡◌, ℕ, ◌+◌, ◌<◌, ◌≤◌, ◌⊎◌, inl, inr, false, true, List, ◌++◌, length, Some, None, refl, sym, ap, ◌∙◌, subst, arith}
 use Rattle.std.specs.Prelude.{take}
 use Rattle.ca_text.specs.Place.{At}
@@ -47,7 +48,8 @@ use Rattle.ca_laws_runs.proofs.ToldLines.{lines-grown}
 use Rattle.ca_laws_runs.proofs.ToldRemoval.{AllRemovals}
 use Rattle.ca_laws_runs.proofs.ToldSteps.{after, log-is, next, noticed-intent, noticed-outcome}
 
--- In the step that told line i, the SERVER_DISCONN was read for the creation of the channel after which the message at place k was sent.
+-- In the step that told line i, the SERVER_DISCONN was read for the creation of the channel after
+-- which the message at place k was sent.
 abbrev pub IsLeftIn : Joined → (k a i : ℕ) → Type 0
 IsLeftIn c k a i = (j : ℕ) × (t : Told) × (h : Step) × At c.lists.down j t × At c.lists.heard j h × (t.cause ≡ Removal) × ((r : Sent) × At c.lists.up t.place r × (r.intent ≡ On a Create))
     × (t.place ≤ k) × (k < h.sent) × (h.logged ≤ i) × (i < h.after)

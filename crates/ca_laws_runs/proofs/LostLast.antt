@@ -79,7 +79,8 @@ use Rattle.ca_laws_runs.proofs.ToldCreated.{ReadsNone, none-grown, none-handled,
 
 -- ---- a channel that was created and not cleared since was not told lost
 
--- On an open circuit, since the reply was told that created a channel under a SID that was not cleared since, no loss of that channel was told.
+-- On an open circuit, since the reply was told that created a channel under a SID that was not
+-- cleared since, no loss of that channel was told.
 abbrev pub AllLast : World → Type 0
 AllLast w = (n : ℕ) (c : Joined) (log : List Line) (i a sid m : ℕ) (t : Told) (h : Step) (s : Sent) → At w.circuits n c → At w.client_logs c.lists.client log → c.lists.client_open ≡ true → At c.lists.down i t → At c.lists.heard i h → t.cause ≡ Reply → Creates t.message sid
     → At c.lists.up t.place s → s.intent ≡ On a Create → (IsClearedWithin c.lists.up sid t.place (length c.lists.up) → ⊥) → h.logged < m → At log m (Noticed (On a Create) outcome.Disconnected) → ⊥

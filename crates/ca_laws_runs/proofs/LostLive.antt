@@ -1,4 +1,5 @@
--- A channel that is told to be lost was told to be live before on its circuit, over every event and run.
+-- A channel that is told to be lost was told to be live before on its circuit, over
+-- every event and run.
 use Rattle.std.proofs.Common.{◌≡◌, ℕ, suc, ◌+◌, ◌<◌, ◌≤◌, ◌⊎◌, inl, inr, false, true, List, [], ◌∷◌, ◌++◌, length, Option, Some, None, refl, sym, ap, ◌∙◌, subst, arith}
 use Rattle.std.specs.List.{FoldsTo}
 use Rattle.std.specs.Prelude.{take}
@@ -69,7 +70,8 @@ use Rattle.ca_laws_runs.proofs.ToldSteps.{after, log-is, next, no-request, notic
 
 -- ---- a channel that is live was told so
 
--- The reply that created the channel on this circuit was read, and told in this log; since then the channel was only used, and not told lost.
+-- The reply that created the channel on this circuit was read, and told in this log; since then the
+-- channel was only used, and not told lost.
 record WasTold (c : Joined) (log : List Line) (a : ℕ) : Type 0 where
   j : ℕ
   t : Told

@@ -1,4 +1,5 @@
--- After every run each notice tells what the reply to its own message means, or that this is lost; and no request is open that was sent before its channel was created again.
+-- After every run each notice says what the reply to its own message means, or that this is lost;
+-- and no request is open that was sent before its channel was created again.
 use Rattle.std.proofs.Common.{◌≡◌, ℕ, suc, ◌⊎◌, inl, inr, List, [], ◌∷◌, ◌++◌, Option, Some, None, refl, sym, ap, subst}
 use Rattle.std.specs.List.{FoldsTo}
 use Rattle.ca_text.specs.Place.{At}

@@ -45,7 +45,8 @@ use Rattle.ca_laws_runs.proofs.Ways.{by-way}
 
 -- ---- a circuit is made
 
--- What was sent serves the circuit of this handle or creates channels there; on others the same channels are live; and none is live on it.
+-- What was sent serves the circuit of this handle or creates channels there; on others the same
+-- channels are live; and none is live on it.
 pub record IsMade (n : Names) (x : Client) (on : Handle) (k : Option Closing) (sent : List Sending) (core : Client) : Type 0 where
   pub on_it : (l : ℕ) (s : Sending) → At sent l s → s.circuit ≡ on
   pub opens : (l : ℕ) (s : Sending) → At sent l s → ((stamped n s).intent ≡ history.OfCircuit) ⊎ ((a : ℕ) × ((stamped n s).intent ≡ history.On a Create))
@@ -254,7 +255,8 @@ sided-accept w new c x v at stands all s happens = elim happens.leaves [
 
 -- ---- a moment
 
--- What a tick sent so far serves circuits; and on a circuit that did not fall silent the same channels are live.
+-- What a tick sent so far serves circuits; and on a circuit that did not fall silent the
+-- same channels are live.
 pub record IsTicked (n : Names) (x : Client) (t : Ticking) : Type 0 where
   pub serves : (i : ℕ) (s : Sending) → At t.sent i s → (stamped n s).intent ≡ history.OfCircuit
   pub same : (on : Handle) → ((l : ℕ) (e : Left) → At t.closings l e → same_handle e.circuit on ≡ false) → SameLive on x.channels t.core.channels

@@ -1,4 +1,5 @@
--- The logs of all lives of servers keep that records have their names, over every event and every run.
+-- The logs of all lives of servers keep that records have their names, over every
+-- event and every run.
 use Rattle.std.proofs.Common.{◌≡◌, ℕ, zero, suc, ◌+◌, ◌<◌, ◌⊎◌, inl, inr, Bool, List, [], ◌∷◌, ◌++◌, length, Option, Some, None, refl, sym, ap, subst, ◌∙◌, arith}
 use Rattle.std.specs.Prelude.{filter, option_map, slice_get, unwrap_or}
 use Rattle.std.specs.List.{FoldsTo, flat_map}

@@ -18,7 +18,8 @@ use Rattle.ca_laws_runs.specs.Names.{KeepRecords}
 
 -- ---- one entry more
 
--- what may be told next: a record that was never added, under a name that none has; the removal of one that is there; or neither
+-- what may be told next: a record that was never added, under a name that none has; the removal of
+-- one that is there; or neither
 abbrev pub MayName : List Entry → Entry → Type 0
 MayName y (Added r s) = ((a : RecordState) → In y (Added r a) → ⊥) × ((q : ℕ) → Has y q s.name → ⊥)
 MayName y (Removed r) = (name : List ℕ) × Has y r name

@@ -93,8 +93,9 @@ used-more n now x y channels requests numbers subscriptions writes history.OfCir
 abbrev pub NoRequest : Names → List Sending → Type 0
 NoRequest n sent = (i : ℕ) (s : Sending) → At sent i s → IsRequest (intent_of n s.aim) → ⊥
 
--- What was called stays so. What these lines say was called is new, and alone among them. No request was sent, or one alone, which was not
--- called before; and what was called as a request or a subscription was sent on a circuit that is connected.
+-- What was called stays so. What these lines say was called is new, and alone among them. No
+-- request was sent, or one alone, which was not called before; and what was called as a request or
+-- a subscription was sent on a circuit that is connected.
 pub record Calls (n : Names) (x : Client) (spoken : Names) (sent : List Sending) (lines : List Line) (now : Names) (y : Client) : Type 0 where
   pub olds : (intent : Intent) → IsUsed n x intent → IsUsed now y intent
   pub lines_new : (p : ℕ) (intent : Intent) (e : Option Elements) → At lines p (Called intent e) → (p ≡ 0) × (IsUsed n x intent → ⊥) × IsUsed now y intent

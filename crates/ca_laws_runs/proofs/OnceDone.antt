@@ -1,4 +1,5 @@
--- A client's log tells of each read, put and subscription once: what it told of is over, and what a call or a step tells of was not.
+-- A client's log reports each read, put and subscription once: what it told of is over, and what a
+-- call or a step reports was not.
 use Rattle.std.proofs.Common.{◌≡◌, ℕ, zero, suc, ◌⊎◌, inl, inr, List, [], ◌∷◌, Option, Some, None, refl, sym, ap, ◌∙◌, subst}
 use Rattle.std.specs.Prelude.{find, option_map, unwrap_or}
 use Rattle.ca_text.specs.Place.{At}
@@ -33,7 +34,8 @@ use Rattle.ca_laws_runs.proofs.OnceTold.{AreIssued, Asks, IsOpenBy, StandsBy, To
 use Rattle.ca_laws_runs.proofs.OnceLess.{less-sending}
 use Rattle.ca_laws_runs.proofs.OnceTold as once
 
--- What was meant so is over, by a client's names and its core: no request of this number is open, no subscription of it stands.
+-- What was meant so is over, by a client's names and its core: no request of this number is open,
+-- no subscription of it stands.
 abbrev pub IsDone : Names → Client → Intent → Type 0
 IsDone n x (history.On c (history.Request Read m)) = (e : Handle × Intent) × At n.requests m e × (IsOpenBy x e.0 → ⊥)
 IsDone n x (history.On c (history.Request Put m)) = (e : Handle × Intent) × At n.requests m e × (IsOpenBy x e.0 → ⊥)
@@ -56,7 +58,8 @@ done-more n now x y requests subscriptions (history.On c Clear) d = tt
 done-more n now x y requests subscriptions (history.On c Create) d = tt
 done-more n now x y requests subscriptions history.OfCircuit d = tt
 
--- What was over stays so. What these lines tell of was not over and is now, and they tell of it once.
+-- What was over stays so. What these lines tell of was not over and is now, and
+-- they tell of it once.
 pub record Tells (n : Names) (x : Client) (lines : List Line) (now : Names) (y : Client) : Type 0 where
   pub olds : (intent : Intent) → IsDone n x intent → IsDone now y intent
   pub news : (p : ℕ) (intent : Intent) (o : Outcome) → At lines p (Noticed intent o) → IsAwaited intent → (IsDone n x intent → ⊥) × IsDone now y intent
@@ -119,7 +122,7 @@ tells-after n x line lines now y none t = record {
 
 -- ---- what notices tell of
 
--- A notice tells of a request that the names have under this handle, or of a subscription.
+-- A notice reports a request that the names have under this handle, or of a subscription.
 pub record OfRequest (n : Names) (k : Notice) (intent : Intent) : Type 0 where
   pub q : Handle
   pub o : Outcome

@@ -1,4 +1,5 @@
--- What a message that a client reads makes of its requests and subscriptions, and what the client tells of them.
+-- What a message that a client reads makes of its requests and subscriptions, and what the
+-- client tells of them.
 use Rattle.std.proofs.Common.{◌≡◌, ℕ, zero, suc, inl, inr, Bool, true, false, cond, eqb, List, [], ◌∷◌, Option, Some, None, refl, sym, ap, ◌∙◌, subst}
 use Rattle.std.proofs.lemmas.Bool.{both_ways}
 use Rattle.ca_text.specs.Place.{At}

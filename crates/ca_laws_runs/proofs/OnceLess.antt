@@ -1,4 +1,5 @@
--- Changes of a client after which no channel is held that was not, and no subscription stands that did not.
+-- Changes of a client after which no channel is held that was not, and no subscription
+-- stands that did not.
 use Rattle.std.proofs.Common.{◌≡◌, ℕ, suc, inl, inr, Bool, true, false, ◌&&◌, cond, List, [], ◌∷◌, Option, Some, None, refl, sym, ap, ◌∙◌, subst}
 use Rattle.std.specs.Prelude.{◌==◌, fold, length, not, option_map, unwrap_or}
 use Rattle.std.proofs.lemmas.Bool.{both_ways}

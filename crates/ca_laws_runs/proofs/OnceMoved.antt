@@ -1,5 +1,5 @@
--- What a client does by itself: after a message that it reads, a datagram, a moment, a circuit that is connected or ends, it holds nothing
--- new, and it sends no request.
+-- What a client does by itself: after a message that it reads, a datagram, a moment, a circuit that
+-- is connected or ends, it holds nothing new, and it sends no request.
 use Rattle.std.proofs.Common.{◌≡◌, ℕ, zero, suc, inl, inr, Bool, true, false, cond, eqb, List, [], ◌∷◌, ◌++◌, Option, Some, None, refl, sym, ap, ◌∙◌, subst}
 use Rattle.std.specs.Prelude.{Ok, filter, fold, map, option_map, option_to_list, unwrap_or}
 use Rattle.std.proofs.lemmas.Bool.{both_ways}
@@ -61,7 +61,8 @@ both-plain ss rs a b i s at = elim (At-parts ss rs i s at) [
 pub map-plain : {A : Type 0} (f : A → Sending) (xs : List A) → ((x : A) → is_plain (f x).aim ≡ true) → ArePlain (map f xs)
 map-plain f xs all i s at = (let m = At-mapped f xs i s at in ap (λ (z : Sending). is_plain z.aim) m.2 ∙ all m.0)
 
--- From the one client to the other nothing new is held, and these, which were sent, are no requests.
+-- From the one client to the other nothing new is held, and these, which were
+-- sent, are no requests.
 pub record Moved (x : Client) (sent : List Sending) (y : Client) : Type 0 where
   pub less : Less x y
   pub plain : ArePlain sent

@@ -1,5 +1,6 @@
--- What a client tells of requests and subscriptions as a circuit ends, a channel is cleared, a datagram comes or a moment is handed to it: each
--- was open and is not any more, and it tells of each once.
+-- What a client tells of requests and subscriptions as a circuit ends, a channel is
+-- cleared, a datagram comes or a moment is handed to it: each was open and is not any more,
+-- and it tells of each once.
 use Rattle.std.proofs.Common.{◌≡◌, ℕ, Bool, true, false, cond, List, [], ◌∷◌, ◌++◌, Option, Some, None, refl, sym, ap, ◌∙◌, subst}
 use Rattle.std.specs.Prelude.{◌==◌, Ok, filter, fold, is_some, length, map, not, option_and_then, option_map, unwrap_or}
 use Rattle.std.proofs.lemmas.Bool.{both_ways}

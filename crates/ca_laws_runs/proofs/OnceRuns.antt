@@ -108,7 +108,7 @@ once-runs setting es stopped w runs =
 pub called-once : (setting : Setting) (es : List Event) (stopped : Option Event) (w : World) → Runs setting es stopped w → OfClients (told w) (CallsOnce (told w))
 called-once setting es stopped w runs life x at i l intent e f first second = (once-runs setting es stopped w runs).once life x i l intent e f at first second
 
--- what stands in the world as it is told
+-- what is in the world as it is told
 stands-there : (w : World) (life : ℕ) (intent : Intent) (n k : ℕ) → Stands (told w) life intent n k → (j : Joined) × At w.circuits n j × (j.lists.client ≡ life) × ((s : Sent) × At j.lists.up k s × (s.intent ≡ intent))
 stands-there w life intent n k stands =
     let m = At-mapped circuit_of w.circuits n stands.0 stands.1 in

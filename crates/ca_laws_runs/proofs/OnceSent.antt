@@ -1,4 +1,5 @@
--- What a client called as a request or a subscription was sent: a circuit that is connected in its core is open in the world, and its messages go there.
+-- What a client called as a request or a subscription was sent: a circuit that is connected in its
+-- core is open in the world, and its messages go there.
 use Rattle.std.proofs.Common.{◌≡◌, ℕ, ◌+◌, ◌⊎◌, inl, inr, Bool, true, false, ◌&&◌, cond, eqb, List, [], ◌∷◌, ◌++◌, length, Option, Some, None, refl, sym, ap, ◌∙◌, subst}
 use Rattle.std.specs.Prelude.{is_none, map, option_and_then, option_map, slice_set, unwrap_or}
 use Rattle.std.proofs.lemmas.Bool.{and_from, both_ways, eq-eqb}
@@ -30,18 +31,20 @@ use Rattle.ca_laws_runs.proofs.OnceWorld.{LogsAfter, logs-grown, logs-still}
 abbrev pub IsOpenAt : World → (i life : ℕ) → Handle → Type 0
 IsOpenAt w i life c = (k : ℕ) × (j : Joined) × At w.circuits k j × (j.client ≡ i) × (j.at_client ≡ c) × (j.lists.client ≡ life) × (j.lists.client_open ≡ true)
 
--- The message of what was called stands on a circuit of that life.
+-- The message of what was called is on a circuit of that life.
 abbrev pub IsSaid : World → (life : ℕ) → Intent → Type 0
 IsSaid w life intent = (k : ℕ) × (j : Joined) × (q : ℕ) × (s : Sent) × At w.circuits k j × (j.lists.client ≡ life) × At j.lists.up q s × (s.intent ≡ intent)
 
--- What is connected in a client's core is open, and each request and subscription that a log has was sent.
+-- What is connected in a client's core is open, and each request and subscription
+-- that a log has was sent.
 pub record SentStand (w : World) : Type 0 where
   pub reached : (i : ℕ) (x : ClientSide) (c : Handle) → At w.clients i x → is_none (connection_at x.core c) ≡ false → IsOpenAt w i x.life c
   pub asked : (life : ℕ) (log : List Line) (p : ℕ) (intent : Intent) (e : Option Elements) → At w.client_logs life log → At log p (Called intent e) → IsUse intent → IsSaid w life intent
 
 -- ---- ends of circuits
 
--- It is an end of the same client and life under the same handle, as open as it was, and these were sent there since.
+-- It is an end of the same client and life under the same handle, as open as it was, and these
+-- were sent there since.
 pub record IsEndOn (i : ℕ) (n : Names) (sent : List Sending) (a j : Joined) : Type 0 where
   pub client : j.client ≡ a.client
   pub handle : j.at_client ≡ a.at_client
@@ -105,7 +108,8 @@ all-set k a new was at end l j there = elim (number-or l k) [
 
 -- ---- a world after an event
 
--- No client changes, nothing is logged and nothing is sent. An end that closed is not connected in its client's core.
+-- No client changes, nothing is logged and nothing is sent. An end that closed is not connected
+-- in its client's core.
 pub sent-closing : (w new : World) → new.clients ≡ w.clients → new.client_logs ≡ w.client_logs
     → ((k : ℕ) (a : Joined) → At w.circuits k a → (j : Joined) × At new.circuits k j × (j.client ≡ a.client) × (j.at_client ≡ a.at_client) × (j.lists.client ≡ a.lists.client) × (j.lists.up ≡ a.lists.up)
     × ((x : ClientSide) → At w.clients a.client x → is_none (connection_at x.core a.at_client) ≡ false → a.lists.client_open ≡ true → j.lists.client_open ≡ true))

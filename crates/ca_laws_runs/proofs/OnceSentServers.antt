@@ -25,7 +25,7 @@ use Rattle.ca_laws_runs.proofs.OnceSent.{IsSameEnd, SentStand, all-map, all-same
 plain : (a j : Joined) → j.client ≡ a.client → j.at_client ≡ a.at_client → j.lists.client ≡ a.lists.client → j.lists.client_open ≡ a.lists.client_open → j.lists.up ≡ a.lists.up → IsSameEnd a j
 plain a j client handle life opens up = record { client = client; handle = handle; life = life; opens = opens; up = up }
 
--- a circuit is noted, or changed where it stands
+-- a circuit is noted, or changed where it is
 sent-at : (w : World) (k : ℕ) (f : Joined → Joined) → ((a : Joined) → IsSameEnd a (f a)) → SentStand w → SentStand (unwrap_or (option_map (λ (c : Joined). with_circuit k (f c) w) (slice_get w.circuits k)) w)
 sent-at w k f ends s = go (slice_get w.circuits k) refl
   where

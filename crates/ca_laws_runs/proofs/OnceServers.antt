@@ -32,7 +32,7 @@ module _ (P : World → Type 0) (same : (w new : World) → new.clients ≡ w.cl
   kept-server : (w : World) (i : ℕ) (y : ServerSide) (ends : Joined → Option (List ℕ)) (core : Server) → P w → P (server_after i y ends core w)
   kept-server w i y ends core s = same w (server_after i y ends core w) refl refl (all-map (ending ends) w.circuits (same-ending ends)) s
 
-  -- a circuit is noted, or changed where it stands
+  -- a circuit is noted, or changed where it is
   kept-at : (w : World) (k : ℕ) (f : Joined → Joined) → ((a : Joined) → IsSameEnd a (f a)) → P w → P (unwrap_or (option_map (λ (c : Joined). with_circuit k (f c) w) (slice_get w.circuits k)) w)
   kept-at w k f ends s = go (slice_get w.circuits k) refl
     where

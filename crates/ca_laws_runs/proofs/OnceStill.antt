@@ -11,7 +11,7 @@ use Rattle.ca_model.specs.ServerEvents.{HappensAdd, HappensCutServer, HappensFin
 use Rattle.ca_model.specs.World.{Joined, ServerSide, World, with_circuit}
 use Rattle.ca_laws_runs.proofs.OnceNoticed.{Still}
 
--- a circuit changes where it stands
+-- a circuit changes where it is
 still-at : (w : World) (k : ℕ) (f : Joined → Joined) → Still w (unwrap_or (option_map (λ (c : Joined). with_circuit k (f c) w) (slice_get w.circuits k)) w)
 still-at w k f = go (slice_get w.circuits k)
   where

@@ -1,4 +1,5 @@
--- What a client tells of requests and subscriptions as it reads a message: each was open and is not any more, and it tells of each once.
+-- What a client tells of requests and subscriptions as it reads a message: each was open and is not
+-- any more, and it tells of each once.
 use Rattle.std.proofs.Common.{◌≡◌, ℕ, zero, suc, inl, inr, Bool, true, false, ◌&&◌, cond, List, [], ◌∷◌, ◌++◌, length, ◌+◌, Option, Some, None, refl, sym, ap, ◌∙◌, subst, arith}
 use Rattle.std.specs.Prelude.{filter, option_map, unwrap_or}
 use Rattle.std.proofs.lemmas.Bool.{and_parts, both_ways}
@@ -36,7 +37,8 @@ pub record AreIssued (x : Client) : Type 0 where
   pub once : IsOnce x.issued
   pub there : (i : ℕ) (q : Handle) → At x.issued i q → (r : Request) × (under x.requests q ≡ Some r)
 
--- From the one client to the other, with these notices: nothing is open or stands that did not, and what is told of is over then, and told of once.
+-- From the one client to the other, with these notices: nothing is open or stands that did not, and
+-- what is told of is over then, and told of once.
 pub record Told (x : Client) (notices : List Notice) (y : Client) : Type 0 where
   pub issued : AreIssued x → AreIssued y
   pub opens : (q : Handle) → IsOpenBy y q → IsOpenBy x q

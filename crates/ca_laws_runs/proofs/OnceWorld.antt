@@ -1,4 +1,5 @@
--- What an event leaves of what clients called and sent, by what it leaves of one client, of logs and of circuits.
+-- What an event leaves of what clients called and sent, by what it leaves of one client, of
+-- logs and of circuits.
 use Rattle.std.proofs.Common.{◌≡◌, ℕ, zero, suc, ◌+◌, ◌⊎◌, inl, inr, Bool, true, false, ◌&&◌, cond, eqb, List, [], ◌∷◌, ◌++◌, length, Option, Some, None, refl, sym, ap, ◌∙◌, subst}
 use Rattle.std.specs.Prelude.{filter, map, option_map, slice_get, slice_set, unwrap_or}
 use Rattle.std.proofs.lemmas.Bool.{and_parts, both_ways, eqb-true}
@@ -22,8 +23,9 @@ use Rattle.ca_laws_parts.specs.Circuit.{HaveHandles, sent_to, stamped}
 use Rattle.ca_laws_parts.proofs.Handled.{Like}
 use Rattle.ca_laws_runs.proofs.OnceCalls.{Calls, IsUsed, NoCall, NoRequest}
 
--- What clients called and sent: each has a life of its own, whose log is there, and open ends are of their client's life. What a life's log
--- tells of was called; so was each request that was sent on a circuit of that life. No log has a call twice, and no request is at two places.
+-- What clients called and sent: each has a life of its own, whose log is there, and open ends are
+-- of their client's life. What a life's log tells of was called; so was each request that was sent
+-- on a circuit of that life. No log has a call twice, and no request is at two places.
 pub record OnceStand (w : World) : Type 0 where
   pub there : (i : ℕ) (x : ClientSide) → At w.clients i x → (log : List Line) × At w.client_logs x.life log
   pub apart : (i l : ℕ) (x y : ClientSide) → At w.clients i x → At w.clients l y → x.life ≡ y.life → i ≡ l
@@ -38,7 +40,8 @@ pub record OnceStand (w : World) : Type 0 where
 
 -- ---- ends of circuits
 
--- It is an end of the same client and life under the same handle; if it is open it was, and these were sent there since.
+-- It is an end of the same client and life under the same handle; if it is open it was, and these
+-- were sent there since.
 pub record IsEndAfter (i : ℕ) (n : Names) (sent : List Sending) (a j : Joined) : Type 0 where
   pub client : j.client ≡ a.client
   pub life : j.lists.client ≡ a.lists.client

@@ -1,4 +1,5 @@
--- An open request is on a channel that is live on its circuit: what each change of a client leaves of that.
+-- An open request is on a channel that is live on its circuit: what each change of a
+-- client leaves of that.
 use Rattle.std.proofs.Common.{◌≡◌, ℕ, inl, inr, Bool, true, false, cond, eqb, List, [], ◌∷◌, ◌++◌, Option, Some, None, refl, sym, ap, ◌∙◌, subst}
 use Rattle.std.specs.Prelude.{Ok, filter, fold, is_some, option_map, unwrap_or}
 use Rattle.std.proofs.lemmas.Bool.{both_ways}
@@ -36,7 +37,8 @@ use Rattle.ca_laws_runs.proofs.Live.{NotLive, SameLive, none-live, not-phase, no
 abbrev pub IsLiveOn : Table Channel → (on h : Handle) → Type 0
 IsLiveOn t on h = (sid : ℕ) × IsLiveAs t on h sid
 
--- From the one client to the other no request is open that was not; and the channel of one that is open still is live as it was.
+-- From the one client to the other no request is open that was not; and the channel of one that is
+-- open still is live as it was.
 pub record Opens (x y : Client) : Type 0 where
   pub back : (q : Handle) (r : Request) → under y.requests q ≡ Some r → is_open_in r.stage ≡ true
       → (s : Request) × (under x.requests q ≡ Some s) × (is_open_in s.stage ≡ true) × (r.channel ≡ s.channel) × (r.circuit ≡ s.circuit)

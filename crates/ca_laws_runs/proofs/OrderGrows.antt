@@ -1,4 +1,5 @@
--- Over every event but two steps, an acceptance and a restart of a client: logs and lists get longer, and the steps of all ends stay.
+-- Over every event but two steps, an acceptance and a restart of a client: logs and lists get
+-- longer, and the steps of all ends stay.
 use Rattle.std.proofs.Common.{◌≡◌, ℕ, append-nil, append_assoc, zero, suc, ◌+◌, ◌<◌, ◌≤◌, ◌⊎◌, inl, inr, Bool, true, false, cond, ◌&&◌, eqb, List, [], ◌∷◌, ◌++◌, length, Option, Some, None, refl, sym, ap, subst, ◌∙◌, arith}
 use Rattle.std.specs.Prelude.{drop, filter, map, not, option_map, slice_get, slice_set, unwrap_or}
 use Rattle.std.specs.List.{fold, list_any}
@@ -261,7 +262,8 @@ on-stamped (u ∷ us) c =
 
 -- ---- worlds
 
--- From one world to the next: clients stay in their lives, logs get longer, and each circuit is there still and goes on.
+-- From one world to the next: clients stay in their lives, logs get longer, and each circuit is
+-- there still and goes on.
 pub record Grown (w new : World) : Type 0 where
   pub lives : (i : ℕ) (x : ClientSide) → At new.clients i x → (z : ClientSide) × At w.clients i z × (x.life ≡ z.life)
   pub lines : Longer w.client_logs new.client_logs

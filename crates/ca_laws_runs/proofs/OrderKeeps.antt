@@ -268,7 +268,8 @@ module _ (w new : World) (k : ℕ) (j : Joined) (x : ClientSide) (on : At w.circ
 
 -- ---- a circuit is made
 
--- What an acceptance leaves: nothing new, or one circuit more, on which no end made a step, and then a client goes on.
+-- What an acceptance leaves: nothing new, or one circuit more, on which no end made a step, and
+-- then a client goes on.
 pub record IsMade (w new : World) (i : ℕ) (x : ClientSide) : Type 0 where
   pub c : Joined
   pub number : c.client ≡ i

@@ -55,7 +55,8 @@ module _ (c : Joined) (created : CreatedOn c) (says : SaysRight c.lists) (asked 
       let before : w.0 < b = w.3 in
       creations.uncleared x w.0 w.1 there (omega (arith, after, at)) (omega (arith, before, lt)) w.4 (w.5.0, w.5.1 ∙ sym is)
 
-  -- a channel that is open under the SID of a message, and was created before it, is that on which the message was sent
+  -- a channel that is open under the SID of a message, and was created before it, is that on which
+  -- the message was sent
   own-creation : (x : Creation) (channel j k sid p : ℕ) → In c.creations x → x.sid ≡ sid → x.place < p → p < place → IsCreatedBefore c.lists channel j k sid p → x.place ≡ k
   own-creation x channel j k sid p there is before lt b =
       let t = creations.told x there in

@@ -1,4 +1,5 @@
--- What is applied is what the caller gave, to the record that the caller's channel names; and so the whole clause of writes.
+-- What is applied is what the caller gave, to the record that the caller's channel names; and so
+-- the whole clause of writes.
 use Rattle.std.proofs.Common.{◌≡◌, ℕ, List, Ok, Option, Some, refl, sym, ap, subst, ◌∙◌}
 use Rattle.ca_text.specs.Place.{At}
 use Rattle.ca_text.proofs.Places.{At-map, At-one}

@@ -26,7 +26,8 @@ In-drop (suc n) (y ∷ xs) x h = (let r = In-drop n xs x h in (suc r.0, r.1))
 
 -- ---- one record
 
--- The record has no put; or it was there with this name and with the same busy put, and all that waits for it waited for it then.
+-- The record has no put; or it was there with this name and with the same busy put, and all that
+-- waits for it waited for it then.
 abbrev pub CoreWas : List Record → Record → Type 0
 CoreWas cs d = ((d.busy ≡ None) × ((x : WaitingPut) → In d.waiting x → ⊥))
     ⊎ ((c : Record) × In cs c × (d.state.name ≡ c.state.name) × (d.busy ≡ c.busy) × ((x : WaitingPut) → In d.waiting x → In c.waiting x))
@@ -171,7 +172,8 @@ sides-core h sid cs rs z at =
 
 -- ---- pairs
 
--- From one pair of lists to the next: each put was there, beside the place where it was, or it is one of these.
+-- From one pair of lists to the next: each put was there, beside the place where it was,
+-- or it is one of these.
 module _ (Own : PutPlace → Put → Type 0) where
   pub record Follows (cs ds : List Record) (rs ss : List RecordSide) : Type 0 where
     pub busy : (q : PutPlace) (b : Put) → BusyPair ds ss q b → BusyPair cs rs q b ⊎ Own q b

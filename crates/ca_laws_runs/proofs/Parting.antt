@@ -1,4 +1,5 @@
--- What an event adds to the logs of clients, but for a message that is read: nothing that is told, or that something is lost as an end of a circuit ended or a channel was cleared.
+-- What an event adds to the logs of clients, but for a message that is read: nothing that is told,
+-- or that something is lost as an end of a circuit ended or a channel was cleared.
 use Rattle.std.proofs.Common.{◌≡◌, ℕ, zero, suc, ◌+◌, ◌<◌, ◌⊎◌, inl, inr, Bool, true, false, ◌&&◌, cond, eqb, List, [], ◌∷◌, ◌++◌, length, Option, Some, None, refl, sym, ap, ◌∙◌, subst, arith}
 use Rattle.std.specs.Prelude.{find, is_none, map, option_and_then, option_map, slice_set, take, unwrap_or}
 use Rattle.std.proofs.lemmas.Bool.{and_from, both_ways, eq-eqb}
@@ -45,7 +46,7 @@ pub record IsCut (w new : World) (number : ℕ) (x : ClientSide) (said : Notice)
   pub now : At new.circuits n d × (d.lists.client_open ≡ false)
   pub from : FromFarewell x.core c.at_client said
 
--- A channel was cleared, as the log tells first, and an open request on it is lost.
+-- A channel was cleared, as the log says first, and an open request on it is lost.
 pub record IsAway (x : ClientSide) (said : Notice) (y : List Line) (i : ℕ) : Type 0 where
   pub h : Handle
   pub q : Handle
@@ -53,7 +54,7 @@ pub record IsAway (x : ClientSide) (said : Notice) (y : List Line) (i : ℕ) : T
   pub was_open : IsOpenIn (asks_on h) x.core q
   pub cleared : In (take i y) (Called (On (channel_number x.names h) Clear) None)
 
--- Line i of this log is new, and tells that something is lost so.
+-- Line i of this log is new, and says that something is lost so.
 pub record Parted (w new : World) (l : ℕ) (y : List Line) (i : ℕ) (line : Line) : Type 0 where
   pub number : ℕ
   pub x : ClientSide

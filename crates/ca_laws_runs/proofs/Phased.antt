@@ -1,4 +1,5 @@
--- A channel goes from one phase to another, with its CREATE_CHAN or its CLEAR_CHANNEL; and a subscription is cancelled.
+-- A channel goes from one phase to another, with its CREATE_CHAN or its CLEAR_CHANNEL; and a
+-- subscription is cancelled.
 use Rattle.std.proofs.Common.{◌≡◌, ℕ, inl, inr, true, false, List, [], ◌∷◌, ◌++◌, Option, Some, None, refl, sym, ap, ◌∙◌, subst}
 use Rattle.std.specs.Prelude.{Ok}
 use Rattle.std.proofs.lemmas.Bool.{both_ways}

@@ -1,4 +1,5 @@
--- What was sent of a channel and of a subscription on one circuit, as one more message is sent there.
+-- What was sent of a channel and of a subscription on one circuit, as one more
+-- message is sent there.
 use Rattle.std.proofs.Common.{◌≡◌, ℕ, ◌<◌, inl, inr, List, [], ◌∷◌, ◌++◌, length, sym, ap, ◌∙◌, subst, arith}
 use Rattle.ca_text.proofs.Places.{At-append, At-last, At-snoc, At-within}
 use Rattle.ca_arena.specs.declared.handle.Handle.{Handle}

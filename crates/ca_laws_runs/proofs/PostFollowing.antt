@@ -1,4 +1,5 @@
--- Each change of an open end, its circuit and its server's log keeps its subscriptions beside the posts that they see.
+-- Each change of an open end, its circuit and its server's log keeps its subscriptions beside the
+-- posts that they see.
 use Rattle.std.proofs.Common.{◌≡◌, ℕ, zero, suc, ◌≤◌, inl, inr, Bool, true, false, cond, not, ◌&&◌, eqb, eq-eqb, ne_eqb, List, [], ◌∷◌, ◌++◌, length, Option, Some, None, refl, sym, ap, subst, ◌∙◌, append-nil, append_assoc, arith}
 use Rattle.std.specs.Prelude.{◌%◌, drop, filter, filter_map, option_map, option_to_list, take, unwrap_or}
 use Rattle.std.specs.List.{cons_option}
@@ -204,7 +205,7 @@ follows-stays log rs e f c d held goes p = record {
       (λ i sub st a b. ap (λ (l : List Step). posts_by log rs l sub st.place) goes.handled) p.holds));
 }
 
--- ---- what else the log tells
+-- ---- what else the log says
 
 pub follows-told : (log more : List Entry) (rs rt : List RecordSide) (e : ServerEnd) (c : Joined) → AreQuiet more → titles rt ≡ titles rs → Follows log rs e c → Follows (log ++ more) rt e c
 follows-told log more rs rt e c quiet same_all p = record {

@@ -1,4 +1,5 @@
--- What is held of an end's queues and of its circuit's numbers, as updates leave the queues, and as other messages go down.
+-- What is held of an end's queues and of its circuit's numbers, as updates leave the queues, and as
+-- other messages go down.
 use Rattle.std.proofs.Common.{◌≡◌, ℕ, zero, suc, ◌<◌, ◌⊎◌, inl, inr, Bool, true, false, cond, eq-eqb, ne_eqb, List, [], ◌∷◌, ◌++◌, length, Option, Some, None, refl, sym, ap, subst, ◌∙◌, append-nil, arith}
 use Rattle.std.specs.Prelude.{drop, map, option_and_then, option_map, slice_get, slice_set, unwrap_or}
 use Rattle.std.specs.List.{FoldsTo, cons_option}

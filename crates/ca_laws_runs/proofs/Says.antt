@@ -168,7 +168,8 @@ said n on sent = map (stamped n) (filter (λ (s : Sending). same_handle s.circui
 pub said-more : (n : Names) (on : Handle) (ss rs : List Sending) → said n on (ss ++ rs) ≡ said n on ss ++ said n on rs
 said-more n on ss rs = ap (λ (l : List Sending). map (stamped n) l) (filter-append (λ (s : Sending). same_handle s.circuit on) ss rs) ∙ map-append (stamped n) (filter (λ (s : Sending). same_handle s.circuit on) ss) (filter (λ (s : Sending). same_handle s.circuit on) rs)
 
--- From the one client to the other, by a call that sent these: what was sent stays ss channels and subscriptions are.
+-- From the one client to the other, by a call that sent these: what was sent stays ss channels
+-- and subscriptions are.
 pub record Moved (n : Names) (x : Client) (spoken : Names) (sent : List Sending) (now : Names) (y : Client) : Type 0 where
   pub tidy : Tidy now y
   pub quiet : (on : Handle) (up : List Sent) → Quiet n x on up → Quiet now y on (up ++ said spoken on sent)

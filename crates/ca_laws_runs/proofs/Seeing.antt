@@ -1,4 +1,5 @@
--- An update that a client reads is told; or its subscription is over, or its channel was cleared after it was added. So a subscriber sees its updates in order, with none left out.
+-- An update that a client reads is told; or its subscription is over, or its channel was cleared
+-- after it was added. So a subscriber sees its updates in order, with none left out.
 use Rattle.std.proofs.Common.{◌≡◌, ℕ, ◌+◌, ◌<◌, ◌≤◌, ◌⊎◌, inl, inr, Bool, true, false, cond, eqb, List, [], ◌∷◌, ◌++◌, length, Option, Some, None, refl, sym, ap, ◌∙◌, subst, arith}
 use Rattle.std.specs.Prelude.{option_and_then, option_map, unwrap_or}
 use Rattle.std.specs.List.{list_any}
@@ -59,7 +60,8 @@ use Rattle.ca_laws_runs.proofs.Using.{AllNamedOnce, ClientsUse, IsOverAt, named-
 
 -- ---- what is said of a circuit
 
--- The update was told; or the subscription is over, or the channel's SID was cleared after the EVENT_ADD.
+-- The update was told; or the subscription is over, or the channel's SID was cleared
+-- after the EVENT_ADD.
 abbrev pub IsSeen : World → Joined → (a number : ℕ) → Told → Step → Sent → Type 0
 IsSeen w c a number t h s =
     ((x : List Line) × (o : Outcome) × At w.client_logs c.lists.client x × At x h.logged (Updated (On a (Subscribe number)) o) × (h.logged < h.after) × Means t.message o)
@@ -147,7 +149,7 @@ heard-live x c id g is = go (by_wire x.subscriptions id) refl is
     go None found f = absurd cc
     go (Some e) found f = by e (wire-under x.subscriptions id e found).0 (stands_in e.1.stage) (is_live_on x c e.1.channel) refl f
 
--- and what stands on a live channel is found
+-- and what is on a live channel is found
 heard-found : (x : Client) (c : Handle) (g : Handle) (d : Subscription) → by_wire x.subscriptions (wire_of g) ≡ Some (g, d) → stands_in d.stage ≡ true → is_live_on x c d.channel ≡ true → heard_by x c (wire_of g) ≡ Some g
 heard-found x c g d found stands lives =
     ap (λ (o : Option (Handle × Subscription)). option_and_then (λ (e : Handle × Subscription). cond (is_live_on x c e.1.channel) (Some e.0) None) (option_and_then (λ (e : Handle × Subscription). cond (stands_in e.1.stage) (Some e) None) o)) found
@@ -366,7 +368,8 @@ module _ (w new : World) (k : ℕ) (j : Joined) (x : ClientSide) (on : At w.circ
   subscribe-create : (a b number : ℕ) → On a (Subscribe number) ≡ On b Create → ⊥
   subscribe-create a b number e = cc
 
-  -- The channel is live, and the EVENT_ADD is the last of its subscription: its SID was not cleared since.
+  -- The channel is live, and the EVENT_ADD is the last of its subscription: its SID
+  -- was not cleared since.
   module _ (again : AllAgain w) (a number : ℕ) (meant : s.intent ≡ On a (Subscribe number)) (update : m.command ≡ 1) (g : Handle) (named_g : At x.names.subscriptions number (g, On a (Subscribe number))) (d : Subscription) (held_there : under x.core.subscriptions g ≡ Some d) (stands : stands_in d.stage ≡ true) where
     still : (e : Handle × Intent) → At x.names.subscriptions number e → IsOverBy x.core e.0 → ⊥
     still e at_e over =

@@ -1,4 +1,5 @@
--- The updates that were sent on a circuit stay as they were over every event, but that more leave their queues; and each shows its post.
+-- The updates that were sent on a circuit stay as they were over every event, but that more leave
+-- their queues; and each shows its post.
 use Rattle.std.proofs.Common.{◌≡◌, ℕ, ◌≤◌, ◌⊎◌, inl, inr, Bool, true, false, cond, ◌&&◌, eqb, not, List, [], ◌∷◌, ◌++◌, length, Option, Some, None, refl, sym, ap, subst, ◌∙◌}
 use Rattle.std.specs.Prelude.{drop, filter, filter_map, map, option_map, slice_get, slice_set, unwrap_or}
 use Rattle.std.specs.List.{fold, list_any}
@@ -47,7 +48,8 @@ use Rattle.ca_laws_runs.proofs.Known.{extends-self, within-on}
 
 -- ---- a circuit from one world to the next
 
--- It joins the same life, and its lists grow, with no update more. Nothing waits at an end that ends now.
+-- It joins the same life, and its lists grow, with no update more. Nothing waits at
+-- an end that ends now.
 pub record KeepsUpdates (c d : Joined) : Type 0 where
   pub life : d.lists.server ≡ c.lists.server
   pub lists : Extends c.lists d.lists

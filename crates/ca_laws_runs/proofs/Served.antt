@@ -29,7 +29,8 @@ use Rattle.ca_laws_runs.proofs.Ends.{From}
 
 -- ---- one circuit
 
--- What was told is told still; a reply by which a channel is created was told, or is about the message that is handled now.
+-- What was told is told still; a reply by which a channel is created was told, or is about the
+-- message that is handled now.
 pub record IsToldOn (c d : Circuit) : Type 0 where
   pub told : (i : ℕ) (t : Told) → At c.down i t → At d.down i t
   pub creates : (i sid : ℕ) (t : Told) → At d.down i t → t.cause ≡ Reply → Creates t.message sid → At c.down i t ⊎ ((t.place ≡ length c.handled) × (length c.down ≤ i))

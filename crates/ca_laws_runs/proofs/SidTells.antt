@@ -1,4 +1,5 @@
--- Over every event each circuit goes on; but for a message that a server's end handles there, none is handled, and no channel is created or noted as open.
+-- Over every event each circuit goes on; but for a message that a server's end handles there, none
+-- is handled, and no channel is created or noted as open.
 use Rattle.std.proofs.Common.{◌≡◌, ℕ, zero, suc, arith, ◌⊎◌, inl, inr, Bool, true, false, cond, ◌&&◌, eqb, not, List, [], ◌∷◌, ◌++◌, length, Option, Some, None, refl, sym, ap, subst, ◌∙◌}
 use Rattle.std.specs.Prelude.{drop, filter, map, option_map, slice_get, slice_set, unwrap_or}
 use Rattle.std.specs.List.{fold, list_any}
@@ -48,11 +49,13 @@ use Rattle.ca_laws_runs.proofs.Stand.{closes}
 
 -- ---- from one world to the next
 
--- a reply that is sent as its message is handled: by which a channel is created, an EVENT_CANCEL confirmed, or a message refused
+-- a reply that is sent as its message is handled: by which a channel is created, an EVENT_CANCEL
+-- confirmed, or a message refused
 abbrev pub IsPrompt : Fields → Type 0
 IsPrompt m = Is command.CreateChannel m ⊎ (Is command.EventAdd m ⊎ Is command.Error m)
 
--- The circuit goes on; nothing is handled there, no channel is created, no EVENT_CANCEL confirmed and nothing refused. While its end at the server is open, it was open, and the
+-- The circuit goes on; nothing is handled there, no channel is created, no EVENT_CANCEL
+-- confirmed and nothing refused. While its end at the server is open, it was open, and the
 -- same channels are noted.
 pub record KeepsOn (c d : Joined) : Type 0 where
   pub up : (p : ℕ) (s : Sent) → At c.lists.up p s → At d.lists.up p s

@@ -1,4 +1,5 @@
--- No request is open that was sent before the last CREATE_CHAN of its channel on its circuit, over every event and run.
+-- No request is open that was sent before the last CREATE_CHAN of its channel on its circuit, over
+-- every event and run.
 use Rattle.std.proofs.Common.{◌≡◌, ℕ, ◌+◌, ◌<◌, ◌≤◌, ◌⊎◌, inl, inr, false, true, List, [], ◌∷◌, ◌++◌, length, Option, Some, None, refl, sym, ap, ◌∙◌, subst, arith}
 use Rattle.std.specs.Prelude.{is_none, option_map, slice_get, unwrap_or}
 use Rattle.ca_text.specs.Place.{At}
@@ -166,7 +167,8 @@ module _ (w : World) (known : Known w) where
 
 -- ---- before a channel is created again its requests are over
 
--- On each circuit no request of its client is open that was sent before a CREATE_CHAN of its channel.
+-- On each circuit no request of its client is open that was sent before a
+-- CREATE_CHAN of its channel.
 abbrev pub AllSpent : World → Type 0
 AllSpent w = (n : ℕ) (c : Joined) (x : ClientSide) (p k a m : ℕ) (kind : Kind) (r s : Sent) (q : Handle) → At w.circuits n c → At w.clients c.client x → c.lists.client ≡ x.life → p < k → At c.lists.up p r → At c.lists.up k s
     → r.intent ≡ On a (history.Request kind m) → s.intent ≡ On a Create → meant_by x.names.requests q ≡ r.intent → IsOpenBy x.core q → ⊥
@@ -180,7 +182,8 @@ number-of a b p q e = cc
 request-is : (a b m k : ℕ) (p q : Kind) → On a (history.Request p m) ≡ On b (history.Request q k) → m ≡ k
 request-is a b m k p q e = cc
 
--- In a world in which what was read was about what had been sent by then: no request is open before a CREATE_CHAN that came since.
+-- In a world in which what was read was about what had been sent by then: no request is open before
+-- a CREATE_CHAN that came since.
 late-spent : (w : World) → Known w → (n : ℕ) (c : Joined) (x : ClientSide) (p k a m early : ℕ) (kind : Kind) (r s : Sent) (q : Handle) → At w.circuits n c → At w.clients c.client x → c.lists.client ≡ x.life → At c.lists.up p r → At c.lists.up k s
     → r.intent ≡ On a (history.Request kind m) → s.intent ≡ On a Create → meant_by x.names.requests q ≡ r.intent → early ≤ k → ((i : ℕ) (t : Told) → i < length c.lists.heard → At c.lists.down i t → t.place < early) → IsOpenBy x.core q → ⊥
 late-spent w known n c x p k a m early kind r s q on at mine at_r at_s is_r is_s meant le read (row, there, it) =

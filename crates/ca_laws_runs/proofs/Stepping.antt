@@ -1,4 +1,5 @@
--- A step of a client's end, a circuit that is made, and a moment keep what clients have of their circuits.
+-- A step of a client's end, a circuit that is made, and a moment keep what clients
+-- have of their circuits.
 use Rattle.std.proofs.Common.{◌≡◌, ℕ, ◌+◌, ◌<◌, ◌≤◌, ◌⊎◌, inl, inr, true, false, List, [], ◌∷◌, ◌++◌, length, Option, Some, None, refl, sym, ap, ◌∙◌, subst, arith}
 use Rattle.std.specs.Prelude.{is_none, slice_set}
 use Rattle.std.proofs.lemmas.Bool.{both_ways}

@@ -1,4 +1,5 @@
--- A subscription that stands on a live channel: what each change of a client leaves of that. None is new but with its EVENT_ADD.
+-- A subscription that is on a live channel: what each change of a client leaves of that. None is
+-- new but with its EVENT_ADD.
 use Rattle.std.proofs.Common.{◌≡◌, ℕ, ◌⊎◌, inl, inr, Bool, true, false, ◌&&◌, cond, eqb, List, [], ◌∷◌, ◌++◌, Option, Some, None, refl, sym, ap, ◌∙◌, subst}
 use Rattle.std.specs.Prelude.{◌==◌, Ok, filter, fold, is_some, length, not, option_map, unwrap_or}
 use Rattle.std.proofs.lemmas.Bool.{and_from, both_ways}
@@ -214,7 +215,7 @@ module _ (x : Client) (e : Effect) where
         let f = channel-on x c m.p1 h (Live native rights) at in
         does-so [] [] (with_standing (On c (Live native m.p2)) h x) is (stays-alike x (with_standing (On c (Live native m.p2)) h x) refl (λ on. same-rights x.channels c on h f.0 native rights m.p2 f.1 f.3))
 
-    -- the channel is live now: each that stands on it is subscribed to
+    -- the channel is live now: each that is on it is subscribed to
     adds-made : (h : Handle) (rights : ℕ) → channel_on x c m.p1 ≡ Some (h, Creating rights) → (let z : Client = with_standing (On c (Live (native_in m) rights)) h x in Adds x (event_adds c m.p2 h x) z)
     adds-made h rights at = record {
       back = λ on g k it. elim (handle-or k h) [

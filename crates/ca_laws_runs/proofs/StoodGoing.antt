@@ -1,4 +1,5 @@
--- What each event leaves of the subscriptions that stand on live channels: none is new, but one with an EVENT_ADD that was sent by this event.
+-- What each event leaves of the subscriptions that are on live channels: none is new, but one with
+-- an EVENT_ADD that was sent by this event.
 use Rattle.std.proofs.Common.{◌≡◌, ℕ, ◌+◌, ◌≤◌, ◌⊎◌, inl, inr, Bool, true, false, cond, List, [], ◌∷◌, ◌++◌, length, Option, Some, None, refl, sym, ap, ◌∙◌, subst, arith}
 use Rattle.std.specs.Prelude.{drop, filter, is_none, map, option_map, slice_get, slice_set, unwrap_or}
 use Rattle.std.specs.List.{FoldsTo}
@@ -42,7 +43,8 @@ use Rattle.ca_laws_runs.proofs.Stood.{Adds, IsStood, Stays, adds-heard, adds-sub
 
 -- ---- one client
 
--- Each client of the world goes on so that none stands that did not, and subscriptions have the same names; or it begins now.
+-- Each client of the world goes on so that none stands that did not, and subscriptions have the
+-- same names; or it begins now.
 abbrev pub ClientsStay : (w new : World) → Type 0
 ClientsStay w new = (i : ℕ) (y : ClientSide) → At new.clients i y → ((x : ClientSide) × At w.clients i x × (y.names.subscriptions ≡ x.names.subscriptions) × Stays x.core y.core) ⊎ IsFresh w y
 
@@ -195,7 +197,8 @@ stay-still w new all i y at = inl (all i y at)
 
 -- ---- circuits
 
--- The circuit was there, with the same end at the same client, open if it is; or nothing was read on it yet.
+-- The circuit was there, with the same end at the same client, open if it is; or
+-- nothing was read on it yet.
 pub record IsEndOf (c d : Joined) : Type 0 where
   pub client : d.client ≡ c.client
   pub handle : d.at_client ≡ c.at_client

@@ -1,4 +1,5 @@
--- What a client tells of requests and of lost channels as it reads a message: of an open request that it answers, alone, or of those of a live channel whose record was removed.
+-- What a client tells of requests and of lost channels as it reads a message: of an open request
+-- that it answers, alone, or of those of a live channel whose record was removed.
 use Rattle.std.proofs.Common.{◌≡◌, ℕ, zero, suc, ◌⊎◌, inl, inr, Bool, true, false, ◌&&◌, cond, eqb, List, [], ◌∷◌, Option, Some, None, refl, sym, ap, subst}
 use Rattle.std.specs.Prelude.{option_map, unwrap_or}
 use Rattle.std.proofs.lemmas.Bool.{and_parts, both_ways, eqb-true}
@@ -49,7 +50,8 @@ IsLeft x c m h = Is command.ServerDisconnect m × ((native : Native) × (rights 
 abbrev pub RefusesWrite : Fields → Type 0
 RefusesWrite m = Is command.Error m × ((head : Header) × QuotesHeader m head × (head.command ≡ 4))
 
--- A request that completes is open: the message is a reply or an ERROR, and it is told of alone; or its channel is lost, and so is a channel that is told of. A write fails alone, on a live channel.
+-- A request that completes is open: the message is a reply or an ERROR, and it is told of alone; or
+-- its channel is lost, and so is a channel that is told of. A write fails alone, on a live channel.
 abbrev pub TellsAsked : Client → Handle → Fields → (p : ℕ) → Notice → Type 0
 TellsAsked x c m p (notice.Completed q o) =
     ((p ≡ 0) × (Is command.ReadNotify m ⊎ (Is command.WriteNotify m ⊎ Is command.Error m)) × IsOpenIn (was_sent_on c) x q)

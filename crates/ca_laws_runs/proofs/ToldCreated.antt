@@ -1,4 +1,5 @@
--- Each reply by which a channel was created is told as it is read, or the channel is cleared, over every event and run.
+-- Each reply by which a channel was created is told as it is read, or the channel is cleared, over
+-- every event and run.
 use Rattle.std.proofs.Common.{◌≡◌, ℕ, suc, ◌+◌, ◌<◌, ◌≤◌, ◌⊎◌, inl, inr, true, false, List, [], ◌∷◌, ◌++◌, length, Option, Some, None, refl, sym, ap, ◌∙◌, subst, arith}
 use Rattle.std.specs.Prelude.{option_and_then, option_map, slice_get, slice_set, unwrap_or}
 use Rattle.std.specs.List.{FoldsTo}
@@ -91,7 +92,8 @@ carry w new c d on o within about i a sid t h s at_t at_h reply creates at_s mea
           ]
     ]
 
--- Each circuit was there and the same was read on it, or nothing was read on it, or what was read is told.
+-- Each circuit was there and the same was read on it, or nothing was read on it, or
+-- what was read is told.
 abbrev pub ReadsSo : (w new : World) → Type 0
 ReadsSo w new = (n : ℕ) (d : Joined) → At new.circuits n d → ((c : Joined) × At w.circuits n c × (d.lists.heard ≡ c.lists.heard)) ⊎ ((d.lists.heard ≡ []) ⊎ AreToldLive (told new) d.lists)
 

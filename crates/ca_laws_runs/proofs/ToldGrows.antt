@@ -1,4 +1,5 @@
--- Over every event the logs of clients begin as they were, and each circuit is there still, with the lists that it had.
+-- Over every event the logs of clients begin as they were, and each circuit is there still, with
+-- the lists that it had.
 use Rattle.std.proofs.Common.{◌≡◌, ℕ, ◌<◌, ◌≤◌, inl, inr, Bool, true, false, List, [], ◌∷◌, ◌++◌, length, Option, Some, None, refl, sym, ap, subst, ◌∙◌, append-nil, arith}
 use Rattle.std.specs.Prelude.{option_map, slice_get, slice_set, unwrap_or}
 use Rattle.std.proofs.lemmas.Bool.{both_ways}
@@ -16,7 +17,8 @@ use Rattle.ca_laws_parts.proofs.WritesMoves.{same-or}
 use Rattle.ca_laws_runs.proofs.OrderGrows.{GoesOn, Grown, each-event, step-grown}
 use Rattle.ca_laws_runs.proofs.OrderKeeps.{IsMade, begun-grown, begun-mid, did-after, did-grown, did-step, hear-grown, hear-mid, hear-step, hearing-or, made-or}
 
--- The circuit is there still: it joins the same life of a client, what was sent and read was so before, and an end that has ended has.
+-- The circuit is there still: it joins the same life of a client, what was sent and read was so
+-- before, and an end that has ended has.
 pub record Onward (c d : Joined) : Type 0 where
   pub client : d.lists.client ≡ c.lists.client
   pub up : (p : ℕ) (s : Sent) → At c.lists.up p s → At d.lists.up p s

@@ -23,7 +23,7 @@ use Rattle.ca_laws_runs.proofs.OrderKeeps.{did-after, did-step}
 
 -- ---- lines
 
--- The line tells nothing to a caller.
+-- The line reports nothing to a caller.
 abbrev pub IsSilent : Line → Type 0
 IsSilent (Noticed intent o) = ⊥
 IsSilent (Updated intent o) = ⊥

@@ -1,4 +1,5 @@
--- After every run each notice that does not tell Disconnected was told when a reply about its own message was read.
+-- After every run each notice that does not tell Disconnected was told when a reply about its
+-- own message was read.
 use Rattle.std.proofs.Common.{◌≡◌, ℕ, ◌⊎◌, inl, inr, true, List, length, Option, Some, None, refl, sym, ap, subst, ◌∙◌}
 use Rattle.ca_arena.specs.declared.handle.Handle.{Handle}
 use Rattle.ca_dbr.specs.declared.value.Outcome.{Outcome}

@@ -1,4 +1,5 @@
--- Of all that clients are told, updates, live channels and failed subscriptions are told by a message that is read.
+-- Of all that clients are told, updates, live channels and failed subscriptions are told by a
+-- message that is read.
 use Rattle.std.proofs.Common.{◌≡◌, ◌≢◌, ℕ, zero, suc, inl, inr, Bool, true, false, cond, eqb, List, [], ◌∷◌, ◌++◌, length, Option, Some, None, refl, sym, ap, subst, ◌∙◌}
 use Rattle.std.specs.Prelude.{fold, map, option_map, unwrap_or}
 use Rattle.std.proofs.lemmas.Bool.{both_ways}
@@ -74,7 +75,9 @@ farewell-notices c x = both-notices (disconnections (was_sent_on c) x) (map noti
 
 -- ---- a message that is read
 
--- A live channel is told of alone, and so is a subscription that failed, and each is one that the client holds. An update is told alone, by an EVENT_ADD with a payload, of the subscription that it finds.
+-- A live channel is told of alone, and so is a subscription that failed, and each is one that
+-- the client holds. An update is told alone, by an EVENT_ADD with a payload, of the
+-- subscription that it finds.
 abbrev pub TellsHeld : Client → Handle → Fields → (p : ℕ) → Notice → Type 0
 TellsHeld x c m p (notice.Update g o) = (p ≡ 0) × Is command.EventAdd m × (m.payload ≢ []) × (heard_by x c m.p2 ≡ Some g)
 TellsHeld x c m p (notice.Live h) = (p ≡ 0) × Is command.CreateChannel m × ((ch : Channel) × (under x.channels h ≡ Some ch) × (is_gone ch.standing ≡ false))
@@ -236,7 +239,7 @@ lines-not about n notices none p line at =
 
 -- ---- goodbyes
 
--- It tells that something is lost.
+-- It says that something is lost.
 abbrev pub IsGoodbye : Notice → Type 0
 IsGoodbye (notice.Completed q o) = o ≡ outcome.Disconnected
 IsGoodbye (notice.Lost h) = Unit {0}

@@ -1,4 +1,5 @@
--- What a server tells for a removal is a SERVER_DISCONN about a CREATE_CHAN, over every event and run.
+-- What a server tells for a removal is a SERVER_DISCONN about a CREATE_CHAN, over
+-- every event and run.
 use Rattle.std.proofs.Common.{◌≡◌, ℕ, inl, inr, Bool, true, false, cond, ◌&&◌, eqb, eqb-true, List, [], ◌∷◌, ◌++◌, Option, Some, None, refl, sym, ap, subst, ◌∙◌}
 use Rattle.std.specs.Prelude.{map, slice_set}
 use Rattle.std.specs.List.{FoldsTo, list_any}

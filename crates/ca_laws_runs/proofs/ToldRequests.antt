@@ -1,4 +1,5 @@
--- A notice of a request or a plain write that a client tells as it reads a message, and that does not tell Disconnected, is one of its own.
+-- A notice of a request or a plain write that a client tells as it reads a message, and that does
+-- not tell Disconnected, is one of its own.
 use Rattle.std.proofs.Common.{◌≡◌, ℕ, ◌+◌, ◌⊎◌, inl, inr, true, List, ◌++◌, length, Option, Some, refl, sym, ap, subst, ◌∙◌, arith}
 use Rattle.std.specs.Prelude.{option_and_then, option_map, slice_get, unwrap_or}
 use Rattle.ca_arena.specs.declared.handle.Handle.{Handle}

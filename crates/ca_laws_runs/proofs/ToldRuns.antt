@@ -1,4 +1,5 @@
--- After every run each update in a client's log was told when a message was read, and so was each notice of a channel or a subscription that does not tell Disconnected.
+-- After every run each update in a client's log was told when a message was read, and so was each
+-- notice of a channel or a subscription that does not tell Disconnected.
 use Rattle.std.proofs.Common.{◌∙◌, ◌≡◌, ℕ, suc, ◌⊎◌, inl, inr, List, [], ◌∷◌, ◌++◌, Option, Some, None, refl, sym, ap, subst}
 use Rattle.std.specs.List.{FoldsTo}
 use Rattle.ca_dbr.specs.declared.value.Outcome.{Outcome}
@@ -51,7 +52,7 @@ module _ (P : Cause → Type 0) (named : Line → Intent → Outcome → Type 0)
   abbrev News : (w new : World) → Type 0
   News w new = NewsOf P named w new
 
-  -- what tells nothing of this kind
+  -- what reports nothing of this kind
   no-news : (w new : World) → LinesFrom Q w new → News w new
   no-news w new from life y i line intent o at there is = elim (from life y i line at there) [ inl old ↦ inl old | inr none ↦ absurd (unnamed line intent o none is) ]
 
@@ -106,7 +107,7 @@ module _ (P : Cause → Type 0) (named : Line → Intent → Outcome → Type 0)
 
 -- ---- updates
 
--- the line tells this update
+-- the line says this update
 abbrev Tells : Line → Intent → Outcome → Type 0
 Tells line intent o = line ≡ Updated intent o
 

@@ -1,4 +1,5 @@
--- An update, and a notice of a channel or a subscription, that a client tells as it reads a message is one of its own.
+-- An update, and a notice of a channel or a subscription, that a client tells as it reads a
+-- message is one of its own.
 use Rattle.ca_model.proofs.Tables.{find-at}
 use Rattle.std.proofs.Common.{◌≡◌, ℕ, ◌+◌, ◌<◌, ◌≤◌, ◌⊎◌, inl, inr, Bool, true, false, cond, ◌&&◌, ◌||◌, List, [], ◌++◌, length, Option, Some, None, refl, sym, ap, subst, ◌∙◌, arith}
 use Rattle.std.specs.Prelude.{option_map, take, unwrap_or, find}
@@ -83,7 +84,7 @@ channel-held t on d stands has = there (under t d.channel) refl (go d.stage (unw
     there None is has = absurd (both_ways false refl has)
     there (Some ch) is has = (ch, is, on-subscribed on ch has)
 
--- The caller has not ended a subscription that stands on a channel that is held.
+-- The caller has not ended a subscription that is on a channel that is held.
 pub subscription-held : (w : World) (i : ℕ) (x : ClientSide) (log : List Line) → OnceStand w → At w.clients i x → At w.client_logs x.life log → Tidy x.names x.core → (g : Handle) (d : Subscription) (ch : Channel) → under x.core.subscriptions g ≡ Some d → stands_in d.stage ≡ true
     → under x.core.channels d.channel ≡ Some ch → is_gone ch.standing ≡ false → IsHeld log (meant_by x.names.subscriptions g)
 subscription-held w i x log once at logged tidy g d ch there stands channel held =
@@ -187,7 +188,8 @@ module _ (w new : World) (k : ℕ) (j : Joined) (x : ClientSide) (on : At w.circ
   pub log-is : (life : ℕ) (log : List Line) → life ≡ x.life → At w.client_logs life log → log_length x.life w.client_logs ≡ length log
   log-is life log is there = ap (λ (n : ℕ). log_length n w.client_logs) (sym is) ∙ ap (λ (o : Option (List Line)). length (unwrap_or o [])) there
 
-  -- It was told when the message was read, if it is the first, and tells what was meant by what the message is about.
+  -- It was told when the message was read, if it is the first, and says what was meant by what
+  -- the message is about.
   pub read-now : (P : Cause → Type 0) (life : ℕ) (log y : List Line) (i p : ℕ) (line : Line) (intent : Intent) (o : Outcome) → life ≡ x.life → At w.client_logs life log → y ≡ log ++ hear-lines w new k j x on at f → At (hear-lines w new k j x on at f) p line
       → i ≡ length log + p → p ≡ 0 → next.s.intent ≡ intent → Means next.m o → IsHeld log intent → P next.t.cause → IsRead P new life y i intent o
   read-now P life log y i p line intent o mine there whole placed place first meant means is_held cause =

@@ -1,4 +1,5 @@
--- After every run a read, a put, a plain write and a subscription are told of once: a write is told of when the one ERROR about it is read.
+-- After every run a read, a put, a plain write and a subscription are told of once: a write is told
+-- of when the one ERROR about it is read.
 use Rattle.std.proofs.Common.{◌≡◌, ℕ, inl, inr, List, Option, refl, sym, ap, subst, ◌∙◌, arith}
 use Rattle.ca_dbr.specs.declared.value.Outcome.{Outcome}
 use Rattle.ca_dbr.specs.declared.value.Outcome.TheVariants as outcome

@@ -12,7 +12,8 @@ use Rattle.ca_laws_parts.proofs.WritesLists.{take-front}
 use Rattle.ca_laws_runs.specs.ToldLines.{IsToldOf}
 use Rattle.ca_laws_runs.proofs.ToldGrows.{WorldsOn}
 
--- Line i of this log was told when a message was read on a circuit of this world, for a cause of this kind.
+-- Line i of this log was told when a message was read on a circuit of this world, for
+-- a cause of this kind.
 pub record IsRead (P : Cause → Type 0) (w : World) (life : ℕ) (x : List Line) (i : ℕ) (intent : Intent) (o : Outcome) : Type 0 where
   pub n : ℕ
   pub j : Joined

@@ -1,4 +1,5 @@
--- After every run each notice of a request that does not tell Disconnected was told when a reply about it was read; and a plain write is told of once.
+-- After every run each notice of a request that does not tell Disconnected was told when a reply
+-- about it was read; and a plain write is told of once.
 use Rattle.std.proofs.Common.{◌≡◌, ℕ, List, Option, None, refl, sym, subst, ◌∙◌}
 use Rattle.ca_dbr.specs.declared.value.Outcome.{Outcome}
 use Rattle.ca_dbr.specs.declared.value.Outcome.TheVariants as outcome

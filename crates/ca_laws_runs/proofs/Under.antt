@@ -87,7 +87,8 @@ module _ (c : Joined) (created : CreatedOn c) (under : AreUnder c.lists) (asked 
   pub uncleared : (channel j k sid p : ℕ) → IsCreatedBefore c.lists channel j k sid p → IsClearedWithin c.lists.up sid k p → ⊥
   uncleared channel j k sid p b w = not-cleared (suc w.0) w.0 (omega arith) channel j k sid p b w.2 w.3 w.1 w.4 w.5
 
-  -- The message that is handled next goes under the SID of a channel: that is noted as open, and was created by its own CREATE_CHAN.
+  -- The message that is handled next goes under the SID of a channel: that is noted as open, and
+  -- was created by its own CREATE_CHAN.
   pub noted-open : (channel j k sid : ℕ) → c.lists.server_open ≡ true → IsCreatedBefore c.lists channel j k sid (length c.lists.handled) → (x : Creation) × In c.creations x × (x.sid ≡ sid) × (x.place ≡ k)
   noted-open channel j k sid opened b = elim (created.noted j sid b.t opened b.told.0 b.told.2 b.told.3) [
     | inl x ↦ (x.0, x.1, x.2, x.3 ∙ b.told.1)

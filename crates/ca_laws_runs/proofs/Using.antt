@@ -1,4 +1,5 @@
--- What was called stays so, client by client, in every event: a subscription that is over stays over, and a client that begins anew is another.
+-- What was called stays so, client by client, in every event: a subscription that is over stays
+-- over, and a client that begins again is another.
 use Rattle.std.proofs.Common.{◌≡◌, ℕ, ◌+◌, ◌<◌, ◌⊎◌, inl, inr, Bool, true, false, cond, List, [], ◌∷◌, ◌++◌, length, Option, Some, None, refl, sym, ap, ◌∙◌, subst, arith}
 use Rattle.std.specs.Prelude.{drop, is_none, map, slice_set}
 use Rattle.std.specs.List.{FoldsTo}
@@ -296,7 +297,7 @@ named-once-on w new stands uses once i y at = elim (uses i y at) [
   ]
 ]
 
--- What stands in the table, and is named by this number, is meant so.
+-- What is in the table, and is named by this number, is meant so.
 pub named-meant : (n : Names) (x : Client) → Tidy n x → ((k l : ℕ) (e f : Handle × Intent) → At n.subscriptions k e → At n.subscriptions l f → e.0 ≡ f.0 → k ≡ l) → (g : Handle) (d : Subscription) (a number : ℕ) → At n.subscriptions number (g, history.On a (history.Subscribe number)) → under x.subscriptions g ≡ Some d
     → HasNumber n d.channel × (channel_number n d.channel ≡ a) × (meant_by n.subscriptions g ≡ history.On a (history.Subscribe number))
 named-meant n x tidy once g d a number named there =

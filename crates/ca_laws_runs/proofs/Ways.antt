@@ -1,4 +1,5 @@
--- The ways in which a client speaks on one circuit: it serves the circuit or creates channels, uses one that is live, or clears one.
+-- The ways in which a client speaks on one circuit: it serves the circuit or creates channels, uses
+-- one that is live, or clears one.
 use Rattle.std.proofs.Common.{◌≡◌, ℕ, zero, suc, ◌+◌, ◌<◌, ◌⊎◌, inl, inr, List, [], ◌∷◌, ◌++◌, length, refl, sym, ap, ◌∙◌, subst, arith}
 use Rattle.ca_text.specs.Place.{At}
 use Rattle.ca_text.proofs.Places.{At-after, At-append, At-back, some_is}

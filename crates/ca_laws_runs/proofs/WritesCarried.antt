@@ -1,4 +1,5 @@
--- What a put or a plain write carries is what its caller gave, over every event and run; and it is read from its message as that.
+-- What a put or a plain write carries is what its caller gave, over every event and run; and it is
+-- read from its message as that.
 use Rattle.std.proofs.Common.{◌≡◌, ℕ, suc, ◌-◌, ◌*◌, ◌%◌, ◌≤◌, ◌≢◌, ⊎_elim, inl, inr, Bool, true, false, cond, eqb, List, [], ◌∷◌, ◌++◌, length, Option, Some, None, refl, sym, ap, ◌∙◌, subst, append-nil, arith}
 use Rattle.std.specs.Prelude.{replicate}
 use Rattle.std.specs.List.{FoldsTo}

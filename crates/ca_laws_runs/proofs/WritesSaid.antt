@@ -1,4 +1,5 @@
--- Each put and each plain write that a client sends is that of the call that sends it, with the value that was given: what each event sends.
+-- Each put and each plain write that a client sends is that of the call that sends it, with the
+-- value that was given: what each event sends.
 use Rattle.std.proofs.Common.{◌≡◌, ℕ, zero, suc, ◌+◌, ◌⊎◌, inl, inr, Bool, true, false, ◌&&◌, cond, eqb, List, [], ◌∷◌, ◌++◌, length, Option, Some, None, refl, sym, ap, ◌∙◌, subst}
 use Rattle.std.specs.Prelude.{drop, is_none, map, option_map, slice_set, unwrap_or}
 use Rattle.std.specs.List.{FoldsTo}
@@ -125,7 +126,7 @@ says-called w mid new i names sent ups is none n d k s at there writes =
           absurd (none v.0 v.1 v.2 (subst (λ (z : Sent). IsWrite z.intent) v.4 writes))
     ]
 
--- One was, which its call tells of.
+-- One was, which its call reports.
 says-one : (w new : World) (i : ℕ) (x : ClientSide) (spoken : Names) (o : Outcomes) (r : Sending) (e : Elements) → At w.clients i x → OnceStand w → new ≡ client_after i x spoken o w → o.sent ≡ r ∷ []
     → o.lines ≡ Called (intent_of spoken r.aim) (Some e) ∷ [] → IsValue e → Carries r.message e → CarriesBack w new
 says-one w new i x spoken o r e at once is sent lines valued carries n d k s at_d there writes =

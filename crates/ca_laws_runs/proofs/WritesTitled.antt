@@ -1,4 +1,5 @@
--- The record of each write of which a server's log tells has the name of the caller's channel: what each event logs.
+-- The record of each write that a server's log reports has the name of the caller's channel:
+-- what each event logs.
 use Rattle.std.proofs.Common.{◌≡◌, ℕ, zero, suc, ◌<◌, ◌⊎◌, inl, inr, Bool, true, false, cond, List, [], ◌∷◌, ◌++◌, length, Option, Some, None, refl, sym, ap, subst, ◌∙◌, arith}
 use Rattle.std.specs.Prelude.{filter, map, option_map, slice_get, unwrap_or}
 use Rattle.std.specs.List.{FoldsTo, flat_map}

@@ -1,4 +1,5 @@
--- Working: what a message that a client reads is about, and what is left to know of the messages that servers take.
+-- Working: what a message that a client reads is about, and what is left to know of the
+-- messages that servers take.
 use Rattle.std.specs.Prelude.{ℕ, ◌≡◌, false, List, [], Some, length, take}
 use Rattle.std.specs.List.{FoldsTo}
 use Rattle.ca_arena.specs.declared.handle.Handle.{Handle}
@@ -27,9 +28,10 @@ use Rattle.ca_laws_parts.specs.Held.{OnChannels}
 use Rattle.ca_laws_parts.specs.Circuit.{IsLastCancel, IsQuiet}
 use Rattle.ca_laws_runs.specs.Held.{IsKnownStep}
 
--- What the message t that a client reads next says of its message s. A CREATE_CH_FAIL of a channel that was not created is about its
--- CREATE_CHAN, a CLEAR_CHANNEL about the client's, and nothing was sent since on the channel. A confirmation is about the EVENT_CANCEL of a
--- subscription, an ERROR that refuses one about an EVENT_ADD of one that was not cancelled.
+-- What the message t that a client reads next says of its message s. A CREATE_CH_FAIL of a channel
+-- that was not created is about its CREATE_CHAN, a CLEAR_CHANNEL about the client's, and nothing
+-- was sent since on the channel. A confirmation is about the EVENT_CANCEL of a subscription, an
+-- ERROR that refuses one about an EVENT_ADD of one that was not cancelled.
 pub record IsAbout (n : Names) (x : Client) (on : Handle) (c : Circuit) (m : Fields) (t : Told) (s : Sent) : Type 0 where
   pub own : OnChannels n x c
   pub failed : (h : Handle) (p : Phase) → Is command.CreateChannelFail m → channel_on x on m.p1 ≡ Some (h, p) → was_live p ≡ false
@@ -50,7 +52,8 @@ ReadsAbout w k =
     → connection_at x.core j.at_client ≡ Some d → TakesFirst d.link m rest → At j.lists.down (length j.lists.heard) t → At j.lists.up t.place s
     → IsAbout x.names (after_taking j.at_client rest x.core) j.at_client j.lists m t s
 
--- Of the message that a server's end takes in this event it is known what it is about. Of other events nothing is asked for.
+-- Of the message that a server's end takes in this event it is known what it is about. Of other
+-- events nothing is asked for.
 abbrev pub IsOwnStep : World → Event → World → Type 0
 IsOwnStep w (event.ServerStep k) new = IsKnownStep w (event.ServerStep k) new
 IsOwnStep w e new = Unit {0}

@@ -1,4 +1,5 @@
--- Working: parts of the statement's clause of what servers act on, each of every circuit of a world with the logs of the lives that it joins.
+-- Working: parts of the statement's clause of what servers act on, each of every circuit of a world
+-- with the logs of the lives that it joins.
 use Rattle.std.specs.Prelude.{ℕ, ◌≡◌, ◌<◌, List, length}
 use Rattle.ca_text.specs.Place.{At}
 use Rattle.ca_model.specs.History.{Ask, Circuit, Create, Entry, Line, On, Opened, Reply, Told}
@@ -7,7 +8,8 @@ use Rattle.ca_model.specs.Channels.{Created, IsLive, IsNamed, IsOpen, Meant, OfC
 use Rattle.ca_model.specs.Headline.{Acted}
 use Rattle.ca_model.specs.World.{World, told}
 
--- Each reply that creates a channel created it for a record that the server had then under the name in the CREATE_CHAN.
+-- Each reply that creates a channel created it for a record that the server had then under the
+-- name in the CREATE_CHAN.
 abbrev pub CreationsAre : World → Type 0
 CreationsAre w = OfCircuits (told w) (λ (n : ℕ) (c : Circuit) (x : List Line) (y : List Entry).
     (j sid : ℕ) (t : Told) → At c.down j t → t.cause ≡ Reply → Creates t.message sid → (r : ℕ) × Created c y j t.place sid r)
@@ -18,7 +20,8 @@ ActsAre w = OfCircuits (told w) (λ (n : ℕ) (c : Circuit) (x : List Line) (y :
     (k channel : ℕ) (ask : Ask) → k < length c.handled → Meant c k (On channel ask) → (ask ≡ Create → ⊥)
     → (r : ℕ) × Acted c y k r × IsNamed x y channel r)
 
--- A channel that is live at the client is open at the server under its SID, for a record of its name.
+-- A channel that is live at the client is open at the server under its SID, for
+-- a record of its name.
 abbrev pub LiveAreOpen : World → Type 0
 LiveAreOpen w = OfCircuits (told w) (λ (n : ℕ) (c : Circuit) (x : List Line) (y : List Entry).
     (channel j k sid : ℕ) → IsLive c channel j k sid → (r : ℕ) × IsOpen c y j k sid r × IsNamed x y channel r)

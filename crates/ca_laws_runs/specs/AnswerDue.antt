@@ -1,4 +1,5 @@
--- Working: how each message that a server handled was answered, and that this was due by the statement's own words.
+-- Working: how each message that a server handled was answered, and that this was due by the
+-- statement's own words.
 use Rattle.std.specs.Prelude.{ℕ, List, take}
 use Rattle.ca_records.specs.Rules.{Rule}
 use Rattle.ca_text.specs.Place.{At}
@@ -9,8 +10,8 @@ use Rattle.ca_model.specs.Known.{IsDue}
 use Rattle.ca_model.specs.World.{World, port_of, rules_of, told}
 use Rattle.ca_laws_runs.specs.FollowsAnswering.{AnsweredSo}
 
--- The message at place k was answered, and its replies, the late one and what its step logged are those that were due, by what its server
--- knew then, on this port and with these rules.
+-- The message at place k was answered, and its replies, the late one and what its step logged are
+-- those that were due, by what its server knew then, on this port and with these rules.
 abbrev pub AnsweredDue : (ports : ℕ → ℕ) → (rules : ℕ → List Rule) → (n : ℕ) → Circuit → List Entry → (k : ℕ) → Step → Type 0
 AnsweredDue ports rules n c y k h = (a : AnsweredSo n c y k h)
     × IsDue ports rules n (before c k h) (take h.logged y) a.0.s.message a.0.replies (late_reply a.0.s.message a.0.did) a.0.logs

@@ -1,5 +1,5 @@
--- Working: what the puts and plain writes of clients carry is what their callers gave, and the record that each was applied to has the name of the
--- caller's channel.
+-- Working: what the puts and plain writes of clients carry is what their callers gave, and the
+-- record that each was applied to has the name of the caller's channel.
 use Rattle.std.specs.Prelude.{ℕ, ◌≡◌, List, Some}
 use Rattle.ca_dbr.specs.Elements.{Elements, IsValue, base_of, bytes_of, count_of}
 use Rattle.ca_dbr.specs.Types.{base_number}
@@ -38,13 +38,14 @@ AllCarried w = (n k : ℕ) (c : Joined) (s : Sent) (x : List Line) → At w.circ
 
 -- ---- what servers log
 
--- The entry tells that the write at place k of circuit n waits for record r, or was applied to it.
+-- The entry says that the write at place k of circuit n waits for record r, or was applied to it.
 abbrev pub IsWriteTo : (n k r : ℕ) → Entry → Type 0
 IsWriteTo n k r (Waits m l q v) = (m ≡ n) × (l ≡ k) × (q ≡ r)
 IsWriteTo n k r (Applied m l q v busies) = (m ≡ n) × (l ≡ k) × (q ≡ r)
 IsWriteTo n k r entry = ⊥
 
--- Record r of this log was added under the name under which the channel was opened that the message at place k of circuit n is meant for.
+-- Record r of this log was added under the name under which the channel was opened that the message
+-- at place k of circuit n is meant for.
 pub record IsTitled (w : World) (n k r : ℕ) (y : List Entry) : Type 0 where
   pub c : Joined
   pub on : At w.circuits n c
@@ -59,7 +60,8 @@ pub record IsTitled (w : World) (n k r : ℕ) (y : List Entry) : Type 0 where
   pub opened : In x (Opened channel state.name)
   pub added : In y (Added r state)
 
--- So it is of each write of which the log of any life of a server tells, as the world has the circuits and the logs of clients.
+-- So it is of each write of which the log of any life of a server tells, as the world has the
+-- circuits and the logs of clients.
 abbrev pub LogTitled : World → List Entry → Type 0
 LogTitled w y = (n k r : ℕ) (e : Entry) → In y e → IsWriteTo n k r e → IsTitled w n k r y
 

@@ -1,4 +1,5 @@
--- Working: the causes of what servers sent, by the lists of each circuit and the log of its server's life.
+-- Working: the causes of what servers sent, by the lists of each circuit and the log
+-- of its server's life.
 use Rattle.std.specs.Prelude.{ℕ, ◌≡◌, ◌≤◌, List}
 use Rattle.ca_text.specs.declared.command.Command.TheVariants as command
 use Rattle.ca_text.specs.Place.{At}
@@ -19,8 +20,9 @@ pub record IsTaken (log : List Entry) (c : Circuit) (k : ℕ) : Type 0 where
   pub acted : Acted c log k r
   pub unrefused : (j : ℕ) (t : Told) → At c.down j t → t.place ≡ k → t.cause ≡ Reply → ⊥
 
--- Each channel that was created is one of a record that the server had then. Each update, and each subscription that stands, is of an
--- EVENT_ADD that was taken; and each SERVER_DISCONN has its cause.
+-- Each channel that was created is one of a record that the server had then. Each update,
+-- and each subscription that stands, is of an EVENT_ADD that was taken; and each
+-- SERVER_DISCONN has its cause.
 pub record SourcesOn (log : List Entry) (c : Joined) : Type 0 where
   pub made : (j sid : ℕ) (t : Told) → At c.lists.down j t → t.cause ≡ Reply → Creates t.message sid
       → (r : ℕ) × Created c.lists log j t.place sid r
@@ -32,7 +34,8 @@ pub record SourcesOn (log : List Entry) (c : Joined) : Type 0 where
 abbrev pub AllSources : World → Type 0
 AllSources w = (n : ℕ) (c : Joined) (log : List Entry) → At w.circuits n c → At w.server_logs c.lists.server log → SourcesOn log c
 
--- Each message of the server has its cause, and was sent in the step that handled what it is about, or after it.
+-- Each message of the server has its cause, and was sent in the step that handled what it
+-- is about, or after it.
 abbrev pub AreCaused : ℕ → Circuit → List Line → List Entry → Type 0
 AreCaused n c x y = (j : ℕ) (t : Told) → At c.down j t
     → HasCause c y t t.cause × ((h : Step) × At c.handled t.place h × (h.sent ≤ j))

@@ -1,4 +1,4 @@
--- Working: the statement's clause of updates, of the subscriptions that stand at open ends.
+-- Working: the statement's clause of updates, of the subscriptions that are at open ends.
 use Rattle.std.specs.Prelude.{ℕ, ◌≡◌, true, List}
 use Rattle.ca_requests.specs.Meaning.{Means}
 use Rattle.ca_text.specs.declared.command.Command.TheVariants as command
@@ -15,8 +15,9 @@ use Rattle.ca_model.specs.Posts.{matching}
 use Rattle.ca_model.specs.ServerEvents.{number_of}
 use Rattle.ca_model.specs.World.{Joined, ServerSide, Standing, World, circuit_of, port_of, rules_of}
 
--- Each subscription that stands at an open end of a server came by an EVENT_ADD that was handled; and its updates follow the record that
--- has its name: they carry matching posts by rising numbers, show them, and the newest is among them.
+-- Each subscription that is at an open end of a server came by an EVENT_ADD that was handled; and
+-- its updates follow the record that has its name: they carry matching posts by rising numbers,
+-- show them, and the newest is among them.
 abbrev pub StandingFollow : World → Type 0
 StandingFollow w = (n : ℕ) (c : Joined) (y : ServerSide) (e : ServerEnd) (log : List Entry) (i : ℕ) (sub : Subscription) (st : Standing) → At w.circuits n c → At w.servers c.server y
     → c.lists.server_open ≡ true → HasEnd y.core c.at_server e → At w.server_logs y.life log → At e.subscriptions i sub → At c.standing i st

@@ -1,4 +1,5 @@
--- Working: the replies by which channels were created on a circuit, and what its client has of them.
+-- Working: the replies by which channels were created on a circuit, and what
+-- its client has of them.
 use Rattle.std.specs.Prelude.{ℕ, ◌≡◌, ◌<◌, ◌%◌, ◌⊎◌, length, true}
 use Rattle.ca_text.specs.declared.command.Command.TheVariants as command
 use Rattle.ca_text.specs.Limits.{arena_slots}
@@ -8,10 +9,12 @@ use Rattle.ca_model.specs.Speech.{Creates, In, Is}
 use Rattle.ca_model.specs.World.{Creation, Joined, World}
 use Rattle.ca_laws_parts.specs.Sids.{IsClearedWithin}
 
--- Each reply by which a channel was created is about a CREATE_CHAN that was handled, and no two are about the same. Between two under SIDs of one index the client cleared
--- the first SID. While the server's end is open, the channel is noted as open, or a CLEAR_CHANNEL of the SID was handled since. Such a reply was sent before any later
--- message was handled; and an EVENT_CANCEL is confirmed, and a message refused by an ERROR, at once as it is handled. Such a reply has the CID of its CREATE_CHAN; and
--- between two with one CID the client cleared the SID of the first.
+-- Each reply by which a channel was created is about a CREATE_CHAN that was handled, and no two are
+-- about the same. Between two under SIDs of one index the client cleared the first SID. While the
+-- server's end is open, the channel is noted as open, or a CLEAR_CHANNEL of the SID was handled
+-- since. Such a reply was sent before any later message was handled; and an EVENT_CANCEL is
+-- confirmed, and a message refused by an ERROR, at once as it is handled. Such a reply has the CID
+-- of its CREATE_CHAN; and between two with one CID the client cleared the SID of the first.
 pub record CreatedOn (c : Joined) : Type 0 where
   pub about : (i sid : ℕ) (t : Told) → At c.lists.down i t → t.cause ≡ Reply → Creates t.message sid
       → (t.place < length c.lists.handled) × ((s : Sent) × At c.lists.up t.place s × Is command.CreateChannel s.message)

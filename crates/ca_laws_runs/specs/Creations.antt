@@ -7,8 +7,8 @@ use Rattle.ca_model.specs.ServerSteps.{HasEnd}
 use Rattle.ca_model.specs.Speech.{Clears, Creates, In}
 use Rattle.ca_model.specs.World.{Creation, Joined, ServerSide, World}
 
--- Each channel that is open on a circuit was created by a reply about its CREATE_CHAN, no CLEAR_CHANNEL of its SID was handled since, and
--- no other is open under that SID.
+-- Each channel that is open on a circuit was created by a reply about its CREATE_CHAN, no
+-- CLEAR_CHANNEL of its SID was handled since, and no other is open under that SID.
 pub record CreationsOn (c : Joined) : Type 0 where
   pub within : length c.lists.handled ≤ length c.lists.up
   pub told : (x : Creation) → In c.creations x

@@ -1,4 +1,5 @@
--- Working: each subscription of an open end beside the log of its server's life: the posts that it sees.
+-- Working: each subscription of an open end beside the log of its server's life:
+-- the posts that it sees.
 use Rattle.std.specs.Prelude.{ℕ, ◌≡◌, ◌≤◌, false, true, List, Some, length, option_map, slice_get, unwrap_or}
 use Rattle.ca_arena.specs.declared.handle.Handle.{Handle}
 use Rattle.ca_ids.specs.Table.{under}
@@ -21,11 +22,13 @@ use Rattle.ca_laws_runs.specs.Holds.{Holds}
 abbrev pub logged_at : List Step → (place : ℕ) → ℕ
 logged_at handled place = unwrap_or (option_map (λ (h : Step). h.logged) (slice_get handled place)) 0
 
--- The posts that a subscription sees whose EVENT_ADD was handled at this place: those of the record that has its name.
+-- The posts that a subscription sees whose EVENT_ADD was handled at this place: those of the
+-- record that has its name.
 abbrev pub posts_by : List Entry → List RecordSide → List Step → Subscription → (place : ℕ) → List Stored
 posts_by log rs handled sub place = matching log (logged_at handled place) (number_of sub.name rs) sub.mask
 
--- A subscription began by an EVENT_ADD that was handled, on a channel that is open and of a record that is there.
+-- A subscription began by an EVENT_ADD that was handled, on a channel that is open and of a
+-- record that is there.
 pub record Stands (log : List Entry) (rs : List RecordSide) (e : ServerEnd) (c : Joined) (sub : Subscription) (st : Standing) : Type 0 where
   pub s : Sent
   pub sent : At c.lists.up st.place s

@@ -1,4 +1,5 @@
--- Working: how each message that a server handled was answered, by the lists of its circuit and the log of the server's life.
+-- Working: how each message that a server handled was answered, by the lists of its circuit and the
+-- log of the server's life.
 use Rattle.std.specs.Prelude.{ℕ, ◌≡◌, ◌<◌, ◌≤◌, ◌+◌, ◌==◌, ◌⊎◌, true, List, length, take}
 use Rattle.std.specs.List.{list_any}
 use Rattle.ca_text.specs.Command.{command_number}
@@ -14,8 +15,9 @@ use Rattle.ca_model.specs.Known.{AreJust, IsChannel, IsFull, IsKey, IsLogged, Is
 use Rattle.ca_model.specs.World.{Setting, World, told}
 use Rattle.ca_laws_runs.specs.Given.{IsGiven}
 
--- What a server knows of its records, of its peer on a circuit, of the open channels there and of its subscriptions is what these lists and
--- this log say: all of what a server knew, but for its port and its rules.
+-- What a server knows of its records, of its peer on a circuit, of the open channels there and
+-- of its subscriptions is what these lists and this log say: all of what a server knew, but for
+-- its port and its rules.
 pub record KnowsLists (c : Circuit) (y : List Entry) (k : Knows) : Type 0 where
   pub records : (name : List ℕ) → IsRecordOf y name (k.record_of name)
   pub greeted : k.greeted ≡ list_any (λ (s : Sent). s.message.command == command_number command.Version) c.up
@@ -26,17 +28,19 @@ pub record KnowsLists (c : Circuit) (y : List Entry) (k : Knows) : Type 0 where
   pub full : k.full ≡ true → IsFull c k
   pub keys : AreJust k.keys (IsKey c y)
 
--- The circuit as its server knew it when it took the message at place k, in this step, whoever its client is.
+-- The circuit as its server knew it when it took the message at place k, in this step,
+-- whoever its client is.
 abbrev pub past : Circuit → ℕ → Step → Circuit
 past c k h = record (before c k h) { client = 0 }
 
--- What the step of the message at place k logs for what that does: its write; or, as a channel is cleared, withdrawals (`clears` says which).
+-- What the step of the message at place k logs for what that does: its write; or, as a channel is
+-- cleared, withdrawals (`clears` says which).
 abbrev pub LogsSo : (n k : ℕ) → List Entry → Action → List Entry → Type 0
 LogsSo n k y (Clears sid) logs = (i : ℕ) (e : Entry) → At logs i e → (m l : ℕ) × (e ≡ Withdrawn m l)
 LogsSo n k y did logs = IsLogged n k y did logs
 
--- The message at place k got, in its step, the replies that were due by what its server knew then, each once and in order. Its step logged
--- what was due, and besides only withdrawals.
+-- The message at place k got, in its step, the replies that were due by what its server knew then,
+-- each once and in order. Its step logged what was due, and besides only withdrawals.
 pub record IsAnswered (n : ℕ) (c : Circuit) (y : List Entry) (k : ℕ) (h : Step) : Type 0 where
   pub s : Sent
   pub at : At c.up k s
@@ -56,7 +60,8 @@ pub record IsAnswered (n : ℕ) (c : Circuit) (y : List Entry) (k : ℕ) (h : St
   pub besides : (i : ℕ) (e : Entry) → h.logged + length logs ≤ i → i < h.after → At y i e → (m l : ℕ) × (e ≡ Withdrawn m l)
   pub ends : h.after ≤ length y
 
--- A reply that came later, to a put, tells that it was done; and that put was finished, before its channel was cleared.
+-- A reply that came later, to a put, says that it was done; and that put was finished, before its
+-- channel was cleared.
 abbrev pub IsLate : (n : ℕ) → Circuit → List Entry → (k : ℕ) → Fields → Type 0
 IsLate n c y k m =
     Is command.WriteNotify m × (m.p1 ≡ normal) × In y (Finished n k)

@@ -1,4 +1,5 @@
--- Working: the open channels of an end whose SIDs are retired: their records were removed, and their SERVER_DISCONNs sent.
+-- Working: the open channels of an end whose SIDs are retired: their records were removed, and
+-- their SERVER_DISCONNs sent.
 use Rattle.std.specs.Prelude.{ℕ, ◌≡◌, ◌≤◌, true, List, Some, length, take}
 use Rattle.ca_arena.specs.declared.handle.Handle.{Handle}
 use Rattle.ca_ids.specs.Table.{under}
@@ -11,8 +12,8 @@ use Rattle.ca_model.specs.Speech.{In, name_in}
 use Rattle.ca_model.specs.Channels.{Has}
 use Rattle.ca_model.specs.World.{Creation, Joined, ServerSide, World}
 
--- The channel was created by a CREATE_CHAN that was handled. The record that had its name then was removed, and its SERVER_DISCONN was
--- sent.
+-- The channel was created by a CREATE_CHAN that was handled. The record that had its name then was
+-- removed, and its SERVER_DISCONN was sent.
 pub record IsGone (log : List Entry) (c : Joined) (sid : ℕ) (ch : OpenChannel) : Type 0 where
   pub x : Creation
   pub noted : In c.creations x

@@ -1,4 +1,5 @@
--- Working: what is held of all circuits of a world, and what is to be known of the messages that ends take.
+-- Working: what is held of all circuits of a world, and what is to be known of the
+-- messages that ends take.
 use Rattle.std.specs.Prelude.{ℕ, ◌≡◌, List, [], Some, length, take}
 use Rattle.std.specs.List.{FoldsTo}
 use Rattle.ca_arena.specs.declared.handle.Handle.{Handle}
@@ -32,8 +33,9 @@ use Rattle.ca_laws_runs.specs.Worlds.{IsOwnNext}
 abbrev pub AllCircuitsHeld : World → Type 0
 AllCircuitsHeld w = (l : ℕ) (j : Joined) → At w.circuits l j → HeldAt (kept w l) w l
 
--- What is not shown of all runs yet, of the message t that a client reads next, about its message s: what was meant by the request or the
--- subscription that it finds, and that nothing was sent since on a channel that it ends.
+-- What is not shown of all runs yet, of the message t that a client reads next, about its message
+-- s: what was meant by the request or the subscription that it finds, and that nothing was sent
+-- since on a channel that it ends.
 pub record IsHeard (n : Names) (x : Client) (on : Handle) (c : Circuit) (m : Fields) (t : Told) (s : Sent) : Type 0 where
   pub own : OnChannels n x c
   pub failed : (h : Handle) (p : Phase) → Is command.CreateChannelFail m → channel_on x on m.p1 ≡ Some (h, p)
@@ -47,7 +49,8 @@ pub record IsHeard (n : Names) (x : Client) (on : Handle) (c : Circuit) (m : Fie
       → (number : ℕ) × Is command.EventAdd s.message × (named (SubId (wire_of q)) (meant_by n.subscriptions q) ≡ Some number)
       × ((p : ℕ) (r : Sent) (a : ℕ) → At c.up p r → r.intent ≡ On a (Cancel number) → ⊥)
 
--- Of the message that an end takes in this event it is known what it is about. Other events take none.
+-- Of the message that an end takes in this event it is known what it is about.
+-- Other events take none.
 abbrev pub IsKnownStep : World → Event → World → Type 0
 IsKnownStep w (event.ClientStep k) new =
     (j : Joined) (x : ClientSide) (d : Connection) (m : Fields) (rest : List ℕ) (t : Told) (s : Sent) → At w.circuits k j → At w.clients j.client x

@@ -8,8 +8,8 @@ use Rattle.ca_model.specs.History.{Reply, Sent, Told}
 use Rattle.ca_model.specs.Speech.{Is}
 use Rattle.ca_model.specs.World.{Joined, World}
 
--- A CREATE_CH_FAIL answers a CREATE_CHAN, a CLEAR_CHANNEL one of the client, and an EVENT_ADD an EVENT_CANCEL, which it confirms. An ERROR quotes what it
--- answers. No reply is a SERVER_DISCONN.
+-- A CREATE_CH_FAIL answers a CREATE_CHAN, a CLEAR_CHANNEL one of the client, and an EVENT_ADD an
+-- EVENT_CANCEL, which it confirms. An ERROR quotes what it answers. No reply is a SERVER_DISCONN.
 pub record Answers (m r : Fields) : Type 0 where
   pub failed : Is command.CreateChannelFail r → Is command.CreateChannel m
   pub cleared : Is command.ClearChannel r → Is command.ClearChannel m

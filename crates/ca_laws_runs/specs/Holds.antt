@@ -1,4 +1,5 @@
--- Working: what holds of an open end's queues and of its circuit's numbers, by the posts that each subscription sees.
+-- Working: what holds of an open end's queues and of its circuit's numbers, by the posts that
+-- each subscription sees.
 use Rattle.std.specs.Prelude.{ℕ, ◌≡◌, ◌<◌, ◌==◌, true, false, List, [], Option, Some, None, filter_map, if◌then◌else◌, length, map, slice_get, unwrap_or}
 use Rattle.ca_queue.specs.declared.entry.SubKey.{SubKey}
 use Rattle.ca_queue.specs.Images.{queue_images}
@@ -30,7 +31,7 @@ number_for place t = if t.place == place then number_of t.cause else None
 abbrev pub sent_numbers : (place : ℕ) → List Told → List ℕ
 sent_numbers place down = filter_map (number_for place) down
 
--- the post of this number, or another where there is none
+-- the post of this number, or another if there is none
 abbrev pub post_at : Stored → List Stored → ℕ → Stored
 post_at other posts n = unwrap_or (slice_get posts n) other
 
@@ -40,7 +41,8 @@ stamp_of other posts place n = record { value = post_at other posts n; place = p
 
 -- ---- one subscription
 
--- One queue has the subscription: what waits there under its key are numbers that rise after those that were sent.
+-- One queue has the subscription: what waits there under its key are numbers that rise after
+-- those that were sent.
 pub record Home (both : List (Queue Numbered)) (key : SubKey) (stamp : ℕ → Numbered) (gone : List ℕ) (next : ℕ) : Type 0 where
   pub home : ℕ
   pub q : Queue Numbered
@@ -60,8 +62,9 @@ pub record Counts (posts : Subscription → ℕ → List Stored) (down : List To
 
 -- ---- an end
 
--- So it is of each subscription that stands, of which each has its own key and place. Values and numbers wait in step, and each for a
--- subscription that stands. The EVENT_ADDs of those that stand, and of updates that were sent, were handled.
+-- So it is of each subscription that stands, of which each has its own key and place. Values and
+-- numbers wait in step, and each for a subscription that stands. The EVENT_ADDs of those that
+-- stand, and of updates that were sent, were handled.
 pub record Holds (posts : Subscription → ℕ → List Stored) (subs : List Subscription) (values : List (Queue Stored)) (c : Joined) : Type 0 where
   pub both : List (Queue Numbered)
   pub values_are : values ≡ map (queue_images value_in) both

@@ -12,7 +12,8 @@ use Rattle.ca_model.specs.Speech.{Clears, In, Is}
 use Rattle.ca_model.specs.Known.{IsRecordOf}
 use Rattle.ca_model.specs.World.{Joined, ServerSide, Standing, World}
 
--- The record of each name, as each server knows it at any end, is what the log of its life says of that name.
+-- The record of each name, as each server knows it at any end, is what the log of its
+-- life says of that name.
 abbrev pub KnowRecords : World → Type 0
 KnowRecords w = (i : ℕ) (y : ServerSide) (e : ServerEnd) (log : List Entry) (name : List ℕ) → At w.servers i y → At w.server_logs y.life log
     → IsRecordOf log name ((knows y.core e).record_of name)

@@ -1,5 +1,5 @@
--- Working: what a server's end knows of its peer, apart from channels and subscriptions, is what the lists of its circuit say; and a server
--- keeps the port and the rules that it was given.
+-- Working: what a server's end knows of its peer, apart from channels and subscriptions, is what
+-- the lists of its circuit say; and a server keeps the port and the rules that it was given.
 use Rattle.std.specs.Prelude.{ℕ, ◌≡◌, ◌==◌, true, Bool}
 use Rattle.std.specs.List.{list_any}
 use Rattle.ca_arena.specs.declared.handle.Handle.{Handle}
@@ -14,7 +14,8 @@ use Rattle.ca_model.specs.Known.{NamesItself, has_created}
 use Rattle.ca_model.specs.World.{Joined, ServerSetting, ServerSide, World}
 use Rattle.ca_laws_runs.specs.KnewLists.{as_known}
 
--- What an end knows of its peer: whether it greeted; how it named itself, and whether that is settled.
+-- What an end knows of its peer: whether it greeted; how it named itself, and
+-- whether that is settled.
 pub record Face : Type 0 where
   pub greeted : Bool
   pub peer : Peer
@@ -36,7 +37,8 @@ pub record IsFaced (given : ServerSetting) (Q : Handle → Face → Type 0) (y :
   pub rules : y.rules ≡ given.rules
   pub ends : (h : Handle) (e : ServerEnd) → HasEnd y h e → Q h (face_of e)
 
--- What each server knows of the peer on each open end is what the lists of the circuit say, as far as it handled them.
+-- What each server knows of the peer on each open end is what the lists of the circuit say, as
+-- far as it handled them.
 abbrev pub KnowFaces : World → Type 0
 KnowFaces w = (n : ℕ) (c : Joined) (y : ServerSide) (e : ServerEnd) → At w.circuits n c → At w.servers c.server y → c.lists.server_open ≡ true
     → HasEnd y.core c.at_server e → IsFace (as_known c.lists) (face_of e)

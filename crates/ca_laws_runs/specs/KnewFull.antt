@@ -8,7 +8,8 @@ use Rattle.ca_model.specs.Known.{IsFull, creates_at}
 use Rattle.ca_model.specs.World.{Joined, ServerSide, World}
 use Rattle.ca_laws_runs.specs.KnewLists.{as_known}
 
--- The generation that an index of the end's channels had last is no higher than how often a channel was created there.
+-- The generation that an index of the end's channels had last is no higher than how often a
+-- channel was created there.
 abbrev pub CountedOn : ServerEnd → Joined → Type 0
 CountedOn e c = (i : ℕ) (p : Place OpenChannel) → At e.channels i p → p.generation ≤ count_by (creates_at i) c.lists.down
 

@@ -1,4 +1,5 @@
--- Working: what a server's core knows of channels and subscriptions is what the lists of the circuit say, as far as it handled them.
+-- Working: what a server's core knows of channels and subscriptions is what the lists of the
+-- circuit say, as far as it handled them.
 use Rattle.std.specs.Prelude.{ℕ, ◌≡◌, true, List, [], length, take}
 use Rattle.ca_text.specs.Place.{At}
 use Rattle.ca_model.specs.History.{Circuit, Entry}
@@ -18,8 +19,9 @@ as_known c = record c {
   server_open = true;
 }
 
--- The open channels that each server knows on each open end are just those of the lists, with their ids and names, and retired if the log
--- removed their records; and the keys that it knows are just those of the subscriptions that last.
+-- The open channels that each server knows on each open end are just those of the lists, with their
+-- ids and names, and retired if the log removed their records; and the keys that it knows are just
+-- those of the subscriptions that last.
 abbrev pub KnowChannels : World → Type 0
 KnowChannels w = (n : ℕ) (c : Joined) (y : ServerSide) (e : ServerEnd) (log : List Entry) → At w.circuits n c → At w.servers c.server y
     → c.lists.server_open ≡ true → HasEnd y.core c.at_server e → At w.server_logs y.life log

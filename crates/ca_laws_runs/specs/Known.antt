@@ -1,4 +1,5 @@
--- Working: each EVENT_ADD that was handled at an open end: on which record it acted, and whether it stands or what ended it.
+-- Working: each EVENT_ADD that was handled at an open end: on which record it acted, and whether it
+-- stands or what ended it.
 use Rattle.std.specs.Prelude.{ℕ, ◌≡◌, ◌<◌, ◌≤◌, ◌⊎◌, false, true, List, Some, length, take}
 use Rattle.ca_arena.specs.declared.handle.Handle.{Handle}
 use Rattle.ca_ids.specs.Table.{under}
@@ -17,8 +18,8 @@ use Rattle.ca_model.specs.World.{Creation, Joined, RecordSide, ServerSide, Stand
 use Rattle.ca_laws_runs.specs.Entries.{titles}
 use Rattle.ca_laws_parts.specs.Both.{Both}
 
--- An open channel was created by a CREATE_CHAN that was handled and has its name. Unless it is retired, the record that had that name
--- then has it still.
+-- An open channel was created by a CREATE_CHAN that was handled and has its name. Unless it is
+-- retired, the record that had that name then has it still.
 pub record IsOrigin (log : List Entry) (rs : List RecordSide) (c : Joined) (sid : ℕ) (ch : OpenChannel) : Type 0 where
   pub x : Creation
   pub noted : In c.creations x
@@ -39,7 +40,8 @@ IsRefused c k = (j : ℕ) × (t : Told) × At c.down j t × (t.place ≡ k) × (
 abbrev pub IsStanding : List Standing → (k : ℕ) → Type 0
 IsStanding ss k = (i : ℕ) × (st : Standing) × At ss i st × (st.place ≡ k)
 
--- The subscription of the EVENT_ADD s at place k was cancelled or cleared, or the record on which it acted was removed.
+-- The subscription of the EVENT_ADD s at place k was cancelled or cleared, or the record on which
+-- it acted was removed.
 abbrev pub IsOver : List Entry → Circuit → (k : ℕ) → Sent → Type 0
 IsOver log c k s =
     ((l : ℕ) × (m : Sent) × (k < l) × (l < length c.handled) × At c.up l m × Ends s.message m.message)
@@ -50,7 +52,8 @@ pub record IsWithin (log : List Entry) (c : Circuit) (h : Step) : Type 0 where
   pub sent : h.sent ≤ length c.down
   pub logged : h.logged ≤ length log
 
--- The record on which the EVENT_ADD of a subscription that stands acted is the one that has its name.
+-- The record on which the EVENT_ADD of a subscription that stands acted is the
+-- one that has its name.
 pub record IsOnRecord (log : List Entry) (rs : List RecordSide) (c : Circuit) (sub : Subscription) (st : Standing) : Type 0 where
   pub key : key_of sub ≡ st.key
   pub s : Sent

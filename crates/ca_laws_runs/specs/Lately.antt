@@ -8,8 +8,9 @@ use Rattle.ca_model.specs.Channels.{IsFinished, IsReply, OfCircuits}
 use Rattle.ca_model.specs.World.{World, told}
 use Rattle.ca_laws_runs.specs.FollowsAnswering.{IsAnswered}
 
--- Beside the replies in its step the message at place k gets one late reply at most, and that is the one due: it comes only once its put is
--- finished; and then it is there if the server's end is open.
+-- Beside the replies in its step the message at place k gets one late reply at most, and that
+-- is the one due: it comes only once its put is finished; and then it is there if the
+-- server's end is open.
 pub record IsLately (n : ℕ) (c : Circuit) (y : List Entry) (k : ℕ) (h : Step) (a : IsAnswered n c y k h) : Type 0 where
   pub place : ℕ
   pub only : (j : ℕ) (m : Fields) → IsReply c k j m

@@ -1,4 +1,5 @@
--- Statement: which subscriptions of a channel are sent as it becomes live, and since: two parts of what is said of a circuit, each by itself.
+-- Statement: which subscriptions of a channel are sent as it becomes live, and since: two parts of
+-- what is said of a circuit, each by itself.
 use Rattle.std.specs.Prelude.{ℕ, ◌<◌, ◌≤◌, List, take}
 use Rattle.ca_dbr.specs.declared.value.Outcome.{Outcome}
 use Rattle.ca_model.specs.History.{Circuit, Create, Entry, Line, Noticed, On, Step, Subscribe}
@@ -7,7 +8,8 @@ use Rattle.ca_model.specs.Channels.{IsHeld, Meant, OfCircuits}
 use Rattle.ca_model.specs.Legal.{BecomesLive, IsStanding}
 use Rattle.ca_model.specs.World.{World, told}
 
--- Each time that a channel becomes live, each of its subscriptions that stands then has an EVENT_ADD, before the channel is created again.
+-- Each time that a channel becomes live, each of its subscriptions that stands then has an
+-- EVENT_ADD, before the channel is created again.
 abbrev pub AddsWhatStands : Circuit → List Line → Type 0
 AddsWhatStands c x = (channel k number : ℕ) (h : Step) → BecomesLive c channel k h
     → IsStanding (take h.logged x) (On channel (Subscribe number))

@@ -1,4 +1,5 @@
--- Statement: of what a server sends on a circuit: three parts of what is said of that, each by itself.
+-- Statement: of what a server sends on a circuit: three parts of what is said of
+-- that, each by itself.
 use Rattle.std.specs.Prelude.{ℕ, ◌≡◌, ◌<◌, ◌≤◌, ◌%◌, List, [], take}
 use Rattle.ca_text.specs.declared.command.Command.TheVariants as command
 use Rattle.ca_text.specs.Limits.{arena_slots}
@@ -47,7 +48,8 @@ SubscriptionsAreAddedApart w = OfCircuits (told w) (λ (n : ℕ) (c : Circuit) (
     (k l channel number : ℕ) → k < l → Meant c k (On channel (Subscribe number)) → Meant c l (On channel (Subscribe number))
     → (p : ℕ) × (k < p) × (p < l) × Meant c p (On channel Create))
 
--- A message on a channel goes out under the SID of one that the client has; and a CLEAR_CHANNEL has its CID.
+-- A message on a channel goes out under the SID of one that the client has; and a
+-- CLEAR_CHANNEL has its CID.
 abbrev pub SendsOnChannels : Conduct → Type 0
 SendsOnChannels e = (k : ℕ) (m : Fields) → At e.sent k m → IsOnChannel m
     → (i j cid : ℕ) × HasChannel e k i j cid (sid_in m) × (Is command.ClearChannel m → m.p2 ≡ cid)
@@ -66,8 +68,8 @@ abbrev pub ClientsCancelWhatWasAdded : World → Type 0
 ClientsCancelWhatWasAdded w =
     OfCircuits (told w) (λ (n : ℕ) (c : Circuit) (x : List Line) (y : List Entry). CancelsWhatWasAdded (client_conduct c))
 
--- What was subscribed to was held as the client read what it had read by then: its caller had ended neither it nor its channel, and no
--- notice had told of its end.
+-- What was subscribed to was held as the client read what it had read by then: its caller had ended
+-- neither it nor its channel, and no notice had told of its end.
 abbrev pub AddsWereHeld : World → Type 0
 AddsWereHeld w = OfCircuits (told w) (λ (n : ℕ) (c : Circuit) (x : List Line) (y : List Entry).
     (l a m j : ℕ) (h : Step) → Meant c l (On a (Subscribe m)) → At c.heard j h → h.sent ≤ l

@@ -7,7 +7,8 @@ use Rattle.ca_model.specs.Channels.{IsLive, IsNamed, IsOpen, IsUnread, OfCircuit
 use Rattle.ca_model.specs.World.{Joined, World, told}
 use Rattle.ca_laws_parts.specs.Sids.{IsClearedWithin}
 
--- Of each SERVER_DISCONN for a removal that a client read, the client has sent a CLEAR_CHANNEL of the channel that was created there.
+-- Of each SERVER_DISCONN for a removal that a client read, the client has sent a CLEAR_CHANNEL of
+-- the channel that was created there.
 abbrev pub AreCleared : Circuit → Type 0
 AreCleared c = (q : ℕ) (t : Told) → q < length c.heard → At c.down q t → t.cause ≡ Removal
     → (i sid : ℕ) × (u : Told) × At c.down i u × (u.cause ≡ Reply) × Creates u.message sid × (u.place ≡ t.place) × IsClearedWithin c.up sid u.place (length c.up)
@@ -16,8 +17,8 @@ AreCleared c = (q : ℕ) (t : Told) → q < length c.heard → At c.down q t →
 abbrev pub AllCleared : World → Type 0
 AllCleared w = (n : ℕ) (c : Joined) → At w.circuits n c → AreCleared c.lists
 
--- A channel that is live at the client is open at the server under its SID, for a record of its name; while the server's end is open, that
--- is there, or a SERVER_DISCONN is unread.
+-- A channel that is live at the client is open at the server under its SID, for a record of its
+-- name; while the server's end is open, that is there, or a SERVER_DISCONN is unread.
 abbrev pub LiveAreThere : World → Type 0
 LiveAreThere w = OfCircuits (told w) (λ (n : ℕ) (c : Circuit) (x : List Line) (y : List Entry).
     (channel j k sid : ℕ) → IsLive c channel j k sid → (r : ℕ) × IsOpen c y j k sid r × IsNamed x y channel r

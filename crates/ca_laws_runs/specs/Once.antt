@@ -1,4 +1,5 @@
--- Statement: of what a client called and what it was told: parts of what is said of its log, each by itself.
+-- Statement: of what a client called and what it was told: parts of what is said of its
+-- log, each by itself.
 use Rattle.std.specs.Prelude.{ℕ, ◌≡◌, List, Option}
 use Rattle.ca_dbr.specs.Elements.{Elements}
 use Rattle.ca_dbr.specs.declared.value.Outcome.{Outcome}
@@ -21,7 +22,8 @@ StandsOnce w life x = (intent : Intent) (n k m l : ℕ) → IsRequest intent →
 abbrev pub SendsCalled : World → (life : ℕ) → List Line → Type 0
 SendsCalled w life x = (intent : Intent) (e : Option Elements) → IsRequest intent → In x (Called intent e) → (n k : ℕ) × Stands w life intent n k
 
--- An intent that a client's core keeps until it is answered: to read, to put with notification, or to subscribe.
+-- An intent that a client's core keeps until it is answered: to read, to put with
+-- notification, or to subscribe.
 abbrev pub IsAwaited : Intent → Type 0
 IsAwaited (On channel (Request Read number)) = Unit {0}
 IsAwaited (On channel (Request Put number)) = Unit {0}
@@ -32,6 +34,6 @@ IsAwaited intent = ⊥
 abbrev pub TellsOnce : World → (life : ℕ) → List Line → Type 0
 TellsOnce w life x = (i l : ℕ) (intent : Intent) (o p : Outcome) → IsAwaited intent → At x i (Noticed intent o) → At x l (Noticed intent p) → i ≡ l
 
--- A notice of a plain write tells that it failed.
+-- A notice of a plain write says that it failed.
 abbrev pub WritesTellFailed : World → (life : ℕ) → List Line → Type 0
 WritesTellFailed w life x = (i channel number : ℕ) (o : Outcome) → At x i (Noticed (On channel (Request Write number)) o) → (s : Status) × (o ≡ Failed s)

@@ -10,8 +10,9 @@ use Rattle.ca_model.specs.Headline.{Answered, AnswersOwn, HasCause, TakesOwn}
 use Rattle.ca_model.specs.Known.{IsDue}
 use Rattle.ca_model.specs.World.{World, port_of, rules_of, told}
 
--- Of a circuit: each message of the client is what was meant, and each of the server has its cause, handled before; no creation has two
--- SERVER_DISCONNs; an id is taken for what the cause is about; and steps are in order.
+-- Of a circuit: each message of the client is what was meant, and each of the server has its cause,
+-- handled before; no creation has two SERVER_DISCONNs; an id is taken for what the cause is about;
+-- and steps are in order.
 pub record MeansOwn (c : Circuit) (x : List Line) (y : List Entry) : Type 0 where
   pub asked : (k : ℕ) (s : Sent) → At c.up k s → Suits s.intent s.message
   pub caused : (j : ℕ) (t : Told) → At c.down j t → HasCause c y t t.cause × ((h : Step) × At c.handled t.place h × (h.sent ≤ j))

@@ -12,7 +12,8 @@ use Rattle.ca_model.specs.Placed.{WasGiven}
 use Rattle.ca_model.specs.World.{Creation, Joined, PutPlace, ServerSide, World}
 use Rattle.ca_laws_runs.specs.Pairs.{BusyPair, CoreWaits, SideWaits}
 
--- The put came on a channel that had been given its handle; if that channel is open still, it was created before the put.
+-- The put came on a channel that had been given its handle; if that channel is open still, it was
+-- created before the put.
 pub record CameOnChannel (e : ServerEnd) (c : Joined) (q : PutPlace) (b : Put) : Type 0 where
   pub given : WasGiven e.channels b.channel
   pub before : (ch : OpenChannel) → under e.channels b.channel ≡ Some ch
@@ -23,7 +24,8 @@ abbrev pub IsOnChannel : Joined → PutPlace → Type 0
 IsOnChannel c q =
     (s : Sent) × At c.lists.up q.place s × ((x : Creation) × In c.creations x × (x.sid ≡ sid_in s.message) × (x.place < q.place))
 
--- Circuit n of this server, and its end: so it is of the puts that came there. Those that wait came on channels that are open.
+-- Circuit n of this server, and its end: so it is of the puts that came there. Those that wait came
+-- on channels that are open.
 pub record PutsOn (y : ServerSide) (n : ℕ) (e : ServerEnd) (c : Joined) : Type 0 where
   pub busy : (q : PutPlace) (b : Put) → BusyPair y.core.records y.records q b → q.circuit ≡ n → CameOnChannel e c q b
   pub given : (b : Put) → CoreWaits y.core.records b → b.circuit ≡ c.at_server → WasGiven e.channels b.channel

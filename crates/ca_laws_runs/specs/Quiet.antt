@@ -27,7 +27,8 @@ IsOfUse Create = ⊥
 IsOfUse Clear = ⊥
 IsOfUse ask = Unit {0}
 
--- After place k nothing was sent on the channel; it was only used; it was only used, but for what is at place q.
+-- After place k nothing was sent on the channel; it was only used; it was only used, but
+-- for what is at place q.
 abbrev pub NoneAfter : List Sent → (k number : ℕ) → Type 0
 NoneAfter up k number = (l : ℕ) (r : Sent) (ask : Ask) → k < l → At up l r → r.intent ≡ On number ask → ⊥
 
@@ -37,7 +38,8 @@ UsedAfter up k number = (l : ℕ) (r : Sent) (ask : Ask) → k < l → At up l r
 abbrev pub UsedBut : List Sent → (k q number : ℕ) → Type 0
 UsedBut up k q number = (l : ℕ) (r : Sent) (ask : Ask) → k < l → At up l r → r.intent ≡ On number ask → (l ≡ q) ⊎ IsOfUse ask
 
--- The channel's last CREATE_CHAN is the last that was sent on it; or it was cleared since, and its CLEAR_CHANNEL is the last.
+-- The channel's last CREATE_CHAN is the last that was sent on it; or it was cleared since, and its
+-- CLEAR_CHANNEL is the last.
 abbrev pub IsBeingCreated : List Sent → (number : ℕ) → Type 0
 IsBeingCreated up number = (k : ℕ) × IsAskedAt up k number Create × NoneAfter up k number
 
@@ -53,11 +55,12 @@ PhaseIn up number (Live n rights) = (k : ℕ) × IsAskedAt up k number Create ×
 PhaseIn up number Leaving = IsBeingCleared up number
 PhaseIn up number Clearing = IsBeingCleared up number
 
--- so it is if it stands on the circuit of this handle
+-- so it is if it is on the circuit of this handle
 abbrev pub StandsIn : (on : Handle) → List Sent → (number : ℕ) → Standing → Type 0
 StandsIn on up number s = (p : Phase) → s ≡ standing.On on p → PhaseIn up number p
 
--- No EVENT_CANCEL of the subscription was sent; or one was, and nothing else about the subscription after it.
+-- No EVENT_CANCEL of the subscription was sent; or one was, and nothing else about the
+-- subscription after it.
 abbrev pub NoCancel : List Sent → (number : ℕ) → Type 0
 NoCancel up number = (p a : ℕ) (r : Sent) → At up p r → r.intent ≡ On a (Cancel number) → ⊥
 
@@ -91,8 +94,8 @@ IsAnswered Read = Unit {0}
 IsAnswered Put = Unit {0}
 IsAnswered Write = ⊥
 
--- Each channel has one number, and its table gave its handle. Requests and subscriptions are numbered in order, each on the channel that the
--- core has for it; no plain write is among them.
+-- Each channel has one number, and its table gave its handle. Requests and subscriptions are
+-- numbered in order, each on the channel that the core has for it; no plain write is among them.
 pub record Tidy (n : Names) (x : Client) : Type 0 where
   pub numbered : AreNumbered n x
   pub given : (i : ℕ) (h : Handle) → At n.channels i h → WasGiven x.channels h
@@ -102,7 +105,8 @@ pub record Tidy (n : Names) (x : Client) : Type 0 where
   pub requests : (q : Handle) (r : Request) → under x.requests q ≡ Some r → IsRequestOn n r.channel (meant_by n.requests q)
   pub subscriptions : (g : Handle) (d : Subscription) → under x.subscriptions g ≡ Some d → IsSubscriptionOn n d.channel (meant_by n.subscriptions g)
 
--- What was meant by a message is named: a read or a put, and a subscription that is made or cancelled.
+-- What was meant by a message is named: a read or a put, and a subscription that
+-- is made or cancelled.
 abbrev pub IsNamedIn : Names → Intent → Type 0
 IsNamedIn n (On a (history.Request Read number)) = (q : Handle) × At n.requests number (q, On a (history.Request Read number))
 IsNamedIn n (On a (history.Request Put number)) = (q : Handle) × At n.requests number (q, On a (history.Request Put number))
@@ -141,7 +145,8 @@ AreAddedApart up = (k l a number : ℕ) (r s : Sent) → k < l → At up k r →
 
 -- ---- a circuit
 
--- What was sent on the circuit of this handle was named, and is as the client's channels and subscriptions there are.
+-- What was sent on the circuit of this handle was named, and is as the client's channels and
+-- subscriptions there are.
 pub record Quiet (n : Names) (x : Client) (on : Handle) (up : List Sent) : Type 0 where
   pub named : (p : ℕ) (s : Sent) → At up p s → IsNamedIn n s.intent
   pub ids : (p : ℕ) (s : Sent) → At up p s → HasSubId n s
@@ -149,8 +154,8 @@ pub record Quiet (n : Names) (x : Client) (on : Handle) (up : List Sent) : Type 
   pub subscriptions : (g : Handle) (d : Subscription) (a number : ℕ) → under x.subscriptions g ≡ Some d → meant_by n.subscriptions g ≡ On a (Subscribe number)
       → StageIn on up number d.stage
 
--- So it is of all clients of a world, and of their circuits whose ends are open. On all circuits ids of subscriptions and of channels stay
--- right, and EVENT_ADDs of one subscription apart.
+-- So it is of all clients of a world, and of their circuits whose ends are open. On all circuits
+-- ids of subscriptions and of channels stay right, and EVENT_ADDs of one subscription apart.
 pub record ClientsQuiet (w : World) : Type 0 where
   pub tidy : (i : ℕ) (x : ClientSide) → At w.clients i x → Tidy x.names x.core
   pub quiet : (k : ℕ) (j : Joined) (x : ClientSide) → At w.circuits k j → At w.clients j.client x → j.lists.client_open ≡ true

@@ -9,7 +9,8 @@ use Rattle.ca_model.specs.Headline.{FollowsRecord}
 use Rattle.ca_model.specs.Known.{IsDue}
 use Rattle.ca_model.specs.World.{Joined, World, circuit_of, port_of, rules_of, told}
 
--- The updates of each accepted EVENT_ADD of this circuit follow its record, by the log of its server's life.
+-- The updates of each accepted EVENT_ADD of this circuit follow its record, by the log
+-- of its server's life.
 abbrev pub CircuitFollows : World → (n : ℕ) → Joined → List Entry → Type 0
 CircuitFollows w n c log = (x : List Line) → FollowsRecord (IsDue (port_of w) (rules_of w)) Shows Means n (circuit_of c) x log
 

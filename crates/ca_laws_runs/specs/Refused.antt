@@ -11,11 +11,12 @@ use Rattle.ca_model.specs.Headline.{Acted, IsBadChannel}
 use Rattle.ca_model.specs.Known.{IsDue}
 use Rattle.ca_model.specs.World.{World, port_of, rules_of, told}
 
--- The reply at place j tells BADCHID of the message at place k.
+-- The reply at place j reports BADCHID of the message at place k.
 abbrev pub TellsBad : World → Circuit → (k j : ℕ) → Type 0
 TellsBad w c k j = IsBadChannel (IsDue (port_of w) (rules_of w)) Shows Means c k j
 
--- BADCHID answers a message only if the record on which it was handled had been removed; and then it answers each use of that.
+-- BADCHID answers a message only if the record on which it was handled had been removed; and then
+-- it answers each use of that.
 abbrev pub AreRetired : World → Type 0
 AreRetired w = OfCircuits (told w) (λ (n : ℕ) (c : Circuit) (x : List Line) (y : List Entry).
     (k j r : ℕ) (h : Step) → TellsBad w c k j → Acted c y k r → At c.handled k h → In (take h.logged y) (Removed r))

@@ -1,4 +1,5 @@
--- Working: the updates that were sent on a circuit, whether its ends are open or not, beside the log of its server's life.
+-- Working: the updates that were sent on a circuit, whether its ends are open or not, beside the
+-- log of its server's life.
 use Rattle.std.specs.Prelude.{ℕ, ◌≡◌, ◌<◌, false, List, []}
 use Rattle.ca_text.specs.Place.{At}
 use Rattle.ca_wire.specs.Messages.{mask_in}
@@ -10,7 +11,8 @@ use Rattle.ca_model.specs.Posts.{matching}
 use Rattle.ca_model.specs.World.{Joined, World}
 use Rattle.ca_laws_runs.specs.Known.{IsWithin}
 
--- The update t, of the number a, is about a message that was handled. It shows that post of the record on which the message acted.
+-- The update t, of the number a, is about a message that was handled. It shows that post of the
+-- record on which the message acted.
 pub record IsShown (log : List Entry) (c : Circuit) (t : Told) (a : ℕ) : Type 0 where
   pub s : Sent
   pub sent : At c.up t.place s
@@ -20,7 +22,8 @@ pub record IsShown (log : List Entry) (c : Circuit) (t : Told) (a : ℕ) : Type 
   pub shows : (r : ℕ) → Acted c log t.place r
       → (v : Stored) × At (matching log h.logged r (mask_in s.message)) a v × Shows s.message v t.message
 
--- So it is of each update that was sent; those about one message rise; and nothing waits at an end that has ended.
+-- So it is of each update that was sent; those about one message rise; and nothing waits at
+-- an end that has ended.
 pub record SentOn (log : List Entry) (c : Joined) : Type 0 where
   pub shown : (j a : ℕ) (t : Told) → At c.lists.down j t → t.cause ≡ Update a → IsShown log c.lists t a
   pub rise : (i j a b : ℕ) (t u : Told) → i < j → At c.lists.down i t → At c.lists.down j u → t.place ≡ u.place

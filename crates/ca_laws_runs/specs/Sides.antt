@@ -1,4 +1,5 @@
--- Working: what a client has of one circuit, beside the replies by which its channels were created there.
+-- Working: what a client has of one circuit, beside the replies by which its
+-- channels were created there.
 use Rattle.std.specs.Prelude.{ℕ, ◌≡◌, ◌<◌, ◌⊎◌, true, Some, length}
 use Rattle.ca_arena.specs.declared.handle.Handle.{Handle}
 use Rattle.ca_ids.specs.Table.{Table, under}
@@ -21,8 +22,9 @@ pub record IsLiveAs (t : Table Channel) (on : Handle) (h : Handle) (sid : ℕ) :
   pub stands : ch.standing ≡ On on (Live native rights)
   pub is : native.sid ≡ sid
 
--- A live channel was created last by a reply that the client read, under the SID that the client has for it. Each
--- channel that was created by a reply that the client read is live so, or was cleared under that SID since.
+-- A live channel was created last by a reply that the client read, under the SID that the client
+-- has for it. Each channel that was created by a reply that the client read is live so, or was
+-- cleared under that SID since.
 pub record Sides (n : Names) (x : Client) (on : Handle) (c : Circuit) : Type 0 where
   pub lives : (h : Handle) (sid : ℕ) → IsLiveAs x.channels on h sid
       → (j k : ℕ) × (j < length c.heard) × IsCreatedBefore c (channel_number n h) j k sid (length c.up)

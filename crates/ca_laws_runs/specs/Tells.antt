@@ -20,8 +20,8 @@ use Rattle.ca_model.specs.World.{ClientSide, Joined, Names, World}
 abbrev pub IsOnChannel : (number : ℕ) → Intent → Type 0
 IsOnChannel number intent = (ask : Ask) × (intent ≡ On number ask)
 
--- A notice that a client makes of message m, which is about its message s: it tells what m means, of what was meant by s; or that a
--- SERVER_DISCONN for its channel came.
+-- A notice that a client makes of message m, which is about its message s: it says what m means, of
+-- what was meant by s; or that a SERVER_DISCONN for its channel came.
 abbrev pub TellsOwn : Names → Fields → Sent → Notice → Type 0
 TellsOwn n m s (notice.Live h) = (s.intent ≡ On (channel_number n h) Create) × Means m outcome.Done
 TellsOwn n m s (notice.Lost h) = IsOnChannel (channel_number n h) s.intent × Is command.ServerDisconnect m

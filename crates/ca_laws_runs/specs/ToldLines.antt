@@ -1,4 +1,5 @@
--- Statement: what the lines of a client's log tell: parts of what is said of them, each by itself, as the statement says it of this world.
+-- Statement: what the lines of a client's log tell: parts of what is said of them, each by itself,
+-- as the statement says it of this world.
 use Rattle.std.specs.Prelude.{ℕ, ◌≡◌, ◌≢◌, List}
 use Rattle.ca_dbr.specs.declared.value.Outcome.{Outcome}
 use Rattle.ca_dbr.specs.declared.value.Outcome.TheVariants.{Disconnected}
@@ -26,7 +27,8 @@ IsToLast (On channel Create) = Unit {0}
 IsToLast (On channel (Subscribe number)) = Unit {0}
 IsToLast intent = ⊥
 
--- Each notice of a channel or a subscription that does not tell Disconnected tells what the reply to its own message means.
+-- Each notice of a channel or a subscription that does not tell Disconnected says what the reply to
+-- its own message means.
 abbrev pub LastingAreTold : World → Type 0
 LastingAreTold w = OfClients (told w) (λ (life : ℕ) (x : List Line). (i : ℕ) (intent : Intent) (o : Outcome) → At x i (Noticed intent o)
     → IsToLast intent → o ≢ Disconnected → (by : IsToldOf w life x i intent o) × (by.t.cause ≡ Reply))

@@ -12,8 +12,8 @@ IsUse Create = ⊥
 IsUse Clear = ⊥
 IsUse ask = Unit {0}
 
--- Before place p the CREATE_CHAN at place k is the last that was sent on the channel of this number, and the channel was not cleared
--- since. The message at place j answered it with this SID.
+-- Before place p the CREATE_CHAN at place k is the last that was sent on the channel of this
+-- number, and the channel was not cleared since. The message at place j answered it with this SID.
 pub record IsCreatedBefore (c : Circuit) (channel j k sid p : ℕ) : Type 0 where
   pub t : Told
   pub r : Sent
@@ -22,7 +22,8 @@ pub record IsCreatedBefore (c : Circuit) (channel j k sid p : ℕ) : Type 0 wher
   pub early : k < p
   pub since : (l : ℕ) (q : Sent) (ask : Ask) → k < l → l < p → At c.up l q → q.intent ≡ On channel ask → IsUse ask
 
--- Each message on a channel, but its CREATE_CHAN, goes under the SID under which that was created last before it.
+-- Each message on a channel, but its CREATE_CHAN, goes under the SID under which that was
+-- created last before it.
 abbrev pub AreUnder : Circuit → Type 0
 AreUnder c = (p channel : ℕ) (s : Sent) (ask : Ask) → At c.up p s → s.intent ≡ On channel ask → (ask ≡ Create → ⊥)
     → (j k : ℕ) × IsCreatedBefore c channel j k (sid_in s.message) p
@@ -31,7 +32,8 @@ AreUnder c = (p channel : ℕ) (s : Sent) (ask : Ask) → At c.up p s → s.inte
 abbrev pub AllUnder : World → Type 0
 AllUnder w = (n : ℕ) (c : Joined) → At w.circuits n c → AreUnder c.lists
 
--- Before a channel is created again under a new CREATE_CHAN on the circuit, the client cleared the SID under which it was created before.
+-- Before a channel is created again under a new CREATE_CHAN on the circuit, the client cleared the
+-- SID under which it was created before.
 abbrev pub AreClearedBetween : Circuit → Type 0
 AreClearedBetween c = (p k channel i sid : ℕ) (r q : Sent) (t : Told) → p < k → At c.up p r → At c.up k q → r.intent ≡ On channel Create
     → q.intent ≡ On channel Create → At c.down i t → t.place ≡ p → t.cause ≡ Reply → Creates t.message sid → IsClearedWithin c.up sid p k

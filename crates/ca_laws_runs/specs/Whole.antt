@@ -1,4 +1,4 @@
--- Working: the statement's clause of what servers act on, whole.
+-- Working: the statement's clause of what servers act on, complete.
 use Rattle.ca_requests.specs.Meaning.{Means}
 use Rattle.ca_model.specs.Updates.{Shows}
 use Rattle.ca_model.specs.Channels.{OfCircuits}

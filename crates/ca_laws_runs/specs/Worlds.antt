@@ -20,8 +20,9 @@ use Rattle.ca_laws_parts.specs.Numbers.{AllNumbers}
 use Rattle.ca_laws_parts.specs.WritesSteps.{AllInStep}
 use Rattle.ca_laws_runs.specs.Puts.{AllPuts}
 
--- Writes, clients and bytes stand; ends are in step with their circuits; what stands and is open came by messages, numbers are of what
--- stands, channels are those that were created, and puts are beside the channels on which they came.
+-- Writes, clients and bytes stand; ends are in step with their circuits; what stands and is open
+-- came by messages, numbers are of what stands, channels are those that were created, and puts are
+-- beside the channels on which they came.
 pub record ServersStand (s : Setting) (w : World) : Type 0 where
   pub stands : Stands s w
   pub in_step : AllInStep w
@@ -36,8 +37,9 @@ IsOther (event.ClientStep k) = ⊥
 IsOther (event.ServerStep k) = ⊥
 IsOther e = Unit {0}
 
--- What is not shown of all runs yet, of the message that a server's end handles next on a circuit: a WRITE has the SID under which the
--- server has the channel for which it was meant; and for what it ends, by what was meant, the server keeps nothing then.
+-- What is not shown of all runs yet, of the message that a server's end handles next on a circuit:
+-- a WRITE has the SID under which the server has the channel for which it was meant; and for what
+-- it ends, by what was meant, the server keeps nothing then.
 pub record IsOwnNext (w new : World) (k : ℕ) (j : Joined) (y : ServerSide) (f : StepHandles w k j y new) : Type 0 where
   pub writes : (s : Sent) → At j.lists.up (length j.lists.handled) s → Is command.Write s.message → (cid : ℕ)
       → IsCidAt (knows y.core (record f.e { link = with_rest (f.steps.0).rest f.e.link })) s.message.p1 cid → IsCidOf j.lists.up (length j.lists.handled) s.intent cid

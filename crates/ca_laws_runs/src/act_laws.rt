@@ -11,25 +11,25 @@ pub fn channels_are_created_for_their_records()
         → Runs s es stopped w → CreationsAre w }
 {}
 
-/// After every run from a well-formed setting by well-formed events each message on a channel that a
-/// server handled was handled on the record that the channel names: on that of the channel which was
-/// open then under its SID, and which has the name under which the client opened its channel. This is
-/// `acts` of the statement's clause `ActsOnRecord`. It holds also of ends that have ended.
+/// After every run from a well-formed setting by well-formed events each message on a channel that
+/// a server handled was handled on the record that the channel names: on that of the channel which
+/// was open then under its SID, and which has the name under which the client opened its channel.
+/// This is `acts` of the statement's clause `ActsOnRecord`. It holds also of ends that have ended.
 pub fn messages_act_on_the_record_that_is_named()
     ensures { (s : Setting) (es : List Event) (stopped : Option Event) (w : World) → IsSetting s
         → AreEvents es → Runs s es stopped w → ActsAre w }
 {}
 
-/// After every such run each channel that is live at its client is open at the server under the same
-/// SID, for a record with the name under which the client opened it. This is `live` of the clause but
-/// for its last part, that the record is there or a SERVER_DISCONN is unread.
+/// After every such run each channel that is live at its client is open at the server under the
+/// same SID, for a record with the name under which the client opened it. This is `live` of the
+/// clause but for its last part, that the record is there or a SERVER_DISCONN is unread.
 pub fn live_channels_are_open()
     ensures { (s : Setting) (es : List Event) (stopped : Option Event) (w : World) → IsSetting s
         → AreEvents es → Runs s es stopped w → LiveAreOpen w }
 {}
 
-/// In every world to which a run leads, whatever its setting and events, no log of a client tells of a
-/// channel twice that it was opened: this is the client's part of `names` of the clause.
+/// In every world to which a run leads, whatever its setting and events, no log of a client reports
+/// of a channel twice that it was opened: this is the client's part of `names` of the clause.
 pub fn a_channel_is_opened_once()
     ensures { (s : Setting) (es : List Event) (stopped : Option Event) (w : World)
         → Runs s es stopped w → OpenOnce w }

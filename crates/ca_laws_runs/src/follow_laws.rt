@@ -16,8 +16,8 @@ pub fn listed_records_are_there()
 
 /// After every run each EVENT_ADD that was handled at an open end of a server was refused, or its
 /// subscription stands, or that was cancelled, cleared or lost its record. The record on which the
-/// EVENT_ADD of a subscription that stands acted, by the lists of its circuit, is the one that has the
-/// subscription's name.
+/// EVENT_ADD of a subscription that stands acted, by the lists of its circuit, is the one that has
+/// the subscription's name.
 pub fn what_was_added_stands_or_is_over()
     ensures { (s : Setting) (es : List Event) (stopped : Option Event) (w : World) → IsSetting s
         → Runs s es stopped w → AllKnown w }
@@ -31,11 +31,12 @@ pub fn what_was_sent_shows_its_posts()
         → Runs s es stopped w → AllSent w }
 {}
 
-/// So after every run the updates of each accepted EVENT_ADD follow its record, as the statement has
-/// it: those that were sent and then those that are queued carry matching posts by rising numbers,
-/// each that was sent shows its post, and while the subscription lasts the newest is among them. This
-/// holds also of subscriptions that were cancelled, cleared or lost, and of circuits that have ended.
-/// The logs of the two lives that each circuit joins are there, so it is the statement's own clause.
+/// So after every run the updates of each accepted EVENT_ADD follow its record, as the statement
+/// has it: those that were sent and then those that are queued carry matching posts by rising
+/// numbers, each that was sent shows its post, and while the subscription lasts the newest is among
+/// them. This holds also of subscriptions that were cancelled, cleared or lost, and of circuits
+/// that have ended. The logs of the two lives that each circuit joins are there, so it is the
+/// statement's own clause.
 ///
 /// The setting is well-formed; nothing else is asked for.
 pub fn follows_record_in_runs()

@@ -55,9 +55,9 @@ pub fn what_servers_take_is_handled_as_it_was_meant()
         → IsKnownStep w (ServerStep k) new }
 {}
 
-/// After every such run, what a client's end takes next is about what it finds there, and each
-/// notice that the client makes of it tells what it means, of what was meant by the message that it
-/// is about.
+/// After every such run, what a client's end takes next is about what it finds there, and
+/// each notice that the client makes of it says what it means, of what was meant by the
+/// message that it is about.
 pub fn what_clients_take_is_told_of_its_own()
     ensures about { (s : Setting) (es : List Event) (stopped : Option Event) (w new : World) (k : ℕ)
         → IsSetting s → AreEvents es → Runs s es stopped w → Happens w (ClientStep k) new

@@ -6,9 +6,9 @@ ghost use Rattle.ca_laws_runs.specs.KnewFaces.{KeepSettings, KnowFaces};
 ghost use Rattle.ca_laws_runs.specs.KnewLists.{KnowChannels, KnowKeys};
 
 /// After every run from a well-formed setting, the open channels that a server's core knows on an
-/// open end are just those that are open by the lists of the circuit, each once, with its SID, its CID
-/// and its name; and it is retired exactly if the log removed its record. This is `channels` of what a
-/// server knew.
+/// open end are just those that are open by the lists of the circuit, each once, with its SID, its
+/// CID and its name; and it is retired exactly if the log removed its record. This is `channels`
+/// of what a server knew.
 pub fn servers_know_their_channels()
     ensures { (s : Setting) (es : List Event) (stopped : Option Event) (w : World) → IsSetting s
         → Runs s es stopped w → KnowChannels w }
@@ -23,10 +23,10 @@ pub fn servers_know_their_keys()
         → Runs s es stopped w → KnowKeys w }
 {}
 
-/// After every such run, what a server's core knows of the peer on an open end is what the lists of the
-/// circuit say: whether a VERSION was handled; the texts of the last CLIENT_NAME and of the last
-/// HOST_NAME that were handled before a channel was created; and whether one was created. These are
-/// `greeted`, `user`, `host` and `settled` of what a server knew.
+/// After every such run, what a server's core knows of the peer on an open end is what the lists of
+/// the circuit say: whether a VERSION was handled; the texts of the last CLIENT_NAME and of the
+/// last HOST_NAME that were handled before a channel was created; and whether one was created.
+/// These are `greeted`, `user`, `host` and `settled` of what a server knew.
 pub fn servers_know_their_peers()
     ensures { (s : Setting) (es : List Event) (stopped : Option Event) (w : World) → IsSetting s
         → Runs s es stopped w → KnowFaces w }

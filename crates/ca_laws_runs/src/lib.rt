@@ -1,9 +1,10 @@
-//! Laws of runs: every run is safe and legal (`runs_are_safe`), and what that stands on.
+//! Laws of runs: every run is safe and legal (`runs_are_safe`), and what that is built on.
 //!
-//! First what is held of all circuits, over every run: the ids in flight, the clients' tables, the SIDs under which clients
-//! speak, what servers keep for circuits, and what became of each message. Then how all that follows the log of a server's
-//! life: what a server counts for a subscription, the numbers of its updates, which record each message acts on; and the
-//! clauses of the promise, one by one.
+//! First what is held of all circuits, over every run: the ids in flight, the clients' tables, the
+//! SIDs under which clients speak, what servers keep for circuits, and what became of each
+//! message. Then how all that follows the log of a server's life: what a server counts for a
+//! subscription, the numbers of its updates, which record each message acts on; and the clauses of
+//! the promise, one by one.
 #![tactic(auto)]
 
 mod act_laws;

@@ -4,8 +4,8 @@ ghost use Rattle.ca_model.specs.Runs.{AreEvents, Runs};
 ghost use Rattle.ca_model.specs.World.{IsSetting, Setting, World};
 ghost use Rattle.ca_laws_runs.specs.OrderSteps.{HaveLives, ServerStepsAre, StepsAre};
 
-/// After every run each circuit joins lives that have logs, and an end that is open at a client joins
-/// the present life of its client. Nothing is asked for.
+/// After every run each circuit joins lives that have logs, and an end that is open at a client
+/// joins the present life of its client. Nothing is asked for.
 pub fn circuits_join_lives()
     ensures { (s : Setting) (es : List Event) (stopped : Option Event) (w : World)
         → Runs s es stopped w → HaveLives w }
@@ -21,8 +21,8 @@ pub fn steps_of_servers_are_in_order()
 {}
 
 /// After every run from a well-formed setting by well-formed events the steps of both ends of each
-/// circuit are in order: this is `in_order` of the statement's clause `AnswersOwn`, with the logs of
-/// the lives that the circuit joins.
+/// circuit are in order: this is `in_order` of the statement's clause `AnswersOwn`, with the logs
+/// of the lives that the circuit joins.
 pub fn steps_are_in_order()
     ensures { (s : Setting) (es : List Event) (stopped : Option Event) (w : World) → IsSetting s
         → AreEvents es → Runs s es stopped w → StepsAre w }

@@ -6,11 +6,11 @@ ghost use Rattle.ca_laws_parts.specs.Seats.{Sound, TakesSent};
 ghost use Rattle.ca_laws_runs.specs.Follows.{AllFollow};
 ghost use Rattle.ca_laws_runs.specs.Clause.{StandingFollow};
 
-/// Each subscription that stands at an open end of a server came by an EVENT_ADD that was handled,
-/// on a channel that is open and of a record that is there. What the server counts for it is how
-/// many posts of that record it saw, by the log of the server's life. Its updates, those that were
-/// sent and then those that wait, have numbers that rise and end in the newest, and each shows the
-/// post of its number. So it is before any event, after each event, and after every run.
+/// Each subscription that is at an open end of a server came by an EVENT_ADD that was handled, on a
+/// channel that is open and of a record that is there. What the server counts for it is how many
+/// posts of that record it saw, by the log of the server's life. Its updates, those that were sent
+/// and then those that wait, have numbers that rise and end in the newest, and each shows the post
+/// of its number. So it is before any event, after each event, and after every run.
 ///
 /// The setting is well-formed; nothing else is asked for.
 pub fn subscriptions_follow_their_posts()
@@ -21,7 +21,7 @@ pub fn subscriptions_follow_their_posts()
         → IsSetting s → Runs s es stopped w → AllFollow w }
 {}
 
-/// So the statement's clause of updates holds of each subscription that stands at an open end: its
+/// So the statement's clause of updates holds of each subscription that is at an open end: its
 /// updates, sent and then queued, carry matching posts by rising numbers, each that was sent shows
 /// its post, and the newest is among them. This is so after every run.
 pub fn what_stands_follows_its_record()

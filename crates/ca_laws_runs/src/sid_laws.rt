@@ -24,10 +24,10 @@ ghost use Rattle.ca_laws_runs.specs.Under.{
   IsUse,
 };
 
-/// In every world to which a run leads, on each circuit: each reply by which a channel was created is
-/// about a CREATE_CHAN that was handled; between two creations under one SID the client cleared that
-/// SID; and while the server's end is open, the channel is open, or a CLEAR_CHANNEL of its SID was
-/// handled since.
+/// In every world to which a run leads, on each circuit: each reply by which a channel was created
+/// is about a CREATE_CHAN that was handled; between two creations under one SID the client cleared
+/// that SID; and while the server's end is open, the channel is open, or a CLEAR_CHANNEL of its
+/// SID was handled since.
 pub fn created_channels_are_open_or_cleared()
     ensures { (w : World) → IsReached w → AllCreated w }
 {}
@@ -45,17 +45,17 @@ pub fn writes_are_handled_on_their_channel()
 {}
 
 /// So all that `what_is_held_in_runs` asks of a step of a server's end is known (`IsOwnNext`), also
-/// that nothing is kept then for what the message ends, if clients also cleared a channel before they
-/// created it again, and cancelled subscriptions by their own ids (`AllSayRight`).
+/// that nothing is kept then for what the message ends, if clients also cleared a channel before
+/// they created it again, and cancelled subscriptions by their own ids (`AllSayRight`).
 pub fn a_message_is_handled_as_it_was_meant()
     ensures { (w new : World) (k : ℕ) → IsReached w → AllSayRight w → Happens w (ServerStep k) new
         → IsKnownStep w (ServerStep k) new }
 {}
 
-/// What clients say stays right as the lists of a circuit grow, and so does under which SID a channel
-/// was created last: a message is sent, under the SID of its channel, and a CREATE_CHAN only once the
-/// channel was cleared; and a message is told, after whose CREATE_CHAN none was sent on the channel if
-/// a channel is created by it.
+/// What clients say stays right as the lists of a circuit grow, and so does under which SID a
+/// channel was created last: a message is sent, under the SID of its channel, and a CREATE_CHAN
+/// only once the channel was cleared; and a message is told, after whose CREATE_CHAN none was sent
+/// on the channel if a channel is created by it.
 pub fn what_clients_say_grows()
     ensures past { (c : Circuit) (s : Sent) (channel j k sid : ℕ)
         → ((ask : Ask) → s.intent ≡ On channel ask → IsUse ask)

@@ -20,9 +20,9 @@ ghost use Rattle.ca_laws_runs.specs.Held.{AllCircuitsHeld, AllKnown, IsKnownStep
 ghost use Rattle.ca_laws_runs.specs.Worlds.{IsOther, IsOwnNext, ServersStand};
 
 /// Each put that makes a record of a server busy, or waits, came on a channel whose handle had been
-/// given before it; if that channel is open still, it was created before the put, and the channel of
-/// a put that waits is open. This holds beside what is known of writes, clients, bytes and what
-/// stands on circuits: before any event, after each event, and after every run.
+/// given before it; if that channel is open still, it was created before the put, and the channel
+/// of a put that waits is open. This holds beside what is known of writes, clients, bytes and what
+/// is on circuits: before any event, after each event, and after every run.
 ///
 /// The setting is well-formed; nothing else is asked for.
 pub fn puts_came_on_their_channels()
@@ -39,9 +39,9 @@ pub fn what_is_awaited_is_kept()
     ensures { (w : World) → IsReached w → KeepsAwaited w }
 {}
 
-/// After every run, each event but a step of an end keeps what is held of each circuit that is there,
-/// by what its server keeps for it then: also updates that leave their queues, a finish and a
-/// removal.
+/// After every run, each event but a step of an end keeps what is held of each circuit that
+/// is there, by what its server keeps for it then: also updates that leave their queues, a
+/// finish and a removal.
 pub fn events_keep_what_is_held()
     ensures { (w new : World) (l : ℕ) (e : Event) → IsReached w → IsOther e → Happens w e new
         → HeldAt (kept w l) w l → HeldAt (kept new l) new l }
@@ -70,9 +70,9 @@ pub fn a_servers_step_keeps_what_is_held()
         → IsOwnNext w new k j y f → HeldAt (kept w k) w k → HeldAt (kept new k) new k }
 {}
 
-/// What is held of all circuits stays so over every event, and over every run, as far as it is known
-/// of each message that an end takes what it is about: `IsOwnNext` at a server, and `IsHeard` at a
-/// client. Nothing else is asked for but that setting and events are well-formed.
+/// What is held of all circuits stays so over every event, and over every run, as far as it is
+/// known of each message that an end takes what it is about: `IsOwnNext` at a server, and `IsHeard`
+/// at a client. Nothing else is asked for except that setting and events are well-formed.
 pub fn what_is_held_in_runs()
     ensures begins { (s : Setting) → AllCircuitsHeld (opening s) }
     ensures event { (s : Setting) (es : List Event) (stopped : Option Event) (w new : World)
@@ -83,8 +83,8 @@ pub fn what_is_held_in_runs()
         → AllCircuitsHeld w }
 {}
 
-/// Where that is so, each message of a client is what was meant, and each id in a message of a
-/// server is taken for what that message is about, whatever ids were given again.
+/// If that is so, each message of a client is what was meant, and each id in a message of a server
+/// is taken for what that message is about, whatever ids were given again.
 pub fn what_is_held_is_what_was_meant()
     ensures asked { (w : World) → AllCircuitsHeld w → AllAsked w }
     ensures own { (w : World) → AllCircuitsHeld w → (n i : ℕ) (c : Joined) (t : Told) (id : Id)
@@ -100,8 +100,8 @@ pub fn open_channels_were_told()
 {}
 
 /// In every world to which a run leads, each reply of a server is about a message of its kind: a
-/// CREATE_CH_FAIL about a CREATE_CHAN, a CLEAR_CHANNEL about the client's, and an EVENT_ADD about an
-/// EVENT_CANCEL.
+/// CREATE_CH_FAIL about a CREATE_CHAN, a CLEAR_CHANNEL about the client's, and an EVENT_ADD
+/// about an EVENT_CANCEL.
 pub fn replies_answer_their_kind()
     ensures { (w : World) → IsReached w → AllAnswer w }
 {}

@@ -1,5 +1,6 @@
--- Vocabulary: what the calls of a link answer and leave (section "Virtual Circuit"). Each definition by answer is the contract of the call
--- that its comment names: from old, with this answer, it left new.
+-- Vocabulary: what the calls of a link answer and leave (section "Virtual Circuit"). Each
+-- definition by answer is the contract of the call that its comment names: from old, with this
+-- answer, it left new.
 use Rattle.std.specs.Prelude.{ℕ, ◌≡◌, ◌≢◌, ◌<◌, ◌≤◌, ◌⊎◌, true, false, List, [], ◌∷◌, Option, Some, None, Result, Ok, Err, drop, length}
 use Rattle.ca_text.specs.Limits.{output_limit}
 use Rattle.ca_text.specs.declared.refusal.Refusal.{Refusal}
@@ -25,7 +26,7 @@ IsClosed l = l.input.closed ≡ true
 abbrev pub closed_off : LinkState → LinkState
 closed_off l = record l { input = record l.input { closed = true } }
 
--- `give`: these bytes came at this moment. No bytes take no memory.
+-- `give`: these bytes came at this moment. No bytes need no memory.
 abbrev pub Gives : ℕ → List ℕ → LinkState → Result (Unit {0}) Refusal → LinkState → Type 0
 Gives now bytes old (Ok _) new = IsOpen old × (new ≡ with_given now bytes old)
 Gives now bytes old (Err refusal.CircuitClosed) new = IsClosed old × (new ≡ old)
@@ -36,7 +37,8 @@ Gives now bytes old (Err _) new = ⊥
 abbrev pub TakesMemory : LinkState → Type 0
 TakesMemory l = (m : Fields) × (rest : List ℕ) × TakesFirst l m rest × (m.payload ≢ [])
 
--- `next_message`: the first message is taken, or no complete one is there; a bad header closes the link for good.
+-- `next_message`: the first message is taken, or no complete one is there; a bad header
+-- closes the link for good.
 abbrev pub Nexts : LinkState → Result (Option Fields) Refusal → LinkState → Type 0
 Nexts old (Ok (Some m)) new = IsOpen old × ((rest : List ℕ) × TakesFirst old m rest × (new ≡ with_rest rest old))
 Nexts old (Ok None) new = IsOpen old × NoneBegins old.input.bytes × NotBad old.input.bytes × (new ≡ old)
@@ -51,7 +53,8 @@ abbrev pub NextsBare : Command → LinkState → Option Wanted → LinkState →
 NextsBare c old (Some w) new = Nexts old (Ok (Some (on_channel c w []))) new
 NextsBare c old None new = (IsOpen old → NoBare old.input.bytes c) × (new ≡ old)
 
--- `first_short`: the first message is of this command, names this, and is 24 bytes, of which eight are its payload.
+-- `first_short`: the first message is of this command, names this, and is 24 bytes, of which
+-- eight are its payload.
 pub record HasShort (c : Command) (l : LinkState) (w : Wanted) : Type 0 where
   pub live : IsOpen l
   pub room : 24 ≤ length l.input.bytes
@@ -61,7 +64,8 @@ abbrev pub FirstShort : Command → LinkState → Option Wanted → Type 0
 FirstShort c l (Some w) = HasShort c l w
 FirstShort c l None = IsOpen l → NoShort l.input.bytes c
 
--- `queue`: a message of a caller waits after the others, unless as many bytes wait as may. It takes memory.
+-- `queue`: a message of a caller waits after the others, unless as many bytes wait as
+-- may. It takes memory.
 abbrev pub Queues : Fields → LinkState → Result (Unit {0}) Refusal → LinkState → Type 0
 Queues m old (Ok _) new = IsOpen old × (length old.output < output_limit) × (new ≡ with_sent (m ∷ []) old)
 Queues m old (Err refusal.CircuitClosed) new = IsClosed old × (new ≡ old)

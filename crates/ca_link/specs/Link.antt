@@ -1,4 +1,5 @@
--- Vocabulary: an end's two streams of bytes on a circuit, and its moments (sections "Virtual Circuit" and "CA_PROTO_ECHO").
+-- Vocabulary: an end's two streams of bytes on a circuit, and its moments (sections "Virtual
+-- Circuit" and "CA_PROTO_ECHO").
 use Rattle.std.specs.Prelude.{ℕ, ◌≡◌, ◌-◌, ◌&&◌, ◌++◌, Bool, false, true, not, List, [], drop, if◌then◌else◌, length, nat_le, take}
 use Rattle.ca_text.specs.Limits.{close_silence, echo_silence}
 use Rattle.ca_wire.specs.Fields.{Fields}
@@ -9,8 +10,8 @@ use Rattle.ca_link.specs.declared.keep.Keep.{Keep}
 use Rattle.ca_link.specs.declared.keep.Keep.TheVariants.{Close, Echo, Idle}
 use Rattle.ca_link.specs.declared.mark.Mark.{Mark}
 
--- What came and was not read, and whether a bad header was met; what waits to be sent; the moment at which bytes came last; and whether
--- an ECHO went out since.
+-- What came and was not read, and whether a bad header was met; what waits to be sent; the moment
+-- at which bytes came last; and whether an ECHO went out since.
 pub record LinkState : Type 0 where
   pub input : Held
   pub output : List ℕ

@@ -1,6 +1,6 @@
-//! One end of a circuit, by its bytes and its moments; and where a circuit's bytes come from and go to: a source and a
-//! sink, which count their calls and their faults. And how a run over them ends: its exit status, and the line that tells
-//! a refusal.
+//! One end of a circuit, by its bytes and its moments; and where a circuit's bytes come from and go
+//! to: a source and a sink, which count their calls and their faults. And how a run over them ends:
+//! its exit status, and the line that reports a refusal.
 #![tactic(auto)]
 
 mod fused;

@@ -12,7 +12,8 @@ use ca_wire::{Alone, Deframer, Done, Message, Payload, Pipe, Wanted};
 use std::alloc::Global;
 use std::marker::Model;
 
-/// One end of an open circuit: what came and was not read, what waits to be sent, and since when no bytes came.
+/// One end of an open circuit: what came and was not read, what waits to be sent, and
+/// since when no bytes came.
 ///
 /// After 2 or 3 it answers 17 from then on. Any other refusal leaves it as it was.
 #[derive(Debug, Drop)]
@@ -66,7 +67,7 @@ impl Link {
         Ok(())
     }
 
-    /// Takes the memory of the spare rows, where it has none.
+    /// Takes the memory of the spare rows, if it has none.
     pub fn borrow_from(&mut self, spares: &mut Spares)
         ensures { self.new ≡ self.old }
     {
@@ -92,8 +93,9 @@ impl Link {
         self.input.next_message()
     }
 
-    /// Takes the first message as `next_message` does, if it is complete, of this command, and its header, in 16 bytes, is all of it. Such a
-    /// message needs no memory. None leaves all as it was.
+    /// Takes the first message as `next_message` does, if it is complete, of this command,
+    /// and its header, in 16 bytes, is all of it. Such a message needs no memory. None
+    /// leaves all as it was.
     #[inline(always)]
     pub fn next_bare(&mut self, command: Command) -> Option<Wanted>
         ensures { NextsBare command self.old result self.new }
@@ -101,8 +103,8 @@ impl Link {
         self.input.next_bare(command)
     }
 
-    /// What the first message names, if it is complete, of this command, and is a header in 16 bytes and a payload of eight. It stays there,
-    /// where its payload can be read without memory.
+    /// What the first message names, if it is complete, of this command, and is a header in 16
+    /// bytes and a payload of eight. It stays there if its payload can be read without memory.
     #[inline(always)]
     pub fn first_short(&self, command: Command) -> Option<Wanted>
         ensures { FirstShort command self.now result }
@@ -142,7 +144,8 @@ impl Link {
 
     /// Puts a message of a caller after what waits.
     ///
-    /// Refused as CircuitClosed, as OutputFull if as many bytes wait as may, and as OutOfMemory, since a message takes memory.
+    /// Refused as CircuitClosed, as OutputFull if as many bytes wait as may, and as OutOfMemory,
+    /// since a message takes memory.
     pub fn queue(&mut self, message: &Message) -> Result<(), Refusal>
         ensures { Queues message.now self.old result self.new }
     {
@@ -193,8 +196,8 @@ impl Link {
         Ok(())
     }
 
-    /// Puts a message after what waits, however much that is, with this payload of n bytes. It is made in its
-    /// place.
+    /// Puts a message after what waits, however much that is, with this payload of n bytes. It
+    /// is made in its place.
     ///
     /// Refused as CircuitClosed, as OutOfMemory before the payload is made, or as the payload is.
     pub fn queue_made<P: Payload>(
@@ -213,7 +216,8 @@ impl Link {
         self.output.put_made(head, size, payload)
     }
 
-    /// Only the first n of the bytes that wait still wait: what was queued after them is taken back.
+    /// Only the first n of the bytes that wait still wait: what was queued
+    /// after them is taken back.
     pub fn truncate(&mut self, n: usize)
         ensures { self.new ≡ record self.old { output = take n self.old.output } }
     {

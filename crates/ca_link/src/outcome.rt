@@ -7,14 +7,15 @@ use std::io::Write;
 /// The exit status of a line that is not understood.
 const NOT_UNDERSTOOD: u8 = 2;
 
-/// The exit status of an outcome, whose refusal is told on `err`: `refused: `, its number, its name.
+/// The exit status of an outcome, whose refusal is told on `err`: `refused: `,
+/// its number, its name.
 pub fn report<W: Write>(outcome: Result<(), Refusal>, err: &mut W) -> u8
     ensures { result ≡ status_of outcome }
 {
     match outcome {
         Ok(()) => 0,
         Err(refusal) => {
-            // Where this cannot be written the status alone tells.
+            // If this cannot be written the status alone tells.
             let _told = writeln!(err, "refused: {refusal}");
             1
         }
@@ -25,7 +26,7 @@ pub fn report<W: Write>(outcome: Result<(), Refusal>, err: &mut W) -> u8
 pub fn not_understood<W: Write>(err: &mut W) -> u8
     ensures { result ≡ not_understood_status }
 {
-    // Where this cannot be written the status alone tells.
+    // If this cannot be written the status alone tells.
     let _told = writeln!(err, "not understood");
     NOT_UNDERSTOOD
 }

@@ -2,7 +2,8 @@ ghost use Rattle.std.specs.Prelude.{◌≡◌, []};
 
 use std::alloc::Global;
 
-/// Memory for the bytes of one link, which many links have in turn: one without bytes need keep none.
+/// Memory for the bytes of one link, which many links have in turn: one without
+/// bytes need keep none.
 #[derive(Debug, Drop)]
 pub struct Spares {
     pub(crate) input: Vec<u8>,

@@ -119,7 +119,7 @@ without-absent [] i none = refl
 without-absent (x ∷ xs) i none =
     rw (ne_eqb x i (none 0 (omega arith))) (ap (λ (ys : List ℕ). x ∷ ys) (without-absent xs i (λ j within. none (suc j) (omega (arith, within)))))
 
--- a place that it would go to tells that it is at none
+-- a place that it would go to says that it is at none
 pub absent-at : (xs : List ℕ) (i k : ℕ) → ((j : ℕ) → j < k → slice_index_or xs j 0 < i) → ((j : ℕ) → k ≤ j → j < length xs → i < slice_index_or xs j 0) → (j : ℕ) → j < length xs → slice_index_or xs j 0 ≡ i → ⊥
 absent-at xs i k below above j within same = elim (cases_lt j k) [
   | inl less ↦ (let lower = below j less in omega (arith, lower, same))

@@ -36,7 +36,7 @@ fn main(rt: HostRuntime) -> ExitCode {
     ExitCode::from(status)
 }
 
-/// The words after the program's name: none where one of them is no text.
+/// The words after the program's name: none if one of them is no text.
 fn words(rt: &HostRuntime) -> Result<Option<Vec<String>>, Refusal> {
     let all = match env::args(rt) {
         Ok(all) => all,

@@ -1,4 +1,5 @@
--- What the messages that a client reads keep of its channels' places, and its search replies, and a circuit that is connected.
+-- What the messages that a client reads keep of its channels' places, and its search replies, and a
+-- circuit that is connected.
 use Rattle.std.proofs.Common.{◌≡◌, ℕ, inl, inr, Bool, true, false, ◌&&◌, cond, eqb, List, [], ◌∷◌, Option, Some, None, refl, sym, ap, ◌∙◌, subst}
 use Rattle.std.specs.Prelude.{is_none, option_and_then, option_map, unwrap_or}
 use Rattle.std.proofs.lemmas.Bool.{and_from, both_ways}
@@ -91,7 +92,7 @@ module _ (c : Handle) (x : Client) where
       let found = channel-on x c m.p1 h Doomed at in
       keeps-doing x (without_channel x h) [] [] e is (keeps-gone h x (bare-so h found.0 Doomed found.1 found.3 refl))
 
-  -- the ids of a channel drain no more
+  -- the ids of a channel no longer drain
   pub drained-keeps : (h : Handle) → Keeps x (without_drained c h x)
   drained-keeps h =
       let test : Subscription → Bool = λ (s : Subscription). is_to h s && drains_in c s.stage in
@@ -199,7 +200,7 @@ circuit-there address priority x e is =
     let f = find-at (λ (w : Handle × ClientCircuit). same_address w.1.address address && eqb w.1.priority priority) (held x.circuits) e is in
     held-under x.circuits f.0 e f.1
 
--- a channel that is searched for stands on a circuit: it waits if that is not connected
+-- a channel that is searched for is on a circuit: it waits if that is not connected
 pub found-keeps : (x : Client) (c h : Handle) (p : Phase) (here : Channel) → under x.channels h ≡ Some here → here.standing ≡ Searching → is_connecting p ≡ is_none (connection_at x c) → Keeps x (found_on c p h x)
 found-keeps x c h p here there searched waits =
     let y : Client = with_standing (On c p) h x in

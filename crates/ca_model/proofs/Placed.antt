@@ -1,4 +1,5 @@
--- What a change of a client keeps of its channels' places: one relation, and a line for each change.
+-- What a change of a client keeps of its channels' places: one relation, and a
+-- line for each change.
 use Rattle.std.proofs.Common.{◌≡◌, inl, inr, ◌⊎◌, Bool, true, false, List, [], ◌∷◌, Option, Some, None, refl, sym, ap, ◌∙◌, subst}
 use Rattle.std.specs.Prelude.{is_none, option_and_then, option_map, unwrap_or}
 use Rattle.std.proofs.lemmas.Bool.{both_ways}
@@ -102,13 +103,14 @@ pub keeps-sending : (sends : List Sending) (x : Client) → Keeps x (sending sen
 keeps-sending [] x = keeps-itself x
 keeps-sending (s ∷ sends) x = keeps-then x (with_one_sent x s) (sending sends (with_one_sent x s)) (keeps-on _ s.circuit x) (keeps-sending sends (with_one_sent x s))
 
--- ---- a channel stands elsewhere
+-- ---- a channel is elsewhere
 
 -- a test of where a channel stands
 abbrev pub stands-in-test : (Phase → Bool) → Handle → Standing → Bool
 stands-in-test test on s = unwrap_or (option_map test (phase_on on s)) false
 
--- A channel stands here now: it was not live, or is still taken for one that was; and it waits if its circuit is not connected.
+-- A channel is here now: it was not live, or is still taken for one that was; and it waits if its
+-- circuit is not connected.
 pub keeps-stood : (s : Standing) (h : Handle) (x : Client)
     → (IsPlaced x → (ch : Channel) → under x.channels h ≡ Some ch → ((on : Handle) → is_on_in was_live on ch ≡ true → stands-in-test was_live on s ≡ true) × ((c : Handle) (p : Phase) → s ≡ On c p → is_connecting p ≡ is_none (connection_at x c)))
     → Keeps x (with_standing s h x)

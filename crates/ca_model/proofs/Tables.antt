@@ -1,4 +1,5 @@
--- Tables of wire ids: what holds an id after each change, and that an id that may be given is held by nothing.
+-- Tables of wire ids: what holds an id after each change, and that an id that may be
+-- given is held by nothing.
 use Rattle.std.proofs.Common.{◌≡◌, ℕ, zero, suc, ◌+◌, ◌%◌, ◌<◌, ◌≤◌, ◌⊎◌, inl, inr, Bool, true, false, cond, eqb, List, [], ◌∷◌, ◌++◌, length, Option, Some, None, refl, sym, ap, ◌∙◌, subst, arith}
 use Rattle.std.specs.Prelude.{find, is_some, option_map, option_to_list, slice_set}
 use Rattle.std.proofs.lemmas.Bool.{both_ways, eq-eqb, eqb-true}

@@ -1,4 +1,5 @@
--- Tables in which nothing new holds an id, and no generation goes back: what names a table gave stay so.
+-- Tables in which nothing new holds an id, and no generation goes back: what names
+-- a table gave stay so.
 use Rattle.std.proofs.Common.{◌≡◌, ℕ, ◌+◌, ◌<◌, ◌≤◌, ◌⊎◌, zero, suc, inl, inr, Bool, List, true, false, cond, eqb, [], ◌∷◌, ◌++◌, length, Option, Some, None, refl, sym, ap, ◌∙◌, subst, arith}
 use Rattle.std.specs.Prelude.{is_some, option_map, slice_set}
 use Rattle.std.proofs.lemmas.List.{get_or_past, length-map}

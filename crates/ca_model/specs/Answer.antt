@@ -1,5 +1,6 @@
--- Vocabulary: what one circuit's engine writes for the messages that it read: for each, its replies, then the replies of finishes, and
--- then the updates of one pump (section "Overall Server Operation"). It is the contract of `answer_stream`.
+-- Vocabulary: what one circuit's engine writes for the messages that it read: for each, its
+-- replies, then the replies of finishes, and then the updates of one pump (section "Overall Server
+-- Operation"). It is the contract of `answer_stream`.
 use Rattle.std.specs.Prelude.{ℕ, ◌≡◌, ◌++◌, Bool, false, List, [], ◌∷◌, None, Ok, length}
 use Rattle.std.specs.List.{FoldsTo}
 use Rattle.ca_arena.specs.declared.handle.Handle.{Handle}
@@ -23,8 +24,9 @@ AllIdle y = (r : Record) → In y.records r → r.busy ≡ None
 abbrev pub FinishesOne : Server → List ℕ → Server → Type 0
 FinishesOne old name new = (sent : List (Handle × Fields)) × Finishes old name sent (Ok tt) new
 
--- The message is handled on this circuit, all busy records are finished, and updates are pumped once. What came and was not read, and when
--- bytes came, plays no part in what is answered: the circuit may have any of it.
+-- The message is handled on this circuit, all busy records are finished, and updates are pumped
+-- once. What came and was not read, and when bytes came, plays no part in what is answered: the
+-- circuit may have any of it.
 pub record Serves (h : Handle) (old : Server) (m : Fields) (new : Server) : Type 0 where
   pub e : ServerEnd
   pub has : HasEnd old h e
@@ -56,13 +58,15 @@ pub record Writes (h : Handle) (old : Server) (m : Fields) (text : List ℕ) (ne
   pub is : text ≡ e.link.output
   pub leaves : new ≡ with_end h (record e { link = with_handed (length e.link.output) e.link }) served
 
--- For these messages in a row this text is written, and new is left. It is the text of all of them, in whatever pieces it goes out.
+-- For these messages in a row this text is written, and new is left. It is the text of all of them,
+-- in whatever pieces it goes out.
 abbrev pub Answers : Handle → Server → List Fields → List ℕ → Server → Type 0
 Answers h old [] text new = (text ≡ []) × (new ≡ old)
 Answers h old (m ∷ ms) text new =
     (first : List ℕ) × (rest : List ℕ) × (mid : Server) × Writes h old m first mid × Answers h mid ms rest new × (text ≡ first ++ rest)
 
--- These messages are answered by this text, as the first on the first circuit of a server with these records under these rules.
+-- These messages are answered by this text, as the first on the first circuit of a server with
+-- these records under these rules.
 pub record Answered (rules : List Rule) (states : List RecordState) (ms : List Fields) (text : List ℕ) : Type 0 where
   pub h : Handle
   pub start : Server

@@ -6,8 +6,8 @@ use Rattle.ca_arena.specs.declared.handle.Handle.{Handle}
 use Rattle.ca_model.specs.Client.{Client, On, Phase, Standing, standing_at}
 use Rattle.ca_model.specs.Client as phase
 
--- A channel is searched for, waits for its circuit, is being created, or has lost its record; or it is live, with its native type, its
--- greatest count and its access rights.
+-- A channel is searched for, waits for its circuit, is being created, or has lost its record; or it
+-- is live, with its native type, its greatest count and its access rights.
 pub data ChannelState : Type 0 where
   Searching Connecting Creating Leaving : ChannelState
   Live : ℕ → ℕ → ℕ → ChannelState

@@ -1,5 +1,5 @@
--- Statement: what is read off the lists: which message is whose, which channels are open or live, which writes were
--- applied.
+-- Statement: what is read off the lists: which message is whose, which channels are open or live,
+-- which writes were applied.
 use Rattle.std.specs.Prelude.{ℕ, ◌≡◌, ◌<◌, ◌≤◌, ◌++◌, ◌⊎◌, Bool, true, false, List, [], Option, Some, None, Ok}
 use Rattle.std.specs.Prelude.{length, map, option_map, slice_get, take, unwrap_or}
 use Rattle.ca_text.specs.declared.command.Command.TheVariants as command
@@ -40,7 +40,8 @@ Asks (Request Write number) m = Is command.Write m
 Asks (Subscribe number) m = Is command.EventAdd m
 Asks (Cancel number) m = Is command.EventCancel m
 
--- A message is of the kind that its intent says; one that serves the circuit asks nothing on a channel.
+-- A message is of the kind that its intent says; one that serves the circuit asks
+-- nothing on a channel.
 abbrev pub Suits : Intent → Fields → Type 0
 Suits (On channel ask) m = Asks ask m
 Suits OfCircuit m = (ask : Ask) → Asks ask m → ⊥
@@ -64,7 +65,8 @@ IsUse (On channel (Request kind number)) = Unit {0}
 IsUse (On channel (Subscribe number)) = Unit {0}
 IsUse intent = ⊥
 
--- By these lines the caller has not ended what it meant: it cleared no such channel and cancelled no such subscription.
+-- By these lines the caller has not ended what it meant: it cleared no such channel and cancelled
+-- no such subscription.
 abbrev pub IsHeld : List Line → Intent → Type 0
 IsHeld x (On channel (Subscribe number)) =
     (In x (Called (On channel Clear) None) → ⊥) × (In x (Called (On channel (Cancel number)) None) → ⊥)
@@ -79,7 +81,8 @@ named (SubId id) (On channel (Subscribe number)) = Some number
 named (SubId id) (On channel (Cancel number)) = Some number
 named id intent = None
 
--- How many messages the client had sent when it read the one at place j; or has sent by now, if it has not read it.
+-- How many messages the client had sent when it read the one at place j; or has sent by now,
+-- if it has not read it.
 abbrev pub until : Circuit → ℕ → ℕ
 until c j = unwrap_or (option_map (λ (h : Step). h.sent) (slice_get c.heard j)) (length c.up)
 
@@ -103,8 +106,8 @@ updates c = map (λ (t : Told). (t.place, t.cause)) c.down ++ c.queued
 abbrev pub IsReply : Circuit → (k j : ℕ) → Fields → Type 0
 IsReply c k j m = At c.down j (record { message = m; place = k; cause = Reply })
 
--- The steps of an end: one for each of the first messages that came to it, in order; each within what it sent and
--- logged.
+-- The steps of an end: one for each of the first messages that came to it, in order; each within
+-- what it sent and logged.
 pub record AreSteps {A B C : Type 0} (steps : List Step) (came : List A) (sent : List B) (log : List C) : Type 0 where
   pub one_each : length steps ≤ length came
   pub within : (k : ℕ) (h : Step) → At steps k h → (h.sent ≤ length sent) × (h.logged ≤ h.after)
@@ -117,7 +120,8 @@ pub record AreSteps {A B C : Type 0} (steps : List Step) (came : List A) (sent :
 abbrev pub Has : List Entry → (r : ℕ) → (name : List ℕ) → Type 0
 Has y r name = (s : RecordState) × In y (Added r s) × (s.name ≡ name) × (In y (Removed r) → ⊥)
 
--- A channel is opened once. A record is added once, when no other has its name, and removed only while it is there.
+-- A channel is opened once. A record is added once, when no other has its name, and removed
+-- only while it is there.
 pub record KeepNames (x : List Line) (y : List Entry) : Type 0 where
   pub one_name : (i j channel : ℕ) (a b : List ℕ) → At x i (Opened channel a) → At x j (Opened channel b) → i ≡ j
   pub one_record : (i j r : ℕ) (a b : RecordState) → At y i (Added r a) → At y j (Added r b) → i ≡ j
@@ -128,19 +132,22 @@ pub record KeepNames (x : List Line) (y : List Entry) : Type 0 where
 abbrev pub IsNamed : List Line → List Entry → (channel r : ℕ) → Type 0
 IsNamed x y channel r = (s : RecordState) × In x (Opened channel s.name) × In y (Added r s)
 
--- The CREATE_CHAN at place k was answered at place j with this SID, for record r, which the server had under its name.
+-- The CREATE_CHAN at place k was answered at place j with this SID, for record r, which the
+-- server had under its name.
 abbrev pub Created : Circuit → List Entry → (j k sid r : ℕ) → Type 0
 Created c y j k sid r =
     (t : Told) × (s : Sent) × (h : Step) × At c.down j t × (t.place ≡ k) × (t.cause ≡ Reply) × Creates t.message sid
     × At c.up k s × At c.handled k h × Has (take h.logged y) r (name_in s.message)
 
--- The channel so created is open: no other was created under its SID later, and no CLEAR_CHANNEL of it was handled.
+-- The channel so created is open: no other was created under its SID later, and no
+-- CLEAR_CHANNEL of it was handled.
 abbrev pub IsOpen : Circuit → List Entry → (j k sid r : ℕ) → Type 0
 IsOpen c y j k sid r =
     Created c y j k sid r × ((i : ℕ) (t : Told) → j < i → At c.down i t → Creates t.message sid → ⊥)
     × ((l : ℕ) (s : Sent) → k < l → l < length c.handled → At c.up l s → Clears s.message sid → ⊥)
 
--- When the server's log had n entries, it had handled a CLEAR_CHANNEL of this SID that was sent after place k.
+-- When the server's log had n entries, it had handled a CLEAR_CHANNEL of this SID that
+-- was sent after place k.
 abbrev pub IsCleared : Circuit → (k sid logged : ℕ) → Type 0
 IsCleared c k sid logged =
     (l : ℕ) × (s : Sent) × (h : Step) × (k < l) × At c.up l s × At c.handled l h × (h.logged ≤ logged)
@@ -150,8 +157,8 @@ IsCleared c k sid logged =
 abbrev pub IsUncleared : Circuit → (k sid logged : ℕ) → Type 0
 IsUncleared c k sid logged = IsCleared c k sid logged → ⊥
 
--- The channel is live at the client: its creation was read, no CLEAR_CHANNEL of it was sent since, and the client's end
--- is open.
+-- The channel is live at the client: its creation was read, no CLEAR_CHANNEL of it was sent since,
+-- and the client's end is open.
 abbrev pub IsLive : Circuit → (channel j k sid : ℕ) → Type 0
 IsLive c channel j k sid =
     (t : Told) × Meant c k (On channel Create) × At c.down j t × (t.place ≡ k) × (t.cause ≡ Reply)
@@ -162,8 +169,8 @@ IsLive c channel j k sid =
 abbrev pub IsUnread : Circuit → (k : ℕ) → Type 0
 IsUnread c k = (j : ℕ) × (t : Told) × At c.down j t × (t.place ≡ k) × (t.cause ≡ Removal) × (length c.heard ≤ j)
 
--- The subscription of the EVENT_ADD s lasts: the server's end is open, record r is there, and no cancel or clear was
--- handled.
+-- The subscription of the EVENT_ADD s lasts: the server's end is open, record r is there, and no
+-- cancel or clear was handled.
 abbrev pub Lasts : Circuit → List Entry → (k r : ℕ) → Sent → Type 0
 Lasts c y k r s =
     (c.server_open ≡ true) × (In y (Removed r) → ⊥)
@@ -171,24 +178,26 @@ Lasts c y k r s =
 
 -- ---- writes and endings
 
--- The write at place k of circuit n is applied, at entry i of the log of server life l, to record r with this value.
+-- The write at place k of circuit n is applied, at entry i of the log of server life l, to
+-- record r with this value.
 abbrev pub IsApplied : World → (n k l i r : ℕ) → Stored → Type 0
 IsApplied w n k l i r v = (y : List Entry) × (busies : Bool) × At w.servers l y × At y i (Applied n k r v busies)
 
--- Entry i was made when the message at place k was handled; or after all that were, as the server's end closed on it.
+-- Entry i was made when the message at place k was handled; or after all that were, as the
+-- server's end closed on it.
 abbrev pub IsTaken : Circuit → (k i : ℕ) → Type 0
 IsTaken c k i =
     ((h : Step) × At c.handled k h × (h.logged ≤ i) × (i < h.after))
     ⊎ ((k ≡ length c.handled) × (c.server_open ≡ false) × ((l : ℕ) (g : Step) → At c.handled l g → g.after ≤ i))
 
--- The put at place k of circuit n came to wait for record r when it was handled, before entry i, and was never
--- withdrawn.
+-- The put at place k of circuit n came to wait for record r when it was handled, before entry i,
+-- and was never withdrawn.
 abbrev pub HasWaited : (n : ℕ) → Circuit → List Entry → (k i r : ℕ) → Type 0
 HasWaited n c y k i r =
     (e : ℕ) × (v : Stored) × At y e (Waits n k r v) × (e < i) × IsTaken c k e × (In y (Withdrawn n k) → ⊥)
 
--- The put at place k of circuit n is dropped at entry i: it had come to wait before; and its record was removed, its
--- channel was cleared, or the server's end of its circuit closed.
+-- The put at place k of circuit n is dropped at entry i: it had come to wait before; and its record
+-- was removed, its channel was cleared, or the server's end of its circuit closed.
 pub record IsDropped (w : World) (n k l i : ℕ) (y : List Entry) : Type 0 where
   pub c : Circuit
   pub on : At w.circuits n c × (c.server ≡ l)
@@ -200,9 +209,9 @@ pub record IsDropped (w : World) (n k l i : ℕ) (y : List Entry) : Type 0 where
   pub at : At c.up k s
   pub why : In (take i y) (Removed r) ⊎ (IsCleared c k (sid_in s.message) i ⊎ (c.server_open ≡ false))
 
--- A write that is applied at entry i has the value that its caller gave, in the type of its record; the record was
--- there then, under the name of the caller's channel; and it was applied when it was handled, or the server's end
--- closed on it, or after it had waited.
+-- A write that is applied at entry i has the value that its caller gave, in the type of its record;
+-- the record was there then, under the name of the caller's channel; and it was applied when it was
+-- handled, or the server's end closed on it, or after it had waited.
 pub record IsOwnWrite (w : World) (n k l i r : ℕ) (v : Stored) : Type 0 where
   pub c : Circuit
   pub x : List Line
@@ -217,19 +226,21 @@ pub record IsOwnWrite (w : World) (n k l i r : ℕ) (v : Stored) : Type 0 where
   pub value : converted given (base_of to.value) ≡ Ok v.value
   pub came : IsTaken c k i ⊎ HasWaited n c y k i r
 
--- Until entry e the put at place k of circuit n made its record busy: it was applied before, and no other made the
--- record busy since.
+-- Until entry e the put at place k of circuit n made its record busy: it was applied before, and no
+-- other made the record busy since.
 abbrev pub IsBusyUntil : List Entry → (n k e : ℕ) → Type 0
 IsBusyUntil y n k e =
     (i r : ℕ) × (v : Stored) × At y i (Applied n k r v true) × (i < e)
     × ((j m l : ℕ) (u : Stored) → i < j → j < e → At y j (Applied m l r u true) → ⊥)
 
--- The put s at place k of circuit n was finished, before any CLEAR_CHANNEL of its channel was handled.
+-- The put s at place k of circuit n was finished, before any CLEAR_CHANNEL of its
+-- channel was handled.
 abbrev pub IsFinished : (n : ℕ) → Circuit → List Entry → (k : ℕ) → Sent → Type 0
 IsFinished n c y k s = (e : ℕ) × At y e (Finished n k) × IsBusyUntil y n k e × IsUncleared c k (sid_in s.message) e
 
--- What was meant so is lost in line i: its client's end has ended, or its channel was cleared before, or in the step
--- that told line i a SERVER_DISCONN was read for the creation of its channel after which it was sent.
+-- What was meant so is lost in line i: its client's end has ended, or its channel was cleared
+-- before, or in the step that told line i a SERVER_DISCONN was read for the creation of its channel
+-- after which it was sent.
 abbrev pub IsLost : World → (life : ℕ) → List Line → (i : ℕ) → Intent → Type 0
 IsLost w life x i intent =
     (n k channel : ℕ) × (ask : Ask) × (c : Circuit) × At w.circuits n c × (c.client ≡ life) × (intent ≡ On channel ask)

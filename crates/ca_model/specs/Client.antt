@@ -1,4 +1,5 @@
--- Vocabulary: the state of a client, and the changes that its calls share (sections "Channels" and "Virtual Circuit").
+-- Vocabulary: the state of a client, and the changes that its calls share (sections "Channels"
+-- and "Virtual Circuit").
 use Rattle.std.specs.Prelude.{ℕ, ◌==◌, ◌&&◌, ◌++◌, Bool, true, false, not, List, [], ◌∷◌, Option, Some, None, filter, filter_map, find, fold, if◌then◌else◌, map, max, option_and_then, option_map, unwrap_or}
 use Rattle.ca_dbr.specs.declared.value.Outcome.TheVariants as outcome
 use Rattle.ca_arena.specs.declared.handle.Handle.{Handle}
@@ -19,15 +20,17 @@ use Rattle.ca_model.specs.Answers as notice
 
 -- ---- channels
 
--- what the reply to a CREATE_CHAN says of a channel: its SID, its native type and its greatest count ("CA_PROTO_CREATE_CHAN")
+-- what the reply to a CREATE_CHAN says of a channel: its SID, its native type and its greatest
+-- count ("CA_PROTO_CREATE_CHAN")
 pub record Native : Type 0 where
   pub sid : ℕ
   pub data_type : ℕ
   pub count : ℕ
 
--- How far a channel is on its circuit. It waits for the circuit to be connected; it is being created, with the access rights that came
--- so far, or is live, with those that came last. Its record was removed (Leaving), or its caller cleared it (Clearing), and its clear is
--- not answered. Or its caller cleared it while it was being created (Doomed).
+-- How far a channel is on its circuit. It waits for the circuit to be connected; it is being
+-- created, with the access rights that came so far, or is live, with those that came last. Its
+-- record was removed (Leaving), or its caller cleared it (Clearing), and its clear is not answered.
+-- Or its caller cleared it while it was being created (Doomed).
 pub data Phase : Type 0 where
   Connecting : Phase
   Creating : ℕ → Phase
@@ -52,16 +55,19 @@ pub record Connection : Type 0 where
   pub link : LinkState
   pub run : ReadRun
 
--- A circuit to an address, under a priority: it is a name server's, or channels want it. It has an end once it is connected.
+-- A circuit to an address, under a priority: it is a name server's, or channels want it. It has an
+-- end once it is connected.
 pub record ClientCircuit : Type 0 where
   pub address : Address
   pub priority : ℕ
   pub is_name : Bool
   pub connection : Option Connection
 
--- A client: how it names itself; the servers to which searches go in datagrams; the moment given last; its tables of CIDs, IOIDs and
--- subscription ids; its circuits, and these in order: those of name servers, in the order of their list, and then the others, in the order
--- in which they came to be wanted; its open requests, in order of issue; the channels that it searches, by CID; and the beacons that it heard.
+-- A client: how it names itself; the servers to which searches go in datagrams; the moment given
+-- last; its tables of CIDs, IOIDs and subscription ids; its circuits, and these in order: those of
+-- name servers, in the order of their list, and then the others, in the order in which they came to
+-- be wanted; its open requests, in order of issue; the channels that it searches, by CID; and the
+-- beacons that it heard.
 pub record Client : Type 0 where
   pub peer : Peer
   pub servers : List Address
@@ -182,7 +188,8 @@ let_go c d x = if d.is_name then disconnected c x else without_circuit c x
 
 -- ---- requests
 
--- the client with these requests, of which those that were issued are still in their order while they are open
+-- the client with these requests, of which those that were issued are still in their
+-- order while they are open
 abbrev pub with_requests : Table Request → Client → Client
 with_requests t x = record x { requests = t; issued = in_order_of_issue (λ (q : Request). true) t x.issued }
 
@@ -197,8 +204,8 @@ abbrev pub channels_on : (Phase → Bool) → Handle → Client → List Handle
 channels_on test c x =
     filter_map (λ (e : Handle × Channel). if is_on_in test c e.1 then Some e.0 else None) (held x.channels)
 
--- What a client reports when its end of a circuit ends: its requests complete with Disconnected, in order of issue, and then each live
--- channel is lost, in order of index.
+-- What a client reports when its end of a circuit ends: its requests complete with Disconnected, in
+-- order of issue, and then each live channel is lost, in order of index.
 abbrev pub farewell : Handle → Client → List Notice
 farewell c x = disconnections (was_sent_on c) x ++ map notice.Lost (channels_on is_live c x)
 
@@ -210,11 +217,13 @@ closing why c x = record { why = why; notices = farewell c x; left = out_bytes x
 abbrev pub without_ids : Handle → Client → Client
 without_ids c x = with_requests (request.circuit_gone c x.requests) (record x { subscriptions = monitor.circuit_gone c x.subscriptions })
 
--- The channels of a circuit that has ended: those that were cleared are gone, the others are searched for again.
+-- The channels of a circuit that has ended: those that were cleared are gone, the others
+-- are searched for again.
 abbrev pub channels_ended : Handle → Client → Client
 channels_ended c x =
     fold searched_again (fold without_channel x (channels_on is_cleared c x)) (channels_on (λ (p : Phase). not (is_cleared p)) c x)
 
--- The end of this circuit has ended: its channels are searched for again, its ids are free, and subscriptions stay.
+-- The end of this circuit has ended: its channels are searched for again, its ids are free,
+-- and subscriptions stay.
 abbrev pub ended : Handle → Client → Client
 ended c x = unwrap_or (option_map (λ (d : ClientCircuit). let_go c d (channels_ended c (without_ids c x))) (under x.circuits c)) x

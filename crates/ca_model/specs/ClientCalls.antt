@@ -1,5 +1,6 @@
--- Vocabulary: what the calls of a client's user answer and leave (section "Overall Client Operation"). Each definition by answer is the
--- contract of the call that its comment names: from old, with this answer, it sent these messages and left new.
+-- Vocabulary: what the calls of a client's user answer and leave (section "Overall Client
+-- Operation"). Each definition by answer is the contract of the call that its comment names: from
+-- old, with this answer, it sent these messages and left new.
 use Rattle.std.specs.Prelude.{ℕ, ◌≡◌, ◌<◌, ◌≤◌, ◌==◌, ◌||◌, ◌++◌, Bool, true, false, not, List, [], ◌∷◌, Option, Some, None, Result, Ok, Err, find, if◌then◌else◌, filter_map, is_none, length, nat_le, nat_lt, option_and_then, option_map, unwrap_or}
 use Rattle.ca_text.specs.declared.command.Command.TheVariants as command
 use Rattle.ca_text.specs.declared.refusal.Refusal.{Refusal}
@@ -80,7 +81,8 @@ IsLive x h l = standing_at x h ≡ Some (On l.circuit (phase.Live l.native l.rig
 abbrev pub first_refusal : List (Bool × Refusal) → Option Refusal
 first_refusal faults = option_map (λ (f : Bool × Refusal). f.1) (find (λ (f : Bool × Refusal). f.0) faults)
 
--- The first fault of a call on a channel: a stale handle, a channel that is not live, or one of those of a live one.
+-- The first fault of a call on a channel: a stale handle, a channel that is not live, or one of
+-- those of a live one.
 abbrev pub fault_at : (LiveChannel → List (Bool × Refusal)) → Option Standing → Option Refusal
 fault_at faults None = Some refusal.StaleHandle
 fault_at faults (Some (On c (phase.Live n rights))) = first_refusal (faults (record { circuit = c; native = n; rights = rights }))
@@ -90,7 +92,8 @@ fault_at faults (Some s) = Some refusal.NotLive
 abbrev pub is_over : Client → Handle → Bool
 is_over x c = nat_le output_limit (length (out_bytes x c))
 
--- the elements that are asked for: of this type, and this many; a count of 0 asks for those that there are
+-- the elements that are asked for: of this type, and this many; a count of 0 asks for
+-- those that there are
 pub record Shape : Type 0 where
   pub data_type : ℕ
   pub count : ℕ
@@ -222,7 +225,8 @@ abbrev pub cancel_sent : Handle → Subscription → Option Standing → List Se
 cancel_sent s d (Some (On c (phase.Live n rights))) = event_cancel_sent c n.sid s d ∷ []
 cancel_sent s d there = []
 
--- Its id drains until the confirmation, or, on a channel that its record left, until the clear's reply; else it is free.
+-- Its id drains until the confirmation, or, on a channel that its record left, until the clear's
+-- reply; else it is free.
 abbrev pub unsubscribed : Handle → Option Standing → Client → Client
 unsubscribed s (Some (On c (phase.Live n rights))) x =
     record x { subscriptions = with_stage (monitor.Cancelled c) s x.subscriptions }
@@ -264,7 +268,7 @@ abbrev pub clearing_sent : Handle → Standing → List Sending
 clearing_sent h (On c (phase.Live n rights)) = clear_sent c n.sid h ∷ []
 clearing_sent h s = []
 
--- a circuit that is not connected, and on which no channel is any more, is let go
+-- a circuit that is not connected, and that no channel is on any more, is dropped
 abbrev pub unwanted : Handle → Client → Client
 unwanted c x =
     if length (channels_on (λ (p : Phase). true) c x) == 0
@@ -280,14 +284,16 @@ abbrev pub all_over : Handle → Handle → Client → Client
 all_over c h x =
     with_requests (request.channel_over h x.requests) (record x { subscriptions = monitor.channel_over c h x.subscriptions })
 
--- A cleared channel is gone if nothing of it is on the way. Else its CID drains, and if it was live its other ids too.
+-- A cleared channel is gone if nothing of it is on the way. Else its CID drains, and if it was
+-- live its other ids too.
 abbrev pub cleared : Handle → Standing → Client → Client
 cleared h Searching x = without_channel (unsubscribed_all h x) h
 cleared h (On c phase.Connecting) x = unwanted c (without_channel (unsubscribed_all h x) h)
 cleared h (On c (phase.Creating rights)) x = with_standing (On c phase.Doomed) h (unsubscribed_all h x)
 cleared h (On c p) x = with_standing (On c phase.Clearing) h (all_over c h x)
 
--- `clear`. Its notices are Disconnected for each open request of the channel, in order of issue. Only a CLEAR_CHANNEL takes memory.
+-- `clear`. Its notices are Disconnected for each open request of the channel, in order of issue.
+-- Only a CLEAR_CHANNEL takes memory.
 abbrev pub ClientClears : Client → Handle → Result (List Notice) Refusal → List Sending → Client → Type 0
 ClientClears old h (Ok notices) sent new =
     (s : Standing) × (standing_at old h ≡ Some s) × (notices ≡ disconnections (asks_on h) old)
@@ -308,6 +314,7 @@ pub record WantedCircuit : Type 0 where
 abbrev pub wanted_as : Handle → ClientCircuit → Option WantedCircuit
 wanted_as c d = if is_none d.connection then Some (record { circuit = c; address = d.address; priority = d.priority }) else None
 
--- `wanted`: the circuits that are wanted, those of name servers first, and then in the order in which they came to be wanted
+-- `wanted`: the circuits that are wanted, those of name servers first, and then in the order in
+-- which they came to be wanted
 abbrev pub wanted : Client → List WantedCircuit
 wanted x = filter_map (λ (c : Handle). option_and_then (wanted_as c) (under x.circuits c)) x.order

@@ -1,5 +1,6 @@
--- Vocabulary: what the calls on a client's circuits answer and leave, and those for moments and datagrams (sections "Virtual Circuit" and
--- "CA Search"). Each definition by answer is the contract of the call that its comment names: from old, with this answer, it sent these
+-- Vocabulary: what the calls on a client's circuits answer and leave, and those for moments and
+-- datagrams (sections "Virtual Circuit" and "CA Search"). Each definition by answer is the
+-- contract of the call that its comment names: from old, with this answer, it sent these
 -- messages and left new.
 use Rattle.std.specs.Prelude.{ℕ, ◌≡◌, ◌≢◌, ◌<◌, ◌≤◌, ◌^◌, ◌==◌, ◌&&◌, ◌++◌, ◌⊎◌, Bool, true, false, not, List, [], ◌∷◌, Option, Some, None, Result, Ok, Err, filter, filter_map, flat_map, fold, if◌then◌else◌, is_none, is_some, length, map, nat_le, option_and_then, option_map, option_to_list, unwrap_or}
 use Rattle.std.specs.FinMap as finite
@@ -33,7 +34,8 @@ use Rattle.ca_model.specs.Hears.{Effect, Finds, Hears, becomes, create_sent}
 
 -- ---- new
 
--- what a client begins with: how it names itself, the servers to which searches go in datagrams, the name servers, and the moment
+-- what a client begins with: how it names itself, the servers to which searches go in datagrams,
+-- the name servers, and the moment
 pub record ClientSetting : Type 0 where
   pub peer : Peer
   pub servers : List Address
@@ -65,7 +67,8 @@ new_client a = record {
   beacons = finite.empty;
 }
 
--- `new`: with this answer. There may be as many name servers as circuits. Memory is asked for their circuits alone.
+-- `new`: with this answer. There may be as many name servers as circuits. Memory is asked for
+-- their circuits alone.
 abbrev pub ClientBegins : ClientSetting → Result Client Refusal → Type 0
 ClientBegins a (Ok x) = NamesFit a.peer × (length (distinct a.names) ≤ arena_slots) × (x ≡ new_client a)
 ClientBegins a (Err refusal.NameLength) = NamesFit a.peer → ⊥
@@ -130,7 +133,8 @@ ConnectsOn old c (Some d) (Some k) sent new = EndsFor why.OutOfMemory old c k se
 abbrev pub unconnected : Client → Handle → Option ClientCircuit
 unconnected x c = option_and_then (λ (d : ClientCircuit). if is_none d.connection then Some d else None) (under x.circuits c)
 
--- `connected`. The set-up takes memory. If there is none the end has ended at once, and no bytes are left.
+-- `connected`. The set-up takes memory. If there is none the end has ended at once,
+-- and no bytes are left.
 abbrev pub ClientConnects : Client → Handle → Option Closing → List Sending → Client → Type 0
 ClientConnects old c answer sent new = ConnectsOn old c (unconnected old c) answer sent new
 
@@ -153,11 +157,13 @@ GivesOn old c bytes more (Some e) (Err refusal.OutOfMemory) sent new =
     ((bytes ≢ []) ⊎ (flow_sent c more e ≢ [])) × IsUnchanged old sent new
 GivesOn old c bytes more there _ sent new = ⊥
 
--- `give`: a read of these bytes, which left more waiting or not. Bytes take memory, and so does a message.
+-- `give`: a read of these bytes, which left more waiting or not. Bytes take memory,
+-- and so does a message.
 abbrev pub ClientGives : Client → Handle → List ℕ → (more : Bool) → Result (Unit {0}) Refusal → List Sending → Client → Type 0
 ClientGives old c bytes more answer sent new = GivesOn old c bytes more (connection_at old c) answer sent new
 
--- `sent`: the first n of the bytes that waited (`out_bytes`) were handed over; on a circuit that is not connected none wait
+-- `sent`: the first n of the bytes that waited (`out_bytes`) were handed over; on a circuit that is
+-- not connected none wait
 abbrev pub handed_over : Handle → ℕ → Client → Client
 handed_over c n x =
     if is_some (connection_at x c) then on_connection (λ (e : Connection). record e { link = with_handed n e.link }) c x else x
@@ -248,7 +254,8 @@ abbrev pub ticks : Ticking → Handle → Ticking
 ticks t c =
     unwrap_or (option_map (λ (e : Connection). ticks_as (kept t.core.moment e.link) c t) (connection_at t.core c)) t
 
--- The datagrams of these searches: each in the last one, unless that has no room for it. The first is begun already.
+-- The datagrams of these searches: each in the last one, unless that has no room for it. The
+-- first is begun already.
 abbrev pub packed : List ℕ → List search.Wanted → List (List ℕ)
 packed [] [] = []
 packed (b ∷ bytes) [] = (b ∷ bytes) ∷ []
@@ -297,7 +304,8 @@ ticked t = record {
   closings = t.closings;
 }
 
--- `tick`: circuits first, and then searches. An ECHO, an end that has ended and a search take memory.
+-- `tick`: circuits first, and then searches. An ECHO, an end that has ended and
+-- a search take memory.
 abbrev pub ClientTicks : Client → ℕ → Result Ticked Refusal → List Sending → Client → Type 0
 ClientTicks old now (Ok answer) sent new =
     let t : Ticking = circuits_ticked now old in
@@ -309,7 +317,8 @@ ClientTicks old now (Err _) sent new = ⊥
 
 -- ---- datagram
 
--- the server of a beacon: at the address in it, or where the beacon came from ("CA_PROTO_RSRV_IS_UP")
+-- the server of a beacon: at the address in it, or where the beacon came from
+-- ("CA_PROTO_RSRV_IS_UP")
 abbrev pub beacon_server : Address → Fields → ℕ
 beacon_server from m = server (if m.p2 == 0 then from.host else m.p2) m.count
 
@@ -322,7 +331,8 @@ beacon_heard from m x = record x {
       else x.searches;
 }
 
--- One message of a datagram from this address: a search reply, a beacon with a port, or one that does nothing.
+-- One message of a datagram from this address: a search reply, a beacon with a port, or
+-- one that does nothing.
 pub data Receives (from : Address) (x : Client) (m : Fields) (e : Effect) : Type 0 where
   Search : Is command.Search m → Finds x from m e → Receives from x m e
   Beacon : Is command.RsrvIsUp m → m.count < 2 ^ 16 → e ≡ becomes (beacon_heard from m x) → Receives from x m e

@@ -1,5 +1,5 @@
--- Statement: what a client's calls and steps leave of a world: the core's answer, and how lists and logs grow (sections "Overall Client
--- Operation", "Virtual Circuit" and "Name Searching").
+-- Statement: what a client's calls and steps leave of a world: the core's answer, and how lists and
+-- logs grow (sections "Overall Client Operation", "Virtual Circuit" and "Name Searching").
 use Rattle.std.specs.Prelude.{ℕ, ◌≡◌, ◌≢◌, ◌<◌, ◌+◌, ◌==◌, ◌&&◌, ◌++◌, ◌⊎◌, Bool, true, false, List, [], ◌∷◌, Option, Some, None, Ok, Err, Result, drop, filter, find, if◌then◌else◌, length, map, nat_lt, option_and_then, option_map, replicate, slice_get, take, unwrap_or}
 use Rattle.std.specs.List.{list_any}
 use Rattle.ca_arena.specs.declared.handle.Handle.{Handle}
@@ -60,7 +60,8 @@ abbrev pub write_number : Intent → ℕ
 write_number (On channel (history.Request history.Write number)) = number
 write_number intent = 0
 
--- The line for a notice. The message that the client read was about one that was meant so: of a plain write that tells which it was.
+-- The line for a notice. The message that the client read was about one that was meant so: of a
+-- plain write that says which it was.
 abbrev pub line_of : (about : Intent) → Names → Notice → Line
 line_of about n (answer.Live h) = history.Noticed (On (channel_number n h) history.Create) outcome.Done
 line_of about n (answer.Lost h) = history.Noticed (On (channel_number n h) history.Create) outcome.Disconnected
@@ -85,7 +86,8 @@ sent_on i n sent j =
 abbrev pub with_sent : (i : ℕ) → Names → List Sending → World → World
 with_sent i n sent w = record w { circuits = map (λ (j : Joined). record j { lists = record j.lists { up = j.lists.up ++ sent_on i n sent j } }) w.circuits }
 
--- what a call of client i leaves: its core, what handles name now, these lines, and these messages on its circuits
+-- what a call of client i leaves: its core, what handles name now, these lines, and these
+-- messages on its circuits
 pub record Outcomes : Type 0 where
   pub core : Client
   pub names : Names
@@ -100,7 +102,8 @@ client_after i x spoken o w = with_client i (record x { core = o.core; names = o
 abbrev pub refused : (i : ℕ) → ClientSide → Refusal → World → World
 refused i x e w = with_lines x.life (history.Refused e ∷ []) w
 
--- A call that gives a handle: refused by another refusal than OutOfMemory, which changes nothing but the log; or done.
+-- A call that gives a handle: refused by another refusal than OutOfMemory, which changes nothing
+-- but the log; or done.
 abbrev pub Called : {A : Type 0} → (i : ℕ) → ClientSide → (Result A Refusal → List Sending → Client → Type 0) → (A → List Sending → Client → World → World) → World → World → Type 0
 Called {A} i x Does after w new =
     ((e : Refusal) × (e ≢ refusal.OutOfMemory) × Does (Err e) [] x.core × (new ≡ refused i x e w))
@@ -168,7 +171,8 @@ hands_out number (history.Collected n (Some place)) = n == number
 hands_out number (history.GaveUp n place) = n == number
 hands_out number line = false
 
--- the line at this place tells that the request completed, and its outcome was neither handed out nor given up
+-- the line at this place says that the request completed, and its outcome was neither
+-- handed out nor given up
 abbrev pub IsThere : List Line → (number : ℕ) → (meant : Intent) → (place : ℕ) → Type 0
 IsThere log number meant place = ((o : Outcome) × At log place (history.Noticed meant o)) × (list_any (hands_out number) log ≡ false)
 
@@ -217,17 +221,19 @@ new_circuit c x at_client i y at_server = record {
 abbrev pub client_closed : List ℕ → Joined → Joined
 client_closed left j = record j { lists = record j.lists { client_open = false }; left_up = left }
 
--- What the client makes of a new circuit: its set-up and creations go up; or its end has ended at once, out of memory.
+-- What the client makes of a new circuit: its set-up and creations go up; or its end has ended at
+-- once, out of memory.
 abbrev pub connected_as : Option Closing → Joined → Joined
 connected_as None j = j
 connected_as (Some k) j = client_closed k.left j
 
--- what a closing tells
+-- what a closing reports
 abbrev pub told_by : Option Closing → List Notice
 told_by None = []
 told_by (Some k) = k.notices
 
--- The circuit that the client wants first is made. A server without room refuses it, and tells nothing.
+-- The circuit that the client wants first is made. A server without room refuses it,
+-- and reports nothing.
 pub record HappensAccept (w : World) (c : ℕ) (x : ClientSide) (v : WantsFirst w x) (new : World) : Type 0 where
   pub answer : Result Handle Refusal
   pub server : Server
@@ -264,7 +270,8 @@ DownTaken w k n j y new =
     ((j.lists.server_open ≡ true) × ((core : Server) × Sends y.core j.at_server n core × (new ≡ with_server j.server (record y { core = core }) w)))
     ⊎ ((j.lists.server_open ≡ false) × (new ≡ with_circuit k (record j { left_down = drop n j.left_down }) w))
 
--- n bytes reach the client's end, which is open, and is told whether more wait: it may ask for a pause of updates, or for their return.
+-- n bytes reach the client's end, which is open, and is told whether more wait: it may ask for a
+-- pause of updates, or for their return.
 abbrev pub HappensDown : World → (k n : ℕ) → Joined → ClientSide → ServerSide → World → Type 0
 HappensDown w k n j x y new =
     (mid : World) × (sent : List Sending) × (core : Client) × DownTaken w k n j y mid

@@ -1,4 +1,5 @@
--- Vocabulary: the replies that are due for a message, and what it does, by cases on every command (section "CA Protocol Messages").
+-- Vocabulary: the replies that are due for a message, and what it does, by cases on every command
+-- (section "CA Protocol Messages").
 use Rattle.std.specs.Prelude.{ℕ, ◌≡◌, ◌≢◌, ◌<◌, ◌^◌, ◌%◌, ◌⊎◌, ◌==◌, ◌&&◌, Bool, true, false, List, [], ◌∷◌, Option, Some, None, Ok, if◌then◌else◌, is_some, length}
 use Rattle.std.specs.List.{list_any}
 use Rattle.ca_text.specs.Command.{command_number}
@@ -39,8 +40,9 @@ pub record KnownRecord : Type 0 where
   pub busy : Bool
   pub waits : ℕ
 
--- What a server knows when it handles a message of a circuit: its port and rules, and the record of each name; whether the peer greeted;
--- how it named itself, and whether that is settled; the open channels, and whether no SID may be given; and the keys of subscriptions.
+-- What a server knows when it handles a message of a circuit: its port and rules, and the record of
+-- each name; whether the peer greeted; how it named itself, and whether that is settled; the open
+-- channels, and whether no SID may be given; and the keys of subscriptions.
 pub record Knows : Type 0 where
   pub port : ℕ
   pub rules : List Rule
@@ -61,7 +63,8 @@ pub data Action : Type 0 where
   -- a channel is created, or the one of this SID cleared
   Opens : KnownChannel → Action
   Clears : ℕ → Action
-  -- a value, in the type of the record of this name, is applied, and makes it busy or not; or it waits
+  -- a value, in the type of the record of this name, is applied, and makes it
+  -- busy or not; or it waits
   Applies : List ℕ → Elements → Bool → Action
   Waits : List ℕ → Elements → Action
   -- a subscription begins, or ends
@@ -79,13 +82,15 @@ pub record Serves (k : Knows) (sid : ℕ) : Type 0 where
   pub known : KnownRecord
   pub named : k.record_of channel.name ≡ Some known
 
--- The access rights on a record, which stay for a channel's life: the names are settled by then ("CA_PROTO_ACCESS_RIGHTS").
+-- The access rights on a record, which stay for a channel's life: the names are settled by then
+-- ("CA_PROTO_ACCESS_RIGHTS").
 abbrev pub rights_at : Knows → List ℕ → ℕ
 rights_at k name = rights k.rules k.peer.user k.peer.host name
 
 -- ---- SEARCH ("CA_PROTO_SEARCH", "CA_PROTO_NOT_FOUND")
 
--- A search for a name that is served is answered; another by NOT_FOUND where its type asks for that; else by nothing.
+-- A search for a name that is served is answered; another by NOT_FOUND if its type asks for
+-- that; else by nothing.
 abbrev pub search_due : Knows → Fields → List Fields
 search_due k m =
     if is_some (k.record_of (text_in m.payload)) then search_reply k.port m ∷ [] else if m.data_type == 10 then not_found_reply m ∷ [] else []
@@ -96,8 +101,8 @@ search_due k m =
 abbrev pub CidTaken : Knows → ℕ → Type 0
 CidTaken k cid = (c : KnownChannel) × In k.channels c × (c.cid ≡ cid)
 
--- A channel is created: a record has its name, its CID is not in use, and it gets a SID whose index no open channel has. Which one is
--- the server's choice. ACCESS_RIGHTS goes before the reply.
+-- A channel is created: a record has its name, its CID is not in use, and it gets a SID whose index
+-- no open channel has. Which one is the server's choice. ACCESS_RIGHTS goes before the reply.
 pub record IsCreated (k : Knows) (m : Fields) (replies : List Fields) (action : Action) : Type 0 where
   pub known : KnownRecord
   pub named : k.record_of (text_in m.payload) ≡ Some known
@@ -171,8 +176,9 @@ WriteDue k m replies action =
     × (((status : ℕ) × PutRefused k m c status × (replies ≡ error_reply c.channel.cid status m ∷ []) × (action ≡ Nothing))
     ⊎ ((value : Elements) × PutTaken k m c value × (replies ≡ []) × (action ≡ Applies c.channel.name value false)))
 
--- A WRITE_NOTIFY is refused in its reply, or taken: it waits if the record is busy; else it is applied at once, and on a slow record it
--- makes the record busy, and its reply is due when that is finished.
+-- A WRITE_NOTIFY is refused in its reply, or taken: it waits if the record is busy; else it
+-- is applied at once, and on a slow record it makes the record busy, and its reply is due
+-- when that is finished.
 abbrev pub PutDue : Knows → Fields → List Fields → Action → Type 0
 PutDue k m replies action =
     (c : Serves k m.p1)
@@ -219,13 +225,15 @@ IsUnknown k sid cid = ((c : KnownChannel) → In k.channels c → c.sid ≢ sid)
 abbrev pub IsRetired : Knows → ℕ → ℕ → Type 0
 IsRetired k sid cid = (c : KnownChannel) × In k.channels c × (c.sid ≡ sid) × (c.retired ≡ true) × (c.cid ≡ cid)
 
--- Nothing is served on the SID of the message: BADCHID, in its own reply or by an ERROR with this CID ("Status Codes").
+-- Nothing is served on the SID of the message: BADCHID, in its own reply or by an ERROR with this
+-- CID ("Status Codes").
 abbrev pub StrayDue : Knows → Fields → (ℕ → Fields) → List Fields → Action → Type 0
 StrayDue k m reply replies action = (cid : ℕ) × (IsUnknown k m.p1 cid ⊎ IsRetired k m.p1 cid) × (replies ≡ reply cid ∷ []) × (action ≡ Nothing)
 
 -- ---- every command
 
--- a name that the peer gives itself counts until a channel was created ("CA_PROTO_CLIENT_NAME", "CA_PROTO_HOST_NAME")
+-- a name that the peer gives itself counts until a channel was created ("CA_PROTO_CLIENT_NAME",
+-- "CA_PROTO_HOST_NAME")
 abbrev pub named : Knows → Peer → Action
 named k p = if k.settled then Nothing else Names p
 
@@ -237,8 +245,9 @@ is_known n =
     ∷ command.ReadNotify ∷ command.CreateChannel ∷ command.WriteNotify ∷ command.ClientName ∷ command.HostName ∷ command.Echo ∷ []
     )
 
--- The message is due these replies, and does this. One with any other command is skipped by its length; each EVENT_CANCEL is confirmed
--- and each CLEAR_CHANNEL answered; of VERSIONs only the first is.
+-- The message is due these replies, and does this. One with any other command is skipped
+-- by its length; each EVENT_CANCEL is confirmed and each CLEAR_CHANNEL answered; of
+-- VERSIONs only the first is.
 pub record Due (k : Knows) (m : Fields) (replies : List Fields) (action : Action) : Type 0 where
   pub version : m.command ≡ command_number command.Version → (replies ≡ (if k.greeted then [] else version_reply ∷ [])) × (action ≡ Greets)
   pub user : m.command ≡ command_number command.ClientName → (replies ≡ []) × (action ≡ named k (record k.peer { user = text_in m.payload }))

@@ -22,8 +22,8 @@ pub record Peer : Type 0 where
 abbrev pub NamesFit : Peer → Type 0
 NamesFit p = (length p.user < payload_limit) × (length p.host < payload_limit)
 
--- Why an end of a circuit ended: out of memory, a payload size that is no multiple of 8 or over the limit, a silence that was too long,
--- the caller's wish, or a cut.
+-- Why an end of a circuit ended: out of memory, a payload size that is no multiple of 8 or over the
+-- limit, a silence that was too long, the caller's wish, or a cut.
 pub data Why : Type 0 where
   OutOfMemory Misaligned TooLarge Silence Asked Cut : Why
 

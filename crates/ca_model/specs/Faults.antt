@@ -1,4 +1,5 @@
--- Vocabulary: which fault of a request is answered by which status (section "Status Codes"). The first that is there decides.
+-- Vocabulary: which fault of a request is answered by which status (section "Status Codes"). The
+-- first that is there decides.
 use Rattle.std.specs.Prelude.{ℕ, ◌==◌, ◌%◌, ◌*◌, ◌||◌, Bool, not, List, [], ◌∷◌, Option, Some, None, Result, find, if◌then◌else◌, length, map, nat_lt}
 use Rattle.std.specs.List.{flat_map}
 use Rattle.ca_text.specs.declared.refusal.Refusal.{Refusal}
@@ -54,8 +55,8 @@ read_count r m = if m.count == 0 then count_of r.value else m.count
 abbrev pub read_shown : RecordState → Fields → DataType → Result Elements Refusal
 read_shown r m t = shown r.value (read_count r m) t.base
 
--- READ_NOTIFY: a type over 20 BADTYPE; no right to read NORDACCESS; a count over the greatest or an image over the payload limit
--- BADCOUNT; no conversion NOCONVERT; a text or a range GETFAIL.
+-- READ_NOTIFY: a type over 20 BADTYPE; no right to read NORDACCESS; a count over the greatest or an
+-- image over the payload limit BADCOUNT; no conversion NOCONVERT; a text or a range GETFAIL.
 abbrev pub read_fault : RecordState → (rights : ℕ) → Fields → Option DataType → Option ℕ
 read_fault r rights m None = Some bad_type
 read_fault r rights m (Some t) =
@@ -67,8 +68,8 @@ read_fault r rights m (Some t) =
     ∷ []
     )
 
--- WRITE and WRITE_NOTIFY, before their elements are read: a type over 6 BADTYPE; no right to write NOWTACCESS; a count of 0 or over
--- the greatest, or a payload that is too short, BADCOUNT.
+-- WRITE and WRITE_NOTIFY, before their elements are read: a type over 6 BADTYPE; no right to write
+-- NOWTACCESS; a count of 0 or over the greatest, or a payload that is too short, BADCOUNT.
 abbrev pub early_put_fault : RecordState → (rights : ℕ) → Fields → Option BaseType → Option ℕ
 early_put_fault r rights m None = Some bad_type
 early_put_fault r rights m (Some b) =
@@ -78,12 +79,14 @@ early_put_fault r rights m (Some b) =
     ∷ []
     )
 
--- how many elements a subscription is for: a count of 0 is taken as the greatest ("CA_PROTO_EVENT_ADD")
+-- how many elements a subscription is for: a count of 0 is taken as the greatest
+-- ("CA_PROTO_EVENT_ADD")
 abbrev pub subscribed_count : RecordState → Fields → ℕ
 subscribed_count r m = if m.count == 0 then r.count else m.count
 
--- EVENT_ADD: a type over 20 BADTYPE; no right to read NORDACCESS; a payload under 16 bytes, no mask bit, or the id in use on that
--- channel, ADDFAIL; a count as in a read BADCOUNT; no conversion NOCONVERT; 288 subscriptions on the circuit ADDFAIL.
+-- EVENT_ADD: a type over 20 BADTYPE; no right to read NORDACCESS; a payload under 16 bytes, no mask
+-- bit, or the id in use on that channel, ADDFAIL; a count as in a read BADCOUNT; no conversion
+-- NOCONVERT; 288 subscriptions on the circuit ADDFAIL.
 abbrev pub subscription_fault : RecordState → (rights : ℕ) → (in_use : Bool) → (others : ℕ) → Fields → Option DataType → Option ℕ
 subscription_fault r rights in_use others m None = Some bad_type
 subscription_fault r rights in_use others m (Some t) =

@@ -54,8 +54,8 @@ HasCause c y t Removal =
     (j sid r e : ℕ) × (s : Sent) × Created c y j t.place sid r × At y e (Removed r) × IsUncleared c t.place sid e
     × At c.up t.place s × Disconnects s.message t.message
 
--- What is due for a message, by what its server knew: replies now, one at the finish of its put, and what is logged.
--- Which update shows a stored value to an EVENT_ADD. What outcome a message means.
+-- What is due for a message, by what its server knew: replies now, one when its put finishes, and
+-- what is logged. Which update shows an EVENT_ADD a stored value. What outcome a message means.
 module _
     (Due : ℕ → Circuit → List Entry → Fields → List Fields → Option Fields → List Entry → Type 0)
     (Shows : Fields → Stored → Fields → Type 0) (Means : Fields → Outcome → Type 0) where

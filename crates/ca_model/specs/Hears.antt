@@ -1,4 +1,5 @@
--- Vocabulary: what a client makes of a message that it reads on a circuit (section "CA Protocol Messages").
+-- Vocabulary: what a client makes of a message that it reads on a circuit (section "CA
+-- Protocol Messages").
 use Rattle.std.specs.Prelude.{ℕ, ◌≡◌, ◌≢◌, ◌-◌, ◌^◌, ◌==◌, ◌++◌, ◌⊎◌, Bool, true, false, List, [], ◌∷◌, Option, Some, None, if◌then◌else◌, map, option_and_then, option_map, unwrap_or}
 use Rattle.std.specs.List.{list_any}
 use Rattle.ca_text.specs.Command.{command_number}
@@ -31,7 +32,8 @@ pub record Effect : Type 0 where
   pub sent : List Sending
   pub notices : List Notice
 
--- it sends these messages, with these notices, and the client is this one, with the messages waiting on their circuits
+-- it sends these messages, with these notices, and the client is this one, with the messages
+-- waiting on their circuits
 abbrev pub doing : List Sending → List Notice → Client → Effect
 doing sent notices x = record { core = sending sent x; sent = sent; notices = notices }
 
@@ -41,7 +43,8 @@ becomes x = doing [] [] x
 
 -- ---- search replies
 
--- where the server of a search reply is: at the address in it, or where the reply came from ("CA_PROTO_SEARCH")
+-- where the server of a search reply is: at the address in it, or where the reply came
+-- from ("CA_PROTO_SEARCH")
 abbrev pub found_at : Address → Fields → Address
 found_at from m = record { host = if m.p1 == 2 ^ 32 - 1 then from.host else m.p1; port = m.data_type }
 
@@ -59,7 +62,8 @@ searched_by cid x =
 abbrev pub create_sent : Handle → Handle → Channel → Sending
 create_sent c h here = record { circuit = c; message = create_request (wire_of h) here.name; aim = notice.Create h }
 
--- A channel that was found is created on its circuit at once if that is connected; else it waits for that.
+-- A channel that was found is created on its circuit at once if that is connected;
+-- else it waits for that.
 abbrev pub put_on : Handle → Option Connection → Handle → Channel → Client → Effect
 put_on c (Some e) h here x = doing (create_sent c h here ∷ []) [] (found_on c (phase.Creating 0) h x)
 put_on c None h here x = becomes (found_on c phase.Connecting h x)
@@ -68,7 +72,8 @@ put_on c None h here x = becomes (found_on c phase.Connecting h x)
 abbrev pub with_circuit : Handle → ClientCircuit → Client → Client
 with_circuit c d x = record x { circuits = with_held c d x.circuits; order = x.order ++ c ∷ [] }
 
--- The circuit on which a channel was found is there, or is wanted from now on. If no more circuits can be had, nothing happens.
+-- The circuit on which a channel was found is there, or is wanted from now on. If no more circuits
+-- can be had, nothing happens.
 abbrev pub PutsOn : Client → Address → Handle → Channel → Option (Handle × ClientCircuit) → Effect → Type 0
 PutsOn x a h here (Some (c, d)) e = e ≡ put_on c d.connection h here x
 PutsOn x a h here None e =
@@ -102,33 +107,35 @@ event_adds c sid h x =
 abbrev pub native_in : Fields → Native
 native_in m = record { sid = m.p2; data_type = m.data_type; count = m.count }
 
--- CREATE_CHAN: the channel is live, and is subscribed to again under the same ids; one that its caller cleared meanwhile is cleared now
--- ("CA_PROTO_CREATE_CHAN")
+-- CREATE_CHAN: the channel is live, and is subscribed to again under the same ids; one that its
+-- caller cleared meanwhile is cleared now ("CA_PROTO_CREATE_CHAN")
 abbrev pub created : Client → Handle → Fields → Option (Handle × Phase) → Effect
 created x c m (Some (h, phase.Creating rights)) =
     doing (event_adds c m.p2 h x) (notice.Live h ∷ []) (with_standing (On c (phase.Live (native_in m) rights)) h x)
 created x c m (Some (h, phase.Doomed)) = doing (clear_sent c m.p2 h ∷ []) [] (with_standing (On c phase.Clearing) h x)
 created x c m there = becomes x
 
--- CREATE_CH_FAIL: the channel is searched for again; one that its caller cleared meanwhile is gone ("CA_PROTO_CREATE_CH_FAIL")
+-- CREATE_CH_FAIL: the channel is searched for again; one that its caller cleared meanwhile is gone
+-- ("CA_PROTO_CREATE_CH_FAIL")
 abbrev pub failed : Client → Option (Handle × Phase) → Effect
 failed x (Some (h, phase.Creating rights)) = becomes (searched_again x h)
 failed x (Some (h, phase.Doomed)) = becomes (without_channel x h)
 failed x there = becomes x
 
--- the ids of a channel whose clear is answered drain no more
+-- the ids of a channel whose clear is answered no longer drain
 abbrev pub without_drained : Handle → Handle → Client → Client
 without_drained c h x =
     with_requests (request.channel_gone h x.requests) (record x { subscriptions = monitor.channel_drained c h x.subscriptions })
 
--- CLEAR_CHANNEL: a channel that its caller cleared is gone; one that its record left is searched for again ("CA_PROTO_CLEAR_CHANNEL")
+-- CLEAR_CHANNEL: a channel that its caller cleared is gone; one that its record left is searched
+-- for again ("CA_PROTO_CLEAR_CHANNEL")
 abbrev pub clear_answered : Client → Handle → Option (Handle × Phase) → Effect
 clear_answered x c (Some (h, phase.Clearing)) = becomes (without_channel (without_drained c h x) h)
 clear_answered x c (Some (h, phase.Leaving)) = becomes (searched_again (without_drained c h x) h)
 clear_answered x c there = becomes x
 
--- SERVER_DISCONN: a live channel's requests complete with Disconnected, in order of issue; it is lost, and cleared
--- ("CA_PROTO_SERVER_DISCONN")
+-- SERVER_DISCONN: a live channel's requests complete with Disconnected, in order of issue; it is
+-- lost, and cleared ("CA_PROTO_SERVER_DISCONN")
 abbrev pub left : Client → Handle → Option (Handle × Phase) → Effect
 left x c (Some (h, phase.Live n rights)) =
     doing
@@ -147,7 +154,8 @@ without_request q x = with_requests (with_freed q x.requests) x
 abbrev pub without_subscription : Handle → Client → Client
 without_subscription s x = record x { subscriptions = with_freed s x.subscriptions }
 
--- A reply completes an open request with the outcome that it means, and ends the draining of an IOID.
+-- A reply completes an open request with the outcome that it means, and ends the
+-- draining of an IOID.
 abbrev pub Completes : Client → Fields → Handle → Stage → Effect → Type 0
 Completes x m q request.Open e = (o : Outcome) × Means m o × (e ≡ doing [] (notice.Completed q o ∷ []) (without_request q x))
 Completes x m q request.Draining e = e ≡ becomes (without_request q x)
@@ -201,7 +209,8 @@ abbrev pub any_failed : Client → Fields → Option (Handle × Request) → Eff
 any_failed x m (Some (q, r)) = request_failed x m q r.stage
 any_failed x m None = becomes x
 
--- the request with this header failed: a WRITE by the ERROR's CID, an EVENT_ADD, or a request with an answer by its id
+-- the request with this header failed: a WRITE by the ERROR's CID, an EVENT_ADD, or a request
+-- with an answer by its id
 abbrev pub failing : Client → Handle → Fields → Header → Effect
 failing x c m h =
     if h.command == command_number command.Write
@@ -210,7 +219,8 @@ failing x c m h =
     then subscription_failed x m (heard_by x c h.p2)
     else any_failed x m (answered_by c h.command h.p2 x.requests)
 
--- An ERROR quotes the header of the request that failed. If that is not complete the ERROR is skipped ("CA_PROTO_ERROR").
+-- An ERROR quotes the header of the request that failed. If that is not complete the ERROR is
+-- skipped ("CA_PROTO_ERROR").
 abbrev pub Fails : Client → Handle → Fields → Effect → Type 0
 Fails x c m e =
     ((h : Header) × QuotesHeader m h × (e ≡ failing x c m h)) ⊎ (((h : Header) → QuotesHeader m h → ⊥) × (e ≡ becomes x))
@@ -223,7 +233,8 @@ understood =
     command.Search ∷ command.AccessRights ∷ command.CreateChannel ∷ command.CreateChannelFail ∷ command.ClearChannel
     ∷ command.ServerDisconnect ∷ command.ReadNotify ∷ command.WriteNotify ∷ command.EventAdd ∷ command.Error ∷ []
 
--- A message that was read on this circuit has this effect. One of another command is skipped, and so is one that is about nothing here.
+-- A message that was read on this circuit has this effect. One of another command is skipped, and
+-- so is one that is about nothing here.
 pub data Hears (x : Client) (c : Handle) (m : Fields) (e : Effect) : Type 0 where
   Search : Is command.Search m → (d : ClientCircuit) → under x.circuits c ≡ Some d → Finds x d.address m e → Hears x c m e
   AccessRights : Is command.AccessRights m → e ≡ rights_told x c m (channel_on x c m.p1) → Hears x c m e

@@ -1,4 +1,5 @@
--- Statement: what a server knew when it handled a message, read off the lists; and with that, when a world is safe.
+-- Statement: what a server knew when it handled a message, read off the lists; and with that,
+-- when a world is safe.
 use Rattle.std.specs.Prelude.{ℕ, ◌≡◌, ◌<◌, ◌≤◌, ◌%◌, ◌==◌, ◌&&◌, ◌++◌, ◌⊎◌, Bool, true, false, not, List, [], ◌∷◌, count_by}
 use Rattle.std.specs.Prelude.{Option, Some, None, filter, filter_map, if◌then◌else◌, length, take}
 use Rattle.std.specs.List.{fold, list_any}
@@ -47,7 +48,8 @@ waiting y r = fold (waiting_after r) [] y
 abbrev pub IsBusy : List Entry → (r : ℕ) → Type 0
 IsBusy y r = (n k : ℕ) × (v : Stored) × In y (Applied n k r v true) × (In y (Finished n k) → ⊥)
 
--- Record r as it is: as it was added, with the value of its last post; whether it is busy, and how many puts wait.
+-- Record r as it is: as it was added, with the value of its last post; whether it is busy,
+-- and how many puts wait.
 pub record IsNow (y : List Entry) (r : ℕ) (known : KnownRecord) : Type 0 where
   pub first : RecordState
   pub added : In y (Added r first)
@@ -105,14 +107,15 @@ pub record AreJust {A : Type 0} (xs : List A) (IsSo : A → Type 0) : Type 0 whe
 abbrev pub creates_at : (index : ℕ) → Told → Bool
 creates_at index t = t.message.command == command_number command.CreateChannel && t.message.p2 % arena_slots == index
 
--- No SID may be given: each index is an open channel's, or was given as often as there are generations.
+-- No SID may be given: each index is an open channel's, or was given as often as
+-- there are generations.
 abbrev pub IsFull : Circuit → Knows → Type 0
 IsFull c k =
     (i : ℕ) → i < arena_slots → ((channel : KnownChannel) × In k.channels channel × (channel.sid % arena_slots ≡ i))
     ⊎ (last_generation ≤ count_by (creates_at i) c.down)
 
--- What a server on this port, with these rules, knows on a circuit whose messages it handled, all of them, and by its
--- log.
+-- What a server on this port, with these rules, knows on a circuit whose messages it handled, all
+-- of them, and by its log.
 pub record Knew (port : ℕ) (rules : List Rule) (c : Circuit) (y : List Entry) (k : Knows) : Type 0 where
   pub on_port : k.port ≡ port
   pub by_rules : k.rules ≡ rules
@@ -144,8 +147,8 @@ IsLogged n k y (action.Waits name value) logs = (r : ℕ) × (v : Stored) × Has
     × IsWritten v × (logs ≡ Waits n k r v ∷ [])
 IsLogged n k y did logs = logs ≡ []
 
--- What is logged for what a message does: its write, or the withdrawals of the puts that wait on the channel that it
--- clears.
+-- What is logged for what a message does: its write, or the withdrawals of the puts that wait on
+-- the channel that it clears.
 abbrev pub Logs : (n : ℕ) → Circuit → List Entry → Action → List Entry → Type 0
 Logs n c y (Clears sid) logs = AreJust logs (IsWithdrawal n c y sid)
 Logs n c y did logs = IsLogged n (length c.handled) y did logs

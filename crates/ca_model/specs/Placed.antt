@@ -23,7 +23,8 @@ WasLiveIn channels channel on = (ch : Channel) × (under channels channel ≡ So
 abbrev pub WasLive : Client → (channel on : Handle) → Type 0
 WasLive x channel on = WasLiveIn x.channels channel on
 
--- Requests are on circuits on which their channels were live, and there alone ids of subscriptions drain.
+-- Requests are on circuits on which their channels were live, and there alone ids of
+-- subscriptions drain.
 pub record AreAttached (channels : Table Channel) (asked : Table Request) (subscribed : Table Subscription) : Type 0 where
   pub requests : (q : Handle) (r : Request) → under asked q ≡ Some r → WasLiveIn channels r.channel r.circuit
   pub subscriptions : (g : Handle) (d : Subscription) (on : Handle) → under subscribed g ≡ Some d → drains_in on d.stage ≡ true
@@ -42,7 +43,8 @@ AreWaitingIn channels circuits = (h : Handle) (ch : Channel) (c : Handle) (p : P
 abbrev pub AreWaiting : Client → Type 0
 AreWaiting x = AreWaitingIn x.channels x.circuits
 
--- Requests and subscriptions are where their channels are, and channels are on circuits that are connected or wanted.
+-- Requests and subscriptions are where their channels are, and channels are on circuits that are
+-- connected or wanted.
 pub record ArePlaced (channels : Table Channel) (asked : Table Request) (subscribed : Table Subscription) (circuits : Table ClientCircuit) : Type 0 where
   pub attached : AreAttached channels asked subscribed
   pub waiting : AreWaitingIn channels circuits

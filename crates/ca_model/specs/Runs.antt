@@ -66,8 +66,8 @@ pub record HasServerEnd (w : World) (k : ℕ) : Type 0 where
   pub joins : Joins w k j x y
   pub is_open : j.lists.server_open ≡ true
 
--- The event can be done: what it names is there, the end that receives, steps or is cut is open, as many bytes wait, and the moment does
--- not go back.
+-- The event can be done: what it names is there, the end that receives, steps or is cut is open, as
+-- many bytes wait, and the moment does not go back.
 abbrev pub CanBe : World → Event → Type 0
 CanBe w (event.Open i name priority) = IsClient w i
 CanBe w (event.Clear i c) = HadChannel w i c
@@ -146,17 +146,19 @@ TicksBefore moment mid w =
     (n : ℕ) × (x : ClientSide) × (mid.moment ≤ moment) × TicksAll moment mid (clients_below n) w × At mid.clients n x
     × ClientTicks x.core moment (Err OutOfMemory) [] x.core
 
--- What the event at which a run stopped left, if there was one: nothing, or the beginning of a tick.
+-- What the event at which a run stopped left, if there was one: nothing, or the
+-- beginning of a tick.
 abbrev pub StopsAt : World → Option Event → World → Type 0
 StopsAt mid (Some (event.Tick moment)) w = (w ≡ mid) ⊎ TicksBefore moment mid w
 StopsAt mid stopped w = w ≡ mid
 
--- From the opening world, these events in a row lead to this one, with the event at which the run stopped, if there was one.
+-- From the opening world, these events in a row lead to this one, with the event at which the run
+-- stopped, if there was one.
 abbrev pub Runs : Setting → List Event → (stopped : Option Event) → World → Type 0
 Runs setting es stopped w = (mid : World) × FoldsTo Happens (opening setting) es mid × StopsAt mid stopped w
 
--- The values in these events are values, a record that is added has no alarm and no stamp yet, and masks have a bit. All this follows from
--- the types of the program.
+-- The values in these events are values, a record that is added has no alarm and no stamp yet, and
+-- masks have a bit. All this follows from the types of the program.
 abbrev pub IsEvent : Event → Type 0
 IsEvent (event.Write i c e) = IsValue e
 IsEvent (event.WriteNotify i c e) = IsValue e

@@ -8,14 +8,15 @@ use Rattle.ca_wire.specs.Fields.{Fields}
 use Rattle.ca_wire.specs.Header.{HeaderSpells}
 use Rattle.ca_model.specs.Speech.{Id, Cid, Ioid, SubId, Clears, Creates, Gives, Is, sid_in}
 
--- What one end did on a circuit: the messages that it sent; those that came; and for each of these that it read, how
--- many it had sent before.
+-- What one end did on a circuit: the messages that it sent; those that came; and for each of these
+-- that it read, how many it had sent before.
 pub record Conduct : Type 0 where
   pub sent : List Fields
   pub came : List Fields
   pub read : List ℕ
 
--- Message m came at place j, and the end read it after it had sent message i and before it sent message k.
+-- Message m came at place j, and the end read it after it had sent message i and
+-- before it sent message k.
 abbrev pub ReadsBetween : Conduct → (i k j : ℕ) → Fields → Type 0
 ReadsBetween e i k j m = (b : ℕ) × At e.came j m × At e.read j b × (i < b) × (b ≤ k)
 
@@ -28,8 +29,8 @@ IsOnChannel m =
     ⊎ (Is command.WriteNotify m ⊎ (Is command.Write m ⊎ (Is command.EventAdd m ⊎ (Is command.EventCancel m
     ⊎ Is command.ClearChannel m))))
 
--- When the client sends message k it has a channel with this CID and SID: it asked for it at place i, it read the reply
--- at place j, and has sent no CLEAR_CHANNEL of it since.
+-- When the client sends message k it has a channel with this CID and SID: it asked for it at place
+-- i, it read the reply at place j, and has sent no CLEAR_CHANNEL of it since.
 abbrev pub HasChannel : Conduct → (k i j cid sid : ℕ) → Type 0
 HasChannel e k i j cid sid =
     (s m : Fields) × At e.sent i s × Gives s (Cid cid) × ReadsBetween e i k j m × Creates m sid × (m.p1 ≡ cid)
@@ -39,7 +40,7 @@ HasChannel e k i j cid sid =
 abbrev pub IsDisconnect : ℕ → Fields → Type 0
 IsDisconnect cid m = Is command.ServerDisconnect m × (m.p1 ≡ cid)
 
--- An ERROR quotes the whole header of this request: its command and its id.
+-- An ERROR quotes the complete header of this request: its command and its id.
 abbrev pub Quotes : Fields → Fields → Type 0
 Quotes request m =
     Is command.Error m
@@ -51,9 +52,10 @@ abbrev pub IsUncancelled : Conduct → (l b : ℕ) → Fields → Type 0
 IsUncancelled e l b add =
     (i : ℕ) (s : Fields) → l < i → i < b → At e.sent i s → Is command.EventCancel s → s.p1 ≡ add.p1 → s.p2 ≢ add.p2
 
--- After b messages, message m frees the id that the request at place l gave. A CID: CREATE_CH_FAIL, or the reply to its
--- CLEAR_CHANNEL. An IOID: the reply or an ERROR. A subscription id: the confirmation of its cancel, or an ERROR if it
--- was not cancelled. And each of a channel: the reply to the channel's CLEAR_CHANNEL.
+-- After b messages, message m frees the id that the request at place l gave. A CID: CREATE_CH_FAIL,
+-- or the reply to its CLEAR_CHANNEL. An IOID: the reply or an ERROR. A subscription id: the
+-- confirmation of its cancel, or an ERROR if it was not cancelled. And each of a channel: the reply
+-- to the channel's CLEAR_CHANNEL.
 abbrev pub Frees : Conduct → (l b : ℕ) → (request m : Fields) → Type 0
 Frees e l b request m =
     (Is command.CreateChannel request
@@ -65,7 +67,8 @@ Frees e l b request m =
     × IsUncancelled e l b request)))
     ⊎ ((i j cid : ℕ) × HasChannel e l i j cid (sid_in request) × Is command.ClearChannel m × (m.p2 ≡ cid))))
 
--- Before the client sent message k it read a message that freed the id that its message at place l gave.
+-- Before the client sent message k it read a message that freed the id that its
+-- message at place l gave.
 abbrev pub IsFree : Conduct → (l k : ℕ) → Type 0
 IsFree e l k =
     (j b : ℕ) × (request m : Fields) × At e.sent l request × At e.came j m × At e.read j b × (l < b) × (b ≤ k)
@@ -78,9 +81,10 @@ SameIndex (Ioid a) (Ioid b) = a % arena_slots ≡ b % arena_slots
 SameIndex (SubId a) (SubId b) = a % arena_slots ≡ b % arena_slots
 SameIndex a b = ⊥
 
--- What a client sends on a circuit. A message on a channel goes out under the SID of one that it has; after a
--- SERVER_DISCONN for it was read, only its CLEAR_CHANNEL does. An EVENT_CANCEL is for an EVENT_ADD on that channel that
--- was not cancelled. And an id is given only if each id of its index that the client gave before is free again.
+-- What a client sends on a circuit. A message on a channel goes out under the SID of one that it
+-- has; after a SERVER_DISCONN for it was read, only its CLEAR_CHANNEL does. An EVENT_CANCEL is for
+-- an EVENT_ADD on that channel that was not cancelled. And an id is given only if each id of its
+-- index that the client gave before is free again.
 pub record LegalClient (e : Conduct) : Type 0 where
   pub on_channel : (k : ℕ) (m : Fields) → At e.sent k m → IsOnChannel m
       → (i j cid : ℕ) × HasChannel e k i j cid (sid_in m)
@@ -95,8 +99,8 @@ pub record LegalClient (e : Conduct) : Type 0 where
 
 -- ---- a server
 
--- When the server sends message k, the channel that it created by its message at place i, with this CID and SID, is
--- open: it has read no CLEAR_CHANNEL of it since.
+-- When the server sends message k, the channel that it created by its message at place i, with this
+-- CID and SID, is open: it has read no CLEAR_CHANNEL of it since.
 abbrev pub IsOpenAt : Conduct → (k i cid sid : ℕ) → Type 0
 IsOpenAt e k i cid sid =
     (m : Fields) × At e.sent i m × Creates m sid × (m.p1 ≡ cid) × (i < k)
@@ -106,9 +110,10 @@ IsOpenAt e k i cid sid =
 abbrev pub IsConnected : Conduct → (i k cid : ℕ) → Type 0
 IsConnected e i k cid = (l : ℕ) (m : Fields) → i < l → l < k → At e.sent l m → IsDisconnect cid m → ⊥
 
--- What a server sends on a circuit. A SID is given only if no open channel has its index. An update is for an EVENT_ADD
--- that was read on a channel that is open, and neither was its record removed nor the subscription cancelled. A
--- confirmation answers the EVENT_CANCEL that was read just before. Each open channel has one SERVER_DISCONN at most.
+-- What a server sends on a circuit. A SID is given only if no open channel has its index. An update
+-- is for an EVENT_ADD that was read on a channel that is open, and neither was its record removed
+-- nor the subscription cancelled. A confirmation answers the EVENT_CANCEL that was read just
+-- before. Each open channel has one SERVER_DISCONN at most.
 pub record LegalServer (e : Conduct) : Type 0 where
   pub sids : (i k a b : ℕ) (m r : Fields) → i < k → At e.sent i m → At e.sent k r → Creates m a → Creates r b
       → a % arena_slots ≡ b % arena_slots → (j : ℕ) × (c : Fields) × ReadsBetween e i k j c × Clears c a

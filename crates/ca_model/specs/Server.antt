@@ -1,4 +1,5 @@
--- Vocabulary: a server by what its callers and its peers can know of it (sections "Virtual Circuit" and "Overall Server Operation").
+-- Vocabulary: a server by what its callers and its peers can know of it (sections "Virtual Circuit"
+-- and "Overall Server Operation").
 use Rattle.std.specs.Prelude.{ℕ, ◌&&◌, Bool, false, not, List, [], filter, map, replicate}
 use Rattle.std.specs.List.{fold}
 use Rattle.std.specs.Str.{bytes_eq}
@@ -17,8 +18,8 @@ use Rattle.ca_wire.specs.declared.requests.Wanted.{Wanted}
 use Rattle.ca_model.specs.Ends.{Peer, Why}
 use Rattle.ca_model.specs.Speech.{Stored, share_bit}
 
--- A channel that is open: its CID, the name of its record, and whether that record was removed: its SID is retired then. The handle
--- under which it is held is that of its SID ("Channels").
+-- A channel that is open: its CID, the name of its record, and whether that record was removed: its
+-- SID is retired then. The handle under which it is held is that of its SID ("Channels").
 pub record OpenChannel : Type 0 where
   pub cid : ℕ
   pub name : List ℕ
@@ -34,8 +35,9 @@ pub record Subscription : Type 0 where
 abbrev pub key_of : Subscription → SubKey
 key_of s = record { sid = s.wanted.sid; sub = s.wanted.id }
 
--- An open end: its bytes; whether the peer greeted; how it named itself, and whether that is settled, since a channel was created; the
--- open channels; the subscriptions, in the order of their EVENT_ADDs; and the queues of updates ("Virtual Circuit").
+-- An open end: its bytes; whether the peer greeted; how it named itself, and whether that is
+-- settled, since a channel was created; the open channels; the subscriptions, in the order of their
+-- EVENT_ADDs; and the queues of updates ("Virtual Circuit").
 pub record ServerEnd : Type 0 where
   pub link : LinkState
   pub greeted : Bool
@@ -57,13 +59,15 @@ new_end now = record {
   queues = replicate circuit_queues no_queue;
 }
 
--- A circuit: its end is open, or it ended in a call that did not report it, and left these bytes. A step reports that once.
+-- A circuit: its end is open, or it ended in a call that did not report it, and left these bytes. A
+-- step reports that once.
 pub data ServerCircuit : Type 0 where
   Open : ServerEnd → ServerCircuit
   Ended : Why → List ℕ → ServerCircuit
 
--- A server: its TCP port, its rules, its records in some order, the stamp of writes, the moment that was given last,
--- its circuits, its beacons, and how many writes were applied ("Overall Server Operation").
+-- A server: its TCP port, its rules, its records in some order, the stamp of writes, the
+-- moment that was given last, its circuits, its beacons, and how many writes were applied
+-- ("Overall Server Operation").
 pub record Server : Type 0 where
   pub port : ℕ
   pub rules : List Rule
@@ -93,7 +97,8 @@ new_server port now rules states = record {
 abbrev pub concerns : (name : List ℕ) → (mask : ℕ) → Subscription → Bool
 concerns name mask s = bytes_eq s.name name && share_bit mask s.mask
 
--- The end after a post: each subscription that it concerns gets an entry, in the order of their EVENT_ADDs ("CA_PROTO_EVENT_ADD").
+-- The end after a post: each subscription that it concerns gets an entry, in the order of their
+-- EVENT_ADDs ("CA_PROTO_EVENT_ADD").
 abbrev pub with_post : (name : List ℕ) → (mask : ℕ) → Stored → ServerEnd → ServerEnd
 with_post name mask v e = record e {
   queues =
@@ -105,6 +110,7 @@ abbrev pub without_subscriptions : (SubKey → Bool) → ServerEnd → ServerEnd
 without_subscriptions gone e =
     record e { subscriptions = filter (λ (s : Subscription). not (gone (key_of s))) e.subscriptions; queues = without_each gone e.queues }
 
--- updates may be taken again, or only while some subscription has two ("CA_PROTO_EVENTS_OFF", "CA_PROTO_EVENTS_ON")
+-- updates may be taken again, or only while some subscription has two ("CA_PROTO_EVENTS_OFF",
+-- "CA_PROTO_EVENTS_ON")
 abbrev pub with_events : Bool → ServerEnd → ServerEnd
 with_events on e = record e { queues = map (switched on) e.queues }

@@ -1,5 +1,6 @@
--- Vocabulary: the calls of a server beside its circuits, by answer (sections "Process Variables", "CA_PROTO_WRITE_NOTIFY",
--- "CA_PROTO_SERVER_DISCONN", "CA_PROTO_SEARCH"). Each is the contract of the call of `ServerCore` that its comment names.
+-- Vocabulary: the calls of a server beside its circuits, by answer (sections "Process Variables",
+-- "CA_PROTO_WRITE_NOTIFY", "CA_PROTO_SERVER_DISCONN", "CA_PROTO_SEARCH"). Each is the contract of
+-- the call of `ServerCore` that its comment names.
 use Rattle.std.specs.Prelude.{ℕ, ◌≡◌, ◌≢◌, ◌<◌, ◌≤◌, ◌+◌, ◌==◌, ◌&&◌, ◌||◌, ◌++◌, ◌⊎◌, Bool, true, not, List, [], ◌∷◌, Option, Some, None, Ok, Err, Result, drop, filter, if◌then◌else◌, is_some, length, map, max, take}
 use Rattle.std.specs.List.{flat_map, list_any}
 use Rattle.std.specs.Str.{bytes_eq}
@@ -35,8 +36,8 @@ use Rattle.ca_model.specs.Speech.{Stored}
 
 -- ---- posts
 
--- `post`: the record has this value and its metadata now, and all subscriptions with a bit of the mask get it. Circuits that it concerns
--- may end out of memory; a post that fits is never refused.
+-- `post`: the record has this value and its metadata now, and all subscriptions with a bit of the
+-- mask get it. Circuits that it concerns may end out of memory; a post that fits is never refused.
 abbrev pub Posts : Server → List ℕ → Stored → (mask : ℕ) → (gone : Handle → Bool) → Result (Unit {0}) Refusal → Server → Type 0
 Posts old name v mask gone (Ok _) new =
     let stored : Server = record old { records = with_record name (with_value v.value v.meta) old.records } in
@@ -53,17 +54,20 @@ IsAwaited y p e = HasEnd y p.circuit e × (is_some (under e.channels p.channel) 
 abbrev pub finish_reply : Put → Fields
 finish_reply p = record { command = command_number command.WriteNotify; data_type = p.data_type; count = p.count; p1 = normal; p2 = p.ioid; payload = [] }
 
--- the server in which the record's busy put is finished, and the next that waits is applied, before that reaches subscriptions
+-- the server in which the record's busy put is finished, and the next that waits is applied, before
+-- that reaches subscriptions
 abbrev pub with_finish : List ℕ → Record → Server → Server
 with_finish name r y = record y { records = with_record name (λ (q : Record). finished y.stamp q q.waiting) y.records }
 
--- The finish of a busy put, by which this is sent: its reply, if it is awaited; and the next put that waits, if there is one.
+-- The finish of a busy put, by which this is sent: its reply, if it is awaited; and the next put
+-- that waits, if there is one.
 pub record Finish (y : Server) (name : List ℕ) (sent : List (Handle × Fields)) : Type 0 where
   pub r : Record
   pub named : record_named y.records name ≡ Some r
   pub p : Put
   pub busy : r.busy ≡ Some p
-  -- the circuits that end out of memory: for the reply, if it is not sent; or for an update of the next put
+  -- the circuits that end out of memory: for the reply, if it is not sent; or for an
+  -- update of the next put
   pub gone : Handle → Bool
   pub may : (h : Handle) → gone h ≡ true
       → ((h ≡ p.circuit) × ((e : ServerEnd) × IsAwaited y p e) × (sent ≡ [])) ⊎ ((c : ServerCircuit) × (under y.circuits h ≡ Some c) × (r.waiting ≢ []) × (is_concerned name write_mask c ≡ true))
@@ -83,13 +87,15 @@ abbrev pub lacking : (gone : Handle → Bool) → Handle → ServerCircuit → S
 lacking gone h (Open e) = if gone h then Ended why.OutOfMemory e.link.output else Open e
 lacking gone h (Ended w left) = Ended w left
 
--- The next put that waits is applied, and reaches all subscriptions; or nothing waits, and only a circuit that lacks memory ends.
+-- The next put that waits is applied, and reaches all subscriptions; or nothing waits, and only a
+-- circuit without memory ends.
 abbrev pub after_next : List ℕ → List WaitingPut → (gone : Handle → Bool) → Server → Server
 after_next name [] gone y =
     record y { circuits = with_each (lacking gone) y.circuits; records = withdrawn (λ (p : Put). gone p.circuit) y.records }
 after_next name (p ∷ ps) gone y = after_post name write_mask (stored_now y p.value) gone (counted y)
 
--- `finish`: refused if no record has the name, or none of its puts is busy. Else the busy put ends, with its reply, and the next is applied.
+-- `finish`: refused if no record has the name, or none of its puts is busy. Else the busy put ends,
+-- with its reply, and the next is applied.
 abbrev pub Finishes : Server → List ℕ → (sent : List (Handle × Fields)) → Result (Unit {0}) Refusal → Server → Type 0
 Finishes old name sent (Ok _) new =
     (f : Finish old name sent) × (mid : Server) × Replies (with_finish name f.r old) f.p f.gone sent mid × (new ≡ after_next name f.r.waiting f.gone mid)
@@ -103,7 +109,8 @@ Finishes old name sent (Err e) new = ⊥
 abbrev pub channels_of : List ℕ → ServerEnd → List (Handle × OpenChannel)
 channels_of name e = filter (λ (c : Handle × OpenChannel). bytes_eq c.1.name name && not c.1.retired) (held e.channels)
 
--- the SERVER_DISCONNs that are due on a circuit for the removal of a record, in order of index ("CA_PROTO_SERVER_DISCONN")
+-- the SERVER_DISCONNs that are due on a circuit for the removal of a record, in order of index
+-- ("CA_PROTO_SERVER_DISCONN")
 abbrev pub disconnects : List ℕ → ServerEnd → List Fields
 disconnects name e = map (λ (c : Handle × OpenChannel). disconnect c.1.cid) (channels_of name e)
 
@@ -115,19 +122,21 @@ retired name h c = record c { retired = c.retired || bytes_eq c.name name }
 abbrev pub is_on : List (Handle × OpenChannel) → SubKey → Bool
 is_on channels k = list_any (λ (c : Handle × OpenChannel). wire_of c.0 == k.sid) channels
 
--- an open end after the removal of a record: each of its channels is retired, has its SERVER_DISCONN and loses its subscriptions
+-- an open end after the removal of a record: each of its channels is retired, has its
+-- SERVER_DISCONN and loses its subscriptions
 abbrev pub end_without : List ℕ → ServerEnd → ServerEnd
 end_without name e =
     without_subscriptions (is_on (channels_of name e)) (record e { link = with_sent (disconnects name e) e.link; channels = with_each (retired name) e.channels })
 
--- A circuit after the removal of a record: or its end has ended out of memory, and left a beginning of its SERVER_DISCONNs.
+-- A circuit after the removal of a record: or its end has ended out of memory, and left a beginning
+-- of its SERVER_DISCONNs.
 abbrev pub circuit_without : List ℕ → (gone : Handle → Bool) → (left : Handle → ℕ) → Handle → ServerCircuit → ServerCircuit
 circuit_without name gone left h (Open e) =
     if gone h then Ended why.OutOfMemory (e.link.output ++ spelled (take (left h) (disconnects name e))) else Open (end_without name e)
 circuit_without name gone left h (Ended w l) = Ended w l
 
--- `remove_record`: refused if no record has the name. Its waiting puts go with it, unapplied. A circuit may end out of memory for one of
--- its SERVER_DISCONNs, and leaves those before it.
+-- `remove_record`: refused if no record has the name. Its waiting puts go with it, unapplied. A
+-- circuit may end out of memory for one of its SERVER_DISCONNs, and leaves those before it.
 abbrev pub Removes : Server → List ℕ → (gone : Handle → Bool) → (left : Handle → ℕ) → Result (Unit {0}) Refusal → Server → Type 0
 Removes old name gone left (Ok _) new =
     (is_some (record_named old.records name) ≡ true)
@@ -148,7 +157,8 @@ AddsRecord old s behind (Err e) new = AddFault old.records s e × (new ≡ old)
 
 -- ---- datagrams
 
--- the reply that is due for one message of a datagram: a search for a name that is served is answered, and nothing else
+-- the reply that is due for one message of a datagram: a search for a name that is served is
+-- answered, and nothing else
 abbrev pub search_answer : Server → Fields → List Fields
 search_answer y m = if m.command == command_number command.Search && is_some (record_named y.records (text_in m.payload)) then search_reply y.port m ∷ [] else []
 
@@ -158,7 +168,8 @@ AnswersDatagram y bytes (Ok datagrams) = (ms : List Fields) × IsDatagram bytes 
 AnswersDatagram y bytes (Err refusal.OutOfMemory) = (ms : List Fields) × IsDatagram bytes ms × (ms ≢ [])
 AnswersDatagram y bytes (Err e) = ⊥
 
--- `beacon`: the beacon that is due at this moment, once, in 16 bytes whatever the port; else nothing. A moment does not go back.
+-- `beacon`: the beacon that is due at this moment, once, in 16 bytes whatever the port; else
+-- nothing. A moment does not go back.
 abbrev pub Beacons : Server → (now : ℕ) → Option (List ℕ) → Server → Type 0
 Beacons old now None new = let at : ℕ = max old.moment now in (at < old.beacons.due) × (new ≡ record old { moment = at })
 Beacons old now (Some bytes) new =

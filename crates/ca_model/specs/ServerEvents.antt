@@ -1,5 +1,5 @@
--- Statement: what a server's calls and steps leave of a world: the core's answer, and how lists and logs grow (sections "Virtual
--- Circuit", "CA Protocol Messages" and "Monitors").
+-- Statement: what a server's calls and steps leave of a world: the core's answer, and how lists and
+-- logs grow (sections "Virtual Circuit", "CA Protocol Messages" and "Monitors").
 use Rattle.std.specs.Prelude.{ℕ, ◌≡◌, ◌≢◌, ◌+◌, ◌==◌, ◌&&◌, ◌++◌, ◌⊎◌, Bool, true, false, not, List, [], ◌∷◌, Option, Some, None, Ok, Err, drop, filter, find, if◌then◌else◌, is_some, length, map, nat_lt, option_and_then, option_map, slice_get, slice_set, take, unwrap_or}
 use Rattle.std.specs.List.{flat_map, fold, list_any}
 use Rattle.std.specs.Str.{bytes_eq}
@@ -59,16 +59,18 @@ ends_at ends circuits k = unwrap_or (option_map (λ (j : Joined). is_some (ends 
 abbrev pub without_puts : (ℕ → Bool) → RecordSide → RecordSide
 without_puts gone r = record r { waiting = filter (λ (p : PutPlace). not (gone p.circuit)) r.waiting }
 
--- and the log tells that
+-- and the log says that
 abbrev pub withdrawals : (ℕ → Bool) → List RecordSide → List Entry
 withdrawals gone records =
     map (λ (p : PutPlace). entry.Withdrawn p.circuit p.place) (flat_map (λ (r : RecordSide). filter (λ (p : PutPlace). gone p.circuit) r.waiting) records)
 
--- Each end that ended in a call is reported by a step of the core at once (by `Steps` its slot is free then), so that it keeps nothing of it.
+-- Each end that ended in a call is reported by a step of the core at once (by `Steps` its slot is
+-- free then), so that it keeps nothing of it.
 abbrev pub reported : Server → Server
 reported core = record core { circuits = with_all_freed (λ (c : ServerCircuit). is_some (left_by (Some c))) core.circuits }
 
--- A call of server i is over: its core is this, and of its circuits these end. Their waiting puts are withdrawn.
+-- A call of server i is over: its core is this, and of its circuits these end. Their
+-- waiting puts are withdrawn.
 abbrev pub server_after : (i : ℕ) → ServerSide → (Joined → Option (List ℕ)) → Server → World → World
 server_after i y ends core w =
     let gone : ℕ → Bool = ends_at ends w.circuits in
@@ -77,7 +79,8 @@ server_after i y ends core w =
 
 -- ---- posts, as numbers
 
--- one more post matches this subscription of the circuit: its number waits with the place of the EVENT_ADD
+-- one more post matches this subscription of the circuit: its number waits with the
+-- place of the EVENT_ADD
 abbrev pub with_number : Joined → SubKey → Joined
 with_number j key = record j {
   standing = map (λ (s : Standing). if same key s.key then record s { posts = s.posts + 1 } else s) j.standing;
@@ -90,7 +93,8 @@ abbrev pub keys_concerned : (name : List ℕ) → (mask : ℕ) → Option Server
 keys_concerned name mask (Some (Open e)) = map key_of (filter (concerns name mask) e.subscriptions)
 keys_concerned name mask c = []
 
--- A post to a record of server i, whose core was this: the circuits that it concerns have its numbers waiting.
+-- A post to a record of server i, whose core was this: the circuits that it concerns have
+-- its numbers waiting.
 abbrev pub numbers_posted : (i : ℕ) → Server → (name : List ℕ) → (mask : ℕ) → Joined → Joined
 numbers_posted i core name mask j =
     if j.server == i && j.lists.server_open then fold with_number j (keys_concerned name mask (under core.circuits j.at_server)) else j
@@ -126,7 +130,7 @@ is_of_channel h sid p = same_handle p.circuit h && wire_of p.channel == sid
 abbrev pub without_channel : Handle → (sid : ℕ) → Record → RecordSide → RecordSide
 without_channel h sid c r = record r { waiting = places_where (λ (p : Put). not (is_of_channel h sid p)) c.waiting r.waiting }
 
--- and the log tells that
+-- and the log says that
 abbrev pub channel_withdrawals : Handle → (sid : ℕ) → List Record → List RecordSide → List Entry
 channel_withdrawals h sid cores records =
     map (λ (p : PutPlace). entry.Withdrawn p.circuit p.place) (flat_map (λ (ps : List PutPlace). ps) (with_core (λ (c : Record) (r : RecordSide). places_where (is_of_channel h sid) c.waiting r.waiting) cores records))
@@ -183,8 +187,8 @@ handled_at place step replies j = record j {
   lists = record j.lists { down = j.lists.down ++ about place Reply replies; handled = j.lists.handled ++ step ∷ [] };
 }
 
--- The message is handled: the world before its circuits that end. The server's core is still the one before; its records, its log and
--- the numbers that wait are those after.
+-- The message is handled: the world before its circuits that end. The server's core is still the
+-- one before; its records, its log and the numbers that wait are those after.
 abbrev pub acted : (k : ℕ) → Joined → ServerSide → Action → World → World
 acted k j y action w =
     let place : ℕ = length j.lists.handled in
@@ -207,7 +211,8 @@ noted k j y replies before w =
 abbrev pub side_of : ℕ → ServerSide → World → ServerSide
 side_of i y w = unwrap_or (slice_get w.servers i) y
 
--- the world after a message whose step closed its circuit: its write was applied, or nothing was done
+-- the world after a message whose step closed its circuit: its write was
+-- applied, or nothing was done
 abbrev pub unsaid : (k : ℕ) → Joined → ServerSide → Action → (written : Option (Handle → Bool)) → World → World
 unsaid k j y action None w = w
 unsaid k j y action (Some gone) w = acted k j y action w
@@ -229,7 +234,8 @@ pub record StepHandles (w : World) (k : ℕ) (j : Joined) (y : ServerSide) (new 
       let mid : World = acted k j y next.action w in
       new ≡ noted k j y next.replies w (server_after j.server (side_of j.server y mid) (ends_by j.server core) core mid)
 
--- A step of the server's end closed it out of memory: the write of its message is applied or not, and nothing else of it is done.
+-- A step of the server's end closed it out of memory: the write of its message is applied or not,
+-- and nothing else of it is done.
 pub record StepLacks (w : World) (k : ℕ) (j : Joined) (y : ServerSide) (left : List ℕ) (new : World) : Type 0 where
   pub e : ServerEnd
   pub has : HasEnd y.core j.at_server e
@@ -257,7 +263,8 @@ HappensServerStep w k j y new = (did : Stepped) × ServerStepped w k j y did new
 abbrev pub front_number : List (Queue (ℕ × Cause)) → (queue : ℕ) → Option (ℕ × Cause)
 front_number queues n = option_map (λ (w : SubKey × (ℕ × Cause)). w.1) (option_and_then (λ (q : Queue (ℕ × Cause)). front q.waiting) (slice_get queues n))
 
--- The updates that left the queues, each with the number that was in front beside it; and the circuit without these numbers.
+-- The updates that left the queues, each with the number that was in front beside it; and the
+-- circuit without these numbers.
 abbrev pub stamped : List Update → Joined → Joined
 stamped [] j = j
 stamped (u ∷ us) j =
@@ -353,12 +360,14 @@ created_at sid creations = unwrap_or (option_map (λ (c : Creation). c.place) (f
 abbrev pub removal_told : List Creation → Handle × OpenChannel → Told
 removal_told creations c = record { message = disconnect c.1.cid; place = created_at (wire_of c.0) creations; cause = Removal }
 
--- of the channels of a record at an end those whose SERVER_DISCONN went down: all, or the beginning that an end left which ended
+-- of the channels of a record at an end those whose SERVER_DISCONN went down: all, or the beginning
+-- that an end left which ended
 abbrev pub disconnected_at : List ℕ → (gone : Handle → Bool) → (left : Handle → ℕ) → Handle → Option ServerCircuit → List (Handle × OpenChannel)
 disconnected_at name gone left h (Some (Open e)) = if gone h then take (left h) (channels_of name e) else channels_of name e
 disconnected_at name gone left h c = []
 
--- a circuit of server i after the removal: its SERVER_DISCONNs went down, and the subscriptions of the record are over
+-- a circuit of server i after the removal: its SERVER_DISCONNs went down, and the subscriptions
+-- of the record are over
 abbrev pub removed_at : (i : ℕ) → Server → List ℕ → (gone : Handle → Bool) → (left : Handle → ℕ) → Joined → Joined
 removed_at i core name gone left j =
     let told : List (Handle × OpenChannel) = disconnected_at name gone left j.at_server (under core.circuits j.at_server) in

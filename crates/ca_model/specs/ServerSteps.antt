@@ -1,5 +1,5 @@
--- Vocabulary: the calls of a server on one circuit, by answer (sections "Virtual Circuit" and "CA Protocol Messages"). Each is the
--- contract of the call of `ServerCore` that its comment names.
+-- Vocabulary: the calls of a server on one circuit, by answer (sections "Virtual Circuit" and "CA
+-- Protocol Messages"). Each is the contract of the call of `ServerCore` that its comment names.
 use Rattle.std.specs.Prelude.{ℕ, ◌≡◌, ◌≢◌, ◌<◌, ◌≤◌, ◌+◌, ◌==◌, ◌&&◌, ◌++◌, ◌⊎◌, Bool, true, false, List, [], ◌∷◌, Option, Some, None, Ok, Err, Result, if◌then◌else◌, is_some, length, map, min, option_map, slice_set, unwrap_or}
 use Rattle.std.specs.List.{FoldsTo, list_any}
 use Rattle.ca_arena.specs.declared.handle.Handle.{Handle}
@@ -36,7 +36,8 @@ HasEnd y h e = under y.circuits h ≡ Some (Open e)
 abbrev pub with_end : Handle → ServerEnd → Server → Server
 with_end h e y = record y { circuits = with_changed (λ (c : ServerCircuit). Open e) h y.circuits }
 
--- `accept`: a circuit is made, under a handle that may be given; refused by ArenaFull if there is none.
+-- `accept`: a circuit is made, under a handle that may be given; refused by
+-- ArenaFull if there is none.
 abbrev pub Accepts : Server → Result Handle Refusal → Server → Type 0
 Accepts old (Ok h) new = MayGive old.circuits h × (new ≡ record old { circuits = with_held h (Open (new_end old.moment)) old.circuits })
 Accepts old (Err refusal.ArenaFull) new = (is_full old.circuits ≡ true) × (new ≡ old)
@@ -55,7 +56,8 @@ abbrev pub output_of : Option ServerCircuit → List ℕ
 output_of (Some (Open e)) = e.link.output
 output_of c = []
 
--- `sent`: the first n bytes that waited were handed over; none wait on a circuit whose end is not open.
+-- `sent`: the first n bytes that waited were handed over; none wait on a circuit
+-- whose end is not open.
 abbrev pub Sends : Server → Handle → ℕ → Server → Type 0
 Sends old h n new =
     ((e : ServerEnd) × HasEnd old h e × (n ≤ length e.link.output) × (new ≡ with_end h (record e { link = with_handed n e.link }) old))
@@ -63,7 +65,8 @@ Sends old h n new =
 
 -- ---- circuits end
 
--- the server without the waiting puts of a circuit: they are never applied ("CA_PROTO_WRITE_NOTIFY")
+-- the server without the waiting puts of a circuit: they are never applied
+-- ("CA_PROTO_WRITE_NOTIFY")
 abbrev pub without_puts_of : Handle → Server → Server
 without_puts_of h y = record y { records = withdrawn (λ (p : Put). same_handle p.circuit h) y.records }
 
@@ -139,7 +142,8 @@ knows y e = record {
 
 -- ---- what that makes of the end and of the records
 
--- The first queue with room takes a new subscription, and its first entry is the value then ("CA_PROTO_EVENT_ADD").
+-- The first queue with room takes a new subscription, and its first entry is the value then
+-- ("CA_PROTO_EVENT_ADD").
 pub record TakesIn (s : Subscription) (v : Stored) (e new : ServerEnd) : Type 0 where
   pub place : ℕ
   pub q : Queue Stored
@@ -149,7 +153,8 @@ pub record TakesIn (s : Subscription) (v : Stored) (e new : ServerEnd) : Type 0 
   pub leaves :
       new ≡ record e { subscriptions = e.subscriptions ++ s ∷ []; queues = slice_set e.queues place (posted (key_of s) v (added (key_of s) q)) }
 
--- The channel that a message creates is held under a handle whose SID it is ("CA_PROTO_CREATE_CHAN").
+-- The channel that a message creates is held under a handle whose SID it is
+-- ("CA_PROTO_CREATE_CHAN").
 abbrev pub Creates : ServerEnd → KnownChannel → ServerEnd → Type 0
 Creates e c new =
     (h : Handle) × MayGive e.channels h × (wire_of h ≡ c.sid)
@@ -173,13 +178,15 @@ Acts y e (Drops key) new = new ≡ without_subscriptions (same key) e
 Acts y e (Switches on) new = new ≡ with_events on e
 Acts y e action new = new ≡ e
 
--- the put with notification that this message on a circuit is: its channel is that of its SID ("CA_PROTO_WRITE_NOTIFY")
+-- the put with notification that this message on a circuit is: its channel is that of its SID
+-- ("CA_PROTO_WRITE_NOTIFY")
 abbrev pub IsPut : Handle → ServerEnd → Fields → Put → Type 0
 IsPut h e m p =
     (c : Handle × OpenChannel) × (by_wire e.channels m.p1 ≡ Some c)
     × (p ≡ record { circuit = h; channel = c.0; data_type = m.data_type; count = m.count; ioid = m.p2 })
 
--- What a message makes of the server's records ("CA_PROTO_WRITE", "CA_PROTO_WRITE_NOTIFY", "CA_PROTO_CLEAR_CHANNEL").
+-- What a message makes of the server's records ("CA_PROTO_WRITE", "CA_PROTO_WRITE_NOTIFY",
+-- "CA_PROTO_CLEAR_CHANNEL").
 abbrev pub Records : Server → Handle → ServerEnd → Fields → Action → Server → Type 0
 Records y h e m (Applies name value false) new = new ≡ counted (record y { records = with_record name (with_value value (written_meta y.stamp)) y.records })
 Records y h e m (Applies name value true) new =
@@ -191,8 +198,8 @@ Records y h e m (Clears sid) new =
     new ≡ record y { records = withdrawn (λ (p : Put). same_handle p.circuit h && wire_of p.channel == sid) y.records }
 Records y h e m action new = new ≡ y
 
--- The message is handled on this circuit: these replies are due, this is done, and so the server and the circuit's end are after it. A
--- write has not reached the subscriptions yet.
+-- The message is handled on this circuit: these replies are due, this is done, and so the server
+-- and the circuit's end are after it. A write has not reached the subscriptions yet.
 pub record Handles (y : Server) (h : Handle) (e : ServerEnd) (m : Fields) (replies : List Fields) (action : Action) (new : Server) : Type 0 where
   pub due : Due (knows y e) m replies action
   pub acted : ServerEnd
@@ -201,7 +208,8 @@ pub record Handles (y : Server) (h : Handle) (e : ServerEnd) (m : Fields) (repli
   pub records : Records y h e m action recorded
   pub leaves : new ≡ with_end h (record acted { link = with_sent replies acted.link }) recorded
 
--- The write of a message, if it is one, reaches all subscriptions of its record; circuits that it concerns may end out of memory for it.
+-- The write of a message, if it is one, reaches all subscriptions of its record; circuits that it
+-- concerns may end out of memory for it.
 abbrev pub Reaches : Action → (gone : Handle → Bool) → Server → Server → Type 0
 Reaches (Applies name value busies) gone y new = MayEnd y name write_mask gone × (new ≡ after_post name write_mask (stored_now y value) gone y)
 Reaches action gone y new = ((h : Handle) → gone h ≡ false) × (new ≡ y)
@@ -213,7 +221,8 @@ pub data Stepped : Type 0 where
   Handled NeedBytes OutputFull : Stepped
   Closed : Why → (left : List ℕ) → Stepped
 
--- Memory may lack for a message with a payload, one that is answered, and one by which a write is applied or waits or a subscription begins.
+-- There may be no memory for a message with a payload, one that is answered, and one by which a
+-- write is applied or waits or a subscription begins.
 abbrev pub NeedsMemory : Fields → List Fields → Action → Type 0
 NeedsMemory m replies (Applies name value busies) = Unit {0}
 NeedsMemory m replies (Waits name value) = Unit {0}
@@ -236,12 +245,14 @@ abbrev pub is_write : Action → Bool
 is_write (Applies name value busies) = true
 is_write action = false
 
--- What is left of the next message of an end that closes on it: nothing; or its write, which reaches all but these circuits.
+-- What is left of the next message of an end that closes on it: nothing; or its write, which
+-- reaches all but these circuits.
 abbrev pub LeftOf : {y : Server} {h : Handle} {e : ServerEnd} → Next y h e → (written : Option (Handle → Bool)) → Server → Type 0
 LeftOf {y} {h} {e} next None new = new ≡ y
 LeftOf {y} {h} {e} next (Some gone) new = (is_write next.action ≡ true) × Reaches next.action gone next.after new
 
--- The end closes out of memory for the next message: its replies are not sent, and its write is applied or not.
+-- The end closes out of memory for the next message: its replies are not sent, and its
+-- write is applied or not.
 pub record LacksMemory (y : Server) (h : Handle) (e : ServerEnd) (new : Server) : Type 0 where
   pub next : Next y h e
   pub needs : NeedsMemory next.m next.replies next.action
@@ -259,14 +270,15 @@ StepsOpen old h e (Closed why.OutOfMemory left) new = (left ≡ e.link.output) �
 StepsOpen old h e (Closed w left) new =
     (length e.link.output < output_limit) × ((r : Refusal) × BadAt e.link.input.bytes r × (w ≡ why_of r)) × (left ≡ e.link.output) × (new ≡ closed h old)
 
--- A step of what is under a handle: an open end; one that ended in another call, which is reported now; or no circuit.
+-- A step of what is under a handle: an open end; one that ended in another call, which is
+-- reported now; or no circuit.
 abbrev pub StepsAt : Server → Handle → Option ServerCircuit → Stepped → Server → Type 0
 StepsAt old h (Some (Open e)) did new = StepsOpen old h e did new
 StepsAt old h (Some (Ended w left)) did new = (did ≡ Closed w left) × (new ≡ closed h old)
 StepsAt old h None did new = (did ≡ Closed why.Cut []) × (new ≡ old)
 
--- `step`: an open end takes one message, or the answer tells why it takes none. The end of a circuit is
--- reported once, with what it left; under a handle without a circuit each step answers Cut.
+-- `step`: an open end takes one message, or the answer says why it takes none. The end of a circuit
+-- is reported once, with what it left; under a handle without a circuit each step answers Cut.
 abbrev pub Steps : Server → Handle → Stepped → Server → Type 0
 Steps old h did new = StepsAt old h (under old.circuits h) did new
 
@@ -279,7 +291,8 @@ pub record Update : Type 0 where
   pub carries : Stored
   pub message : Fields
 
--- An update goes into the output from the first queue that may give one, while there is room ("CA_PROTO_EVENT_ADD").
+-- An update goes into the output from the first queue that may give one, while there is room
+-- ("CA_PROTO_EVENT_ADD").
 pub record Leaves (e : ServerEnd) (u : Update) (new : ServerEnd) : Type 0 where
   pub room : length e.link.output < output_limit
   pub q : Queue Stored
@@ -294,7 +307,8 @@ pub record Leaves (e : ServerEnd) (u : Update) (new : ServerEnd) : Type 0 where
 abbrev pub Rests : ServerEnd → Type 0
 Rests e = (u : Update) (new : ServerEnd) → Leaves e u new → ⊥
 
--- `pump`: updates leave the queues of an open end until none may; or it ends out of memory for the next, and leaves those before it.
+-- `pump`: updates leave the queues of an open end until none may; or it ends out of memory for the
+-- next, and leaves those before it.
 abbrev pub Pumps : Server → Handle → List Update → Server → Type 0
 Pumps old h updates new =
     ((e : ServerEnd) × HasEnd old h e

@@ -17,7 +17,8 @@ use Rattle.ca_model.specs.Speech.{Stored}
 abbrev pub update_count : Wanted → Stored → ℕ
 update_count w v = if w.count == 0 then count_of v.value else w.count
 
--- the update with this image; or GETFAIL and as many zero bytes if the value has none in the wanted type
+-- the update with this image; or GETFAIL and as many zero bytes if the value has
+-- none in the wanted type
 abbrev pub update_in : Wanted → Stored → DataType → Result Elements Refusal → Fields
 update_in w v t (Ok e) = update w.data_type (update_count w v) normal w.id (image t e v.meta)
 update_in w v t (Err r) = update w.data_type (update_count w v) get_fail w.id (replicate (size_of_image t (update_count w v)) 0)

@@ -33,8 +33,8 @@ pub record Setting : Type 0 where
   pub clients : List ClientSetting
   pub servers : List ServerSetting
 
--- Users and hosts fit into a message, and name servers into a table; the records of a server are records, and have different names; ports
--- are ports, and the servers have different addresses.
+-- Users and hosts fit into a message, and name servers into a table; the records of a server are
+-- records, and have different names; ports are ports, and the servers have different addresses.
 pub record IsSetting (s : Setting) : Type 0 where
   pub fit : (i : ℕ) (c : ClientSetting) → At s.clients i c → NamesFit c.peer
   pub few : (i : ℕ) (c : ClientSetting) → At s.clients i c → length (distinct c.name_servers) ≤ arena_slots
@@ -45,8 +45,8 @@ pub record IsSetting (s : Setting) : Type 0 where
 
 -- ---- a world
 
--- What a client's handles name, by number: its channels; its requests and its subscriptions, each with its intent; and how many plain
--- writes it accepted.
+-- What a client's handles name, by number: its channels; its requests and its subscriptions, each
+-- with its intent; and how many plain writes it accepted.
 pub record Names : Type 0 where
   pub channels : List Handle
   pub requests : List (Handle × Intent)
@@ -65,7 +65,8 @@ pub record PutPlace : Type 0 where
   pub circuit : ℕ
   pub place : ℕ
 
--- a record of a server: its name, its number among all records that this life had, and where its busy and its waiting puts came
+-- a record of a server: its name, its number among all records that this life had, and where its
+-- busy and its waiting puts came
 pub record RecordSide : Type 0 where
   pub name : List ℕ
   pub number : ℕ
@@ -80,20 +81,22 @@ pub record ServerSide : Type 0 where
   pub records : List RecordSide
   pub added : ℕ
 
--- a subscription that stands at a server's end: its key, the place of its EVENT_ADD, and how many posts matched so far
+-- a subscription that is at a server's end: its key, the place of its EVENT_ADD, and how many
+-- posts matched so far
 pub record Standing : Type 0 where
   pub key : SubKey
   pub place : ℕ
   pub posts : ℕ
 
--- where a channel that is open at a server's end was created: its SID, and the place of its CREATE_CHAN
+-- where a channel that is open at a server's end was created: its SID, and the
+-- place of its CREATE_CHAN
 pub record Creation : Type 0 where
   pub sid : ℕ
   pub place : ℕ
 
--- A circuit: its client and its server, and the handles by which their cores know it; its lists; the bytes that ends which have ended
--- left; and at the server's end where its open channels were created, the subscriptions that stand, and the queues, as the numbers of
--- what waits there.
+-- A circuit: its client and its server, and the handles by which their cores know it; its lists;
+-- the bytes that ends which have ended left; and at the server's end where its open channels were
+-- created, the subscriptions that stand, and the queues, as the numbers of what waits there.
 pub record Joined : Type 0 where
   pub client : ℕ
   pub server : ℕ
@@ -106,7 +109,8 @@ pub record Joined : Type 0 where
   pub standing : List Standing
   pub queues : List (Queue (ℕ × Cause))
 
--- A world: its clients, its servers and its circuits; the logs of all lives of clients and of servers; and the moment handed in last.
+-- A world: its clients, its servers and its circuits; the logs of all lives of clients and of
+-- servers; and the moment handed in last.
 pub record World : Type 0 where
   pub clients : List ClientSide
   pub servers : List ServerSide

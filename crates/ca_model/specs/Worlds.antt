@@ -1,5 +1,5 @@
--- Statement: when a world, of whatever life its circuits and logs are, is safe, and when what went out there was legal; and
--- what is promised of every run.
+-- Statement: when a world, of whatever life its circuits and logs are, is safe, and when what went
+-- out there was legal; and what is promised of every run.
 use Rattle.std.specs.Prelude.{List, Option}
 use Rattle.ca_model.specs.Events.{Event}
 use Rattle.ca_model.specs.Runs.{AreEvents, Runs}
@@ -11,7 +11,8 @@ use Rattle.ca_model.specs.Legal.{Legal}
 abbrev pub IsSafeWorld : World → Type 0
 IsSafeWorld w = IsSafe (port_of w) (rules_of w) (told w)
 
--- Each end of each circuit sent what it may and what it has to, and each accepted subscription was sent.
+-- Each end of each circuit sent what it may and what it has to, and each accepted
+-- subscription was sent.
 abbrev pub IsLegalWorld : World → Type 0
 IsLegalWorld w = Legal (told w)
 

@@ -7,8 +7,9 @@ use Rattle.ca_ids.specs.Holding.{IsVacant}
 use Rattle.ca_ids.specs.Table.{MayGive, Table, with_freed, with_held}
 use Rattle.ca_monitor.specs.Subscriptions.{Stage, Subscription, standing_under, with_stage}
 
--- From old, this subscription was added under the handle that was told, with this answer, and left new. Refused, all is as before: another
--- handle may be told, or none, and this one is stale; or this one may be given, and there is no memory.
+-- From old, this subscription was added under the handle that was told, with this answer, and left
+-- new. Refused, all is as before: another handle may be told, or none, and this one is stale; or
+-- this one may be given, and there is no memory.
 abbrev pub Adds : Table Subscription → Handle → Subscription → Result (Unit {0}) Refusal → Table Subscription → Type 0
 Adds old h s (Ok _) new = MayGive old h × (new ≡ with_held h s old)
 Adds old h s (Err e) new =

@@ -1,4 +1,5 @@
--- Working: which subscriptions end at once, and what is done to each place. No clause of a caller needs it.
+-- Working: which subscriptions end at once, and what is done to each place. No clause
+-- of a caller needs it.
 use Rattle.std.specs.Prelude.{ℕ, ◌==◌, ◌&&◌, Bool, false, Option, Some, None}
 use Rattle.ca_arena.specs.declared.handle.Handle.{Handle}
 use Rattle.ca_arena.specs.Arena.{Place}

@@ -1,4 +1,5 @@
--- Vocabulary: when a client asks for a pause of updates, and for their return (sections "CA_PROTO_EVENTS_OFF" and "CA_PROTO_EVENTS_ON").
+-- Vocabulary: when a client asks for a pause of updates, and for their return (sections
+-- "CA_PROTO_EVENTS_OFF" and "CA_PROTO_EVENTS_ON").
 use Rattle.std.specs.Prelude.{ℕ, ◌+◌, ◌==◌, Bool, true, false, Option, Some, None, if◌then◌else◌}
 use Rattle.ca_text.specs.declared.command.Command.{Command}
 use Rattle.ca_text.specs.declared.command.Command.TheVariants as command
@@ -17,8 +18,8 @@ no_reads = record { reads = 0; events_off = false }
 abbrev pub counted : ReadRun → ReadRun
 counted r = if r.reads + 1 == flow_reads then record { reads = 0; events_off = true } else record r { reads = r.reads + 1 }
 
--- A read that left bytes waiting (true) is counted, unless updates pause. A read that left none ends the pause, and the count begins
--- again.
+-- A read that left bytes waiting (true) is counted, unless updates pause. A read that left none
+-- ends the pause, and the count begins again.
 abbrev pub after_read : Bool → ReadRun → ReadRun
 after_read true r = if r.events_off then r else counted r
 after_read false r = no_reads

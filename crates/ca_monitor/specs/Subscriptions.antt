@@ -1,15 +1,17 @@
--- Vocabulary: a client's subscriptions, in their table of subscription ids (sections "CA_PROTO_EVENT_ADD" and "CA_PROTO_EVENT_CANCEL").
+-- Vocabulary: a client's subscriptions, in their table of subscription ids (sections
+-- "CA_PROTO_EVENT_ADD" and "CA_PROTO_EVENT_CANCEL").
 use Rattle.std.specs.Prelude.{ℕ, ◌&&◌, Bool, true, false, List, Option, Some, None, filter, if◌then◌else◌, option_and_then}
 use Rattle.ca_arena.specs.declared.handle.Handle.{Handle}
 use Rattle.ca_ids.specs.Table.{Table, by_wire, held, same_handle, under, with_all, with_all_freed, with_changed}
 
--- A subscription stands; or its caller cancelled it on this circuit, and its id drains until the confirmation; or its id drains on this
--- circuit until its channel's clear is answered.
+-- A subscription stands; or its caller cancelled it on this circuit, and its id drains until the
+-- confirmation; or its id drains on this circuit until its channel's clear is answered.
 pub data Stage : Type 0 where
   Stands : Stage
   Cancelled Ended : Handle → Stage
 
--- a subscription: its channel, the type, the count and the mask that were asked for, and whether it stands
+-- a subscription: its channel, the type, the count and the mask that were asked for,
+-- and whether it stands
 pub record Subscription : Type 0 where
   pub channel : Handle
   pub data_type : ℕ
@@ -58,7 +60,8 @@ standing_by id t = option_and_then (λ (e : Handle × Subscription). if stands_i
 abbrev pub standing_to : Handle → Table Subscription → List (Handle × Subscription)
 standing_to channel t = filter (λ (e : Handle × Subscription). is_to channel e.1 && stands_in e.1.stage) (held t)
 
--- The subscription whose cancel a confirmation of this id on this circuit is about. It is about none that was not cancelled.
+-- The subscription whose cancel a confirmation of this id on this circuit is about. It is about
+-- none that was not cancelled.
 abbrev pub confirmed_by : Handle → ℕ → Table Subscription → Option Handle
 confirmed_by circuit id t =
     option_and_then (λ (e : Handle × Subscription). if is_cancelled_in circuit e.1.stage then Some e.0 else None) (by_wire t id)
@@ -69,7 +72,8 @@ confirmed_by circuit id t =
 abbrev pub with_stage : Stage → Handle → Table Subscription → Table Subscription
 with_stage stage h t = with_changed (λ (s : Subscription). record s { stage = stage }) h t
 
--- Once its channel is cleared, a subscription that stands is over; one that was cancelled still waits for its confirmation.
+-- Once its channel is cleared, a subscription that stands is over; one that was cancelled still
+-- waits for its confirmation.
 abbrev pub stage_over : Handle → Stage → Stage
 stage_over circuit Stands = Ended circuit
 stage_over circuit (Cancelled on) = Cancelled on
@@ -79,7 +83,8 @@ stage_over circuit (Ended on) = Ended on
 abbrev pub over_on : Handle → Handle → Subscription → Subscription
 over_on circuit channel s = if is_to channel s then record s { stage = stage_over circuit s.stage } else s
 
--- the subscriptions to this channel are over, and their ids drain on this circuit until its clear's reply
+-- the subscriptions to this channel are over, and their ids drain on this circuit
+-- until its clear's reply
 abbrev pub channel_over : Handle → Handle → Table Subscription → Table Subscription
 channel_over circuit channel t = with_all (over_on circuit channel) t
 

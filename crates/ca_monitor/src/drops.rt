@@ -11,7 +11,8 @@ use crate::subscription::Subscription;
 use ca_arena::Handle;
 use ca_ids::HeldTable;
 
-/// Which subscriptions are meant: those to a channel, or those to a channel whose ids drain on a circuit.
+/// Which subscriptions are meant: those to a channel, or those to a channel whose
+/// ids drain on a circuit.
 #[derive(Clone, Copy, Debug, PartialEq, Eq)]
 pub(crate) enum Which {
     ToChannel(Handle),
@@ -66,7 +67,8 @@ fn free_at(table: &mut HeldTable<Subscription>, index: u16, which: Which)
     let _ = table.free(handle);
 }
 
-/// The subscriptions to this channel are over, and their ids drain on this circuit. All of them are at these indices.
+/// The subscriptions to this channel are over, and their ids drain on this circuit. All of them
+/// are at these indices.
 pub(crate) fn end_all(
     table: &mut HeldTable<Subscription>,
     listed: &[u16],

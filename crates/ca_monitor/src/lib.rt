@@ -1,4 +1,5 @@
-//! A client's subscriptions: which are there, whose wire ids drain, and when the client asks for a pause of updates.
+//! A client's subscriptions: which are there, whose wire ids drain, and when the client asks
+//! for a pause of updates.
 #![tactic(auto)]
 
 mod drops;

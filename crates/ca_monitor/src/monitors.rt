@@ -61,9 +61,10 @@ impl Monitors {
         self.table.vacant()
     }
 
-    /// Adds a subscription to this channel under the handle that `vacant` tells. It stands from now on.
+    /// Adds a subscription to this channel under the handle that `vacant` returns.
+    /// It stands from now on.
     ///
-    /// Refused as StaleHandle if `vacant` tells another handle or none, then as OutOfMemory.
+    /// Refused as StaleHandle if `vacant` returns another handle or none, then as OutOfMemory.
     pub fn add(
         &mut self,
         vacant: Handle,
@@ -109,7 +110,8 @@ impl Monitors {
         }
     }
 
-    /// The subscription of this wire id, if it stands: an update or an error of this id is about it.
+    /// The subscription of this wire id, if it stands: an update or an error of
+    /// this id is about it.
     pub fn standing_by(&self, wire: u32) -> Option<(Handle, Subscription)>
         ensures { result ≡ standing_by wire self.now }
     {
@@ -119,9 +121,10 @@ impl Monitors {
         }
     }
 
-    /// A subscription that stands is cancelled on this circuit: its id drains until the confirmation.
+    /// A subscription that stands is cancelled on this circuit: its id drains
+    /// until the confirmation.
     ///
-    /// Refused as StaleHandle if none stands under the handle.
+    /// Refused as StaleHandle if none is under the handle.
     pub fn cancel(&mut self, circuit: Handle, handle: Handle) -> Result<Subscription, Refusal>
         ensures { Comes (monitor.Cancelled circuit) self.old handle result self.new }
     {
@@ -132,9 +135,10 @@ impl Monitors {
         Ok(found)
     }
 
-    /// A subscription that stands is over: its id drains on this circuit until its channel's clear is answered.
+    /// A subscription that stands is over: its id drains on this circuit until its
+    /// channel's clear is answered.
     ///
-    /// Refused as StaleHandle if none stands under the handle.
+    /// Refused as StaleHandle if none is under the handle.
     pub fn end(&mut self, circuit: Handle, handle: Handle) -> Result<Subscription, Refusal>
         ensures { Comes (monitor.Ended circuit) self.old handle result self.new }
     {
@@ -153,7 +157,8 @@ impl Monitors {
         }
     }
 
-    /// The id of this subscription is free: nothing of it is on the way. A stale handle changes nothing.
+    /// The id of this subscription is free: nothing of it is on the way. A stale
+    /// handle changes nothing.
     pub fn free(&mut self, handle: Handle)
         ensures { self.new ≡ with_freed handle self.old }
     {
@@ -163,7 +168,8 @@ impl Monitors {
         self.channels.remove(found.channel.index, handle.index);
     }
 
-    /// A cancel was confirmed on this circuit, under this wire id: the id is free, if it is one that was cancelled there.
+    /// A cancel was confirmed on this circuit, under this wire id: the id is free, if it is one
+    /// that was cancelled there.
     pub fn confirmed(&mut self, circuit: Handle, wire: u32) -> Option<Handle>
         ensures about { result ≡ confirmed_by circuit wire self.old }
         ensures freed { self.new ≡ freed_if result self.old }
@@ -182,7 +188,8 @@ impl Monitors {
         }
     }
 
-    /// The subscriptions to this channel that stand, in order of index. It goes over those to it, and takes memory only if there is one.
+    /// The subscriptions to this channel that stand, in order of index. It goes over those to it,
+    /// and takes memory only if there is one.
     pub fn standing_to(
         &self,
         alloc: Global,
@@ -199,8 +206,8 @@ impl Monitors {
         Ok(found)
     }
 
-    /// The subscriptions to this channel are over, and their ids drain on this circuit until its clear's reply. It takes no
-    /// memory.
+    /// The subscriptions to this channel are over, and their ids drain on this circuit until its
+    /// clear's reply. It does not allocate.
     pub fn end_channel(&mut self, circuit: Handle, channel: Handle)
         ensures { self.new ≡ channel_over circuit channel self.old }
     {
@@ -217,7 +224,8 @@ impl Monitors {
         self.tidy(channel.index);
     }
 
-    /// The ids of this channel's subscriptions that drain on this circuit are free. It does not allocate.
+    /// The ids of this channel's subscriptions that drain on this circuit are free.
+    /// It does not allocate.
     pub fn drained(&mut self, circuit: Handle, channel: Handle)
         ensures { self.new ≡ channel_drained circuit channel self.old }
     {

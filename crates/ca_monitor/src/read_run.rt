@@ -4,7 +4,8 @@ ghost use Rattle.ca_monitor.specs.ReadRun.{after_read, no_reads, sent_by_read};
 use ca_text::{Command, FLOW_READS};
 use std::marker::Model;
 
-/// How many reads of a circuit in a row left bytes waiting, and whether its client asked for a pause of updates.
+/// How many reads of a circuit in a row left bytes waiting, and whether its client asked
+/// for a pause of updates.
 #[derive(Clone, Copy, Debug, PartialEq, Eq)]
 pub struct ReadRun {
     reads: usize,

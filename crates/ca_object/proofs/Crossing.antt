@@ -1,4 +1,5 @@
--- What is owned at an object's pointer may cross to another thread if the object may. Assumes nothing.
+-- What is owned at an object's pointer may cross to another thread if the object
+-- may. Assumes nothing.
 use base.Shift.{Keyless}
 use mir.Raw.{raw as bare}
 use denote.Memory.{lone}

@@ -1,6 +1,7 @@
 -- What is owned of an object, taken apart and made, for walks. Assumes `Logic`.
 --     taken, made      what is owned of it: its one machine value, and what is at its pointer
---     is_there         a pointer is null where there is no object, and else may be compared with null
+--     is_there         a pointer is null where there is no object, and else may
+--         be compared with null
 use Rattle.std.proofs.Common.{◌≡◌, ℕ, ◌<◌, ◌^◌, Option, None, Some, List, [], ◌∷◌, ◌++◌, refl, sym, ◌∙◌, subst, lit<, T}
 use seplogic.Ra.Ura.{Ura}
 use base.Fraction.{full_share}

@@ -1,4 +1,4 @@
-//! An object as C holds it: a pointer, which is null where there is none.
+//! An object as C holds it: a pointer, which is null if there is none.
 #![tactic(auto)]
 
 mod object;

@@ -55,7 +55,7 @@ set-is-map f (z ∷ xs) zero x h others =
 set-is-map f (z ∷ xs) (suc i) x h others =
     λ t. (sym (others zero z refl (λ e. omega arith)) t) ∷ (set-is-map f xs i x h (λ j y at other. others (suc j) y at (λ e. other (let d : suc j ≡ suc i = e in omega arith))) t)
 
--- what an index gave stands there
+-- what an index gave is there
 pub found : {A : Type 0} (xs : List A) (k : ℕ) (x : A) → k < length xs → x ≡ get_or xs k x → At xs k x
 found xs k x lt e = subst (λ (z : _). At xs k z) (sym e) (slice_get-get_or xs k x lt)
 
@@ -175,14 +175,14 @@ module _ {E : Type 0} where
         | inr none ↦ none-without key r.subscriptions r none
       ])
 
-  -- ---- the queues behind the last in use
+  -- ---- the queues after the last in use
 
   pub idle-none : (n i : ℕ) (q : Queue E) → At (replicate n (no_queue {E = E})) i q → q.waiting ≡ []
   idle-none zero i q at = absurd cc
   idle-none (suc n) zero q at = ap (λ (x : Queue E). x.waiting) (sym (At-one (replicate (suc n) (no_queue {E = E})) zero no_queue q refl at))
   idle-none (suc n) (suc i) q at = idle-none n i q at
 
-  -- one that is not behind it was changed
+  -- one that is not after it was changed
   pub idle-set : (n m place : ℕ) (qs : List (Queue E)) (r : Queue E) → AreIdleBehind n qs → m ≡ max n place → AreIdleBehind m (slice_set qs place r)
   idle-set n m place qs r idle later i q at lt =
       elim (At-set qs place r i q at) [
@@ -212,7 +212,7 @@ module _ {E : Type 0} where
       by true = refl
       by false = refl
 
-  -- where all before a place rest, and it is behind the last in use, all rest
+  -- where all before a place rest, and it is after the last in use, all rest
   pub idle-all : (last place : ℕ) (qs : List (Queue E)) → AreIdleBehind last qs → last < place → RestBefore qs place → RestBefore qs (length qs)
   idle-all last place qs idle behind rest i r within at =
       elim (less-or i place) [

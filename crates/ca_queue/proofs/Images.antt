@@ -71,7 +71,7 @@ module _ {E F : Type 0} (f : E → F) where
         | inr other ↦ rw other (ap (λ r. (w.0, f w.1) ∷ r) (images_cancel key q))
       ]
 
-  -- what a take gives
+  -- what a take returns
   pub taken_images : (on : Bool) (q : List (SubKey × E)) → taken on (images f q) ≡ image_if f (taken on q)
   taken_images on q = ap (λ (b : Bool). cond b (front (images f q)) None) (may_take_images on q) ∙ go (may_take on q) q
     where

@@ -107,7 +107,7 @@ counts_same p r key (first ∷ keys) none alike =
     let here : number_of (p first) ≡ number_of (r first) = ap number_of (alike first parts.0) in
     omega (arith, counts_same p r key keys parts.1 alike, count_by-cons p first keys, count_by-cons r first keys)
 
--- the one subscription stands at most once
+-- the one subscription is at most once
 pub counts_near : (p r : SubKey → Bool) (key : SubKey) (keys : List SubKey) → AreApart keys → AreAlike p r key → count_by p keys ≤ count_by r keys + 1
 counts_near p r key [] apart alike = omega arith
 counts_near p r key (first ∷ keys) apart alike =

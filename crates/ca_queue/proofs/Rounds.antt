@@ -75,7 +75,7 @@ length-left key lasts =
     let p : Last → Bool = λ l. not (same key l.key) in
     omega (arith, length-filter p lasts, count_by-le-length p lasts)
 
--- one was taken out, and the index was made anew
+-- one was taken out, and the index was made again
 pub indexed-left : (key : SubKey) (lasts left : List Last) (keys new : List SubKey) (room indexed spare room' indexed' spare' cleared : ℕ) → IsIndexed lasts keys room indexed spare → left ≡ filter (λ l. not (same key l.key)) lasts → room' ≡ room → indexed + spare ≤ cleared → new ≡ keys_of_lasts left → indexed' ≡ length left → cleared ≤ indexed' + spare' → IsIndexed left new room' indexed' spare'
 indexed-left key lasts left keys new room indexed spare room' indexed' spare' cleared had left_is room_is more new_is counted kept =
     let few : length left ≤ length lasts = omega (arith, ap length left_is, length-left key lasts) in
@@ -246,7 +246,7 @@ noted-none Z puts (l ∷ lasts) = (λ i is. absurd (nothing i is), noted-none Z 
     nothing : (i : ℕ) → None ≡ Some i → ⊥
     nothing i e = cc
 
--- one that stands behind another one is another one
+-- one that is after another one is another one
 not-it : (k : SubKey) (ks : List SubKey) (m : ℕ) → is_among k ks ≡ false → m < length ks → same k (get_or ks m no_key) ≡ false
 not-it k [] m none less = absurd (omega (arith, less))
 not-it k (x ∷ ks) zero none less = (or_parts (same k x) (is_among k ks) none).0
@@ -266,7 +266,7 @@ module _ {E : Type 0} where
   noted-push puts entries [] l noted it = (it, tt)
   noted-push puts entries (x ∷ lasts) l noted it = (noted.0, noted-push puts entries lasts l noted.1 it)
 
-  -- one subscription was written anew, of which alone there is another entry
+  -- one subscription was written again, of which alone there is another entry
   noted-set : (key : SubKey) (l : Last) (puts puts' : ℕ) (entries left : List (SubKey × E)) (lasts : List Last) (number : ℕ) → AreNoted puts entries lasts → AreApart (keys_of_lasts lasts) → key ≡ get_or (keys_of_lasts lasts) number no_key → number < length (keys_of_lasts lasts) → IsNoted puts' left l → ((x : Last) → same key x.key ≡ false → IsNoted puts entries x → IsNoted puts' left x) → AreNoted puts' left (set lasts number l)
   noted-set key l puts puts' entries left [] number noted apart is less it others = tt
   noted-set key l puts puts' entries left (x ∷ lasts) zero noted apart is less it others =
@@ -313,7 +313,8 @@ module _ {E : Type 0} where
 
 -- ---- whether an entry may be taken
 
--- of these subscriptions no more have an entry than there are entries, and some have two or more where fewer do
+-- of these subscriptions no more have an entry than there are entries, and some have two
+-- or more where fewer do
 both-tell : (d : SubKey → ℕ) (ks : List SubKey) → (count_by (λ k. ltb 0 (d k)) ks ≤ sum_by d ks) × (list_any (λ k. ltb 1 (d k)) ks ≡ ltb (count_by (λ k. ltb 0 (d k)) ks) (sum_by d ks))
 both-tell d [] = (omega arith, refl)
 both-tell d (k ∷ ks) =
@@ -489,7 +490,7 @@ module _ {E : Type 0} where
 
   -- ---- where the last entry of a subscription is
 
-  -- as many puts after its last one as entries behind its last one
+  -- as many puts after its last one as entries after its last one
   pub behind-at : (key : SubKey) (number puts put behind : ℕ) (lasts : List Last) (entries : List (SubKey × E)) → AreNoted puts entries lasts → number < length lasts → key ≡ key_at lasts number → put ≡ last_at lasts number → behind ≡ puts_after puts put → (i : ℕ) → last_index key entries ≡ Some i → i + 1 + behind ≡ length entries
   behind-at key number puts put behind lasts entries noted less it put_is behind_is i is =
       ap (λ (n : ℕ). i + 1 + n) (behind_is ∙ ap (puts_after puts) put_is)
@@ -500,7 +501,7 @@ module _ {E : Type 0} where
       let less : number < length lasts = omega (arith, at.1, length-map lasts (λ l. l.key)) in
       behind-at key number puts put behind lasts entries noted less (at.0 ∙ get_or-map (λ l. l.key) lasts number no_last no_key less) put_is behind_is
 
-  -- with so many behind it, it would be before the front
+  -- with n after it, it would be before the front
   pub last-before : (key : SubKey) (behind : ℕ) (entries : List (SubKey × E)) → ((i : ℕ) → last_index key entries ≡ Some i → i + 1 + behind ≡ length entries) → length entries ≤ behind → None ≡ last_index key entries
   last-before key behind entries is_behind more = by (last_index key entries) refl
     where
@@ -530,7 +531,7 @@ module _ {E : Type 0} where
       ]
   last-same key (v ∷ q) (suc n) w at here behind = last-same key q n w at here behind
 
-  -- an entry of it stands there
+  -- an entry of it is there
   pub last-there : (key : SubKey) (behind n : ℕ) (w : SubKey × E) (entries : List (SubKey × E)) → ((i : ℕ) → last_index key entries ≡ Some i → i + 1 + behind ≡ length entries) → n + 1 + behind ≡ length entries → At entries n w → same key w.0 ≡ true → Some n ≡ last_index key entries
   last-there key behind n w entries is_behind n_is at is = by (last_index key entries) refl
     where
@@ -538,7 +539,7 @@ module _ {E : Type 0} where
       by None none = absurd (both_ways (has_entry key entries) (sym (last-has key entries) ∙ ap is_some none) (key-there key entries n w at is))
       by (Some i) it = ap (λ (m : ℕ). Some m) (omega (arith, is_behind i it, n_is)) ∙ sym it
 
-  -- one of another stands there
+  -- one of another is there
   pub last-nowhere : (key : SubKey) (behind n : ℕ) (w : SubKey × E) (entries : List (SubKey × E)) → ((i : ℕ) → last_index key entries ≡ Some i → i + 1 + behind ≡ length entries) → n + 1 + behind ≡ length entries → At entries n w → same key w.0 ≡ false → None ≡ last_index key entries
   last-nowhere key behind n w entries is_behind n_is at other = by (last_index key entries) refl
     where

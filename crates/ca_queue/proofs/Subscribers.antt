@@ -76,7 +76,7 @@ module _ {E : Type 0} where
       go false =
           entries_push k key entry q ∙ ap (λ (b : Bool). entries_of k q ++ cond b (entry ∷ []) []) (other_sym key k other) ∙ append-nil (entries_of k q)
 
-  -- a take gives the front, or changes nothing
+  -- a take returns the front, or changes nothing
   pub front_taken : (on : Bool) (w : SubKey × E) (q : List (SubKey × E)) → Some w ≡ taken on q → q ≡ w ∷ after_take on q
   front_taken on w q given = go (may_take on q) q given
     where
@@ -120,7 +120,7 @@ module _ {E : Type 0} where
         | inr replaced ↦ ap last_of replaced.is ∙ last_push None replaced.front entry
       ]
 
-  -- a take gives its subscription's first entry
+  -- a take returns its subscription's first entry
   pub first_taken : (on : Bool) (key : SubKey) (entry : E) (q : List (SubKey × E)) → Some (key, entry) ≡ taken on q → entries_of key q ≡ entry ∷ entries_of key (after_take on q)
   first_taken on key entry q given =
       ap (entries_of key) (front_taken on (key, entry) q given)

@@ -1,4 +1,5 @@
--- Working: the queues of a circuit, which are made as its first subscription begins. No clause of a caller needs it.
+-- Working: the queues of a circuit, which are made as its first subscription begins. No clause
+-- of a caller needs it.
 use Rattle.std.specs.Prelude.{Bool, List, Option, Some, None, replicate}
 use Rattle.ca_text.specs.Limits.{circuit_queues}
 use Rattle.ca_queue.specs.Queue.{Queue, no_queue, switched}

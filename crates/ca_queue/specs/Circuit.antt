@@ -39,7 +39,7 @@ module _ {E : Type 0} where
   abbrev pub AreInOne : List (Queue E) → Type 0
   AreInOne qs = (i j : ℕ) (key : SubKey) → HasAt qs i key → HasAt qs j key → i ≡ j
 
-  -- in the queues behind this place nothing waits
+  -- in the queues after this place nothing waits
   abbrev pub AreIdleBehind : (last : ℕ) → List (Queue E) → Type 0
   AreIdleBehind last qs = (i : ℕ) (q : Queue E) → At qs i q → last < i → q.waiting ≡ []
 
@@ -55,8 +55,8 @@ module _ {E : Type 0} where
   abbrev pub AreFull : List (Queue E) → Type 0
   AreFull qs = (i : ℕ) (q : Queue E) → At qs i q → queue_subscriptions ≤ length q.subscriptions
 
-  -- A new subscription goes to the first queue with room, and its first entry is this. It is refused if no queue has room. Memory is
-  -- asked for only by a queue that has no subscription.
+  -- A new subscription goes to the first queue with room, and its first entry is this. It is
+  -- refused if no queue has room. Memory is asked for only by a queue that has no subscription.
   abbrev pub Begins : List (Queue E) → SubKey → E → Result ℕ Refusal → List (Queue E) → Type 0
   Begins old key entry (Ok place) new =
       (q : Queue E) × IsFirstWithRoom old place q × (new ≡ slice_set old place (posted key entry (added key q)))

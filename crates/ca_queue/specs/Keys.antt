@@ -11,7 +11,7 @@ same a b = nat_eq a.sid b.sid && nat_eq a.sub b.sub
 abbrev pub is_among : SubKey → List SubKey → Bool
 is_among key keys = list_any (same key) keys
 
--- none stands here twice
+-- none is here twice
 abbrev pub AreApart : List SubKey → Type 0
 AreApart [] = Unit {0}
 AreApart (key ∷ keys) = (is_among key keys ≡ false) × AreApart keys

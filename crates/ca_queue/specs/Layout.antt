@@ -12,7 +12,7 @@ use Rattle.ca_queue.specs.Sound.{IsSound}
 abbrev pub keys_of : List Subscription → List SubKey
 keys_of subscriptions = map (λ s. s.key) subscriptions
 
--- the count that stands with a subscription, or 0 where it does not stand here
+-- the count that is with a subscription, or 0 if it is not here
 abbrev pub count_at : SubKey → List Subscription → ℕ
 count_at key [] = 0
 count_at key (s ∷ rest) = if same key s.key then s.waiting else count_at key rest

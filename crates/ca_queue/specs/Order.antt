@@ -8,7 +8,7 @@ module _ {A : Type 0} where
   Sub (x ∷ xs) [] = ⊥
   Sub (x ∷ xs) (y ∷ ys) = ((x ≡ y) × Sub xs ys) ⊎ Sub (x ∷ xs) ys
 
-  -- the last item, or this one where there is none
+  -- the last item, or this one if there is none
   abbrev pub last_from : Option A → List A → Option A
   last_from last [] = last
   last_from last (x ∷ xs) = last_from (Some x) xs

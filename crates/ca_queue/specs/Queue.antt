@@ -1,4 +1,5 @@
--- Vocabulary: what a queue is: the updates that wait, the subscriptions that were added, and whether events are on.
+-- Vocabulary: what a queue is: the updates that wait, the subscriptions that were added, and
+-- whether events are on.
 use Rattle.std.specs.Coded.{Coded, code_by, coded×, coded_bool, coded_list, coded_ℕ}
 use Rattle.std.specs.Prelude.{ℕ, refl, ◌≡◌, ◌<◌, Bool, true, not, List, [], ◌∷◌, ◌++◌, length, filter, Result, Ok, Err}
 use Rattle.ca_text.specs.declared.refusal.Refusal.{Refusal}
@@ -54,8 +55,8 @@ module _ {E : Type 0} where
   abbrev pub switched : Bool → Queue E → Queue E
   switched on q = record { waiting = q.waiting; subscriptions = q.subscriptions; events_on = on }
 
-  -- Why one more subscription is refused: there are as many as may be, or a growth was refused, which is asked for only where there
-  -- is none yet.
+  -- Why one more subscription is refused: there are as many as may be, or a growth was refused,
+  -- which is asked for only if there is none yet.
   abbrev pub Refuses : Queue E → Refusal → Type 0
   Refuses q TooManySubscriptions = length q.subscriptions ≡ queue_subscriptions
   Refuses q OutOfMemory = q.subscriptions ≡ []

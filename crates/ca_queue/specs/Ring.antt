@@ -12,7 +12,7 @@ use Rattle.ca_queue.specs.Waiting.{has_entry, is_of}
 -- ---- the ring
 
 module _ {W : Type 0} where
-  -- the entries that wait, where a ring was made
+  -- the entries that wait, if a ring was made
   abbrev pub waits : Option (Buffer W) → List W
   waits None = []
   waits (Some b) = b.items
@@ -49,7 +49,8 @@ module _ {W : Type 0} where
 
 -- ---- puts
 
--- The number of the put after this one. Numbers of puts go round, so that there is always a next one.
+-- The number of the put after this one. Numbers of puts go round, so that there
+-- is always a next one.
 abbrev pub next_put : ℕ → ℕ
 next_put put = (put + 1) % 2 ^ 64
 
@@ -87,7 +88,8 @@ IsAt key keys number = (key ≡ get_or keys number no_key) × (number < length k
 abbrev pub has_room_for_all : ℕ → ℕ → ℕ → Bool
 has_room_for_all room indexed spare = nat_le queue_subscriptions room && nat_le queue_subscriptions (indexed + spare)
 
--- the index has the subscriptions' keys, none of which stands twice, and room was made before the first was added
+-- the index has the subscriptions' keys, none of which stands twice, and room was made
+-- before the first was added
 pub record IsIndexed (lasts : List Last) (keys : List SubKey) (room indexed spare : ℕ) : Type 0 where
   pub keyed : keys ≡ keys_of_lasts lasts
   pub counted : indexed ≡ length lasts
@@ -96,7 +98,8 @@ pub record IsIndexed (lasts : List Last) (keys : List SubKey) (room indexed spar
 
 -- ---- both
 
--- where the last entry of a subscription is, by where it is behind the first entry, and whether that is one of it
+-- where the last entry of a subscription is, by how far it is after the first entry, and
+-- whether that is one of it
 abbrev pub later : Option ℕ → Bool → Option ℕ
 later (Some i) here = Some (i + 1)
 later None true = Some 0
@@ -111,8 +114,8 @@ module _ {E : Type 0} where
   last_index key [] = None
   last_index key (w ∷ q) = later (last_index key q) (is_of key w)
 
-  -- The number that stands with a subscription is that of its last put, if it has an entry: there were as many puts after it as
-  -- entries wait behind that entry.
+  -- The number that is with a subscription is that of its last put, if it has an entry: there were
+  -- as many puts after it as entries wait after that entry.
   abbrev pub IsNoted : ℕ → List (SubKey × E) → Last → Type 0
   IsNoted puts entries l = (i : ℕ) → last_index l.key entries ≡ Some i → i + 1 + puts_after puts l.put ≡ length entries
 
@@ -124,15 +127,16 @@ module _ {E : Type 0} where
   abbrev pub having : List (SubKey × E) → List SubKey → ℕ
   having entries keys = count_by (λ key. has_entry key entries) keys
 
-  -- The fields stand for something sound, and the numbers are right. While events are off, so are those entries counted that wait
-  -- besides one of each subscription that has one.
+  -- The fields stand for something sound, and the numbers are right. While events are off, so are
+  -- those entries counted that wait besides one of each subscription that has one.
   pub record IsRound (entries : List (SubKey × E)) (lasts : List Last) (on : Bool) (puts extra : ℕ) : Type 0 where
     pub sound : IsSound (ring_queue entries lasts on)
     pub goes_round : puts < 2 ^ 64
     pub noted : AreNoted puts entries lasts
     pub counted : on ≡ false → extra + having entries (keys_of_lasts lasts) ≡ length entries
 
-  -- The ring has a place for each entry. It was made before the first subscription was added, and all other room before it.
+  -- The ring has a place for each entry. It was made before the first subscription was added, and
+  -- all other room before it.
   pub record IsMade (ring : Option (Buffer (SubKey × E))) (lasts : List Last) (room : Bool) : Type 0 where
     pub places : HasPlaces ring
     pub made : 0 < length lasts → is_some ring ≡ true

@@ -7,8 +7,8 @@ use Rattle.ca_queue.specs.Waiting.{is_of, taken}
 use Rattle.ca_queue.specs.Queue.{Queue, added, posted, with_front_taken, cancelled, switched}
 use Rattle.ca_queue.specs.Order.{Sub, last_of}
 
--- a subscription was added, an entry was posted to it, a take gave this, a subscription was cancelled, or events were
--- turned on or off
+-- a subscription was added, an entry was posted to it, a take gave this, a subscription was
+-- cancelled, or events were turned on or off
 pub data Call (E : Type 0) : Type 0 where
   Added : SubKey → Call E
   Posted : SubKey → E → Call E
@@ -27,7 +27,8 @@ module _ {E : Type 0} where
   Leads old (Cancelled key ∷ calls) new = Leads (cancelled key old) calls new
   Leads old (Switched on ∷ calls) new = Leads (switched on old) calls new
 
-  -- what was posted to a subscription, in order: this before these calls, and again from its last cancel on
+  -- what was posted to a subscription, in order: this before these calls, and again
+  -- from its last cancel on
   abbrev pub posts_to : SubKey → List E → List (Call E) → List E
   posts_to key before [] = before
   posts_to key before (Added k ∷ calls) = posts_to key before calls

@@ -11,8 +11,9 @@ module _ {E : Type 0} where
   abbrev pub occupied : Queue E → ℕ
   occupied q = count_by (λ key. has_entry key q.waiting) q.subscriptions
 
-  -- All entries have a place; subscriptions are few enough, and each stands once; each entry's subscription was added;
-  -- and free places and subscriptions that have an entry are together enough for every post to find a place.
+  -- All entries have a place; subscriptions are few enough, and each is once; each entry's
+  -- subscription was added; and free places and subscriptions that have an entry are together
+  -- enough for every post to find a place.
   pub record IsSound (q : Queue E) : Type 0 where
     pub fits : length q.waiting ≤ queue_places
     pub few : length q.subscriptions ≤ queue_subscriptions

@@ -1,6 +1,6 @@
--- The updates that wait: entries, each with its subscription, the front first. The protocol specification leaves a
--- server's event queue open; the rule is our own. Events are off from a client's EVENTS_OFF to its EVENTS_ON (section
--- "CA Protocol Messages").
+-- The updates that wait: entries, each with its subscription, the front first. The protocol
+-- specification leaves a server's event queue open; the rule is our own. Events are off from a
+-- client's EVENTS_OFF to its EVENTS_ON (section "CA Protocol Messages").
 use Rattle.std.specs.Prelude.{ℕ, Bool, ◌&&◌, ◌||◌, not, nat_lt, nat_le, ◌-◌, if◌then◌else◌, List, [], ◌∷◌, ◌++◌, length, count_by, drop, filter, Option, Some, None}
 use Rattle.std.specs.List.{list_any}
 use Rattle.ca_text.specs.Limits.{queue_places, queue_low_places}
@@ -29,8 +29,8 @@ module _ {E : Type 0} where
   abbrev pub free_places : List (SubKey × E) → ℕ
   free_places q = queue_places - length q
 
-  -- A post to this subscription takes the place of its last entry: there is one, and either free places are few or
-  -- events are off.
+  -- A post to this subscription takes the place of its last entry: there is one, and either free
+  -- places are few or events are off.
   abbrev pub replaces : Bool → SubKey → List (SubKey × E) → Bool
   replaces events_on key q = has_entry key q && (nat_le (free_places q) queue_low_places || not events_on)
 
@@ -55,7 +55,7 @@ module _ {E : Type 0} where
   front [] = None
   front (w ∷ q) = Some w
 
-  -- what a take gives: the front, where an entry may be taken
+  -- what a take returns: the front, if an entry may be taken
   abbrev pub taken : Bool → List (SubKey × E) → Option (SubKey × E)
   taken events_on q = if may_take events_on q then front q else None
 

@@ -10,7 +10,8 @@ use ca_text::{CIRCUIT_QUEUES, Refusal};
 use std::alloc::{AllocError, Global};
 use std::marker::{Model, PhantomData};
 
-/// The event queues of a circuit, in order. Each of its subscriptions is in one of them, at a place that its caller keeps.
+/// The event queues of a circuit, in order. Each of its subscriptions is in one of them, at a place
+/// that its caller keeps.
 #[derive(Drop)]
 pub struct CircuitQueues<E: Drop, Q: Queues<E>> {
     queues: Vec<Q>,
@@ -53,10 +54,11 @@ impl<E: Drop, Q: Queues<E>> CircuitQueues<E, Q> {
         })
     }
 
-    /// Adds a subscription to the first queue with room, with its first entry, and returns the queue's place.
+    /// Adds a subscription to the first queue with room, with its first entry, and
+    /// returns the queue's place.
     ///
-    /// Refused as `TooManySubscriptions` if no queue has room, and as `OutOfMemory` only by a queue that has no subscription, also if
-    /// it had some. A refusal changes nothing.
+    /// Refused as `TooManySubscriptions` if no queue has room, and as `OutOfMemory` only by a queue
+    /// that has no subscription, also if it had some. A refusal changes nothing.
     pub fn begin(&mut self, key: SubKey, entry: E) -> Result<usize, Refusal>
         requires { HasNone self.old key }
         ensures { Begins self.old key entry result self.new }
@@ -85,7 +87,8 @@ impl<E: Drop, Q: Queues<E>> CircuitQueues<E, Q> {
         None
     }
 
-    /// Puts an entry of a subscription into the queue that has it, which is at this place. It does not allocate.
+    /// Puts an entry of a subscription into the queue that has it, which is at this place.
+    /// It does not allocate.
     pub fn post(&mut self, place: usize, key: SubKey, entry: E)
         requires { HasAt self.old place key }
         ensures { self.new ≡ map (queue_posted key entry) self.old }
@@ -95,7 +98,8 @@ impl<E: Drop, Q: Queues<E>> CircuitQueues<E, Q> {
         self.last = self.last.max(place);
     }
 
-    /// Takes an entry from the first queue that has one that may be taken, and returns the queue's place with it.
+    /// Takes an entry from the first queue that has one that may be taken, and returns the
+    /// queue's place with it.
     pub fn take(&mut self) -> Option<(usize, SubKey, E)>
         ensures { Takes self.old result self.new }
     {

@@ -14,10 +14,12 @@ use circular_buffer::HeapCircularBuffer;
 use std::alloc::Global;
 use std::marker::Model;
 
-/// An event queue of any entries as a ring. Contracts see it as the queue that it is, and whether its room was made.
+/// An event queue of any entries as a ring. Contracts see it as the queue that it is, and
+/// whether its room was made.
 ///
-/// Each put at the back has a number, and with each subscription stands that of its last one. How many puts there were since tells
-/// where its last entry is, so a post looks at no entry but the one whose place it takes, and a take at none but the front.
+/// Each put at the back has a number, and with each subscription stands that of its last one. How
+/// many puts there were since says where its last entry is, so a post looks at no entry but the one
+/// whose place it takes, and a take at none but the front.
 #[derive(Drop)]
 pub struct EventQueue<E> {
     alloc: Global,
@@ -156,7 +158,8 @@ fn append<E: Drop>(
     put(ring, key, entry);
 }
 
-// Where the entry is that a post takes the place of, if it does: its subscription's last one, behind which so many wait.
+// Where the entry is that a post takes the place of, if it does: its subscription's last
+// one, after which n wait.
 fn replaced<E>(
     ring: &Option<HeapCircularBuffer<(SubKey, E)>>,
     key: SubKey,
@@ -177,7 +180,7 @@ fn replaced<E>(
     last_of(ring, key, behind)
 }
 
-// Where the last entry of a subscription is, behind which so many wait, if it has one.
+// Where the last entry of a subscription is, after which n wait, if it has one.
 fn last_of<E>(
     ring: &Option<HeapCircularBuffer<(SubKey, E)>>,
     key: SubKey,
@@ -226,7 +229,8 @@ fn occupied<E>(ring: &Option<HeapCircularBuffer<(SubKey, E)>>, lasts: &Lasts, pu
     occupied
 }
 
-// Takes out all entries of this subscription, which goes once round the ring: each other one is put again.
+// Takes out all entries of this subscription, which goes once round the ring: each
+// other one is put again.
 fn go_round<E: Drop>(
     ring: &mut Option<HeapCircularBuffer<(SubKey, E)>>,
     lasts: &mut Lasts,

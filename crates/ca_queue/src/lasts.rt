@@ -13,13 +13,15 @@ use std::marker::Model;
 // How many guesses are kept.
 const GUESSES: usize = 64;
 
-/// The subscriptions of a queue in the order of their adds, each with the number of its last put, and an index by key.
-/// Contracts see the subscriptions, and whether room for all that come was made.
+/// The subscriptions of a queue in the order of their adds, each with the number of its
+/// last put, and an index by key. Contracts see the subscriptions, and whether room for
+/// all that come was made.
 #[derive(Drop)]
 pub(crate) struct Lasts {
     index: IndexSet<SubKey>,
     lasts: Vec<Last>,
-    // By a few bits of a key, the number of the subscription that was found there last. Most are found again without the index.
+    // By a few bits of a key, the number of the subscription that was found there last. Most are
+    // found again without the index.
     guesses: [u8; GUESSES],
 }
 

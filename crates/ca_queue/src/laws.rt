@@ -8,8 +8,8 @@ ghost use Rattle.ca_queue.specs.Order.{last_of};
 ghost use Rattle.ca_queue.specs.Sound.{IsSound};
 ghost use Rattle.ca_queue.specs.Runs.{Call, Leads, Follows, posts_to, taken_of};
 
-/// Whatever calls a queue sees from its beginning on, free places and subscriptions that have an entry are together at
-/// least 36.
+/// Whatever calls a queue sees from its beginning on, free places and subscriptions that have an
+/// entry are together at least 36.
 pub fn every_run_is_sound<T>()
     ensures { (calls : List (Call T)) (q : Queue T) → Leads no_queue calls q → IsSound q }
 {}
@@ -21,8 +21,8 @@ pub fn post_finds_a_place<T>()
         → length (after_post q.events_on key entry q.waiting) ≤ queue_places }
 {}
 
-/// What was taken of a subscription, and then what waits for it, are its posts with some left out, in their order, and
-/// they end in the newest.
+/// What was taken of a subscription, and then what waits for it, are its posts with some left out,
+/// in their order, and they end in the newest.
 pub fn newest_is_kept<T>()
     ensures { (key : SubKey) (calls : List (Call T)) (q : Queue T) → Leads no_queue calls q
         → Follows (taken_of key [] calls ++ entries_of key q.waiting) (posts_to key [] calls) }
@@ -37,7 +37,8 @@ pub fn post_ends_its_own<T>()
         → entries_of other (after_post on key entry q) ≡ entries_of other q }
 {}
 
-/// A take gives the first entry of a subscription, and leaves those after it and those of each other one as they are.
+/// A take returns the first entry of a subscription, and leaves those after it and those of each
+/// other one as they are.
 pub fn take_gives_the_first_of_its_own<T>()
     ensures own { (on : Bool) (key : SubKey) (entry : T) (q : List (SubKey × T))
         → Some (key, entry) ≡ taken on q

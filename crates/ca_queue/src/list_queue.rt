@@ -13,10 +13,11 @@ use std::alloc::{AllocError, Global};
 use std::collections::VecDeque;
 use std::marker::Model;
 
-/// An event queue of any entries as a plain list. Contracts see it as the queue that it is, and whether its room was made.
+/// An event queue of any entries as a plain list. Contracts see it as the queue that it is, and
+/// whether its room was made.
 ///
-/// A post that replaces looks for its subscription's last entry from the back. A take looks at no entry but the front, and
-/// at the subscriptions, of which there are at most 36.
+/// A post that replaces looks for its subscription's last entry from the back. A take looks at no
+/// entry but the front, and at the subscriptions, of which there are at most 36.
 #[derive(Drop)]
 pub struct ListQueue<E> {
     entries: VecDeque<(SubKey, E)>,
@@ -166,7 +167,8 @@ fn is_crowded(subscriptions: &[Subscription]) -> bool
     subscriptions.iter().any(|s| s.waiting > 1)
 }
 
-// Whether an entry may be taken: with events off, only while some subscription has two entries or more.
+// Whether an entry may be taken: with events off, only while some subscription has
+// two entries or more.
 fn may_take(subscriptions: &[Subscription], events_on: bool) -> bool
     ensures { result ≡ (events_on || list_any (λ s. nat_lt 1 s.waiting) subscriptions.now) }
 {

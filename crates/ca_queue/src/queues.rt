@@ -12,7 +12,7 @@ use std::alloc::Global;
 
 /// An event queue of these entries, however it is kept.
 ///
-/// `add` makes the room for all entries that come, so the other calls take no memory.
+/// `add` makes the room for all entries that come, so the other calls do not allocate.
 pub trait Queues<E> {
     /// What it is: the entries that wait, the subscriptions, and whether events are on.
     ghost contents: { Self → Queue E };
@@ -32,8 +32,8 @@ pub trait Queues<E> {
 
     /// Adds a subscription that it does not have.
     ///
-    /// Refused as `TooManySubscriptions` if it has 36, and as `OutOfMemory` only until its room was made: once one was added
-    /// the room stays. A refusal changes nothing.
+    /// Refused as `TooManySubscriptions` if it has 36, and as `OutOfMemory` only until its room was
+    /// made: once one was added the room stays. A refusal changes nothing.
     fn add(&mut self, key: SubKey) -> Result<(), Refusal>
         requires { IsFalse (is_among key (contents self.old).subscriptions) }
         ensures adds { Adds (contents self.old) key result (contents self.new) }
@@ -45,8 +45,8 @@ pub trait Queues<E> {
 
     /// Puts an entry of a subscription that was added.
     ///
-    /// It takes the place of the subscription's last entry where there is one and either 36 places or fewer are free or
-    /// events are off; else it goes to the back.
+    /// It takes the place of the subscription's last entry if there is one and either 36 places or
+    /// fewer are free or events are off; else it goes to the back.
     fn post(&mut self, key: SubKey, entry: E)
         requires { IsTrue (is_among key (contents self.old).subscriptions) }
         ensures posts { contents self.new ≡ posted key entry (contents self.old) }

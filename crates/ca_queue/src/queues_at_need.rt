@@ -12,8 +12,8 @@ use ca_text::Refusal;
 use std::alloc::{AllocError, Global};
 use std::marker::Model;
 
-/// The event queues of a circuit, which are made as its first subscription begins: most circuits have none, and eight queues take two
-/// kilobytes. Until then it is known whether events are on.
+/// The event queues of a circuit, which are made as its first subscription begins: most circuits
+/// have none, and eight queues take two kilobytes. Until then it is known whether events are on.
 #[derive(Drop)]
 pub struct QueuesAtNeed<E: Drop, Q: Queues<E> + Drop> {
     alloc: Global,
@@ -47,10 +47,11 @@ impl<E: Drop, Q: Queues<E> + Drop> QueuesAtNeed<E, Q> {
         }
     }
 
-    /// Adds a subscription to the first queue with room, with its first entry, and returns the queue's place.
+    /// Adds a subscription to the first queue with room, with its first entry, and
+    /// returns the queue's place.
     ///
-    /// Refused as `TooManySubscriptions` if no queue has room, and as `OutOfMemory` only by a queue that has no subscription, also if
-    /// it had some. A refusal changes nothing.
+    /// Refused as `TooManySubscriptions` if no queue has room, and as `OutOfMemory` only by a queue
+    /// that has no subscription, also if it had some. A refusal changes nothing.
     pub fn begin(&mut self, key: SubKey, entry: E) -> Result<usize, Refusal>
         requires { HasNone self.old key }
         ensures { Begins self.old key entry result self.new }
@@ -64,7 +65,8 @@ impl<E: Drop, Q: Queues<E> + Drop> QueuesAtNeed<E, Q> {
         }
     }
 
-    /// Puts an entry of a subscription into the queue that has it, which is at this place. It does not allocate.
+    /// Puts an entry of a subscription into the queue that has it, which is at this place.
+    /// It does not allocate.
     pub fn post(&mut self, place: usize, key: SubKey, entry: E)
         requires { HasAt self.old place key }
         ensures { self.new ≡ map (queue_posted key entry) self.old }
@@ -75,7 +77,8 @@ impl<E: Drop, Q: Queues<E> + Drop> QueuesAtNeed<E, Q> {
         }
     }
 
-    /// Takes an entry from the first queue that has one that may be taken, and returns the queue's place with it.
+    /// Takes an entry from the first queue that has one that may be taken, and returns the
+    /// queue's place with it.
     pub fn take(&mut self) -> Option<(usize, SubKey, E)>
         ensures { Takes self.old result self.new }
     {

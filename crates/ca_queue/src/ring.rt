@@ -25,7 +25,7 @@ pub(crate) fn make<E: Drop>(
     }
 }
 
-/// How many entries wait in a ring, where one was made.
+/// How many entries wait in a ring, if one was made.
 pub(crate) fn waiting<E>(ring: &Option<HeapCircularBuffer<(SubKey, E)>>) -> usize
     ensures { result ≡ length (waits ring.now) }
 {

@@ -35,7 +35,8 @@ true_or_false : (b : Bool) → (b ≡ true) ⊎ (b ≡ false)
 true_or_false true = inl refl
 true_or_false false = inr refl
 
--- the entry of a name in a map after one was put in, as that one's place among the other entries is settled
+-- the entry of a name in a map after one was put in, as that one's place among the
+-- other entries is settled
 put : {K : Type 0} (bytes : K → List ℕ) (e : K × ℕ) (es rest : List (K × ℕ)) (k : K) (v : ℕ) (name : List ℕ) (o : Ordering) → o ≡ slice_cmp nat_cmp (bytes k) (bytes e.0) → place_of bytes rest name ≡ cond (bytes_eq name (bytes k)) (Some v) (place_of bytes es name) → place_of bytes (match_ordering o ((k, v) ∷ e ∷ es) ((e.0, v) ∷ es) (e ∷ rest)) name ≡ cond (bytes_eq name (bytes k)) (Some v) (place_of bytes (e ∷ es) name)
 put bytes e es rest k v name Less at more = rw is_eq-slice_cmp
 put bytes e es rest k v name Equal at more =

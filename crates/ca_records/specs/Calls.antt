@@ -8,7 +8,8 @@ use Rattle.ca_dbr.specs.Elements.{Elements, base_of, count_of}
 use Rattle.ca_records.specs.Puts.{Record, record_named}
 use Rattle.ca_records.specs.Record.{HoldsValue, RecordState, unset}
 
--- why a post is refused: no record has the name; the value is not of its type; it has no element, or more than the greatest count
+-- why a post is refused: no record has the name; the value is not of its type; it has no element,
+-- or more than the greatest count
 abbrev pub PostFault : List Record → List ℕ → Elements → Refusal → Type 0
 PostFault records name e refusal.UnknownRecord = record_named records name ≡ None
 PostFault records name e refusal.BadType = (r : Record) × (record_named records name ≡ Some r) × (base_of e ≢ base_of r.state.value)
@@ -21,7 +22,8 @@ abbrev pub PostFits : List Record → List ℕ → Elements → Type 0
 PostFits records name e =
     (r : Record) × (record_named records name ≡ Some r) × (base_of e ≡ base_of r.state.value) × (0 < count_of e) × (count_of e ≤ r.state.count)
 
--- why a record is not added: a name that is none, one that is served now, or a value that does not fit
+-- why a record is not added: a name that is none, one that is served now, or a
+-- value that does not fit
 abbrev pub AddFault : List Record → RecordState → Refusal → Type 0
 AddFault records s refusal.NameLength = IsName record_name_limit s.name → ⊥
 AddFault records s refusal.RecordExists = IsName record_name_limit s.name × (is_some (record_named records s.name) ≡ true)

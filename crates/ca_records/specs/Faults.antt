@@ -1,5 +1,5 @@
--- Vocabulary: which fault of a write is answered by which status, once its elements were read (section "Status Codes"). The first that is
--- there decides.
+-- Vocabulary: which fault of a write is answered by which status, once its elements were read
+-- (section "Status Codes"). The first that is there decides.
 use Rattle.std.specs.Prelude.{ℕ, Bool, true, false, not, List, [], ◌∷◌, Option, Result, Ok, Err, find, if◌then◌else◌, nat_lt, option_map}
 use Rattle.ca_text.specs.declared.refusal.Refusal.{Refusal}
 use Rattle.ca_text.specs.declared.refusal.Refusal.TheVariants as refusal
@@ -25,7 +25,8 @@ has_misfit (Err refusal.NoConvert) = false
 has_misfit (Err _) = true
 has_misfit (Ok e) = false
 
--- The first fault by what the conversion answers: none possible NOCONVERT; a text or a range PUTFAIL; and no place to wait PUTFAIL.
+-- The first fault by what the conversion answers: none possible NOCONVERT; a text or a range
+-- PUTFAIL; and no place to wait PUTFAIL.
 abbrev pub put_fault : Result Elements Refusal → (crowded : Bool) → Option ℕ
 put_fault c crowded = first_fault ((lacks_conversion c, no_convert) ∷ (has_misfit c, put_fail) ∷ (crowded, put_fail) ∷ [])
 

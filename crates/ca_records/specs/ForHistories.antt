@@ -1,4 +1,4 @@
--- Vocabulary: the puts of a record, for whoever records histories.
+-- Vocabulary: the puts of a record, for a recorder of histories.
 use Rattle.std.specs.Prelude.{ℕ}
 use Rattle.ca_dbr.specs.Elements.{Elements}
 use Rattle.ca_text.specs.Place.{At}

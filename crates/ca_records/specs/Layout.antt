@@ -1,4 +1,5 @@
--- Working: what the fields of a record that is served, and of the store of records, stand for. No clause of a caller needs it.
+-- Working: what the fields of a record that is served, and of the store of records, stand for. No
+-- clause of a caller needs it.
 use Rattle.std.specs.Prelude.{ℕ, ◌≡◌, ◌≢◌, ◌<◌, ◌≤◌, ◌⊎◌, List, Option, Some}
 use Rattle.std.specs.List.{AllByRecursion}
 use Rattle.ca_text.specs.declared.refusal.Refusal.{Refusal}

@@ -1,4 +1,4 @@
--- Working: what a slot ends as, where a `&mut` to its record was handed out.
+-- Working: what a slot ends as, when a `&mut` to its record was handed out.
 use Rattle.std.specs.Borrow.{Lends, Fml, MutBor}
 use Rattle.ca_records.specs.declared.slot.Slot.{Slot}
 use Rattle.ca_records.specs.declared.slot.Slot.TheVariants.{Full}

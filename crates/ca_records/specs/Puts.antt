@@ -1,4 +1,5 @@
--- Vocabulary: the records of a server with the puts that make them busy or wait (section "CA_PROTO_WRITE_NOTIFY").
+-- Vocabulary: the records of a server with the puts that make them busy or wait (section
+-- "CA_PROTO_WRITE_NOTIFY").
 use Rattle.std.specs.Prelude.{ℕ, Bool, not, List, [], ◌∷◌, ◌++◌, Option, Some, None, filter, find, if◌then◌else◌, length, map}
 use Rattle.std.specs.List.{sum_by}
 use Rattle.std.specs.Str.{bytes_eq}
@@ -43,7 +44,8 @@ with_value e meta r = record r { state = record r.state { value = e; meta = meta
 abbrev pub with_waiting : WaitingPut → Record → Record
 with_waiting p r = record r { waiting = r.waiting ++ p ∷ [] }
 
--- The busy put is finished: the next that waits is applied with this stamp and makes the record busy, or the record is free.
+-- The busy put is finished: the next that waits is applied with this stamp and makes the record
+-- busy, or the record is free.
 abbrev pub finished : Stamp → Record → List WaitingPut → Record
 finished s r [] = record r { busy = None; waiting = [] }
 finished s r (p ∷ ps) = record (with_value p.value (written_meta s) r) { busy = Some p.put; waiting = ps }

@@ -36,7 +36,8 @@ pub record IsRecord (r : RecordState) : Type 0 where
   pub valued : IsValue r.value
   pub meta : IsMeta r.meta
 
--- No record has this name, or none has this name and holds this value under this count, and the refusal says which.
+-- No record has this name, or none has this name and holds this value under this count, and
+-- the refusal says which.
 abbrev pub IsUnfit : List ℕ → ℕ → Elements → Refusal → Type 0
 IsUnfit name count value NameLength = IsName record_name_limit name → ⊥
 IsUnfit name count value BadCount = IsName record_name_limit name × (HoldsValue count value → ⊥)

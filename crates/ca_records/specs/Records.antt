@@ -30,7 +30,8 @@ pub record Holds (records : List RecordState) (name : List ℕ) (value : Element
 abbrev pub AreApart : List RecordState → Type 0
 AreApart records = (i j : ℕ) (a b : RecordState) → At records i a → At records j b → a.name ≡ b.name → i ≡ j
 
--- From old, this record was defined, with this answer, and left new. The name is judged before the value.
+-- From old, this record was defined, with this answer, and left new. The name is
+-- judged before the value.
 abbrev pub Defines : List RecordState → RecordState → Result (Unit {0}) Refusal → List RecordState → Type 0
 Defines old r (Ok _) new = IsName record_name_limit r.name × HoldsValue r.count r.value × (new ≡ old ++ r ∷ [])
 Defines old r (Err NameLength) new = (IsName record_name_limit r.name → ⊥) × (new ≡ old)

@@ -2,7 +2,8 @@
 use Rattle.std.specs.Prelude.{ℕ, ◌+◌, ◌/◌, ◌%◌, ◌==◌, ◌&&◌, Bool, true, cond, List, Option, Some, None, find, option_map, unwrap_or}
 use Rattle.std.specs.Str.{bytes_eq}
 
--- A rule on access rights: whom and what it meets, where none stands for everything, and whether it lets read and write.
+-- A rule on access rights: whom and what it meets, where none stands for everything, and whether it
+-- lets read and write.
 pub record Rule : Type 0 where
   pub user : Option (List ℕ)
   pub host : Option (List ℕ)
@@ -23,7 +24,8 @@ rule_meets user host name r = meets r.user user && (meets r.host host && meets r
 abbrev pub rule_bits : Rule → ℕ
 rule_bits r = cond r.reads 1 0 + cond r.writes 2 0
 
--- The access rights, the bits 1 to read and 2 to write: by the first rule that meets, and both if none does.
+-- The access rights, the bits 1 to read and 2 to write: by the first rule that meets,
+-- and both if none does.
 abbrev pub rights : List Rule → (user host name : List ℕ) → ℕ
 rights rules user host name = unwrap_or (option_map rule_bits (find (rule_meets user host name) rules)) 3
 

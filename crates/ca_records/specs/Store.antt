@@ -8,7 +8,8 @@ use Rattle.ca_records.specs.Puts.{Record, new_record, record_named, with_record}
 use Rattle.ca_records.specs.Record.{RecordState}
 use Rattle.ca_records.specs.Rules.{Rule}
 
--- The places from 0 on, each with a record or free; the rules of access; and the stamp of the writes that are applied now.
+-- The places from 0 on, each with a record or free; the rules of access; and the stamp of the
+-- writes that are applied now.
 pub record Store : Type 0 where
   pub slots : List (Option Record)
   pub rules : List Rule
@@ -67,7 +68,7 @@ pub record Becomes (old : Store) (place : ℕ) (r next : Record) (new : Store) :
   pub records : (f : Record → Record) → f r ≡ next → records_of new ≡ with_record r.state.name f (records_of old)
   pub same : next ≡ r → new ≡ old
 
--- A record came to a place: one that was free, or a new one. It stands somewhere among the others.
+-- A record came to a place: one that was free, or a new one. It is somewhere among the others.
 pub record Enters (old : Store) (place : ℕ) (r : Record) (new : Store) : Type 0 where
   pub leaves : (At old.slots place None × (new ≡ with_slot place (Some r) old)) ⊎ ((place ≡ length old.slots) × (new ≡ with_place r old))
   pub at : HasAt new place r

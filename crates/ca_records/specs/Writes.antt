@@ -1,4 +1,5 @@
--- Vocabulary: the calls on the records of a server, by answer (sections "CA_PROTO_WRITE", "CA_PROTO_WRITE_NOTIFY" and "Process Variables").
+-- Vocabulary: the calls on the records of a server, by answer (sections "CA_PROTO_WRITE",
+-- "CA_PROTO_WRITE_NOTIFY" and "Process Variables").
 use Rattle.std.specs.Prelude.{ℕ, ◌≡◌, ◌≢◌, ◌≤◌, ◌⊎◌, ◌++◌, ◌&&◌, [], ◌∷◌, Bool, true, false, List, Option, Some, None, Result, Ok, Err, is_some, length, option_map, slice_get}
 use Rattle.std.specs.declared.alloc.AllocError.{AllocError}
 use Rattle.ca_arena.specs.declared.handle.Handle.{Handle}
@@ -41,12 +42,12 @@ Takes s r put v (Applied false) next =
 Takes s r put v Waiting next = (p : Put) × (put ≡ Some p) × (must_wait r put ≡ true) × (next ≡ with_waiting (record { put = p; value = v }) r)
 Takes s r put v (Refused status) next = ⊥
 
--- Memory may lack for a write that waits, and for one that is not of the record's type.
+-- There may be no memory for a write that waits, and for one that is not of the record's type.
 abbrev pub NeedsMemory : Record → Option Put → Elements → Type 0
 NeedsMemory r put e = (must_wait r put ≡ true) ⊎ (base_of e ≢ base_of r.state.value)
 
--- A write to this record under this stamp comes to this, and leaves the record as next. A refused one leaves it as it was, and so does
--- one for which there is no memory.
+-- A write to this record under this stamp comes to this, and leaves the record as next. A refused
+-- one leaves it as it was, and so does one for which there is no memory.
 abbrev pub BeginsOn : Stamp → Record → Option Put → Elements → Result Begun AllocError → Record → Type 0
 BeginsOn s r put e (Ok (Refused status)) next = (write_fault r put e ≡ Some status.number) × (next ≡ r)
 BeginsOn s r put e (Ok begun) next =
@@ -60,7 +61,8 @@ pub record Begins (old : Store) (place : ℕ) (put : Option Put) (e : Elements) 
   pub begins : BeginsOn old.stamp r put e result next
   pub becomes : Becomes old place r next new
 
--- A write of one element of the plain type of this number, as these bytes have it, was applied at a place: a put with notification, or none.
+-- A write of one element of the plain type of this number, as these bytes have it, was applied at a
+-- place: a put with notification, or none.
 pub record WritesOne (old : Store) (place : ℕ) (is_put : Bool) (number : ℕ) (bytes : List ℕ) (new : Store) : Type 0 where
   pub e : Elements
   pub takes : TakesAt old place e
@@ -70,7 +72,8 @@ pub record WritesOne (old : Store) (place : ℕ) (is_put : Bool) (number : ℕ) 
   -- it is what any such write of this element begins as
   pub begins : (put : Option Put) → is_some put ≡ is_put → Begins old place put e (Ok (Applied false)) new
 
--- One element can be written so: the record at the place has one of that type, and the put neither waits nor makes it busy.
+-- One element can be written so: the record at the place has one of that type, and the put neither
+-- waits nor makes it busy.
 pub record CanWriteOne (s : Store) (place : ℕ) (is_put : Bool) (number : ℕ) (bytes : List ℕ) : Type 0 where
   pub r : Record
   pub at : HasAt s place r
@@ -87,7 +90,8 @@ pub record PutsOne (old : Store) (place : ℕ) (put : Put) (number : ℕ) (bytes
   pub reads : ReadsElements (base_of e) 1 bytes e
   pub begins : Begins old place (Some put) e (Ok (Applied true)) new
 
--- One element can be put so: the record at the place has one of that type, is slow, and is not busy.
+-- One element can be put so: the record at the place has one of that type, is
+-- slow, and is not busy.
 pub record CanPutOne (s : Store) (place : ℕ) (number : ℕ) (bytes : List ℕ) : Type 0 where
   pub r : Record
   pub at : HasAt s place r

@@ -1,4 +1,5 @@
-//! What whoever records histories asks of the records: the puts of each, in order. No server needs these calls.
+//! What a recorder of histories asks of the records: the puts of each, in order. No
+//! server needs these calls.
 ghost use Rattle.std.specs.Prelude.{◌≡◌, ◌<◌, length};
 ghost use Rattle.ca_text.specs.Place.{At};
 ghost use Rattle.ca_records.specs.Layout.{waiting_put};

@@ -65,7 +65,8 @@ fn in_type(alloc: Global, value: Value, base: BaseType) -> Result<Value, Refusal
     changed(alloc, value, base)
 }
 
-// The elements in another type than theirs. It takes the value and stands out of line, so that a value of this type is lent to nobody, and stays in registers.
+// The elements in another type than theirs. It takes the value and is out of line, so that a value
+// of this type is lent to nobody, and stays in registers.
 #[inline(never)]
 fn changed(alloc: Global, value: Value, base: BaseType) -> Result<Value, Refusal>
     requires { base_of (elements value) ≢ base }

@@ -1,7 +1,7 @@
 //! The records of a server: each has a name, a greatest element count, and a value.
 //!
-//! `Records` is a list of them. `ServedRecords` are those that a server keeps while they come and go, with the puts that
-//! make them busy and wait, the rules of access and the stamp of writes.
+//! `Records` is a list of them. `ServedRecords` are those that a server keeps while they come and
+//! go, with the puts that make them busy and wait, the rules of access and the stamp of writes.
 #![tactic(auto)]
 
 pub mod for_histories;

@@ -16,7 +16,8 @@ use ca_text::{RecordName, Refusal};
 use std::alloc::AllocError;
 
 impl ServedRecords {
-    /// The records of this list, each neither busy nor waited for, under these rules. Refused only if there are some.
+    /// The records of this list, each neither busy nor waited for, under these rules. Refused
+    /// only if there are some.
     pub fn of(records: &Records, rules: Vec<Rule>) -> Result<ServedRecords, AllocError>
         ensures store { IfOk result (λ served. served ≡ new_store records.now rules.items) }
         ensures list { IfOk result (λ served. records_of served ≡ map new_record records.now) }
@@ -40,10 +41,10 @@ impl ServedRecords {
         Ok(())
     }
 
-    /// Adds a record of a new name after all others, with metadata of zeros, and tells its place.
+    /// Adds a record of a new name after all others, with metadata of zeros, and reports its place.
     ///
-    /// Refused as NameLength if this is no name, as BadCount if the record may not have this value, and then as OutOfMemory. A refusal changes
-    /// nothing.
+    /// Refused as NameLength if this is no name, as BadCount if the record may not have this value,
+    /// and then as OutOfMemory. A refusal changes nothing.
     pub fn define(
         &mut self,
         name: &[u8],
@@ -68,10 +69,11 @@ impl ServedRecords {
         Ok(place)
     }
 
-    /// Adds a record, with metadata of zeros, and tells its place: the one that became free last, or a new one.
+    /// Adds a record, with metadata of zeros, and reports its place: the one that became
+    /// free last, or a new one.
     ///
-    /// Refused as NameLength if this is no name, as RecordExists if it is served, as BadCount if the record may not have this value, and then
-    /// as OutOfMemory. A refusal changes nothing.
+    /// Refused as NameLength if this is no name, as RecordExists if it is served, as BadCount if
+    /// the record may not have this value, and then as OutOfMemory. A refusal changes nothing.
     pub fn add(
         &mut self,
         name: &[u8],
@@ -135,7 +137,8 @@ impl ServedRecords {
         Ok(place)
     }
 
-    /// Takes the record of this name out, with its puts, and tells its place, which is free then. It does not allocate.
+    /// Takes the record of this name out, with its puts, and reports its place, which is free then.
+    /// It does not allocate.
     ///
     /// Refused as UnknownRecord if no record has the name.
     pub fn remove(&mut self, name: &[u8]) -> Result<usize, Refusal>

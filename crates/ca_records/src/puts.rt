@@ -7,7 +7,8 @@ use ca_dbr::{Meta, Value};
 use ca_text::Status;
 use std::alloc::AllocError;
 
-/// A put with notification: the circuit and the channel that it came on, and what its reply needs of its header.
+/// A put with notification: the circuit and the channel that it came on, and what its reply
+/// needs of its header.
 #[derive(Clone, Copy, Debug, PartialEq, Eq)]
 pub struct Put {
     pub circuit: Handle,

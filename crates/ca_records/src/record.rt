@@ -13,7 +13,8 @@ use std::alloc::{AllocError, Global};
 use std::marker::Model;
 use std::mem;
 
-/// A record: a name, the greatest element count, whether a put takes it time, and a value with its metadata.
+/// A record: a name, the greatest element count, whether a put takes it time, and a
+/// value with its metadata.
 #[derive(Debug, Drop)]
 pub struct Record {
     name: Vec<u8>,
@@ -72,7 +73,7 @@ impl Record {
         }
     }
 
-    // The same record again.
+    // A copy of the record.
     pub(crate) fn copy(&self, alloc: Global) -> Result<Record, AllocError>
         ensures { IfOk result (λ copy. copy ≡ self.now) }
     {
@@ -93,7 +94,8 @@ impl Record {
         mem::replace(&mut self.value, value)
     }
 
-    // Reads one element of its type over its value, and sets what goes with it. False, and nothing changes, if the value does not take it.
+    // Reads one element of its type over its value, and sets what goes with it. False, and nothing
+    // changes, if the value does not take it.
     #[inline(always)]
     pub(crate) fn read_over(&mut self, number: u16, bytes: &[u8], meta: Meta) -> bool
         ensures { TakesOver number bytes.now meta self.old result self.new }
@@ -105,7 +107,8 @@ impl Record {
         true
     }
 
-    // Whether it may have this value by a post: of its type, with one element to the greatest count.
+    // Whether it may have this value by a post: of its type, with one element
+    // to the greatest count.
     pub(crate) fn check_post(&self, value: &Value) -> Result<(), Refusal>
         ensures ok { OnOk result (MayHave self.now (elements value.now)) }
         ensures err { IfErr result (MayNotHave self.now (elements value.now)) }
@@ -158,7 +161,8 @@ impl Record {
     }
 }
 
-// Whether a record may have this name, and this value under this greatest count. The name is judged first.
+// Whether a record may have this name, and this value under this greatest count. The
+// name is judged first.
 pub(crate) fn check(name: &[u8], count: u32, value: &Value) -> Result<(), Refusal>
     ensures { MatchResult result (λ _.
         IsName record_name_limit name.now × HoldsValue count (elements value.now))

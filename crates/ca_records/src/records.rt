@@ -12,7 +12,8 @@ use std::alloc::{AllocError, Global};
 use std::collections::BTreeMap;
 use std::marker::Model;
 
-/// The records that a server serves, each under a name of its own, in the order in which they were defined.
+/// The records that a server serves, each under a name of its own, in the order in
+/// which they were defined.
 ///
 /// A name is looked up in a map, by as many comparisons as the logarithm of the number of records.
 #[derive(Debug, Drop)]
@@ -138,7 +139,7 @@ impl Records {
         Ok(())
     }
 
-    /// The same records once more. None take no memory.
+    /// A copy of the records. It does not allocate if there are none.
     pub fn copy(&self) -> Result<Records, AllocError>
         ensures copy { IfOk result (λ copy. copy ≡ self.now) }
         ensures some { OnErr result (length self.now ≢ 0) }

@@ -8,7 +8,8 @@ const MAY_READ: u32 = 1;
 
 const MAY_WRITE: u32 = 2;
 
-/// A rule of access: whom and which record it meets, where none stands for all, and what it lets them do.
+/// A rule of access: whom and which record it meets, where none stands for all, and
+/// what it lets them do.
 #[derive(Debug, Drop)]
 pub struct Rule {
     user: Option<Vec<u8>>,
@@ -86,7 +87,8 @@ fn is_word(wanted: &Option<Vec<u8>>, word: &[u8]) -> bool
     }
 }
 
-// The access rights of a user on a host to a record: the bits 1 to read and 2 to write. A server without rules does not come here.
+// The access rights of a user on a host to a record: the bits 1 to read and 2 to write. A server
+// without rules does not come here.
 #[inline(never)]
 pub(crate) fn rights(rules: &[Rule], user: &[u8], host: &[u8], name: &[u8]) -> u32
     ensures { result ≡ rights rules.now user.now host.now name.now }

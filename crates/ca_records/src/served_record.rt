@@ -18,7 +18,8 @@ use std::alloc::{AllocError, Global};
 use std::collections::VecDeque;
 use std::marker::Model;
 
-/// A record that is served: with the put that makes it busy, and those that wait, in the order in which they came.
+/// A record that is served: with the put that makes it busy, and those that wait, in the
+/// order in which they came.
 #[derive(Debug, Drop)]
 pub struct ServedRecord {
     record: Record,
@@ -116,8 +117,9 @@ impl ServedRecord {
         }
     }
 
-    // Writes one element of the record's type, as these bytes have it, over its value: a plain write, or a put that neither waits nor makes the
-    // record busy. False, and nothing changes, if it is another; that is for `begin`.
+    // Writes one element of the record's type, as these bytes have it, over its value: a plain
+    // write, or a put that neither waits nor makes the record busy. False, and nothing changes, if
+    // it is another; that is for `begin`.
     #[inline(always)]
     pub(crate) fn write_one(
         &mut self,
@@ -134,7 +136,8 @@ impl ServedRecord {
         self.record.read_over(number, bytes, stamp.meta())
     }
 
-    // The same of a put that makes the record busy.
+    // Writes one element over its value and makes the record busy with this put. False, and nothing
+    // changes, if the put would wait or the record is quick, or the element is another.
     #[inline(always)]
     pub(crate) fn put_one(&mut self, put: Put, number: u16, bytes: &[u8], stamp: Stamp) -> bool
         ensures { PutsOver stamp self.old put number bytes.now result self.new }

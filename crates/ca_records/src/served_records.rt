@@ -12,11 +12,12 @@ use std::alloc::Global;
 use std::collections::HashMap;
 use std::marker::Model;
 
-/// The records of a server that come and go, with the puts that make them busy and those that wait, the rules of
-/// access, and the stamp of the writes that are applied now.
+/// The records of a server that come and go, with the puts that make them busy and those that wait,
+/// the rules of access, and the stamp of the writes that are applied now.
 ///
-/// A record keeps its place while it is there, so that a channel finds its record there by one comparison of names. A name
-/// is looked up by its hash: on average a call costs the same with few records and with many.
+/// A record keeps its place while it is there, so that a channel finds its record there by one
+/// comparison of names. A name is looked up by its hash: on average a call costs the same with few
+/// records and with many.
 #[derive(Debug, Drop)]
 pub struct ServedRecords {
     pub(crate) slots: Vec<Slot>,
@@ -119,7 +120,8 @@ impl ServedRecords {
         self.slots[place].record()
     }
 
-    /// The access rights of a user on a host to the record of this name: the bits 1 to read and 2 to write.
+    /// The access rights of a user on a host to the record of this name: the bits 1 to
+    /// read and 2 to write.
     pub fn rights(&self, user: &[u8], host: &[u8], name: &[u8]) -> u32
         ensures { result ≡ rights self.now.rules user.now host.now name.now }
     {

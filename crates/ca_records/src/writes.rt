@@ -11,11 +11,12 @@ use ca_text::Refusal;
 use std::alloc::AllocError;
 
 impl ServedRecords {
-    /// Begins a write to the record at this place: a put with notification, or a plain write, which has none.
+    /// Begins a write to the record at this place: a put with notification, or a plain
+    /// write, which has none.
     ///
-    /// A plain write is applied at once. A put is applied at once too if the record is not busy, and makes a slow one
-    /// busy; if it is busy the put waits, after the others. A refused write changes nothing, and neither does one
-    /// for which there is no memory.
+    /// A plain write is applied at once. A put is applied at once too if the record is not busy,
+    /// and makes a slow one busy; if it is busy the put waits, after the others. A refused write
+    /// changes nothing, and neither does one for which there is no memory.
     #[inline(always)]
     pub fn begin_write(
         &mut self,
@@ -36,11 +37,13 @@ impl ServedRecords {
         begun
     }
 
-    /// Writes one element, of the plain type of this number, as these bytes have it, over the value of the record at this place, if that
-    /// has one element of that type. It is applied at once, and takes no memory.
+    /// Writes one element, of the plain type of this number, as these bytes have it, over the value
+    /// of the record at this place, if that has one element of that type. It is applied at once,
+    /// and does not allocate.
     ///
-    /// False, and nothing changes, if the value is another, or is one of texts, if the bytes are too few, and if this is a put with notification that is to wait or makes
-    /// the record busy: that is for `begin_write`.
+    /// False, and nothing changes, if the value is another, or is one of texts, if the bytes are
+    /// too few, and if this is a put with notification that is to wait or makes the record busy:
+    /// that is for `begin_write`.
     #[inline(always)]
     pub fn write_one(&mut self, place: usize, is_put: bool, number: u16, bytes: &[u8]) -> bool
         requires { IsThere self.old place }
@@ -55,7 +58,8 @@ impl ServedRecords {
             .write_one(is_put, number, bytes, stamp)
     }
 
-    /// The same of a put with notification that makes its record busy. False, and nothing changes, also if the record is busy, or is quick.
+    /// Writes one element, as `write_one`, by a put with notification that makes its record busy.
+    /// False, and nothing changes, also if the record is busy, or is quick.
     #[inline(always)]
     pub fn put_one(&mut self, place: usize, put: Put, number: u16, bytes: &[u8]) -> bool
         requires { IsThere self.old place }
@@ -70,7 +74,8 @@ impl ServedRecords {
             .put_one(put, number, bytes, stamp)
     }
 
-    /// A value that the record at this place had and has no more, if there is one: its memory may hold the next.
+    /// A value that the record at this place had and no longer has, if there is one: its
+    /// memory may hold the next.
     pub fn take_spare(&mut self, place: usize) -> Option<Value>
         requires { IsThere self.old place }
         ensures { self.new ≡ self.old }
@@ -78,9 +83,11 @@ impl ServedRecords {
         self.slots[place].record_mut().take_spare()
     }
 
-    /// Ends the busy put of the record of this name, and applies the next one that waits. It does not allocate.
+    /// Ends the busy put of the record of this name, and applies the next one that waits.
+    /// It does not allocate.
     ///
-    /// Refused as UnknownRecord if no record has the name, and as NotBusy if its record is not busy.
+    /// Refused as UnknownRecord if no record has the name, and as NotBusy if
+    /// its record is not busy.
     pub fn finish(&mut self, name: &[u8]) -> Result<Finished, Refusal>
         ensures { Finishes self.old name.now result self.new }
     {
@@ -93,7 +100,8 @@ impl ServedRecords {
         }
     }
 
-    /// The same of the record at this place: none if it is not busy.
+    /// Ends the busy put of the record at this place, and applies the next one that waits:
+    /// none if it is not busy.
     #[inline(always)]
     pub fn finish_at(&mut self, place: usize) -> Option<Finished>
         requires { IsThere self.old place }
@@ -113,8 +121,8 @@ impl ServedRecords {
         }
     }
 
-    /// Takes the waiting puts of a circuit, or of one channel of it, out of the record at this place. They are never
-    /// applied. It does not allocate.
+    /// Takes the waiting puts of a circuit, or of one channel of it, out of the record at this
+    /// place. They are never applied. It does not allocate.
     pub fn withdraw(&mut self, place: usize, circuit: Handle, channel: Option<Handle>)
         requires { IsThere self.old place }
         ensures { Withdraws self.old place circuit channel self.new }
@@ -125,8 +133,8 @@ impl ServedRecords {
 
     /// Sets the value of the record of this name, and what goes with it. Tells its place.
     ///
-    /// Refused as UnknownRecord if no record has the name, as BadType if the value is not of its type, and as BadCount if it has no element
-    /// or more than the greatest count.
+    /// Refused as UnknownRecord if no record has the name, as BadType if the value is not of its
+    /// type, and as BadCount if it has no element or more than the greatest count.
     pub fn post(&mut self, name: &[u8], value: Value, meta: Meta) -> Result<usize, Refusal>
         ensures { Posts self.old name.now (elements value) meta result self.new }
     {

@@ -19,7 +19,7 @@ pub whole-first : (bytes : List ℕ) (head : Head) → IsWhole bytes head → St
 whole-first bytes head whole =
     record { front = take (head.start + head.header.size) bytes; spells = spells-fields_at bytes head whole; are = sym (take-append-drop (head.start + head.header.size) bytes) }
 
--- one message alone stands first
+-- one message alone is first
 one-first : (bytes x y : List ℕ) (m n : Fields) → StandsFirst bytes m x → StandsFirst bytes n y → m ≡ n
 one-first bytes x y m n s t = (spells-front m n s.front t.front x y s.spells t.spells (sym s.are ∙ t.are)).0
 

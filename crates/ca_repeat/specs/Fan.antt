@@ -12,8 +12,8 @@ use Rattle.ca_repeat.specs.Addresses.{is_member, loopback, same}
 use Rattle.ca_repeat.specs.First.{IsFirst, passed, registers}
 use Rattle.ca_repeat.specs.Sent.{Sent}
 
--- The registration of this sender is answered: it comes from 127.x.x.x, and the sender is a member or there is room
--- for one more.
+-- The registration of this sender is answered: it comes from 127.x.x.x, and the sender is a member
+-- or there is room for one more.
 abbrev pub admits : List Address → Address → First → Bool
 admits members from first = registers first && loopback from && (is_member members from || nat_lt (length members) repeater_members)
 
@@ -26,7 +26,7 @@ abbrev pub to_others : List ℕ → Address → List Address → List Sent
 to_others bytes from [] = []
 to_others bytes from (m ∷ members) = if same m from then to_others bytes from members else record { to = m; bytes = bytes } ∷ to_others bytes from members
 
--- nothing is handed on where there is no byte
+-- nothing is handed on if there is no byte
 abbrev pub handed : List ℕ → Address → List Address → List Sent
 handed [] from members = []
 handed (b ∷ bytes) from members = to_others (b ∷ bytes) from members
@@ -39,8 +39,8 @@ enrolled false members from = members
 abbrev pub sent_for : List Address → Address → First → List ℕ → List Sent
 sent_for members from first bytes = confirmed (admits members from first) from ++ handed (passed first from.ip bytes) from members
 
--- From these members, a datagram of these bytes came from this address, with this answer, and left new. Memory is asked
--- for only where something is sent.
+-- From these members, a datagram of these bytes came from this address, with this answer, and left
+-- new. Memory is asked for only if something is sent.
 abbrev pub Receives : List Address → Address → List ℕ → Result (Vec Sent Global) Refusal → List Address → Type 0
 Receives old from bytes (Ok sends) new =
     (first : First) × IsFirst bytes first × (sends.items ≡ sent_for old from first bytes) × (new ≡ enrolled (admits old from first && not (is_member old from)) old from)

@@ -8,17 +8,17 @@ use Rattle.ca_wire.specs.Message.{Spells}
 use Rattle.ca_repeat.specs.declared.first.First.{First}
 use Rattle.ca_repeat.specs.declared.first.First.TheVariants.{Registration, BlankBeacon, Other}
 
--- a whole message of this form stands first, and this after it
+-- a complete message of this form stands first, and this after it
 pub record StandsFirst (bytes : List ℕ) (m : Fields) (behind : List ℕ) : Type 0 where
   pub front : List ℕ
   pub spells : Spells front m
   pub are : bytes ≡ front ++ behind
 
--- no byte, or a whole REPEATER_REGISTER and this after it
+-- no byte, or a complete REPEATER_REGISTER and this after it
 abbrev pub Registers : List ℕ → List ℕ → Type 0
 Registers bytes behind = ((bytes ≡ []) × (behind ≡ [])) ⊎ ((m : Fields) × StandsFirst bytes m behind × (m.command ≡ command_number RepeaterRegister))
 
--- a whole RSRV_IS_UP stands first, and the address in it is zero
+-- a complete RSRV_IS_UP stands first, and the address in it is zero
 abbrev pub IsBlank : List ℕ → Type 0
 IsBlank bytes = (m : Fields) × (behind : List ℕ) × StandsFirst bytes m behind × (m.command ≡ command_number RsrvIsUp) × (m.p2 ≡ 0)
 
@@ -32,8 +32,8 @@ registers (Registration end) = true
 registers BlankBeacon = false
 registers Other = false
 
--- What is handed on of a datagram from this address: what stands after a registration; a beacon with no address
--- with its sender's in place of the second parameter; any other datagram as it is.
+-- What is handed on of a datagram from this address: what is after a registration; a beacon with no
+-- address with its sender's in place of the second parameter; any other datagram as it is.
 abbrev pub passed : First → ℕ → List ℕ → List ℕ
 passed (Registration end) ip bytes = drop end bytes
 passed BlankBeacon ip bytes = take 12 bytes ++ (number32 ip ++ drop 16 bytes)

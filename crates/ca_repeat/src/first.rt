@@ -75,7 +75,7 @@ pub(crate) fn passed_on(
     }
 }
 
-/// The beacon with its sender's address, which stands in bytes 12 to 15 of either form of a header.
+/// The beacon with its sender's address, which is in bytes 12 to 15 of either form of a header.
 fn filled(alloc: Global, from: Address, bytes: &[u8]) -> Result<Vec<u8>, AllocError>
     requires { IsFirst bytes.now First.BlankBeacon }
     ensures { IfOk result (λ v. v.items ≡ passed First.BlankBeacon from.ip bytes.now) }

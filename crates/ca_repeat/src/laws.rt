@@ -4,8 +4,8 @@ ghost use Rattle.ca_wire.specs.Fields.{Fields};
 ghost use Rattle.ca_repeat.specs.declared.first.First.TheVariants.{BlankBeacon};
 ghost use Rattle.ca_repeat.specs.First.{StandsFirst, passed};
 
-/// A beacon that is filled in reads as the same message with its sender's address as the second parameter, in a header of
-/// the same length, and the same bytes follow it.
+/// A beacon that is filled in reads as the same message with its sender's address as the second
+/// parameter, in a header of the same length, and the same bytes follow it.
 pub fn filled_beacon_names_its_sender()
     ensures { (bytes behind : List ℕ) (m : Fields) (ip : ℕ) → StandsFirst bytes m behind
         → ip < 2 ^ 32

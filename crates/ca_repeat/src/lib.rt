@@ -1,5 +1,5 @@
-//! The host's repeater: it registers the clients of its host, and hands each datagram on to them, so that all of
-//! them hear beacons at one port.
+//! The host's repeater: it registers the clients of its host, and hands each datagram on to them,
+//! so that all of them hear beacons at one port.
 #![tactic(auto)]
 
 mod address;

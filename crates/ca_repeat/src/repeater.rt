@@ -76,7 +76,7 @@ fn is_admitted(first: First, from: Address, known: bool, count: usize) -> bool
     is_registration(first) && is_loopback(from) && (known || count < REPEATER_MEMBERS)
 }
 
-/// The answer to a registration, where there is one.
+/// The answer to a registration, if there is one.
 fn confirmation(alloc: Global, answered: bool, to: Address) -> Result<Vec<Outgoing>, AllocError>
     ensures ok { IfOk result (λ v. v.items ≡ confirmed answered to) }
     ensures err { OnErr result (confirmed answered to ≢ []) }
@@ -89,7 +89,7 @@ fn confirmation(alloc: Global, answered: bool, to: Address) -> Result<Vec<Outgoi
     Ok(sends)
 }
 
-/// Writes what is handed on of the datagram, where there is any of it, for each member but the sender.
+/// Writes what is handed on of the datagram, if there is any of it, for each member but the sender.
 fn hand_on(
     alloc: Global,
     members: &[Address],

@@ -56,7 +56,7 @@ pub parts-next : {A B : Type 0} (f : A → B) (before : List B) (rest next : Lis
 parts-next {A} f before rest next x all is split =
     append_assoc before (f x ∷ []) (map f next) ∙ ap (λ (xs : List A). before ++ map f xs) (sym is) ∙ split
 
--- one more is put behind
+-- one more is put after
 pub behind-one : {A B : Type 0} (f : A → B) (old new : List A) (x : A) → new ≡ old ++ x ∷ [] → map f new ≡ map f old ++ f x ∷ []
 behind-one f old new x is = ap (map f) is ∙ map-append f old (x ∷ [])
 

@@ -13,7 +13,7 @@ use Rattle.ca_world.specs.declared.circuits.Way.TheVariants.{Down, Up}
 abbrev pub draws : ℕ
 draws = 16
 
--- the event that this number is in a world: it acts on a circuit, on which so many bytes wait each way
+-- the event that this number is in a world: it acts on a circuit, on which n bytes wait each way
 pub record IsDrawn (w : World) (drawn : ℕ) (e : Event) : Type 0 where
   pub circuit : ℕ
   pub up : ℕ
@@ -23,11 +23,13 @@ pub record IsDrawn (w : World) (drawn : ℕ) (e : Event) : Type 0 where
   pub waits_down : AreWaiting w circuit Down down
   pub is : e ≡ event_drawn drawn circuit up down
 
--- An event that was drawn happens, and is one of the events from then on; or it cannot be done, and is left out.
+-- An event that was drawn happens, and is one of the events from then on; or it cannot be
+-- done, and is left out.
 abbrev pub Takes : World → Event → List Event → List Event → World → Type 0
 Takes w e es es' new = (Happens w e new × (es' ≡ es ++ e ∷ [])) ⊎ ((CanBe w e → ⊥) × (es' ≡ es) × (new ≡ w))
 
--- what a number that was drawn makes of a world and of the events so far: it acts nowhere, or its event is taken
+-- what a number that was drawn makes of a world and of the events so far: it acts nowhere,
+-- or its event is taken
 abbrev pub DrawsAt : World → (drawn : ℕ) → List Event → List Event → World → Type 0
 DrawsAt w drawn es es' new =
     ((circuit_drawn drawn (length w.circuits) ≡ None) × (es' ≡ es) × (new ≡ w)) ⊎ ((e : Event) × IsDrawn w drawn e × Takes w e es es' new)
@@ -42,11 +44,12 @@ pub record Drawn : Type 0 where
 abbrev pub DrawsNext : Drawn → Drawn → Type 0
 DrawsNext old new = (drawn : ℕ) × ((drawn, new.left) ≡ next_u32 old.left) × DrawsAt old.world drawn old.events new.events new.world
 
--- so many numbers are drawn, one after another
+-- n numbers are drawn, one after another
 abbrev pub DrawsSome : Drawn → (n : ℕ) → Drawn → Type 0
 DrawsSome old n new = FoldsTo (λ (d : Drawn) (i : ℕ) (d' : Drawn). DrawsNext d d') old (range_with_len 0 n) new
 
--- how far a drawing along a script is: the world is there until an event of the script cannot be done
+-- how far a drawing along a script is: the world is there until an event of the
+-- script cannot be done
 pub record Along : Type 0 where
   pub world : Option World
   pub left : Stream
@@ -60,7 +63,8 @@ pub record HappensThenDraws (w : World) (left : Stream) (es : List Event) (e : E
   pub draws : DrawsSome (record { world = mid; left = left; events = es ++ e ∷ [] }) draws last
   pub after : new ≡ record { world = Some last.world; left = last.left; events = last.events }
 
--- The next event of the script. Once one cannot be done, no number is drawn any more, and the others stay as they are.
+-- The next event of the script. Once one cannot be done, no number is drawn any more, and the
+-- others stay as they are.
 abbrev pub GoesOn : Option World → Stream → List Event → Event → Along → Type 0
 GoesOn None left es e new = new ≡ record { world = None; left = left; events = es ++ e ∷ [] }
 GoesOn (Some w) left es e new =

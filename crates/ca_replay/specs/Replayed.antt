@@ -16,8 +16,8 @@ abbrev pub AreRun : Setting → Option ℕ → List Event → List Event → Typ
 AreRun s None script es = es ≡ script
 AreRun s (Some seed) script es = DrawsAlong s seed script es
 
--- Events were run in a world of this setting, to the end or up to this refusal. Whatever they are, the world that they leave is safe, and
--- legal (`HasRun`); and this is its report.
+-- Events were run in a world of this setting, to the end or up to this refusal. Whatever they are,
+-- the world that they leave is safe, and legal (`HasRun`); and this is its report.
 pub record Reports (s : Setting) (es : List Event) (stop : Option Refusal) (report : List ℕ) : Type 0 where
   pub done : ℕ
   pub w : World

@@ -18,7 +18,7 @@ pub(crate) fn clients_again(
     Ok(all)
 }
 
-// The same client again.
+// This client again.
 fn client_again(alloc: Global, client: &ClientSetting) -> Result<ClientSetting, AllocError>
     ensures { IfOk result (λ c. c ≡ client.now) }
 {
@@ -45,7 +45,7 @@ pub(crate) fn servers_again(
     Ok(all)
 }
 
-// The same server again.
+// This server again.
 fn server_again(alloc: Global, server: &ServerSetting) -> Result<ServerSetting, AllocError>
     ensures { IfOk result (λ y. y ≡ server.now) }
 {
@@ -65,7 +65,7 @@ fn rules_again(alloc: Global, rules: &[RuleSetting]) -> Result<Vec<RuleSetting>,
     Ok(all)
 }
 
-// The same rule again.
+// This rule again.
 fn rule_again(alloc: Global, rule: &RuleSetting) -> Result<RuleSetting, AllocError>
     ensures { IfOk result (λ r. rule_of r ≡ rule_of rule.now) }
 {
@@ -81,7 +81,7 @@ fn rule_again(alloc: Global, rule: &RuleSetting) -> Result<RuleSetting, AllocErr
     })
 }
 
-// The same name again, if there is one.
+// This name again, if there is one.
 fn name_again(alloc: Global, name: &Option<Vec<u8>>) -> Result<Option<Vec<u8>>, AllocError>
     ensures { IfOk result (λ n.
         option_map (λ v. v.items) n ≡ option_map (λ v. v.items) name.now) }

@@ -6,7 +6,8 @@ use ca_text::Refusal;
 use ca_world::{ClientSetting, Config, ServerSetting};
 use std::alloc::Global;
 
-/// The clients and the servers of a world, which have addresses of their own. Refused as OutOfMemory.
+/// The clients and the servers of a world, which have addresses of their own.
+/// Refused as OutOfMemory.
 pub fn config_of(
     alloc: Global,
     clients: Vec<ClientSetting>,

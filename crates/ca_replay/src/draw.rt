@@ -11,7 +11,8 @@ use ca_world::{AfterEvent, Config, Way, World};
 use ca_world_script::{DRAWS, Drawing, circuit_drawn, event_drawn};
 use std::alloc::Global;
 
-/// The events of a script with those that a seed draws, in a world of this setting. Refused as OutOfMemory.
+/// The events of a script with those that a seed draws, in a world of this setting.
+/// Refused as OutOfMemory.
 pub fn draw_events(
     alloc: Global,
     config: Config,

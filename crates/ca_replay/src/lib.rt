@@ -1,4 +1,5 @@
-//! A script replayed over the real cores: its world, its events with those that a seed draws, and the report.
+//! A script replayed over the real cores: its world, its events with those that a seed
+//! draws, and the report.
 #![tactic(auto)]
 
 mod again;

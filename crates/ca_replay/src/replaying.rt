@@ -17,8 +17,9 @@ use ca_world_script::{Script, read_script, write_report};
 use std::alloc::Global;
 use std::io::Write;
 
-/// Runs the events of a script in its world, with those that a seed draws: the report, and why the run stopped before the last event, if it did.
-/// A long run tells on `err` how far it is, if that is a terminal. Refused as BadText if a line of the script is not understood, and as OutOfMemory.
+/// Runs the events of a script in its world, with those that a seed draws: the report, and why the
+/// run stopped before the last event, if it did. A long run tells on `err` how far it is, if that
+/// is a terminal. Refused as BadText if a line of the script is not understood, and as OutOfMemory.
 pub fn replay<W: Write>(
     alloc: Global,
     script: &[u8],

@@ -1,7 +1,7 @@
 use ca_world::Progress;
 use std::io::Write;
 
-/// After how many events a run tells how far it is.
+/// After how many events a run says how far it is.
 const LINE: usize = 100_000;
 
 /// Writes a line of progress now and then, if somebody looks.
@@ -16,7 +16,7 @@ pub struct Telling<'a, W> {
 impl<W: Write> Progress for Telling<'_, W> {
     fn has_done(&mut self, done: usize, all: usize) {
         if self.is_terminal && done % LINE == 0 {
-            // Where this cannot be written the run goes on.
+            // If this cannot be written the run goes on.
             let _told = writeln!(self.err, "{done} of {all} events");
         }
     }

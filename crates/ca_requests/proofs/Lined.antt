@@ -49,7 +49,7 @@ held-parted t q r h may opened =
         let bad : false ≡ true = h' in
         absurd cc
 
--- what is listed and passes a test stands in the list of those that do, and each there passes it
+-- what is listed and passes a test is in the list of those that do, and each there passes it
 pub at-filter : (p : Handle → Bool) (xs : List Handle) (n : ℕ) (q : Handle) → At xs n q → p q ≡ true → (m : ℕ) × At (filter p xs) m q
 at-filter p [] n q at passes = absurd cc
 at-filter p (x ∷ xs) zero q at passes =
@@ -139,7 +139,7 @@ readies-shorter t c xs h m n closed = record {
   placed = λ i here. elim here [ inl none ↦ inl (not-empty xs h none) | inr at ↦ inr at ];
 }
 
--- no room is beside one that stands there
+-- no room is beside one that is there
 pub alone : (o : Option Handle) (n : ℕ) → 0 < room_beside o n → o ≡ None
 alone None n room = refl
 alone (Some h) n room = absurd (omega (arith, room))

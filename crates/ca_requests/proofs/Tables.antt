@@ -1,4 +1,5 @@
--- What a change to a table of requests leaves at each place: the generation given last never falls, and what is open was open.
+-- What a change to a table of requests leaves at each place: the generation given last never falls,
+-- and what is open was open.
 use Rattle.std.proofs.Common.{◌≡◌, ◌≢◌, ℕ, ◌≤◌, ◌⊎◌, ◌==◌, ◌&&◌, inl, inr, Bool, true, false, [], ◌∷◌, ◌++◌, length, map, Option, Some, None, if◌then◌else◌, option_map, refl, sym, ap, ◌∙◌, subst, arith, slice_index_or, slice_set, unwrap_or, length-append}
 use Rattle.std.proofs.Math.ListN.{get_or-map}
 use Rattle.std.proofs.lemmas.Bool.{cases_eq, cases_lt, eq-eqb, ne_eqb}

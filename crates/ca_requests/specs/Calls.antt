@@ -30,7 +30,8 @@ open_of which x = in_order_of_issue which x.table x.order
 abbrev pub new_request : (channel circuit : Handle) → Asked → Request
 new_request channel circuit asked = record { channel = channel; circuit = circuit; asked = asked; stage = Open }
 
--- Of the indices of this channel and this circuit no other channel and no other circuit has an open request.
+-- Of the indices of this channel and this circuit no other channel and no other circuit
+-- has an open request.
 pub record MayIssue (channel circuit : Handle) (x : Issued) : Type 0 where
   pub on_channel : (q : Handle) (r : Request) → under x.table q ≡ Some r → r.stage ≡ Open → r.channel.index ≡ channel.index → r.channel ≡ channel
   pub on_circuit : (q : Handle) (r : Request) → under x.table q ≡ Some r → r.stage ≡ Open → r.circuit.index ≡ circuit.index → r.circuit ≡ circuit
@@ -39,14 +40,16 @@ pub record MayIssue (channel circuit : Handle) (x : Issued) : Type 0 where
 abbrev pub issued_last : Handle → Request → Issued → Issued
 issued_last q r x = record { table = with_held q r x.table; order = x.order ++ q ∷ [] }
 
--- why no request is issued under a handle: it is not the one that `vacant` tells; or it is, and there is no memory
+-- why no request is issued under a handle: it is not the one that `vacant` returns; or it is,
+-- and there is no memory
 abbrev pub WhyNot : Table Request → Handle → Refusal → Type 0
 WhyNot t q e =
     ((e ≡ refusal.StaleHandle) × (told : Option Handle) × IsVacant t told × (told ≢ Some q))
     ⊎ ((e ≡ refusal.OutOfMemory) × MayGive t q)
 
--- From old, this request was issued under the handle that was told, with this answer, and left new. Refused, all is as before: another
--- handle may be told, or none, and this one is stale; or this one may be given, and there is no memory.
+-- From old, this request was issued under the handle that was told, with this answer, and left new.
+-- Refused, all is as before: another handle may be told, or none, and this one is stale; or this
+-- one may be given, and there is no memory.
 abbrev pub Issues : Issued → Handle → Request → Result (Unit {0}) Refusal → Issued → Type 0
 Issues old q r (Ok _) new = MayGive old.table q × (new ≡ issued_last q r old)
 Issues old q r (Err e) new = (new ≡ old) × WhyNot old.table q e
@@ -59,7 +62,8 @@ without q x = with_table (with_freed q x.table) x
 abbrev pub HasImage : Fields → Type 0
 HasImage m = (m.p1 ≡ normal) × ReadRefused m.data_type m.count m.payload refusal.OutOfMemory
 
--- A reply completes an open request with the outcome that it means, and ends the draining of an IOID. Only a value takes memory.
+-- A reply completes an open request with the outcome that it means, and ends the draining of an
+-- IOID. Only a value takes memory.
 abbrev pub Completes : Issued → Fields → Handle → Stage → Result (Option (Handle × Outcome)) AllocError → Issued → Type 0
 Completes old m q Open (Ok (Some (p, o))) new = (p ≡ q) × Means m o × (new ≡ without q old)
 Completes old m q Open (Ok None) new = ⊥

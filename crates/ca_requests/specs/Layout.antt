@@ -1,4 +1,5 @@
--- Working: what the fields of a client's requests stand for, and what is done to each of them. No clause of a caller needs it.
+-- Working: what the fields of a client's requests stand for, and what is done to each of them. No
+-- clause of a caller needs it.
 use Rattle.std.specs.Prelude.{◌≤◌, Bool, true, List, [], ◌∷◌}
 use Rattle.std.specs.List.{AllByRecursion}
 use Rattle.ca_arena.specs.declared.handle.Handle.{Handle}

@@ -1,4 +1,5 @@
--- Working: the requests of each circuit, and those of each channel, beside those of all. No clause of a caller needs it.
+-- Working: the requests of each circuit, and those of each channel, beside those of all. No clause
+-- of a caller needs it.
 use Rattle.std.specs.Prelude.{ℕ, ◌≡◌, ◌≢◌, ◌⊎◌, ◌<◌, ◌++◌, Bool, false, true, List, [], ◌∷◌, Option, Some, None, if◌then◌else◌, length, slice_index_or}
 use Rattle.std.specs.List.{AllByRecursion}
 use Rattle.ca_arena.specs.declared.handle.Handle.{Handle}
@@ -22,7 +23,7 @@ abbrev pub with_last : List Handle → Option Handle → List Handle
 with_last xs None = xs
 with_last xs (Some h) = xs ++ h ∷ []
 
--- the room beside the last one: one that stands there has to go first
+-- the room beside the last one: one that is there has to go first
 abbrev pub room_beside : Option Handle → ℕ → ℕ
 room_beside None n = n
 room_beside (Some h) n = 0

@@ -1,5 +1,6 @@
--- Vocabulary: what outcome a message of the server means to the request, the subscription or the channel that it is about (sections
--- "CA_PROTO_READ_NOTIFY", "CA_PROTO_WRITE_NOTIFY", "CA_PROTO_EVENT_ADD", "CA_PROTO_CREATE_CHAN" and "CA_PROTO_ERROR").
+-- Vocabulary: what outcome a message of the server means to the request, the subscription or the
+-- channel that it is about (sections "CA_PROTO_READ_NOTIFY", "CA_PROTO_WRITE_NOTIFY",
+-- "CA_PROTO_EVENT_ADD", "CA_PROTO_CREATE_CHAN" and "CA_PROTO_ERROR").
 use Rattle.std.specs.Prelude.{ℕ, ◌≡◌, ◌≢◌, ◌++◌, ◌⊎◌, List, []}
 use Rattle.ca_text.specs.Command.{command_number}
 use Rattle.ca_text.specs.declared.command.Command.TheVariants as command
@@ -15,8 +16,8 @@ use Rattle.ca_wire.specs.declared.header.Header.{Header}
 use Rattle.ca_wire.specs.Fields.{Fields}
 use Rattle.ca_wire.specs.Header.{HeaderSpells}
 
--- An image means its value, or why it has none; another status means that the read failed ("CA_PROTO_READ_NOTIFY",
--- "CA_PROTO_EVENT_ADD").
+-- An image means its value, or why it has none; another status means that the read failed
+-- ("CA_PROTO_READ_NOTIFY", "CA_PROTO_EVENT_ADD").
 abbrev pub ImageMeans : Fields → Outcome → Type 0
 ImageMeans m (outcome.Value v meta) = (m.p1 ≡ normal) × (t : DataType) × (type_number t ≡ m.data_type)
     × Reads t m.count m.payload (elements v) meta
@@ -40,7 +41,8 @@ abbrev pub ErrorMeans : Fields → Outcome → Type 0
 ErrorMeans m (outcome.Failed status) = status.number ≡ m.p2
 ErrorMeans m o = ⊥
 
--- A message means an outcome, by its command. An EVENT_ADD without payload is no update: it confirms a cancel.
+-- A message means an outcome, by its command. An EVENT_ADD without payload is no update:
+-- it confirms a cancel.
 abbrev pub Means : Fields → Outcome → Type 0
 Means m o =
     (((m.command ≡ command_number command.ReadNotify) ⊎ ((m.command ≡ command_number command.EventAdd) × (m.payload ≢ []))) × ImageMeans m o)

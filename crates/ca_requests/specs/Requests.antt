@@ -1,4 +1,5 @@
--- Vocabulary: a client's requests, in their table of IOIDs (sections "CA_PROTO_READ_NOTIFY" and "CA_PROTO_WRITE_NOTIFY").
+-- Vocabulary: a client's requests, in their table of IOIDs (sections "CA_PROTO_READ_NOTIFY" and
+-- "CA_PROTO_WRITE_NOTIFY").
 use Rattle.std.specs.Prelude.{ℕ, ◌==◌, ◌&&◌, Bool, true, false, List, Option, Some, None, filter, if◌then◌else◌, option_and_then, option_map, unwrap_or}
 use Rattle.ca_text.specs.Command.{command_number}
 use Rattle.ca_text.specs.declared.command.Command.{Command}
@@ -20,7 +21,8 @@ command_of Put = command.WriteNotify
 pub data Stage : Type 0 where
   Open Draining : Stage
 
--- a request: the channel that it is on, the circuit on which it was sent, what was asked, and whether it is open
+-- a request: the channel that it is on, the circuit on which it was sent, what was asked,
+-- and whether it is open
 pub record Request : Type 0 where
   pub channel : Handle
   pub circuit : Handle
@@ -35,7 +37,8 @@ asks_on channel q = same_handle q.channel channel
 abbrev pub was_sent_on : Handle → Request → Bool
 was_sent_on circuit q = same_handle q.circuit circuit
 
--- The request that a reply of this command and IOID on this circuit is about. A reply of another command is about none.
+-- The request that a reply of this command and IOID on this circuit is about. A reply of another
+-- command is about none.
 abbrev pub answered_by : Handle → (command_read ioid : ℕ) → Table Request → Option (Handle × Request)
 answered_by circuit command_read ioid t =
     option_and_then

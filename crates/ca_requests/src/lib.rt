@@ -1,4 +1,5 @@
-//! A client's requests: what was asked under which IOID, in order of issue, and what a reply means to a request.
+//! A client's requests: what was asked under which IOID, in order of issue, and what a
+//! reply means to a request.
 #![tactic(auto)]
 
 mod asked;

@@ -13,15 +13,18 @@ use std::alloc::{AllocError, Global};
 use std::marker::Model;
 use std::mem;
 
-// So many are listed before any is taken out.
+// This many are listed before any is taken out.
 const LEAST_LIMIT: usize = 16;
 
-/// Those that are over are taken out of a list once it is so many times as long as it was left the last time.
+/// Those that are over are taken out of a list once it is this many times as long as it
+/// was left the last time.
 pub(crate) const GROWTH: usize = 4;
 
-/// The requests of a circuit or of a channel, in order of issue: all that are open, and some that are over.
+/// The requests of a circuit or of a channel, in order of issue: all that are open,
+/// and some that are over.
 ///
-/// The one that was issued last stands apart, so that where one is open at a time no list in memory of its own is touched.
+/// The one that was issued last stands apart, so that if one is open at a time no list in memory
+/// of its own is touched.
 #[derive(Debug, Drop)]
 pub(crate) struct Line {
     owner: Handle,

@@ -7,7 +7,8 @@ use ca_text::{Refusal, Status};
 use ca_wire::Message;
 use std::alloc::{AllocError, Global};
 
-/// What the reply to a read, or an update, means: with status NORMAL its value, or why the payload has none; else the status.
+/// What the reply to a read, or an update, means: with status NORMAL its value, or why the payload
+/// has none; else the status.
 ///
 /// It takes memory only for a value that has elements.
 pub fn image_outcome(alloc: Global, message: &Message) -> Result<Outcome, AllocError>
@@ -17,7 +18,8 @@ pub fn image_outcome(alloc: Global, message: &Message) -> Result<Outcome, AllocE
     image_outcome_into(alloc, None, message)
 }
 
-/// The same, into the memory of a value that is used no more, if there is one and its elements are of that type.
+/// What the reply to a read, or an update, means, as `image_outcome`, into the memory of a value
+/// that is no longer used, if there is one and its elements are of that type.
 #[inline(always)]
 pub fn image_outcome_into(
     alloc: Global,

@@ -20,14 +20,15 @@ use ca_wire::Message;
 use std::alloc::{AllocError, Global};
 use std::marker::Model;
 
-// The memory of so many values is kept at most.
+// The memory of this many values is kept at most.
 const MOST_SPARE: usize = 1_024;
 
 /// A client's requests: by their handles, by their IOIDs, and in order of issue.
 ///
-/// Answering one costs the same however many are open, and so does issuing one on average: an issue that finds the list at its
-/// limit goes over all of it, at most once in three times as many issues as were open then. Those of a circuit or a channel are
-/// found without a look at the others; to free ids, what ends many at once goes over each index that was ever given.
+/// Answering one costs the same however many are open, and so does issuing one on average: an issue
+/// that finds the list at its limit goes over all of it, at most once in three times as many issues
+/// as were open then. Those of a circuit or a channel are found without a look at the others; to
+/// free ids, what ends many at once goes over each index that was ever given.
 #[derive(Drop)]
 pub struct Requests {
     table: HeldTable<Request>,
@@ -39,7 +40,7 @@ pub struct Requests {
     circuits: Vec<Line>,
     // Those of each channel, by its index.
     channels: Vec<Line>,
-    // Values that are used no more: those that come take their memory.
+    // Values that are no longer used: those that come take their memory.
     spare: Vec<Value>,
 }
 
@@ -82,10 +83,11 @@ impl Requests {
         self.table.vacant()
     }
 
-    /// Issues a request on this channel, which is sent on this circuit, under the handle that `vacant` tells. It is open from
-    /// now on. No other channel and no other circuit of these indices has an open request.
+    /// Issues a request on this channel, which is sent on this circuit, under the handle that
+    /// `vacant` returns. It is open from now on. No other channel and no other circuit of these
+    /// indices has an open request.
     ///
-    /// Refused as StaleHandle if `vacant` tells another handle or none, then as OutOfMemory.
+    /// Refused as StaleHandle if `vacant` returns another handle or none, then as OutOfMemory.
     pub fn issue(
         &mut self,
         vacant: Handle,
@@ -180,8 +182,8 @@ impl Requests {
         }
     }
 
-    /// A reply was read on this circuit: the open request that it completes, with its outcome. The IOID is free then, also
-    /// if it drained.
+    /// A reply was read on this circuit: the open request that it completes, with its outcome. The
+    /// IOID is free then, also if it drained.
     ///
     /// Only a value takes memory; without it nothing changes.
     #[inline(always)]
@@ -210,7 +212,8 @@ impl Requests {
         Ok(Some((handle, outcome)))
     }
 
-    /// A value that is used no more gives its memory to one that comes. Without memory to keep it, or with many kept, it is dropped.
+    /// A value that is no longer used gives its memory to one that comes. Without memory to keep
+    /// it, or with many kept, it is dropped.
     pub fn recycle(&mut self, value: Value)
         ensures { self.new ≡ self.old }
     {
@@ -219,8 +222,8 @@ impl Requests {
         }
     }
 
-    /// An ERROR was read on this circuit that quotes a header of this command and id: the open request that failed. Its IOID
-    /// is free then.
+    /// An ERROR was read on this circuit that quotes a header of this command and id: the open
+    /// request that failed. Its IOID is free then.
     pub fn failed(&mut self, circuit: Handle, command: u16, ioid: u32) -> Option<Handle>
         ensures about { result ≡ failed_in (answered_by circuit command ioid self.old.table) }
         ensures freed { self.new ≡ without_if result self.old }
@@ -240,7 +243,8 @@ impl Requests {
         let _ = self.table.free(handle);
     }
 
-    /// The requests on this channel are over, and their IOIDs drain: those that were open, in order of issue. It does not allocate.
+    /// The requests on this channel are over, and their IOIDs drain: those that were open, in order
+    /// of issue. It does not allocate.
     pub fn end_channel(&mut self, channel: Handle) -> Vec<Handle>
         ensures told { result.items ≡ open_of (asks_on channel) self.old }
         ensures over { self.new ≡ with_table (channel_over channel self.old.table) self.old }
@@ -259,7 +263,8 @@ impl Requests {
         free_all(&mut self.table, Which::OnChannel(channel));
     }
 
-    /// The IOIDs of the requests that were sent on this circuit are free: those that were open, in order of issue. It does not allocate.
+    /// The IOIDs of the requests that were sent on this circuit are free: those that were open, in
+    /// order of issue. It does not allocate.
     pub fn end_circuit(&mut self, circuit: Handle) -> Vec<Handle>
         ensures told { result.items ≡ open_of (was_sent_on circuit) self.old }
         ensures freed { self.new ≡ with_table (circuit_gone circuit self.old.table) self.old }

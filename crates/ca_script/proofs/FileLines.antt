@@ -1,4 +1,5 @@
--- What the lines of a record file say together. What may come next hangs on the names of the records that were read.
+-- What the lines of a record file say together. What may come next hangs on the names of the
+-- records that were read.
 use Rattle.std.proofs.Common.{◌≡◌, ℕ, List, [], ◌∷◌, ◌++◌, get_or, refl, sym, ap, ◌∙◌, subst, arith, inl, inr}
 use Rattle.std.specs.Prelude.{Result, IfErr, OnOk, codes, map}
 use Rattle.std.proofs.lemmas.List.{map-append}

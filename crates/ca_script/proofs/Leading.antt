@@ -1,4 +1,5 @@
--- Lines that lead from one reading to another. What may come next hangs on a shape of what was read, in which readings can be alike.
+-- Lines that lead from one reading to another. What may come next hangs on a shape of what was
+-- read, in which readings can be alike.
 use Rattle.std.proofs.Common.{◌≡◌, ℕ, List, [], ◌∷◌, refl, sym, ap, ◌∙◌, subst}
 use Rattle.std.specs.Prelude.{Result, IfErr}
 use Rattle.ca_text.specs.declared.refusal.Refusal.{Refusal}
@@ -21,7 +22,8 @@ reads-too Adds Alike goes a b final (line ∷ lines) same (m, adds, more) =
     let rest = reads-too Adds Alike goes m next.0 final lines next.2 more in
     (rest.0, (next.0, next.1, rest.1))
 
--- where all lines that are left can be read, the others can be read after what the first one was taken to say
+-- where all lines that are left can be read, the others can be read after what the first
+-- one was taken to say
 pub follows-left : {S : Type 0} (Adds : S → List (List ℕ) → S → Type 0) (Alike : S → S → Type 0) → ((a b m : S) (words : List (List ℕ)) → Alike a b → Adds a words m → (to : S) × Adds b words to × Alike m to) → ((a m n : S) (words : List (List ℕ)) → Adds a words m → Adds a words n → Alike m n) → (here mid final : S) (line left left' : List ℕ) → lines_of left ≡ line ∷ lines_of left' → Adds here (parted 32 line) mid → Lead Adds here (lines_of left) final → (end : S) × Lead Adds mid (lines_of left') end
 follows-left {S} Adds Alike goes same here mid final line left left' e adds h =
     let all : Lead Adds here (line ∷ lines_of left') final = subst (λ (ls : List (List ℕ)). Lead {S = S} Adds here ls final) e h in

@@ -61,7 +61,7 @@ no-third-octet text p q r v w is first second nay address h = no-octet r nay h.c
 pub no-last-octet : (text : List ℕ) (p q r s : List (List ℕ)) (v w x : List ℕ) → p ≡ parted 46 text → p ≡ v ∷ q → q ≡ w ∷ r → r ≡ x ∷ s → NoOctet s → (address : ℕ) → IsAddress text address → ⊥
 no-last-octet text p q r s v w x is first second third nay address h = no-octet s nay h.d [] (behind-c text p q r s v w x address is first second third h) h.bytes.3
 
--- nor where a fifth stands after them
+-- nor where a fifth is after them
 pub address-goes-on : (text : List ℕ) (p q r s t : List (List ℕ)) (v w x y : List ℕ) → p ≡ parted 46 text → p ≡ v ∷ q → q ≡ w ∷ r → r ≡ x ∷ s → s ≡ y ∷ t → (t ≡ [] → ⊥) → (address : ℕ) → IsAddress text address → ⊥
 address-goes-on text p q r s t v w x y is first second third fourth nay address h = nay (no-numbers t (behind-d text p q r s t v w x y address is first second third fourth h))
 
@@ -86,12 +86,12 @@ server-pieces words rest pieces word address port first is h =
     let same : word ≡ h.word = cc in
     is ∙ ap (λ (w : List ℕ). parted 58 w) same ∙ h.parts
 
--- nor where nothing stands before the colon
+-- nor where nothing is before the colon
 pub no-server-host : (words rest pieces : List (List ℕ)) (word : List ℕ) → words ≡ word ∷ rest → pieces ≡ parted 58 word → NoWord pieces → (address port : ℕ) → SaysServer words address port → ⊥
 no-server-host words rest pieces word first is nay address port h =
     nay h.host (h.last ∷ []) (server-pieces words rest pieces word address port first is h) (address-is-some h.host address h.at)
 
--- nor where what stands there is no address
+-- nor where what is there is no address
 pub no-address : (words rest pieces mid : List (List ℕ)) (word host : List ℕ) → words ≡ word ∷ rest → pieces ≡ parted 58 word → pieces ≡ host ∷ mid → ((address : ℕ) → IsAddress host address → ⊥) → (address port : ℕ) → SaysServer words address port → ⊥
 no-address words rest pieces mid word host first is second nay address port h =
     let are : pieces ≡ h.host ∷ h.last ∷ [] = server-pieces words rest pieces word address port first is h in

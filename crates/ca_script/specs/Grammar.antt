@@ -14,12 +14,12 @@ unfoldable pub parted : ℕ → List ℕ → List (List ℕ)
 parted separator [] = [] ∷ []
 parted separator (x ∷ xs) = if x == separator then [] ∷ parted separator xs else longer x (parted separator xs)
 
--- the pieces of what is left, where something is
+-- the pieces of what is left, if something is
 abbrev pub pieces_left : ℕ → Option (List ℕ) → List (List ℕ)
 pieces_left separator None = []
 pieces_left separator (Some text) = parted separator text
 
--- no line stands after the last line feed
+-- no line is after the last line feed
 abbrev pub whole_lines : List (List ℕ) → List (List ℕ)
 whole_lines [] = []
 whole_lines ([] ∷ []) = []

@@ -33,7 +33,7 @@ pub record SaysServer (words : List (List ℕ)) (address port : ℕ) : Type 0 wh
   pub of : IsNumber last port
   pub small : port < 2 ^ 16
 
--- a word is a whole number: digits, and before them a minus where it is below zero
+-- a word is a whole number: digits, and before them a minus if it is below zero
 pub record IsWhole (word : List ℕ) (z : ℤ) : Type 0 where
   pub digits : IsNumeral 10 (without_leading_sign word)
   pub plain : slice_index word 0 ≡ 43 → ⊥
@@ -63,7 +63,7 @@ IsFloat word n = IsHex word (bytes_4 n)
 abbrev pub IsDouble : List ℕ → ℕ → Type 0
 IsDouble word n = IsHex word (bytes_8 n)
 
--- a word is the digits of the text's first bytes; zeros stand after them
+-- a word is the digits of the text's first bytes; zeros are after them
 abbrev pub IsString : List ℕ → List ℕ → Type 0
 IsString word text = (bytes : List ℕ) × IsHex word bytes × (length bytes ≤ 40) × (text ≡ bytes ++ replicate (40 - length bytes) 0)
 
@@ -96,7 +96,7 @@ abbrev pub slow_word : Bool → List ℕ
 slow_word true = codes "slow"
 slow_word false = codes "quick"
 
--- `record NAME TYPE COUNT quick|slow V1 V2 ..`: a record of a new name stands after the old ones
+-- `record NAME TYPE COUNT quick|slow V1 V2 ..`: a record of a new name is after the old ones
 pub record SaysRecord (words : List (List ℕ)) (old new : List RecordState) : Type 0 where
   pub r : RecordState
   pub number : List ℕ

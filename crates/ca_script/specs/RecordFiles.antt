@@ -1,4 +1,5 @@
--- Vocabulary: record files, which say the records of a server and the rules of access: what their lines say, one after another.
+-- Vocabulary: record files, which say the records of a server and the rules of access: what their
+-- lines say, one after another.
 use Rattle.std.specs.Prelude.{ℕ, ◌≡◌, ◌⊎◌, List, [], ◌∷◌, ◌++◌, codes}
 use Rattle.ca_records.specs.Record.{RecordState}
 use Rattle.ca_records.specs.Rules.{Rule}

@@ -7,7 +7,7 @@ use Rattle.ca_dbr.specs.declared.value.Outcome.TheVariants as outcome
 use Rattle.ca_dbr.specs.Elements.{Elements, base_of, bytes_of, count_of, elements}
 use Rattle.ca_dbr.specs.Types.{base_number}
 
--- a word and a number: the number stands after a space
+-- a word and a number: the number is after a space
 abbrev pub counted : List ℕ → ℕ → List ℕ
 counted word n = word ++ decimal n
 

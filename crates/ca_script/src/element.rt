@@ -83,7 +83,7 @@ pub fn read_all<E: Element>(alloc: Global, mut words: Words<'_>) -> Result<Vec<E
     Ok(items)
 }
 
-/// The whole number that a word is, where it has at most 64 bits. Refused as BadText.
+/// The whole number that a word is, if it has at most 64 bits. Refused as BadText.
 fn whole_in(word: &[u8]) -> Result<i64, Refusal>
     ensures ok { IfOk result (λ z. IsWhole word.now z) }
     ensures err { IfErr result (λ e.

@@ -1,4 +1,5 @@
-//! The lines of scripts and record files read, and the words of reports written. There is no IO here.
+//! The lines of scripts and record files read, and the words of reports written.
+//! There is no IO here.
 #![tactic(auto)]
 
 mod decimals;

@@ -57,8 +57,8 @@ fn octet(parts: &mut Pieces<'_, 46>) -> Result<u8, Refusal>
     }
 }
 
-/// `NAME TYPE COUNT quick|slow V1 V2 ..`, after the line's first word: a record of a new name is defined. Refused as BadText, then
-/// as OutOfMemory, with no record defined.
+/// `NAME TYPE COUNT quick|slow V1 V2 ..`, after the line's first word: a record of a new name is
+/// defined. Refused as BadText, then as OutOfMemory, with no record defined.
 pub fn read_record(
     alloc: Global,
     mut words: Words<'_>,
@@ -103,7 +103,8 @@ pub fn slow_in(word: &[u8]) -> Result<bool, Refusal>
     Err(Refusal::BadText)
 }
 
-/// `USER HOST RECORD rw|r|w|-`, after the line's first word: `*` stands for everything. Refused as BadText, then as OutOfMemory.
+/// `USER HOST RECORD rw|r|w|-`, after the line's first word: `*` stands for everything. Refused as
+/// BadText, then as OutOfMemory.
 pub(crate) fn read_rule(alloc: Global, mut words: Words<'_>) -> Result<Rule, Refusal>
     ensures ok { IfOk result (λ r. SaysRule words.entry r) }
     ensures err { IfErr result (λ e. Refuses (SaysRule words.entry) e) }

@@ -17,8 +17,8 @@ pub struct RecordFile {
     pub rules: Vec<Rule>,
 }
 
-/// Reads a record file: lines of records and of rules, in any order. Refused as BadText if a line is not understood, and as OutOfMemory; an
-/// empty text is never refused.
+/// Reads a record file: lines of records and of rules, in any order. Refused as BadText if a line
+/// is not understood, and as OutOfMemory; an empty text is never refused.
 pub fn read_records(alloc: Global, text: &[u8]) -> Result<RecordFile, Refusal>
     ensures says { IfOk result (λ f. SaysFile text.now (file_reading f)) }
     ensures err { IfErr result (λ e. Refuses (SaysFile text.now) e) }

@@ -8,7 +8,8 @@ use ca_dbr::{Meta, Outcome, Value, write_value};
 use ca_text::Refusal;
 use itoa::Buffer;
 
-/// Writes the last line of a report: how many events were done. Refused as OutOfMemory; the text is then as before.
+/// Writes the last line of a report: how many events were done. Refused as OutOfMemory; the
+/// text is then as before.
 pub fn write_end(events: u64, out: &mut Vec<u8>) -> Result<(), Refusal>
     ensures ok { OnOk result (out.new.items ≡ out.old.items ++ end_text events) }
     ensures err { IfErr result (λ e. (e ≡ OutOfMemory) × (out.new.items ≡ out.old.items)) }

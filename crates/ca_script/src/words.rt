@@ -7,7 +7,7 @@ use ca_text::Refusal;
 use memchr::memchr;
 use std::marker::Model;
 
-/// What stands before the first separator, and what stands after it, where there is one.
+/// What is before the first separator, and what is after it, if there is one.
 pub fn cut<'a>(text: &'a [u8], separator: u8) -> (&'a [u8], Option<&'a [u8]>)
     ensures pieces { parted separator text.now
         ≡ result.0.now ∷ pieces_left separator (option_map (λ r. r.now) result.1) }

@@ -3,7 +3,7 @@ use Rattle.std.specs.Prelude.{ℕ, Bool, false, nat_le, if◌then◌else◌, Lis
 use Rattle.std.specs.Option.{option_map}
 use Rattle.ca_search.specs.Clock.{Clock, fresh, searched_at}
 
--- its name, and its clock, which a paused one has not
+-- its name, and its clock, which a paused one does not have
 pub record Channel : Type 0 where
   pub name : List ℕ
   pub clock : Option Clock
@@ -27,7 +27,7 @@ due_by now (Some clock) = nat_le clock.due now
 abbrev pub is_due : ℕ → Channel → Bool
 is_due now c = due_by now c.clock
 
--- after the search that was made now, where one was due
+-- after the search that was made now, if one was due
 abbrev pub passed : ℕ → Channel → Channel
 passed now c = record c { clock = option_map (λ clock. if nat_le clock.due now then searched_at clock now else clock) c.clock }
 

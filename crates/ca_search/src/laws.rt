@@ -2,8 +2,8 @@ ghost use Rattle.std.specs.Prelude.{◌≡◌, ◌+◌, ◌*◌, ◌^◌, ◌++�
 ghost use Rattle.ca_text.specs.Waits.{latest, wait};
 ghost use Rattle.ca_search.specs.Clock.{fresh, run};
 
-/// Whatever the moments of a channel's searches: the first is due at the start; the one after the n-th is due
-/// `32 * 2^(n-1)` milliseconds after it, at most 300,000.
+/// Whatever the moments of a channel's searches: the first is due at the start; the one after the
+/// n-th is due `32 * 2^(n-1)` milliseconds after it, at most 300,000.
 pub fn searches_double()
     ensures doubled { (n : ℕ) → wait 32 300000 n ≡ min (32 * 2 ^ n) 300000 }
     ensures first { (start : ℕ) → (run (fresh start) []).due ≡ start }

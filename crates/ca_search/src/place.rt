@@ -9,7 +9,7 @@ use crate::search::Search;
 use std::alloc::{AllocError, Global};
 use std::marker::Model;
 
-/// A channel's name, and its clock, which a paused one has not.
+/// A channel's name, and its clock, which a paused one does not have.
 #[derive(Debug, Drop)]
 pub struct Place {
     name: Vec<u8>,

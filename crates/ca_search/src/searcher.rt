@@ -9,10 +9,11 @@ use indexmap::IndexMap;
 use std::alloc::{AllocError, Global};
 use std::marker::Model;
 
-/// The channels that a client searches, in the order in which they were added. Moments are milliseconds; an earlier one
-/// than the last that was given counts as that.
+/// The channels that a client searches, in the order in which they were added. Moments are
+/// milliseconds; an earlier one than the last that was given counts as that.
 ///
-/// A channel is looked up by a hash of its CID; `remove`, `due` and `boost` go once over the places.
+/// A channel is looked up by a hash of its CID; `remove`, `due` and `boost` go
+/// once over the places.
 #[derive(Debug, Drop)]
 pub struct Searcher {
     moment: u64,
@@ -45,7 +46,8 @@ impl Searcher {
         self.places.contains_key(&cid)
     }
 
-    /// Adds a channel after the others: its first search is due at once. Refused as OutOfMemory, which changes nothing.
+    /// Adds a channel after the others: its first search is due at once. Refused as OutOfMemory,
+    /// which changes nothing.
     pub fn add(&mut self, cid: u32, name: &ChannelName<'_>, now: u64) -> Result<(), Refusal>
         requires { holds cid self.old.channels ≡ false }
         ensures { Adds self.old cid name.now now result self.new }
@@ -89,8 +91,8 @@ impl Searcher {
         self.places.shift_remove(&cid);
     }
 
-    /// The searches that are due, in the order in which their channels were added; they count as made now. Refused as
-    /// OutOfMemory only if there is one, which changes nothing.
+    /// The searches that are due, in the order in which their channels were added; they count as
+    /// made now. Refused as OutOfMemory only if there is one, which changes nothing.
     pub fn due(&mut self, now: u64) -> Result<Vec<Search>, Refusal>
         ensures { Finds self.old now result self.new }
     {

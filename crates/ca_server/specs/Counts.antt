@@ -1,4 +1,5 @@
--- Vocabulary: what a call of a server makes of the writes that were applied, and of the puts that wait.
+-- Vocabulary: what a call of a server makes of the writes that were applied, and
+-- of the puts that wait.
 use Rattle.std.specs.Prelude.{ℕ, ◌≡◌, ◌≤◌, ◌+◌, List, [], ◌∷◌, Some, map}
 use Rattle.ca_records.specs.Puts.{Record, WaitingPut, record_named}
 use Rattle.ca_records.specs.Records as records
@@ -21,7 +22,8 @@ pub record CountsOne (old new : Server) : Type 0 where
   pub most : new.applied + waiting new ≤ old.applied + waiting old + 1
   pub apart : AreApart old.records → AreApart new.records
 
--- A finish of the busy put of the record of this name: the put that waits for it next is applied, if there is one.
+-- A finish of the busy put of the record of this name: the put that waits for it next is
+-- applied, if there is one.
 pub record CountsNext (old : Server) (name : List ℕ) (new : Server) : Type 0 where
   pub idle : (r : Record) → record_named old.records name ≡ Some r → r.waiting ≡ [] → new.applied ≡ old.applied
   pub next : (r : Record) (p : WaitingPut) (ps : List WaitingPut) → record_named old.records name ≡ Some r → r.waiting ≡ p ∷ ps → new.applied ≡ old.applied + 1

@@ -13,8 +13,9 @@ use Rattle.ca_text.specs.Limits.{applied_limit, arena_slots}
 use Rattle.ca_text.specs.declared.refusal.Refusal.{Refusal}
 use Rattle.ca_wire.specs.Fields.{Fields}
 
--- Whenever the lock is free: the count is the sum of all shares; with all credits it is how many writes were applied; with the puts that
--- wait these are at most 2^63; each index of a handle has its credits; and no two records have one name.
+-- Whenever the lock is free: the count is the sum of all shares; with all credits it is how many
+-- writes were applied; with the puts that wait these are at most 2^63; each index of a handle has
+-- its credits; and no two records have one name.
 pub record IsCounted (server : Server) (count total : ℕ) (credits : List ℕ) : Type 0 where
   pub ledger : count ≡ total
   pub split : count + sum credits ≡ server.applied
@@ -30,8 +31,9 @@ credit_of credits h = slice_index_or credits h.index 0
 abbrev pub IsAtMost : Server → Handle → Type 0
 IsAtMost y h = (is_open (under y.circuits h) ≡ true) × (y.applied + waiting y ≡ applied_limit)
 
--- An open circuit at the greatest number is closed by a cut, unstepped, and nothing is counted. Else the server makes its step of the
--- circuit once; count and share grow by the writes that this step applied and by the credits of the circuit, which fall to zero.
+-- An open circuit at the greatest number is closed by a cut, unstepped, and nothing is counted.
+-- Else the server makes its step of the circuit once; count and share grow by the writes that this
+-- step applied and by the credits of the circuit, which fall to zero.
 abbrev pub LockedStep : (old : Server) (count : ℕ) (credits : List ℕ) (share : ℕ) → Handle → Stepped → (new : Server) (count' : ℕ) (credits' : List ℕ) (share' : ℕ) → Type 0
 LockedStep old count credits share h did new count' credits' share' =
     (IsAtMost old h × Cuts old h new × (did ≡ Closed why.Cut []) × (count' ≡ count) × (credits' ≡ credits) × (share' ≡ share))
@@ -46,7 +48,8 @@ abbrev pub credited : Option Handle → List ℕ → List ℕ
 credited None credits = credits
 credited (Some h) credits = slice_set credits h.index (credit_of credits h + 1)
 
--- The server makes its finish once; a credit is added exactly where that applied a put that waited, to the circuit of the put.
+-- The server makes its finish once; a credit is added exactly if that applied a put that waited, to
+-- the circuit of the put.
 abbrev pub LockedFinish : (old : Server) (credits : List ℕ) (name : List ℕ) → List (Handle × Fields) → Result (Unit {0}) Refusal → (new : Server) (credits' : List ℕ) → Type 0
 LockedFinish old credits name sent (Ok _) new credits' = Finishes old name sent (Ok tt) new × (credits' ≡ credited (first_waiting old name) credits)
 LockedFinish old credits name sent (Err e) new credits' = Finishes old name sent (Err e) new × (credits' ≡ credits)

@@ -1,3 +1,4 @@
+//! Calls of a server under its lock that pass on to the core.
 ghost use Rattle.std.specs.Prelude.{◌≡◌, ◌≤◌, Bool, Err, IfErr, IfOk, List, Ok, [], false, length, map, option_copied, option_map, unwrap_or, ℕ};
 ghost use Rattle.ca_arena.specs.declared.handle.Handle.{Handle};
 ghost use Rattle.ca_dbr.specs.Elements.{elements};
@@ -19,7 +20,8 @@ use std::sync::ledger::Ledger;
 
 // The server's other calls under the lock. None of them counts a write.
 impl<L: Ledger> State<L> {
-    /// A circuit is accepted, and gets a handle. Refused as ArenaFull if none may be given, then as OutOfMemory. A refusal changes nothing.
+    /// A circuit is accepted, and gets a handle. Refused as ArenaFull if none may be given, then as
+    /// OutOfMemory. A refusal changes nothing.
     pub fn accept(&mut self) -> Result<Handle, Refusal>
         ensures call { Accepts self.old.core result self.new.core }
         ensures memory { IfErr result
@@ -30,7 +32,8 @@ impl<L: Ledger> State<L> {
         self.core.accept()
     }
 
-    /// Takes bytes that came on a circuit. Refused as CircuitClosed if its end is not open, then as OutOfMemory. A refusal changes nothing.
+    /// Takes bytes that came on a circuit. Refused as CircuitClosed if its end is not open, then as
+    /// OutOfMemory. A refusal changes nothing.
     pub fn give(&mut self, circuit: Handle, bytes: &[u8]) -> Result<(), Refusal>
         ensures call { Gives self.old.core circuit bytes.now result self.new.core }
         ensures counts { (self.new.count ≡ self.old.count)
@@ -63,8 +66,9 @@ impl<L: Ledger> State<L> {
         self.core.sent(circuit, n);
     }
 
-    /// Puts updates that wait on a circuit after what waits to be sent, until none may go. Nothing happens if its end is not open. If
-    /// there is no memory for the next, the end of the circuit has ended, with those before it.
+    /// Puts updates that wait on a circuit after what waits to be sent, until none may go. Nothing
+    /// happens if its end is not open. If there is no memory for the next, the end of the circuit
+    /// has ended, with those before it.
     pub fn pump(&mut self, circuit: Handle)
         ensures call { (updates : List Update) × Pumps self.old.core circuit updates self.new.core }
         ensures counts { (self.new.count ≡ self.old.count)
@@ -73,8 +77,8 @@ impl<L: Ledger> State<L> {
         self.core.pump(circuit);
     }
 
-    /// Cuts a circuit: its end ends, if it is open, and its puts that wait are never applied. One more step reports that, and takes its
-    /// credits over. It does not allocate.
+    /// Cuts a circuit: its end ends, if it is open, and its puts that wait are never applied. One
+    /// more step reports that, and takes over its credits. It does not allocate.
     pub fn cut(&mut self, circuit: Handle)
         ensures call { Cuts self.old.core circuit self.new.core }
         ensures counts { (self.new.count ≡ self.old.count)
@@ -90,7 +94,8 @@ impl<L: Ledger> State<L> {
         self.core.may_write(circuit)
     }
 
-    /// The name of the record of the open channel of this SID on a circuit, if that record was not removed. None if its end is not open.
+    /// The name of the record of the open channel of this SID on a circuit, if that record was not
+    /// removed. None if its end is not open.
     pub fn served_name(&self, circuit: Handle, sid: Sid) -> Option<&[u8]>
         ensures { NamesUnder (under self.now.core.circuits circuit) sid
             (option_map (λ t. t.now) result) }
@@ -105,18 +110,20 @@ impl<L: Ledger> State<L> {
         self.core.busy_value(name)
     }
 
-    /// The circuit of the put that makes the record of this name busy, which gets the reply of the next finish. None if no put does, or no
-    /// record has the name.
+    /// The circuit of the put that makes the record of this name busy, which gets the reply of the
+    /// next finish. None if no put does, or no record has the name.
     pub fn busy_circuit(&self, name: &[u8]) -> Option<Handle>
         ensures { result ≡ busy_circuit self.now.core name.now }
     {
         self.core.busy_circuit(name)
     }
 
-    /// The circuits that a write, a post or a finish of the record of this name may have left updates on: each that has a subscription on
-    /// the record is among them. None if nobody has one.
+    /// The circuits that a write, a post or a finish of the record of this name may
+    /// have left updates on: each that has a subscription on the record is among them.
+    /// None if nobody has one.
     ///
-    /// Others may be among them. Right after such a call those are, too, whose ends it ended, as there was no memory for their updates.
+    /// Others may be among them: right after such a call also those whose ends it ended, without
+    /// memory for their updates.
     pub fn watching(&self, name: &[u8]) -> Option<&Line>
         ensures { AreAllAmong self.now.core name.now
             (unwrap_or (option_copied result) []) }
@@ -124,7 +131,8 @@ impl<L: Ledger> State<L> {
         self.core.watching(name)
     }
 
-    /// The datagrams that answer a datagram: a reply for each search in it for a record that is served, in their order.
+    /// The datagrams that answer a datagram: a reply for each search in it for a record that is
+    /// served, in their order.
     ///
     /// Refused as OutOfMemory, only if there is a message in it.
     pub fn datagram(&self, bytes: &[u8]) -> Result<Vec<Vec<u8>>, Refusal>
@@ -135,9 +143,10 @@ impl<L: Ledger> State<L> {
         self.core.datagram(bytes)
     }
 
-    /// The beacon that is due at this moment, once: 16 bytes, to be sent in a datagram of their own. None if none is due.
+    /// The beacon that is due at this moment, once: 16 bytes, to be sent in a datagram of their
+    /// own. None if none is due.
     ///
-    /// A moment before one that was given counts as that one.
+    /// A moment earlier than the last counts as the last.
     pub fn beacon(&mut self, now: u64) -> Option<[u8; 16]>
         ensures call { Beacons self.old.core now result self.new.core }
         ensures counts { (self.new.count ≡ self.old.count)
@@ -146,7 +155,8 @@ impl<L: Ledger> State<L> {
         self.core.beacon(now)
     }
 
-    /// Writes that are applied from now on have this time stamp: seconds since 1990-01-01 00:00:00 UTC, and nanoseconds.
+    /// Writes that are applied from now on have this time stamp: seconds since 1990-01-01 00:00:00
+    /// UTC, and nanoseconds.
     pub fn stamp(&mut self, seconds: u32, nanos: u32)
         ensures call { self.new.core
             ≡ stamped (record { seconds = seconds; nanos = nanos }) self.old.core }
@@ -156,11 +166,13 @@ impl<L: Ledger> State<L> {
         self.core.stamp(seconds, nanos);
     }
 
-    /// The record of this name has this value from now on, with its alarm and its time stamp. It reaches all subscriptions on the record
-    /// whose mask shares a bit with this one, on all circuits. A circuit's end without memory for an update has ended.
+    /// The record of this name has this value from now on, with its alarm and its time stamp. It
+    /// reaches all subscriptions on the record whose mask shares a bit with this one, on all
+    /// circuits. A circuit's end without memory for an update has ended.
     ///
-    /// Refused as UnknownRecord if no record has the name, as BadType if the value is not of its type, and as BadCount if it has no element
-    /// or more than the greatest count. A refusal changes nothing.
+    /// Refused as UnknownRecord if no record has the name, as BadType if the value is not of
+    /// its type, and as BadCount if it has no element or more than the greatest count. A
+    /// refusal changes nothing.
     pub fn post(&mut self, name: &[u8], value: Value, meta: Meta, mask: u16) -> Result<(), Refusal>
         ensures call { (gone : Handle → Bool)
             × Posts self.old.core name.now (record { value = elements value; meta = meta }) mask
@@ -171,7 +183,8 @@ impl<L: Ledger> State<L> {
         self.core.post(name, value, meta, mask)
     }
 
-    /// Serves the record of this name no more. Its puts go with it: those that wait are never applied.
+    /// Stops serving the record of this name. Its puts go with it: those that
+    /// wait are never applied.
     ///
     /// Refused as UnknownRecord if no record has the name. A refusal changes nothing.
     pub fn remove_record(&mut self, name: &[u8]) -> Result<(), Refusal>
@@ -185,8 +198,8 @@ impl<L: Ledger> State<L> {
 
     /// Serves one more record, neither busy nor waited for, with metadata of zeros.
     ///
-    /// Refused as NameLength if this is no name, as RecordExists if it is served, as BadCount if the record may not have this value, and then
-    /// as OutOfMemory. A refusal changes nothing.
+    /// Refused as NameLength if this is no name, as RecordExists if it is served, as BadCount if
+    /// the record may not have this value, and then as OutOfMemory. A refusal changes nothing.
     pub fn add_record(
         &mut self,
         name: &[u8],

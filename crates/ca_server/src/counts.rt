@@ -1,3 +1,4 @@
+//! Laws of what calls count: the writes that they apply and the puts that come to wait.
 ghost use Rattle.std.specs.Prelude.{◌≡◌, ◌≤◌, ◌+◌, Bool, Err, List, Ok, Option, Result, ℕ};
 ghost use Rattle.ca_arena.specs.declared.handle.Handle.{Handle};
 ghost use Rattle.ca_server.specs.Counts.{AreApart, CountsNext, CountsNothing, CountsOne};
@@ -11,7 +12,7 @@ ghost use Rattle.ca_text.specs.Limits.{applied_limit};
 ghost use Rattle.ca_text.specs.declared.refusal.Refusal.{Refusal};
 ghost use Rattle.ca_wire.specs.Fields.{Fields};
 
-/// By a step one write at most is applied or comes to wait, as long as the names of records are apart.
+/// A step applies one write at most, or makes one wait, as long as the names of records are apart.
 pub fn a_step_counts_one_write()
     ensures { (old : Server) (h : Handle) (did : Stepped) (new : Server)
         → old.applied ≤ applied_limit → AreApart old.records → Steps old h did new
@@ -28,7 +29,7 @@ pub fn a_finish_applies_the_next_put()
         (new : Server) → Finishes old name sent (Err e) new → new ≡ old }
 {}
 
-/// By every other call no write is applied, and no put comes to wait.
+/// Every other call applies no write, and makes no put wait.
 pub fn other_calls_count_nothing()
     ensures accepts { (old : Server) (r : Result Handle Refusal) (new : Server)
         → Accepts old r new → CountsNothing old new }

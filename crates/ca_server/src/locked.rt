@@ -1,3 +1,4 @@
+//! Steps and finishes under the lock, counted for the thread that makes them.
 ghost use Rattle.std.specs.Prelude.{◌≡◌, ◌+◌, ◌<◌, ◌≤◌, ◌⊎◌, IsFalse, IsTrue, List, false, length};
 ghost use Rattle.ca_arena.specs.declared.handle.Handle.{Handle};
 ghost use Rattle.ca_ids.specs.Table.{under};
@@ -16,11 +17,11 @@ use ca_text::{APPLIED_LIMIT, Refusal};
 use ca_wire::Pipe;
 use std::sync::ledger::{Ledger, Share};
 
-/// One step of a circuit, by the thread that has its share. Count and share grow by the writes that the step applied, and by the
-/// circuit's puts that waited and were applied since its last step.
+/// One step of a circuit, by the thread that has its share. Count and share grow by the writes that
+/// the step applied, and by the circuit's puts that waited and were applied since its last step.
 ///
-/// While 2^63 writes are applied or wait, an open circuit is cut, and handles no message. As after each cut, one more step reports what is
-/// left of it and takes its credits over.
+/// While 2^63 writes are applied or wait, an open circuit is cut, and handles no message. As after
+/// each cut, one more step reports what is left of it and takes its credits over.
 pub fn locked_step<L: Ledger>(state: &mut State<L>, circuit: Handle, share: &mut Share<L>) -> Step
     requires { 0 < share.old.parts }
     ensures step { LockedStep state.old.core state.old.count state.old.credits.items
@@ -67,10 +68,11 @@ fn place_of(circuit: Handle) -> usize
     usize::from(circuit.index)
 }
 
-/// The end of the busy put of the record of this name, by a processing thread. The put that waits next is applied, and credited to its
-/// circuit.
+/// The end of the busy put of the record of this name, by a processing thread. The put that waits
+/// next is applied, and credited to its circuit.
 ///
-/// Refused as UnknownRecord if no record has the name, and as NotBusy if its record is not busy. A refusal changes nothing.
+/// Refused as UnknownRecord if no record has the name, and as NotBusy if its record is not busy. A
+/// refusal changes nothing.
 pub fn locked_finish<L: Ledger>(state: &mut State<L>, name: &[u8]) -> Result<(), Refusal>
     ensures finish { (sent : List (Handle × Fields))
         × LockedFinish state.old.core state.old.credits.items name.now sent result

@@ -1,3 +1,4 @@
+//! What is under the lock of a server: its core, and the counts of applied writes.
 ghost use Rattle.std.specs.Prelude.{◌≡◌, ◌+◌, ◌≤◌, IfOk, replicate, sum};
 ghost use Rattle.ca_model.specs.Server.{new_server};
 ghost use Rattle.ca_model.specs.ServerCalls.{waiting};
@@ -11,20 +12,22 @@ use ca_text::ARENA_SLOTS;
 use std::alloc::{AllocError, Global};
 use std::sync::ledger::{Book, Ledger, Share};
 
-/// What lies under a server's lock.
+/// What a server's lock keeps.
 #[derive(Drop)]
 pub struct State<L: Ledger> {
     pub(crate) core: ServerCore,
     // How many applied writes the circuits' shares have together.
     pub(crate) count: u64,
-    // For each index of a circuit's handle: how many of its puts that waited were applied since its last step.
+    // For each index of a circuit's handle: how many of its puts that waited were applied
+    // since its last step.
     pub(crate) credits: Vec<u64>,
     pub(crate) book: Book<L>,
     ghost counted: { IsCounted core count book.total credits.items },
 }
 
 impl<L: Ledger> State<L> {
-    /// A server of this TCP port that begins at this moment with these records, under these rules. It has no circuit, and nothing is counted.
+    /// A server of this TCP port that begins at this moment with these records, under these rules.
+    /// It has no circuit, and nothing is counted.
     pub fn new(
         book: Book<L>,
         port: u16,
@@ -47,7 +50,8 @@ impl<L: Ledger> State<L> {
         })
     }
 
-    /// The count and all credits together are the writes that were applied, and with the puts that wait they are at most 2^63.
+    /// The count and all credits together are the writes that were applied, and with the puts that
+    /// wait they are at most 2^63.
     pub fn know(&self)
         ensures applied { self.now.count + sum self.now.credits.items ≡ self.now.core.applied }
         ensures most { self.now.count + sum self.now.credits.items + waiting self.now.core
@@ -61,7 +65,7 @@ impl<L: Ledger> State<L> {
         self.core.applied()
     }
 
-    /// The count, by whoever has all shares: it is their sum.
+    /// The count, for a caller that has all shares: it is their sum.
     pub fn audit(&mut self, all: &mut Share<L>) -> u64
         requires { all.old.parts ≡ L.parts }
         ensures sum { result ≡ all.old.amount }
@@ -82,7 +86,7 @@ fn know_apart(records: &Records)
     let _ = records.len();
 }
 
-// No credits, at so many places.
+// No credits, at n places.
 fn no_credits(alloc: Global, places: usize) -> Result<Vec<u64>, AllocError>
     ensures { IfOk result (λ v. v.items ≡ replicate places 0) }
 {

@@ -1,4 +1,5 @@
--- The channels to a record, once a channel was opened, closed or retired, and the lines that have them.
+-- The channels to a record, once a channel was opened, closed or retired, and the
+-- lines that have them.
 use Rattle.std.proofs.Common.{◌≡◌, ℕ, zero, suc, ◌+◌, ◌-◌, ◌<◌, ◌≤◌, ◌&&◌, inl, inr, Bool, true, false, not, cond, eqb, List, [], ◌∷◌, ◌++◌, length, filter, map, Option, Some, None, is_some, slice_set, refl, sym, ap, ◌∙◌, subst, arith, append_assoc}
 use Rattle.std.specs.Prelude.{option_map, option_to_list, slice_get}
 use Rattle.std.specs.Str.{bytes_eq}

@@ -67,7 +67,7 @@ bools false true f g = absurd (let e = g refl in cc)
 bools false false f g = refl
 
 module _ (t : Table OpenChannel) (sid : ℕ) (few : length t ≤ arena_slots) where
-  -- of channels that are held the wire id tells which
+  -- of channels that are held the wire id says which
   wire-tells : (c w : Handle) (o v : OpenChannel) → under t c ≡ Some o → wire_of c ≡ sid → under t w ≡ Some v → same_handle w c ≡ (wire_of w == sid)
   wire-tells c w o v there is at =
       bools (same_handle w c) (wire_of w == sid)

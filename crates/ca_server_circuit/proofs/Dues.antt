@@ -1,4 +1,5 @@
--- What is due for a message, by its command; and that memory may lack for one that is answered.
+-- What is due for a message, by its command; and that there may be no memory for
+-- one that is answered.
 use Rattle.std.proofs.Common.{◌≡◌, ◌≢◌, ℕ, ◌⊎◌, inl, inr, ◌==◌, Bool, true, false, List, [], ◌∷◌, if◌then◌else◌, refl, sym, ap, ◌∙◌, subst}
 use Rattle.ca_text.specs.Command.{command_number}
 use Rattle.ca_text.specs.declared.command.Command.{Command}

@@ -217,7 +217,7 @@ module _ {K : Type 0} (bytes : K → List ℕ) where
   unwritten m n name v w found through same =
       ap (λ (es : Map). lines_in bytes es) (through.0 ∙ ap (λ (x : List Handle). set_value (is_named name) m.entries x) same ∙ set_value_same (is_named name) m.entries v found)
 
-  -- a line that was taken out is there no more
+  -- a line that was taken out is no longer there
   pub taken-out : {S : Type 0} (m n : HashMap K (List Handle) S) (name : List ℕ) → hash.UpdatesBy equal (is_named name) m n None → line_of (lines_in bytes n.entries) name ≡ None
   taken-out m n name u = not-lined name n.entries u.1
 

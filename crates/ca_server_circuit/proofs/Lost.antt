@@ -1,4 +1,5 @@
--- An end loses a record: the SERVER_DISCONNs of its channels, and then the channels with their subscriptions, one after another.
+-- An end loses a record: the SERVER_DISCONNs of its channels, and then the channels with their
+-- subscriptions, one after another.
 use Rattle.std.proofs.Common.{◌≡◌, ◌≢◌, ℕ, zero, suc, ◌+◌, ◌<◌, ◌≤◌, ◌==◌, ◌&&◌, ◌||◌, Bool, true, false, not, cond, List, [], ◌∷◌, ◌++◌, length, filter, get_or, map, take, Option, Some, None, is_some, slice_set, refl, sym, ap, ◌∙◌, subst, arith, append_assoc, length-append}
 use Rattle.std.proofs.Math.Numerals.{add-one}
 use Rattle.std.specs.Prelude.{IsSome, option_map}

@@ -45,7 +45,7 @@ module _ (t : Table OpenChannel) (sid : ℕ) (few : length t ≤ arena_slots) wh
 
 -- ---- by the bytes that came
 
--- the command stands first in either form
+-- the command is first in either form
 command-first : (h : Header) (head back : List ℕ) → HeaderSpells head h → (x : List ℕ) × (head ++ back ≡ number16 h.command ++ x)
 command-first h head back s = by s.form
   where
@@ -68,7 +68,7 @@ low-writes [] some = absurd (omega (arith, some))
 low-writes (high ∷ []) some = absurd (omega (arith, some))
 low-writes (high ∷ low ∷ rest) some = refl
 
--- the command of a message stands first
+-- the command of a message is first
 begins-with : (e : ServerEnd) (m : Fields) (rest : List ℕ) → TakesFirst e.link m rest → (x : List ℕ) × (e.link.input.bytes ≡ number16 m.command ++ x)
 begins-with e m rest t =
     let s = t.1 in

@@ -75,7 +75,7 @@ leaving e w v new m room g shows = (
   },
 )
 
--- memory lacks for one
+-- there is no memory for one
 pub lacks-one : (v e : ServerEnd) (l : LinkState) (new : Subscribed) (w : Wanted) (x : Stored) (r : Result Bool AllocError) → IsErr r → v ≡ e → length v.link.output < output_limit
     → GivesUpdate (events_of v) (Some (w, x)) new → ((m : Fields) × ShowsTo w x m) → l ≡ v.link
     → PumpsOne e r (record v { link = l; subscriptions = new.subscriptions; queues = new.queues })

@@ -1,4 +1,5 @@
--- What waits for the records of a server, and which channels are open, after an end handled a message.
+-- What waits for the records of a server, and which channels are open, after an
+-- end handled a message.
 use Rattle.std.proofs.Common.{◌≡◌, ℕ, zero, suc, ◌⊎◌, inl, inr, ◌==◌, ◌&&◌, Bool, true, false, not, List, [], ◌∷◌, cond, filter, map, Option, Some, None, refl, sym, ap, ◌∙◌, subst}
 use Rattle.std.specs.Prelude.{option_map, unwrap_or}
 use Rattle.std.specs.Str.{bytes_eq}
@@ -56,7 +57,8 @@ named-still g keeps (x ∷ rs) n r is = go (bytes_eq x.state.name n) refl is (λ
 abbrev pub Waited : List Record → Record → WaitingPut → Type 0
 Waited rs q w = (i : ℕ) × (r : Record) × (k : ℕ) × At rs i r × At r.waiting k w × (r.state.name ≡ q.state.name)
 
--- What a change of the records keeps: each record is found; and what waits then waited before, and may stay, or is new.
+-- What a change of the records keeps: each record is found; and what waits then waited before, and
+-- may stay, or is new.
 abbrev pub Keeps : List Record → List Record → (WaitingPut → Type 0) → (Record → WaitingPut → Type 0) → Type 0
 Keeps rs qs Stays New =
     ((n : List ℕ) (r : Record) → record_named rs n ≡ Some r → (q : Record) × (record_named qs n ≡ Some q))

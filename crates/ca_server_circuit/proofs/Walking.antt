@@ -1,4 +1,5 @@
--- The walk over the channels of a circuit that ends: its puts that wait are taken out of the records.
+-- The walk over the channels of a circuit that ends: its puts that wait are
+-- taken out of the records.
 use Rattle.std.proofs.Common.{◌≡◌, ℕ, zero, suc, ◌+◌, ◌<◌, ◌≤◌, ◌==◌, Bool, true, false, not, List, length, cond, Option, Some, None, refl, sym, ap, ◌∙◌, subst, arith}
 use Rattle.std.specs.Str.{bytes_eq}
 use Rattle.std.proofs.lemmas.Bool.{eq-eqb, eqb-true}

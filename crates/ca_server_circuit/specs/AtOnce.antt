@@ -11,7 +11,8 @@ use Rattle.ca_server_circuit.specs.Pumping.{PumpsAt}
 use Rattle.ca_server_circuit.specs.Subscribing.{events_of}
 use Rattle.ca_server_subscriptions.specs.Subscribed.{HasRoom, is_on}
 
--- A post of the value of a record, which a subscription of the end is on: one update of it went into the output, and then none may.
+-- A post of the value of a record, which a subscription of the end is on: one update of it went
+-- into the output, and then none may.
 pub record ShowsAtOnce (r : RecordState) (mask : ℕ) (old new : ServerEnd) : Type 0 where
   pub on : list_any (is_on r.name) old.subscriptions ≡ true
   pub room : HasRoom (events_of (with_post r.name mask (record { value = r.value; meta = r.meta }) old))

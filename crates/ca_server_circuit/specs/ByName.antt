@@ -16,7 +16,8 @@ abbrev pub IsLastTo : (name : List ℕ) → Table OpenChannel → Option Handle 
 IsLastTo name t None = channels_to name t ≡ []
 IsLastTo name t (Some h) = (others : List Handle) × (channels_to name t ≡ others ++ h ∷ [])
 
--- If a channel leads to the record of this name, one of them is retired: what is to be done for the record is done with those that are left.
+-- If a channel leads to the record of this name, one of them is retired: what is to be done for the
+-- record is done with those that are left.
 abbrev pub RetiresLast : List ℕ → ServerEnd → Bool → ServerEnd → Type 0
 RetiresLast name e true new =
     (without_channels name new ≡ without_channels name e) × (length (channels_to name new.channels) < length (channels_to name e.channels))
@@ -54,7 +55,8 @@ abbrev pub AreFrom : ℕ → List Handle → Type 0
 AreFrom i [] = Unit {0}
 AreFrom i (h ∷ hs) = (i ≤ h.index) × AreFrom i hs
 
--- a channel of this index has this place in a line, if those of lower indices come before all others
+-- a channel of this index has this place in a line, if those of lower indices
+-- come before all others
 abbrev pub IsItsPlace : (index : ℕ) → List Handle → (place : ℕ) → Type 0
 IsItsPlace index hs place = (below from : List Handle) → hs ≡ below ++ from → AreBelow index below → AreFrom index from → place ≡ length below
 

@@ -1,4 +1,4 @@
--- Vocabulary: what whoever records histories asks of one circuit.
+-- Vocabulary: what a recorder of histories asks of one circuit.
 use Rattle.std.specs.Prelude.{ℕ, ◌≡◌, List, [], Option, None, map}
 use Rattle.ca_arena.specs.declared.handle.Handle.{Handle}
 use Rattle.ca_ids.specs.Wire.{wire_of}
@@ -7,7 +7,8 @@ use Rattle.ca_model.specs.Server as server
 use Rattle.ca_model.specs.ServerCalls.{channels_of}
 use Rattle.ca_server_subscriptions.specs.Concerned.{ConcernsAt}
 
--- A post concerns the subscription at this place of an open end, which the queue at that place has; or it concerns none there.
+-- A post concerns the subscription at this place of an open end, which the queue at that place has;
+-- or it concerns none there.
 abbrev pub ConcernsOn : (name : List ℕ) → (mask : ℕ) → (place : ℕ) → ServerCircuit → Option ℕ → Type 0
 ConcernsOn name mask place (server.Open e) queue = ConcernsAt name mask place e.subscriptions e.queues queue
 ConcernsOn name mask place (server.Ended w left) queue = queue ≡ None

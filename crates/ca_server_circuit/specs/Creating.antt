@@ -30,7 +30,8 @@ creation_replies s e m state sid =
 abbrev pub with_channel : Handle → Fields → ServerEnd → ServerEnd
 with_channel h m e = record e { settled = true; channels = with_held h (record { cid = m.p1; name = text_in m.payload; retired = false }) e.channels }
 
--- A channel was created for the message to the record of its name, which is at this place; and what is left to do is that.
+-- A channel was created for the message to the record of its name, which is at this place; and what
+-- is left to do is that.
 pub record IsCreation (s : Store) (e : ServerEnd) (m : Fields) (place : ℕ) (did : FollowUp) (new : ServerEnd) : Type 0 where
   pub r : Record
   pub named : record_named (records_of s) (text_in m.payload) ≡ Some r

@@ -8,8 +8,9 @@ use Rattle.ca_server_circuit.specs.Peeking.{is_write}
 use Rattle.ca_server_circuit.specs.declared.effect.Effect.{Effect}
 use Rattle.ca_server_circuit.specs.declared.effect.Effect.TheVariants.{Busied, Cancelled, Cleared, Created, Queued, Quiet, Refused, Subscribed, Switched, WriteRefused, Wrote}
 
--- Each action has its effect. A CREATE_CHAN that does nothing was refused, and so was a WRITE or a WRITE_NOTIFY; of what else does nothing, and
--- of a greeting or a name of the peer, nothing is told.
+-- Each action has its effect. A CREATE_CHAN that does nothing was refused, and so was a
+-- WRITE or a WRITE_NOTIFY; of what else does nothing, and of a greeting or a name of the
+-- peer, nothing is told.
 abbrev pub effect_due : Fields → Action → Effect
 effect_due m Nothing =
     if m.command == command_number command.CreateChannel then Refused

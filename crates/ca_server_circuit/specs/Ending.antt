@@ -27,7 +27,8 @@ pub record WithdrawsAll (h : Handle) (s t : Store) : Type 0 where
   pub stamp : t.stamp ≡ s.stamp
   pub places : KeepsPlaces s t
 
--- each put of a circuit that waits is on an open channel of it, of this index or a later one, to the record for which it waits
+-- each put of a circuit that waits is on an open channel of it, of this index or a later one, to
+-- the record for which it waits
 abbrev pub ArePutsFrom : ℕ → Handle → List Record → Table OpenChannel → Type 0
 ArePutsFrom n h rs t =
     (i : ℕ) (r : Record) (k : ℕ) (w : WaitingPut) → At rs i r → At r.waiting k w → same_handle w.put.circuit h ≡ true

@@ -64,7 +64,8 @@ Recorded rs s h e m (Waits name value) new =
 Recorded rs s h e m (Clears sid) new = new ≡ withdrawn (λ (p : Put). same_handle p.circuit h && wire_of p.channel == sid) rs
 Recorded rs s h e m action new = new ≡ rs
 
--- A channel is created by a CREATE_CHAN, to a record that is there; and a put waits on the record of its channel, and a subscription begins on that of its own.
+-- A channel is created by a CREATE_CHAN, to a record that is there; and a put waits on the record
+-- of its channel, and a subscription begins on that of its own.
 abbrev pub Fits : List Record → ServerEnd → Fields → Action → Type 0
 Fits rs e m (Opens c) = (r : Record) × (record_named rs c.name ≡ Some r) × (m.command ≡ command_number command.CreateChannel)
 Fits rs e m (Waits name value) = (c : Handle × OpenChannel) × (by_wire e.channels m.p1 ≡ Some c) × (c.1.name ≡ name) × (c.1.retired ≡ false)
@@ -85,8 +86,9 @@ effect_of (effect.Wrote place false sid) = told.Wrote sid
 effect_of (effect.Began place sid sub) = told.Subscribed sid sub
 effect_of (effect.Opened place sid) = told.Created sid
 
--- What an action leaves the server to do, by the places of records: a write that was applied is to reach the subscriptions of its record,
--- which has its value and the stamp now; and a subscription began, or a channel was created. Any other leaves nothing, and is told.
+-- What an action leaves the server to do, by the places of records: a write that was applied is to
+-- reach the subscriptions of its record, which has its value and the stamp now; and a subscription
+-- began, or a channel was created. Any other leaves nothing, and is told.
 abbrev pub Tells : Fields → Action → FollowUp → Store → Type 0
 Tells m (Applies name value busies) did t =
     (place : ℕ) × (r : Record) × (did ≡ effect.Wrote place busies m.p1) × HasAt t place r × (r.state.name ≡ name) × (r.state.value ≡ value)
@@ -95,7 +97,8 @@ Tells m (Adds x) did t = (place : ℕ) × (r : Record) × (did ≡ effect.Began 
 Tells m (Opens c) did t = (place : ℕ) × (r : Record) × (did ≡ effect.Opened place c.sid) × HasAt t place r × (r.state.name ≡ c.name)
 Tells m action did t = did ≡ effect.Quiet (effect_due m action)
 
--- What is due by this relation was done: the replies wait, and so the records and the end are after it.
+-- What is due by this relation was done: the replies wait, and so the records and
+-- the end are after it.
 pub record Does (D : List Fields → Action → Type 0) (s : Store) (h : Handle) (e : ServerEnd) (m : Fields) (did : FollowUp) (t : Store) (new : ServerEnd) : Type 0 where
   pub replies : List Fields
   pub action : Action
@@ -115,8 +118,8 @@ pub record Replies (D : List Fields → Action → Type 0) (e new : ServerEnd) :
   pub due : D replies Nothing
   pub leaves : new ≡ replied replies e
 
--- Memory is asked for by a message that is answered, by one whose text is kept, and by one by which a write is applied or waits or a subscription
--- begins. A payload alone asks for none.
+-- Memory is asked for by a message that is answered, by one whose text is kept, and by one by which
+-- a write is applied or waits or a subscription begins. A payload alone asks for none.
 abbrev pub AsksMemory : Fields → List Fields → Action → Type 0
 AsksMemory m replies (Applies name value busies) = Unit {0}
 AsksMemory m replies (Waits name value) = Unit {0}
@@ -124,7 +127,8 @@ AsksMemory m replies (Adds s) = Unit {0}
 AsksMemory m replies (Names p) = (text_in m.payload ≢ []) ⊎ (replies ≢ [])
 AsksMemory m replies action = replies ≢ []
 
--- Whatever is due for the message, memory may lack for it. That something is always due is not shown here.
+-- Whatever is due for the message, there may be no memory for it. That something is always
+-- due is not shown here.
 abbrev pub MayLack : Knows → Fields → Type 0
 MayLack k m = (replies : List Fields) (action : Action) → Due k m replies action → AsksMemory m replies action
 

@@ -1,5 +1,5 @@
--- Vocabulary: what is asked of a circuit before its next message is handled, of its channels by their SIDs, and of its client (section "Virtual
--- Circuit").
+-- Vocabulary: what is asked of a circuit before its next message is handled, of its channels by
+-- their SIDs, and of its client (section "Virtual Circuit").
 use Rattle.std.specs.Prelude.{ℕ, ◌≡◌, ◌==◌, ◌||◌, Bool, false, List, [], ◌∷◌, Option, None, Some}
 use Rattle.ca_arena.specs.declared.handle.Handle.{Handle}
 use Rattle.ca_ids.specs.Table.{held}
@@ -12,7 +12,8 @@ use Rattle.ca_model.specs.Ends.{Peer}
 use Rattle.ca_model.specs.Server.{Ended, Open, OpenChannel, ServerCircuit, ServerEnd}
 use Rattle.ca_model.specs.Speech.{In}
 
--- The SID stands for an open channel whose record was not removed, which has this name; or for none.
+-- The SID stands for an open channel whose record was not removed, which has
+-- this name; or for none.
 abbrev pub NamesBy : ServerEnd → (sid : ℕ) → Option (List ℕ) → Type 0
 NamesBy e sid (Some name) =
     ((c : Handle × OpenChannel) × In (held e.channels) c × (wire_of c.0 ≡ sid) × (c.1.retired ≡ false))
@@ -35,7 +36,7 @@ peer_on (Ended w left) = None
 abbrev pub is_write : ℕ → Bool
 is_write n = n == command_number command.Write || n == command_number command.WriteNotify
 
--- the low byte of the command that stands first is that of a command that writes
+-- the low byte of the command that is first is that of a command that writes
 abbrev pub may_write : List ℕ → Bool
 may_write [] = false
 may_write (high ∷ []) = false

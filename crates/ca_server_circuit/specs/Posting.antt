@@ -16,7 +16,8 @@ use Rattle.ca_server_subscriptions.specs.Subscribed.{HasRoom}
 abbrev pub posted : Record → (mask : ℕ) → ServerEnd → ServerEnd
 posted r mask e = with_post r.state.name mask (record { value = r.state.value; meta = r.state.meta }) e
 
--- A post to the record at a place: the end has its updates, or has ended out of memory for one, if the post concerns it.
+-- A post to the record at a place: the end has its updates, or has ended out of memory for one, if
+-- the post concerns it.
 abbrev pub PostsAt : Handle → (place : ℕ) → (mask : ℕ) → ServerCircuit → Store → ServerCircuit → Store → Type 0
 PostsAt h place mask (server.Open e) s new t =
     (r : Record) × HasAt s place r

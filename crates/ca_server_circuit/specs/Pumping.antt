@@ -15,14 +15,16 @@ use Rattle.ca_server_circuit.specs.Ending.{WithdrawsAll}
 use Rattle.ca_server_circuit.specs.Subscribing.{events_of}
 use Rattle.ca_server_subscriptions.specs.Subscribed.{HasRoom}
 
--- One update went into the output; none may; or memory lacks for the next, and the output is as it was.
+-- One update went into the output; none may; or there is no memory for the next, and the
+-- output is as it was.
 abbrev pub PumpsOne : ServerEnd → Result Bool AllocError → ServerEnd → Type 0
 PumpsOne old (Ok true) new = (u : Update) × Leaves old u new
 PumpsOne old (Ok false) new = Rests old × (new ≡ old)
 PumpsOne old (Err e) new =
     ((u : Update) × (x : ServerEnd) × Leaves old u x) × (new.link.output ≡ old.link.output) × (new.channels ≡ old.channels)
 
--- Updates went into the output until none may; or memory lacks for the next, and the output has those before it.
+-- Updates went into the output until none may; or there is no memory for the next, and the output
+-- has those before it.
 abbrev pub PumpsEnd : ServerEnd → Result (Unit {0}) AllocError → ServerEnd → Type 0
 PumpsEnd old (Ok _) new = (us : List Update) × FoldsTo Leaves old us new × Rests new
 PumpsEnd old (Err e) new =

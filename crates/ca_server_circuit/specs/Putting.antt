@@ -18,7 +18,8 @@ use Rattle.ca_model.specs.Faults.{base_type_of, early_put_fault}
 use Rattle.ca_server_circuit.specs.declared.put.Given.{Given}
 use Rattle.ca_server_circuit.specs.declared.put.Given.TheVariants as given
 
--- A put that names this, with this payload, as the message of a WRITE: its elements and its faults are those of any command.
+-- A put that names this, with this payload, as the message of a WRITE: its elements and its faults
+-- are those of any command.
 abbrev pub asked : Wanted → List ℕ → Fields
 asked w payload = on_channel command.Write w payload
 
@@ -26,7 +27,8 @@ asked w payload = on_channel command.Write w payload
 abbrev pub early : RecordState → (rights : ℕ) → Fields → Option ℕ
 early r rights m = early_put_fault r rights m (base_type_of m.data_type)
 
--- the elements of a put, of which there are some and not too many; or its first fault before they are read
+-- the elements of a put, of which there are some and not too many; or its first fault
+-- before they are read
 abbrev pub IsGiven : RecordState → (rights : ℕ) → Fields → Given → Type 0
 IsGiven r rights m (given.Elements v) =
     (early r rights m ≡ None) × PutReads m (elements v) × (0 < count_of (elements v)) × (count_of (elements v) ≤ r.count)

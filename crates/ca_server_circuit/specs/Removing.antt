@@ -49,7 +49,8 @@ retired_at name p = record p { value = retired_in name p.value }
 abbrev pub without_channel : Handle → ServerEnd → ServerEnd
 without_channel h e = without_subscriptions (is_of_sid (wire_of h)) (record e { channels = with_changed without_record h e.channels })
 
--- the end whose channels to the record of this name are retired without their subscriptions: `end_without` but for the messages
+-- the end whose channels to the record of this name are retired without their subscriptions:
+-- `end_without` but for the messages
 abbrev pub without_channels : List ℕ → ServerEnd → ServerEnd
 without_channels name e = without_subscriptions (is_on (channels_of name e)) (record e { channels = with_each (retired name) e.channels })
 
@@ -69,7 +70,8 @@ abbrev pub MayLose : List Record → Handle → ServerCircuit → Type 0
 MayLose rs h (server.Open e) = IsOpen e.link × ArePuts h rs e.channels
 MayLose rs h (server.Ended w left) = Unit {0}
 
--- A circuit loses a record: or its end has ended out of memory for a SERVER_DISCONN, and left those before it.
+-- A circuit loses a record: or its end has ended out of memory for a SERVER_DISCONN, and
+-- left those before it.
 abbrev pub LosesAt : Handle → (name : List ℕ) → ServerCircuit → Store → ServerCircuit → Store → Type 0
 LosesAt h name (server.Open e) s new t =
     ((new ≡ server.Open (end_without name e)) × HasRoom (events_of (end_without name e)) × (t ≡ s))

@@ -12,7 +12,8 @@ use Rattle.ca_server_circuit.specs.Stepping.{BreaksBy, EndSteps, why_is}
 use Rattle.ca_server_circuit.specs.Subscribing.{events_of}
 use Rattle.ca_server_subscriptions.specs.Subscribed.{HasRoom}
 
--- One step of a circuit: its end did this, or has ended if it broke; one that had ended does nothing.
+-- One step of a circuit: its end did this, or has ended if it broke; one that
+-- had ended does nothing.
 abbrev pub CircuitSteps : (port : ℕ) → Handle → ServerCircuit → Store → Option EndStep → ServerCircuit → Store → Type 0
 CircuitSteps port h (server.Open e) s (Some (Breaks c)) new t = BreaksBy port s e c × (new ≡ server.Ended (why_is c) e.link.output) × WithdrawsAll h s t
 CircuitSteps port h (server.Open e) s (Some did) new t =

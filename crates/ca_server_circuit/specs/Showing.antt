@@ -23,7 +23,8 @@ abbrev pub status_for : Refusal → ℕ
 status_for refusal.NoConvert = no_convert
 status_for _ = get_fail
 
--- The reply to a read of a record under these rights: its first fault, or the elements that it is shown.
+-- The reply to a read of a record under these rights: its first fault, or the
+-- elements that it is shown.
 abbrev pub AnswersRead : RecordState → (rights : ℕ) → Fields → Fields → Type 0
 AnswersRead r rights m reply =
     ((status : ℕ) × (read_fault r rights m (type_of m.data_type) ≡ Some status) × (reply ≡ status_reply m status))

@@ -10,8 +10,9 @@ use Rattle.ca_server_circuit.specs.Handling.{AreServed}
 use Rattle.ca_server_circuit.specs.Subscribing.{AreOnChannels, events_of}
 use Rattle.ca_server_subscriptions.specs.Subscribed.{HasRoom}
 
--- An open end of this circuit: no bad header was met, a queue has room unless there are as many subscriptions as there may be, its
--- channels are served and not too many, and its puts that wait and its subscriptions are on them.
+-- An open end of this circuit: no bad header was met, a queue has room unless there are as many
+-- subscriptions as there may be, its channels are served and not too many, and its puts that wait
+-- and its subscriptions are on them.
 pub record EndIsSound (rs : List Record) (h : Handle) (e : ServerEnd) : Type 0 where
   pub live : IsOpen e.link
   pub room : HasRoom (events_of e)

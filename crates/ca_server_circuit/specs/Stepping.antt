@@ -60,7 +60,8 @@ BreaksBy port s e cause.Misaligned = (length e.link.output < output_limit) × Ba
 BreaksBy port s e cause.TooLarge = (length e.link.output < output_limit) × BadAt e.link.input.bytes refusal.TooLarge
 BreaksBy port s e cause.Cut = ⊥
 
--- One step of an open end on this circuit: what it did, and left. An end that breaks is to be closed, with what waited before.
+-- One step of an open end on this circuit: what it did, and left. An end that breaks is to be
+-- closed, with what waited before.
 abbrev pub EndSteps : (port : ℕ) → Handle → ServerEnd → Store → EndStep → ServerEnd → Store → Type 0
 EndSteps port h e s OutputFull new t = (output_limit ≤ length e.link.output) × (new ≡ e) × (t ≡ s)
 EndSteps port h e s NeedBytes new t =
@@ -73,12 +74,14 @@ EndSteps port h e s (Breaks c) new t = BreaksBy port s e c × (new.link.output �
 abbrev pub after_short : ServerEnd → ServerEnd
 after_short e = record e { link = with_rest (drop 24 e.link.input.bytes) e.link }
 
--- What is due by this relation was done for the first message, which is of this command, names this, and is 24 bytes.
+-- What is due by this relation was done for the first message, which is of this command, names
+-- this, and is 24 bytes.
 abbrev pub DoesShort : (Knows → Fields → List Fields → Action → Type 0) → Command → Wanted → Handle → Store → ServerEnd → FollowUp → Store → ServerEnd → Type 0
 DoesShort D c w h s e did t new =
     (port : ℕ) → Does (D (known port s (after_short e)) (short_in e.link.input.bytes c w)) s h (after_short e) (short_in e.link.input.bytes c w) did t new
 
--- What a fast path answers: none, and then nothing has changed; or what it did, which is a step as any other.
+-- What a fast path answers: none, and then nothing has changed; or what it did, which is
+-- a step as any other.
 abbrev pub IsFast : Handle → ServerEnd → Store → Option EndStep → ServerEnd → Store → Type 0
 IsFast h e s None new t = (new ≡ e) × (t ≡ s)
 IsFast h e s (Some did) new t = (port : ℕ) → EndSteps port h e s did new t

@@ -1,3 +1,4 @@
+//! The channels of a circuit by the names of their records, which a removal of a record looks up.
 ghost use Rattle.std.specs.Prelude.{ℕ, ◌≡◌, List, [], None, OnErr, OnOk};
 ghost use Rattle.ca_server_circuit.specs.ByName.{Enters, Goes, channels_in, line_of};
 
@@ -7,7 +8,8 @@ use indexmap::IndexMap;
 use std::alloc::{AllocError, Global};
 use std::marker::Model;
 
-/// The open channels of a circuit by the names of their records, but for those whose record was removed.
+/// The open channels of a circuit by the names of their records, but for those
+/// whose record was removed.
 #[derive(Drop)]
 pub(crate) struct ByName {
     lines: IndexMap<Vec<u8>, Line>,
@@ -24,7 +26,7 @@ impl Model for ByName {
 }
 
 impl ByName {
-    // None. It does not allocate yet.
+    // No channels. It does not allocate yet.
     pub(crate) fn new(alloc: Global) -> ByName
         ensures { result ≡ [] }
     {
@@ -33,7 +35,7 @@ impl ByName {
         }
     }
 
-    // Those to the record of this name, in order of index.
+    // The channels to the record of this name, in order of index.
     pub(crate) fn channels(&self, name: &[u8]) -> &[Handle]
         ensures { result.now ≡ channels_in self.now name.now }
     {
@@ -55,7 +57,7 @@ impl ByName {
         self.begin(name, channel)
     }
 
-    // The same for a record that has no line.
+    // A channel to the record of this name, which has no line yet, was opened.
     fn begin(&mut self, name: &[u8], channel: Handle) -> Result<(), AllocError>
         requires { channels_in self.old name.now ≡ [] }
         ensures ok { OnOk result (Enters name.now channel self.old self.new) }
@@ -68,8 +70,8 @@ impl ByName {
         Ok(())
     }
 
-    // This channel leads to the record of this name no more. A line that has none left goes, so that names which come and go fill no
-    // memory.
+    // This channel no longer leads to the record of this name. A line with none left is dropped, so
+    // that names which come and go fill no memory.
     pub(crate) fn take_out(&mut self, name: &[u8], channel: Handle)
         ensures goes { Goes name.now channel self.old self.new }
         ensures gone { channels_in self.new name.now ≡ [] → line_of self.new name.now ≡ None }
@@ -78,7 +80,7 @@ impl ByName {
         self.drop_if_empty(name);
     }
 
-    // The same, but that a line may have none.
+    // This channel no longer leads to the record of this name. A line may be left with none.
     fn take_out_of_line(&mut self, name: &[u8], channel: Handle)
         ensures { Goes name.now channel self.old self.new }
     {
@@ -88,7 +90,7 @@ impl ByName {
         line.take_out(channel);
     }
 
-    // Without the line of this name if it has none.
+    // Drops the line of this name if it has no channel.
     fn drop_if_empty(&mut self, name: &[u8])
         ensures stay { (other : List ℕ) → channels_in self.new other ≡ channels_in self.old other }
         ensures gone { channels_in self.old name.now ≡ [] → line_of self.new name.now ≡ None }
@@ -101,7 +103,7 @@ impl ByName {
         }
     }
 
-    // Without the line of this name, which has none.
+    // Drops the line of this name, which has no channel.
     fn drop_line(&mut self, name: &[u8])
         requires { channels_in self.old name.now ≡ [] }
         ensures stay { (other : List ℕ) → channels_in self.new other ≡ channels_in self.old other }

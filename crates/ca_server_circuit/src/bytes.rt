@@ -1,3 +1,4 @@
+//! A fact about slices of bytes that proofs need.
 ghost use Rattle.ca_dbr.specs.Octets.{AreBytes};
 
 /// Each element of a slice of bytes is a byte.

@@ -1,3 +1,5 @@
+//! The causes for which the end of a circuit ends.
+
 /// Why a server's end of a circuit ended.
 #[derive(Clone, Copy, Debug, PartialEq, Eq)]
 pub enum Cause {

@@ -1,3 +1,4 @@
+//! An open channel as a circuit keeps it.
 ghost use Rattle.std.specs.Prelude.{◌≡◌, IfOk, IfSome, false, true};
 
 use crate::name::Name;
@@ -5,7 +6,8 @@ use ca_wire::Cid;
 use std::alloc::{AllocError, Global};
 use std::marker::Model;
 
-/// An open channel of a circuit. It takes 16 bytes in its table: most circuits have few channels, and a table takes memory for 64.
+/// An open channel of a circuit. It takes 16 bytes in its table: most circuits have few channels,
+/// and a table takes memory for 64.
 #[derive(Debug, Drop)]
 pub(crate) struct Channel {
     kept: Box<Kept>,
@@ -19,7 +21,8 @@ pub(crate) struct Kept {
     retired: bool,
     // The name of its record.
     name: Name,
-    // Where its record was as the channel was created. The record is mostly there still; its name decides.
+    // The place of its record when the channel was created. The record is mostly still
+    // there; its name decides.
     place: usize,
 }
 
@@ -66,7 +69,7 @@ impl Kept {
         self.retired
     }
 
-    // The same once more, if its name takes no memory of its own.
+    // A copy of it, if its name has no memory of its own.
     fn copy(&self) -> Option<Kept>
         ensures { IfSome result (λ c. c ≡ self.now) }
     {
@@ -118,7 +121,7 @@ impl Channel {
         self.kept.as_ref()
     }
 
-    // What is kept of it once more, if its name takes no memory of its own.
+    // A copy of what is kept of it, if its name has no memory of its own.
     pub(crate) fn copy(&self) -> Option<Kept>
         ensures { IfSome result (λ c. c ≡ self.now) }
     {

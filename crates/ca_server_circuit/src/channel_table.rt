@@ -1,3 +1,4 @@
+//! The channels of a circuit under their SIDs and under the names of their records.
 ghost use Rattle.std.specs.Prelude.{◌≡◌, ◌<◌, [], IfOk, OnErr, false, length, option_copied, option_map};
 ghost use Rattle.ca_arena.specs.Arena.{place_at};
 ghost use Rattle.ca_ids.specs.Table.{MayGive, by_wire, held_at, is_full, under, with_changed, with_freed, with_held};
@@ -15,7 +16,7 @@ use std::marker::Model;
 #[derive(Drop)]
 pub(crate) struct ChannelTable {
     table: HeldTable<Channel>,
-    // Those whose records were not removed.
+    // The channels whose records were not removed.
     by_name: ByName,
 }
 
@@ -33,7 +34,7 @@ impl Model for ChannelTable {
 }
 
 impl ChannelTable {
-    // None. It does not allocate yet.
+    // No channels. It does not allocate yet.
     pub(crate) fn new(alloc: Global) -> ChannelTable
         ensures { result ≡ [] }
     {
@@ -127,7 +128,8 @@ impl ChannelTable {
     }
 }
 
-// The channel under this handle is in no line any more: it is to be closed, or its record was removed.
+// The channel under this handle is no longer in a line: it is to be closed, or
+// its record was removed.
 fn forget(by_name: &mut ByName, table: &HeldTable<Channel>, channel: Handle)
     requires { AreByName by_name.old table.now }
     ensures { AreByName by_name.new (with_freed channel table.now) }

@@ -1,3 +1,4 @@
+//! The channels of a circuit, with a copy of the one used last.
 ghost use Rattle.std.specs.Prelude.{◌≡◌, ◌<◌, ◌≤◌, ◌↔◌, length, [], IsSome, IsTrue, IfOk, OnErr, Some, false, is_some, option_map};
 ghost use Rattle.ca_text.specs.Limits.{arena_slots};
 ghost use Rattle.ca_arena.specs.Arena.{place_at};
@@ -16,10 +17,12 @@ use std::alloc::{AllocError, Global};
 use std::collections::HashSet;
 use std::marker::Model;
 
-/// The open channels of a circuit, by their SIDs, each of which is the wire id of its channel's handle.
+/// The open channels of a circuit, by their SIDs, each of which is the wire id of
+/// its channel's handle.
 #[derive(Drop)]
 pub(crate) struct Channels {
-    // One of the channels once more, mostly the only one: with many circuits a message is handled in fewer cache lines so.
+    // A copy of one of the channels, mostly the only one. With many circuits a message then
+    // touches fewer cache lines.
     front: Option<(Handle, Kept)>,
     table: ChannelTable,
     // The CIDs in use.
@@ -40,7 +43,7 @@ impl Model for Channels {
 }
 
 impl Channels {
-    // None. It does not allocate yet.
+    // No channels. It does not allocate yet.
     pub(crate) fn new(alloc: Global) -> Channels
         ensures { result ≡ [] }
     {
@@ -186,7 +189,8 @@ impl Channels {
         leave(&mut self.front, handle);
     }
 
-    // The record of the channel under this handle was removed. Its SID and its CID are in use still.
+    // The record of the channel under this handle was removed. Its SID and its
+    // CID are still in use.
     pub(crate) fn retire(&mut self, channel: Handle)
         ensures { self.new ≡ with_changed without_record channel self.old }
     {
@@ -195,7 +199,7 @@ impl Channels {
     }
 }
 
-// A new channel is in front if none is, unless its name takes memory of its own.
+// A new channel is copied in front if none is there, unless its name has memory of its own.
 fn come(front: &mut Option<(Handle, Kept)>, channel: Handle, copy: Option<Kept>)
     ensures { front.new ≡ come channel copy front.old }
 {
@@ -208,7 +212,7 @@ fn come(front: &mut Option<(Handle, Kept)>, channel: Handle, copy: Option<Kept>)
     }
 }
 
-// The channel under this handle is not in front any more.
+// The channel under this handle is no longer in front.
 fn leave(front: &mut Option<(Handle, Kept)>, channel: Handle)
     ensures { front.new ≡ leave channel front.old }
 {

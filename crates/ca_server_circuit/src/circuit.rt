@@ -1,3 +1,4 @@
+//! A circuit of a server: its open end, or the bytes that an ended one left.
 ghost use Rattle.std.specs.Prelude.{◌≡◌, ◌≢◌, ◌≤◌, [], IfOk, OnErr, Some, false, length, option_map, true};
 ghost use Rattle.ca_model.specs.Server.{ServerEnd, new_end};
 ghost use Rattle.ca_model.specs.Server as server;
@@ -33,7 +34,8 @@ pub struct Circuit {
     state: State,
 }
 
-// Its end is open, or ended in another call than a step, and left these bytes. A step reports that once.
+// Its end is open, or ended in another call than a step, and left these bytes. A
+// step reports that once.
 #[derive(Drop)]
 enum State {
     Open(End),
@@ -51,7 +53,7 @@ impl Model for Circuit {
 }
 
 impl Circuit {
-    /// One that was accepted at this moment. It does not allocate yet.
+    /// A circuit that was accepted at this moment. It does not allocate yet.
     pub fn new(alloc: Global, now: u64) -> Circuit
         ensures { result ≡ server.Open (new_end now) }
     {
@@ -61,7 +63,8 @@ impl Circuit {
         }
     }
 
-    /// Takes bytes that came at this moment. Refused as CircuitClosed if its end is not open, then as OutOfMemory.
+    /// Takes bytes that came at this moment. Refused as CircuitClosed if its end is not open,
+    /// then as OutOfMemory.
     pub fn give(&mut self, now: u64, bytes: &[u8]) -> Result<(), Refusal>
         requires { IsLive self.old }
         ensures { GivesAt now bytes.now self.old result self.new }
@@ -72,7 +75,7 @@ impl Circuit {
         }
     }
 
-    /// Takes the memory of the spare rows for its bytes, where it has none.
+    /// Takes the memory of the spare rows for its bytes, if it has none.
     pub fn borrow_from(&mut self, spares: &mut Spares)
         ensures { self.new ≡ self.old }
     {
@@ -102,7 +105,7 @@ impl Circuit {
         }
     }
 
-    /// One step of its end, which has ended if it broke. None if it had ended.
+    /// One step of its end, which has ended if the step broke. None if it had ended before.
     #[inline(always)]
     pub fn step(
         &mut self,
@@ -131,7 +134,8 @@ impl Circuit {
         }
     }
 
-    /// The reply of a put that is finished, if its channel is open. The end has ended if there is no memory for it.
+    /// The reply of a put that is finished, if its channel is open. The end has ended if there
+    /// is no memory for it.
     pub fn reply(&mut self, put: Put, records: &mut ServedRecords)
         requires { CircuitIsSound (records_of records.old) put.circuit self.old }
         ensures { RepliesAt put self.old records.old self.new records.new }
@@ -150,8 +154,9 @@ impl Circuit {
         }
     }
 
-    /// A post to the record at this place: the subscriptions of its end that it concerns get an update. The end has ended if there is no
-    /// memory for one. It says whether the end was open, with a subscription on the record.
+    /// A post to the record at this place: the subscriptions of its end that it concerns get an
+    /// update. The end has ended if there is no memory for one. It says whether the end was open,
+    /// with a subscription on the record.
     #[inline(always)]
     pub fn post(
         &mut self,
@@ -180,8 +185,8 @@ impl Circuit {
         }
     }
 
-    /// A post to the record at this place and then a pump, if they leave no more than one update in the output of its end: it is shown at
-    /// once. If it says false, all is as it was.
+    /// A post to the record at this place and then a pump, if they leave no more than one update in
+    /// the output of its end: it is shown at once. If it says false, all is as it was.
     #[inline(always)]
     pub fn show_at_once(
         &mut self,
@@ -207,7 +212,8 @@ impl Circuit {
         }
     }
 
-    /// Updates leave the queues of its end until none may. The end has ended if there is no memory for the next.
+    /// Updates leave the queues of its end until none may. The end has ended if there is no
+    /// memory for the next.
     pub fn pump(&mut self, circuit: Handle, records: &mut ServedRecords)
         requires { CircuitIsSound (records_of records.old) circuit self.old }
         ensures { PumpsAt circuit self.old records.old self.new records.new }
@@ -231,8 +237,9 @@ impl Circuit {
         }
     }
 
-    /// The record of this name was removed: each channel of its end to it gets a SERVER_DISCONN, loses its subscriptions, and is retired. The
-    /// end has ended if there is no memory for a SERVER_DISCONN.
+    /// The record of this name was removed: each channel of its end to it gets a
+    /// SERVER_DISCONN, loses its subscriptions, and is retired. The end has ended if there is
+    /// no memory for a SERVER_DISCONN.
     pub fn lose(&mut self, circuit: Handle, name: &[u8], records: &mut ServedRecords)
         requires { MayLose (records_of records.old) circuit self.old }
         ensures { LosesAt circuit name.now self.old records.old self.new records.new }
@@ -256,8 +263,8 @@ impl Circuit {
         }
     }
 
-    /// Its end ends for this cause, if it is open: its puts that wait are taken out of the records, and what waits to be sent is left.
-    /// It does not allocate.
+    /// Its end ends for this cause, if it is open: its puts that wait are taken out of the records,
+    /// and what waits to be sent is left. It does not allocate.
     pub fn end(&mut self, circuit: Handle, cause: Cause, records: &mut ServedRecords)
         requires { CircuitIsSound (records_of records.old) circuit self.old }
         ensures { EndsAt circuit self.old records.old (why_is cause) self.new records.new }
@@ -265,8 +272,9 @@ impl Circuit {
         self.close(circuit, cause, records);
     }
 
-    // The same in the middle of a call, when no more is known of its end than where its puts are. It has a function of its own so that the calls
-    // do not pay for its locals, in which a whole end has room.
+    // Its end ends for this cause in the middle of a call, when no more is known of it than where
+    // its puts are. It has a function of its own so that the calls do not pay for its locals, in
+    // which an end has room.
     #[cold]
     #[inline(never)]
     fn close(&mut self, circuit: Handle, cause: Cause, records: &mut ServedRecords)
@@ -290,8 +298,8 @@ impl Circuit {
         }
     }
 
-    /// The place of the queue that has the subscription at this place of its end, if a post to the record of this name, with this mask,
-    /// concerns it. Only whoever records histories needs it.
+    /// The place of the queue that has the subscription at this place of its end, if a post to the
+    /// record of this name, with this mask, concerns it. Only a recorder of histories needs it.
     pub fn concerned_at(&self, place: usize, name: &[u8], mask: u16) -> Option<usize>
         ensures { ConcernsOn name.now mask place self.now result }
     {
@@ -301,7 +309,8 @@ impl Circuit {
         }
     }
 
-    /// The bytes that wait to be sent, or that its end left which has ended. Only whoever records histories needs it.
+    /// The bytes that wait to be sent, or that its end left which has ended. Only a recorder
+    /// of histories needs it.
     pub fn bytes(&self) -> &[u8]
         ensures { result.now ≡ bytes_on self.now }
     {
@@ -311,8 +320,9 @@ impl Circuit {
         }
     }
 
-    /// The SID and the CID of each channel to the record of this name at its end, in order of index: none if that is not open.
-    /// Refused without memory, only if there is one. Only whoever records histories needs it.
+    /// The SID and the CID of each channel to the record of this name at its end, in order of
+    /// index: none if that is not open. Refused without memory, only if there is one. Only a
+    /// recorder of histories needs it.
     pub fn channels_to(&self, alloc: Global, name: &[u8]) -> Result<Vec<(u32, u32)>, AllocError>
         ensures ok { IfOk result (λ all. all.items ≡ channels_on name.now self.now) }
         ensures some { OnErr result (channels_on name.now self.now ≢ []) }
@@ -333,7 +343,8 @@ impl Circuit {
         }
     }
 
-    /// The name of the record of the open channel of this SID, if that record was not removed: none if its end is not open.
+    /// The name of the record of the open channel of this SID, if that record was not removed: none
+    /// if its end is not open.
     pub fn served_name(&self, sid: Sid) -> Option<&[u8]>
         ensures { NamesAt self.now sid (option_map (λ t. t.now) result) }
     {
@@ -343,7 +354,8 @@ impl Circuit {
         }
     }
 
-    /// The user's name that the client gave: empty if it gave none, and none if its end is not open.
+    /// The user's name that the client gave: empty if it gave none, and none if
+    /// its end is not open.
     pub fn user(&self) -> Option<&[u8]>
         ensures { option_map (λ t. t.now) result ≡ option_map (λ p. p.user) (peer_on self.now) }
     {
@@ -353,7 +365,8 @@ impl Circuit {
         }
     }
 
-    /// The same of its host's.
+    /// The host's name that the client gave: empty if it gave none, and none if
+    /// its end is not open.
     pub fn host(&self) -> Option<&[u8]>
         ensures { option_map (λ t. t.now) result ≡ option_map (λ p. p.host) (peer_on self.now) }
     {
@@ -363,7 +376,8 @@ impl Circuit {
         }
     }
 
-    /// Whether the next message may be a write, by the low byte of its command: not if its end is not open.
+    /// Whether the next message may be a write, by the low byte of its command: not if
+    /// its end is not open.
     pub fn may_write(&self) -> bool
         ensures { result ≡ may_write_at self.now }
     {
@@ -374,7 +388,8 @@ impl Circuit {
     }
 }
 
-// The state of a circuit whose end ends for this cause: its puts that wait are taken out of the records, and what waits to be sent is left.
+// The state of a circuit whose end ends for this cause: its puts that wait are taken out of the
+// records, and what waits to be sent is left.
 fn ended(end: &mut End, circuit: Handle, cause: Cause, records: &mut ServedRecords) -> State
     requires { ArePuts circuit (records_of records.old) end.old.channels }
     ensures state { circuit_of result ≡ server.Ended (why_is cause) end.old.link.output }

@@ -1,3 +1,4 @@
+//! CLEAR_CHANNEL on an open end.
 ghost use Rattle.std.specs.Prelude.{◌≡◌, ◌==◌, ◌&&◌, IfOk, OnErr, OnOk, [], ◌∷◌};
 ghost use Rattle.ca_ids.specs.Table.{same_handle};
 ghost use Rattle.ca_ids.specs.Wire.{wire_of};
@@ -22,8 +23,8 @@ use ca_wire::{Cid, Header, Sid, clear_request};
 use std::alloc::AllocError;
 
 impl End {
-    /// CLEAR_CHANNEL on this circuit: always answered, and the SID alone decides what is cleared. The puts of the channel that wait are
-    /// never applied.
+    /// CLEAR_CHANNEL on this circuit: always answered, and the SID alone decides what is cleared.
+    /// The puts of the channel that wait are never applied.
     #[inline(never)]
     pub(crate) fn clear_channel(
         &mut self,

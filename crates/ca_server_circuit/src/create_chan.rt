@@ -1,3 +1,4 @@
+//! CREATE_CHAN on an open end.
 ghost use Rattle.std.specs.Prelude.{ℕ, ◌≡◌, IfOk, OnErr, [], ◌∷◌, false};
 ghost use Rattle.ca_ids.specs.Table.{is_full};
 ghost use Rattle.ca_link.specs.Calls.{IsOpen};
@@ -22,7 +23,8 @@ use ca_wire::{Cid, Head, Header, Sid, created_reply, failed_reply, rights_reply}
 use std::alloc::AllocError;
 
 impl End {
-    /// CREATE_CHAN: a channel to the record of this name, unless the CID is in use or no SID may be given.
+    /// CREATE_CHAN: a channel to the record of this name, unless the CID is in use or
+    /// no SID may be given.
     #[inline(never)]
     pub(crate) fn create_chan(
         &mut self,
@@ -63,7 +65,8 @@ impl End {
         Ok(FollowUp::Quiet(Effect::Refused))
     }
 
-    /// Opens a channel to the record at this place: ACCESS_RIGHTS goes before the reply, and is taken back if there is no memory for that.
+    /// Opens a channel to the record at this place: ACCESS_RIGHTS goes before the reply, and is
+    /// taken back if there is no memory for that.
     fn open_channel(
         &mut self,
         records: &ServedRecords,

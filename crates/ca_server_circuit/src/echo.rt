@@ -1,3 +1,4 @@
+//! ECHO on an open end.
 ghost use Rattle.std.specs.Prelude.{◌≡◌, IfOk, OnErr, OnOk, [], ◌∷◌};
 ghost use Rattle.ca_text.specs.declared.command.Command.TheVariants.{Echo};
 ghost use Rattle.ca_link.specs.Calls.{IsOpen};

@@ -1,9 +1,11 @@
+//! The effects of a message that was handled, as callers see them.
+
 /// What a message that was handled did, beside its replies.
 #[derive(Clone, Copy, Debug, PartialEq, Eq)]
 pub enum Effect {
-    /// Nothing of which whoever drives the server has to know.
+    /// Nothing that the caller of the server has to know.
     Quiet,
-    /// A put with notification on the channel of this SID waits behind another.
+    /// A put with notification on the channel of this SID waits for another.
     Queued(u32),
     /// A channel was refused.
     Refused,
@@ -17,7 +19,8 @@ pub enum Effect {
     Switched(bool),
     /// A record was written on the channel of this SID, and is not to be processed for it.
     Wrote(u32),
-    /// A record was written by a put with notification on the channel of this SID, which makes it busy: it is to be processed, and finished then.
+    /// A record was written by a put with notification on the channel of this SID, which makes it
+    /// busy: it is to be processed, and finished then.
     Busied(u32),
     /// A subscription of this SID and subscription id began.
     Subscribed(u32, u32),

@@ -1,3 +1,5 @@
+//! The open end of a circuit: its link, subscriptions and channels, and the names that its peer
+//! gave.
 ghost use Rattle.std.specs.Prelude.{◌≡◌, OnErr, OnOk, [], ◌∷◌};
 ghost use Rattle.ca_link.specs.Calls.{IsOpen};
 ghost use Rattle.ca_link.specs.Link.{with_sent};
@@ -14,7 +16,8 @@ use std::marker::Model;
 #[derive(Drop)]
 pub(crate) struct End {
     pub(crate) alloc: Global,
-    // What each step needs stands side by side: with many circuits it is in the fewest cache lines so.
+    // What each step needs is side by side: with many circuits it then fills
+    // the fewest cache lines.
     pub(crate) link: Link,
     pub(crate) subscriptions: SubscriptionsAtNeed,
     pub(crate) channels: Channels,

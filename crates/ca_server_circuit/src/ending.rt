@@ -1,3 +1,4 @@
+//! An open end is left: its puts that wait are dropped.
 ghost use Rattle.std.specs.Prelude.{◌≡◌, ◌+◌, ◌<◌, ◌≤◌, length};
 ghost use Rattle.ca_text.specs.Limits.{arena_slots};
 ghost use Rattle.ca_records.specs.Store.{records_of};
@@ -13,8 +14,8 @@ use ca_records::ServedRecords;
 use ca_wire::Pipe;
 
 impl End {
-    /// The end is to be closed: the puts of its circuit that wait are taken out of the records, and what waits to be sent is left.
-    /// It does not allocate.
+    /// The end is to be closed: the puts of its circuit that wait are taken out of the records, and
+    /// what waits to be sent is left. It does not allocate.
     pub(crate) fn leave(&mut self, circuit: Handle, records: &mut ServedRecords) -> Pipe
         requires { ArePuts circuit (records_of records.old) self.old.channels }
         ensures left { result ≡ self.old.link.output }
@@ -25,7 +26,8 @@ impl End {
         ended.into_left()
     }
 
-    /// A queue has room unless there are as many subscriptions as there may be, and there are not too many channels.
+    /// A queue has room unless there are as many subscriptions as there may be, and there are
+    /// not too many channels.
     pub(crate) fn know(&self)
         ensures room { HasRoom (events_of self.now) }
         ensures few { length self.now.channels ≤ arena_slots }
@@ -44,7 +46,8 @@ impl End {
         }
     }
 
-    /// Takes the puts of this circuit that wait for the record of the channel of this index out of that record.
+    /// Takes the puts of this circuit that wait for the record of the channel of this
+    /// index out of that record.
     fn withdraw_on(&self, index: usize, circuit: Handle, records: &mut ServedRecords)
         requires { index < length self.now.channels }
         ensures { Walks index (index + 1) circuit self.now.channels records.old records.new }

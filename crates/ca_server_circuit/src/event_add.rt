@@ -1,3 +1,4 @@
+//! EVENT_ADD on an open end.
 ghost use Rattle.std.specs.Prelude.{ℕ, ◌≡◌, IfOk, OnErr, OnOk, MatchOption, [], None, Some, slice_index_or};
 ghost use Rattle.ca_arena.specs.declared.handle.Handle.{Handle};
 ghost use Rattle.ca_text.specs.Command.{command_number};
@@ -28,7 +29,8 @@ use std::alloc::AllocError;
 const EVENT_SIZE: usize = 16;
 
 impl End {
-    /// EVENT_ADD: refused by ERROR; or its subscription begins, whose first update is the present value.
+    /// EVENT_ADD: refused by ERROR; or its subscription begins, whose first update
+    /// is the present value.
     #[inline(never)]
     pub(crate) fn event_add(
         &mut self,
@@ -91,7 +93,8 @@ impl End {
         }
     }
 
-    /// Begins the subscription that an EVENT_ADD asks for, on this record. Without memory all is as it was.
+    /// Begins the subscription that an EVENT_ADD asks for, on this record. Without
+    /// memory all is as it was.
     fn join(&mut self, of: &Record, head: &Head) -> Result<(), AllocError>
         requires whole { IsWhole self.old.link.input.bytes head.now }
         requires may { CanJoin self.old (first_at self.old.link.input.bytes head.now) }
@@ -108,7 +111,8 @@ impl End {
     }
 }
 
-/// The first fault of an EVENT_ADD on this record under these rights, whose key is in use or not, beside that many other subscriptions.
+/// The first fault of an EVENT_ADD on this record under these rights, whose key is in use or not,
+/// beside that many other subscriptions.
 fn event_fault(
     of: &Record,
     rights: u32,

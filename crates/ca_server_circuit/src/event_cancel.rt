@@ -1,3 +1,4 @@
+//! EVENT_CANCEL on an open end.
 ghost use Rattle.std.specs.Prelude.{◌≡◌, IfOk, OnErr, OnOk, [], ◌∷◌};
 ghost use Rattle.ca_link.specs.Calls.{IsOpen};
 ghost use Rattle.ca_wire.specs.Messages.{cancel_reply};

@@ -1,3 +1,4 @@
+//! EVENTS_OFF and EVENTS_ON on an open end.
 ghost use Rattle.std.specs.Prelude.{◌≡◌, false, true};
 ghost use Rattle.ca_model.specs.Server.{with_events};
 ghost use Rattle.ca_server_circuit.specs.declared.effect.Effect.TheVariants.{Switched};

@@ -1,6 +1,7 @@
-//! Fast paths: most messages read, write or put one element, and such a one is handled without a message made of it, and without memory. Each
-//! is tried on the first message before its header is read as a whole. Where it applies it is a step as any other, by the same definition
-//! (`EndSteps`); where it does not, nothing has changed, and the plain path does the rest.
+//! Fast paths: most messages read, write or put one element. Such a message is handled without a
+//! copy of it, and without allocation. Each is tried on the first message before its header is read
+//! as a whole. If it applies it is a step as any other, by the same definition (`EndSteps`); if it
+//! does not, nothing has changed, and the plain path does the rest.
 //!
 //! Only speed depends on them: with `FAST` false the program is right, and is proved.
 ghost use Rattle.std.specs.Prelude.{◌≡◌, ◌<◌, length};
@@ -45,8 +46,8 @@ impl End {
         }
     }
 
-    /// Handles the first message, if it is a WRITE or a WRITE_NOTIFY of one element of at most eight bytes, in the type of its record, that is
-    /// applied at once.
+    /// Handles the first message, if it is a WRITE or a WRITE_NOTIFY of one element of at most
+    /// eight bytes, in the type of its record, that is applied at once.
     #[inline(always)]
     fn step_short(&mut self, circuit: Handle, records: &mut ServedRecords) -> Option<EndStep>
         requires room { length self.old.link.output < output_limit }

@@ -1,3 +1,4 @@
+//! The reply to a put that a device has finished.
 ghost use Rattle.std.specs.Prelude.{◌≡◌, OnErr, OnOk, [], ◌∷◌};
 ghost use Rattle.ca_link.specs.Calls.{IsOpen};
 ghost use Rattle.ca_model.specs.ServerCalls.{finish_reply};

@@ -1,4 +1,4 @@
-//! What stands in the first message of a circuit, which is handled where it came.
+//! What is in the first message of a circuit, which is handled where it came.
 ghost use Rattle.std.specs.Prelude.{◌≡◌, ◌==◌, [], position};
 ghost use Rattle.ca_wire.specs.Messages.{text_in};
 ghost use Rattle.ca_wire.specs.Reading.{IsWhole};
@@ -21,7 +21,8 @@ impl End {
         &self.link.in_bytes()[head.start..end]
     }
 
-    /// The text in that payload, if the message is a CLIENT_NAME, HOST_NAME, SEARCH or CREATE_CHAN: up to the first zero, or all of it.
+    /// The text in that payload, if the message is a CLIENT_NAME, HOST_NAME, SEARCH or CREATE_CHAN:
+    /// up to the first zero, or all of it.
     pub(crate) fn text(&self, head: &Head) -> &[u8]
         requires { IsWhole self.now.link.input.bytes head.now }
         ensures { result.now ≡ text_in (first_at self.now.link.input.bytes head.now).payload }

@@ -1,8 +1,10 @@
-//! One circuit's end at a server of Channel Access, and all that a message, a post, a removal or the end of a put does to it. It does no
-//! input and no output: bytes that came are given to it, and those that wait to be sent are asked of it.
+//! One circuit's end at a server of Channel Access, and all that a message, a post, a removal or
+//! the end of a put does to it. It does no input and no output: bytes that came are given to it,
+//! and those that wait to be sent are asked of it.
 //!
-//! The server's core (`ca_server_core`) stands on it: many circuits, and who watches which record. A circuit does not know its handle
-//! nor the records of its server: its calls are given both.
+//! The server's core (`ca_server_core`) is built on it: many circuits, and who watches
+//! which record. A circuit does not know its handle nor the records of its server: its
+//! calls are given both.
 #![tactic(auto)]
 
 mod by_name;

@@ -1,3 +1,4 @@
+//! The channels to one record: mostly one, which needs no list.
 ghost use Rattle.std.specs.Prelude.{◌≡◌, ◌∷◌, ◌≤◌, ◌↔◌, [], true, IfOk, OnErr, OnOk, length};
 ghost use Rattle.ca_server_circuit.specs.ByName.{EntersLine, GoesFromLine, IsItsPlace};
 
@@ -21,7 +22,7 @@ impl Model for Line {
 }
 
 impl Line {
-    // This one alone.
+    // This channel alone.
     pub(crate) fn one(alloc: Global, channel: Handle) -> Result<Line, AllocError>
         ensures { IfOk result (λ l. l ≡ channel ∷ []) }
     {
@@ -30,21 +31,21 @@ impl Line {
         Ok(Line { channels })
     }
 
-    // All of them.
+    // All its channels.
     pub(crate) fn as_slice(&self) -> &[Handle]
         ensures { result.now ≡ self.now }
     {
         self.channels.as_slice()
     }
 
-    // Whether there is none.
+    // Whether it has no channel.
     pub(crate) fn is_empty(&self) -> bool
         ensures { (result ≡ true) ↔ (self.now ≡ []) }
     {
         self.channels.is_empty()
     }
 
-    // One more, after those of lower indices. Without memory all is as it was.
+    // Adds a channel, after those of lower indices. Without memory nothing changes.
     pub(crate) fn add(&mut self, channel: Handle) -> Result<(), AllocError>
         ensures ok { OnOk result (EntersLine channel self.old self.new) }
         ensures err { OnErr result (self.new ≡ self.old) }
@@ -54,7 +55,7 @@ impl Line {
         Ok(())
     }
 
-    // This one is gone. Nothing is said of a line that does not have it.
+    // Takes this channel out. Nothing is said of a line that does not have it.
     pub(crate) fn take_out(&mut self, channel: Handle)
         ensures { GoesFromLine channel self.old self.new }
     {

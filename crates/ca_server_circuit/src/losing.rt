@@ -1,3 +1,4 @@
+//! The record of some channels was removed: SERVER_DISCONN for each.
 ghost use Rattle.std.specs.Prelude.{◌≡◌, ◌≢◌, [], IfOk, OnErr, OnOk, filter, map};
 ghost use Rattle.ca_ids.specs.Table.{held};
 ghost use Rattle.ca_link.specs.Calls.{IsOpen};
@@ -17,8 +18,9 @@ use ca_wire::{Sid, disconnect};
 use std::alloc::{AllocError, Global};
 
 impl End {
-    /// The record of this name was removed: each channel to it gets a SERVER_DISCONN, is retired, and loses its subscriptions with
-    /// their updates. Without memory for a SERVER_DISCONN those before it wait to be sent, and the end is to be closed.
+    /// The record of this name was removed: each channel to it gets a SERVER_DISCONN, is retired,
+    /// and loses its subscriptions with their updates. Without memory for a SERVER_DISCONN those
+    /// before it wait to be sent, and the end is to be closed.
     pub(crate) fn lose(&mut self, name: &[u8]) -> Result<(), AllocError>
         requires { IsOpen self.old.link }
         ensures ok { OnOk result (self.new ≡ end_without name.now self.old) }
@@ -49,7 +51,8 @@ impl End {
         }
     }
 
-    /// The same for the last of them, so that no other moves up in the line of this name. It says whether there was one.
+    /// The last channel to the record of this name is retired, and loses its subscriptions: so no
+    /// other moves up in the line of this name. It says whether there was one.
     fn retire_last(&mut self, name: &[u8]) -> bool
         ensures { RetiresLast name.now self.old result self.new }
     {
@@ -69,8 +72,8 @@ impl End {
         self.channels.retire(channel);
     }
 
-    /// The SID and the CID of each channel to the record of this name, in order of index. Refused without
-    /// memory, only if there is one.
+    /// The SID and the CID of each channel to the record of this name, in order of index. Refused
+    /// without memory, only if there is one.
     pub(crate) fn channels_to(&self, name: &[u8]) -> Result<Vec<(u32, u32)>, AllocError>
         ensures ok { IfOk result (λ all. all.items ≡ map ids_of (channels_of name.now self.now)) }
         ensures some { OnErr result (map ids_of (channels_of name.now self.now) ≢ []) }
@@ -85,7 +88,8 @@ impl End {
     }
 }
 
-/// A SERVER_DISCONN for each of these channels that leads to the record of this name, in order of index.
+/// A SERVER_DISCONN for each of these channels that leads to the record of this
+/// name, in order of index.
 fn tell_each(
     alloc: Global,
     link: &mut Link,

@@ -1,3 +1,4 @@
+//! Names that do not change; a short one needs no memory of its own.
 ghost use Rattle.std.specs.Prelude.{◌≡◌, IfSome};
 
 use std::marker::Model;
@@ -18,7 +19,7 @@ enum Kept {
     Long(Vec<u8>),
 }
 
-/// So many bytes of these.
+/// The first n of these bytes.
 #[derive(Debug, Drop)]
 struct Short {
     bytes: [u8; SHORT],
@@ -46,7 +47,7 @@ impl Model for Name {
 }
 
 impl Short {
-    // These bytes, if they are few enough.
+    // A name of these bytes, if they are few enough.
     fn of(name: &[u8]) -> Option<Short>
         ensures { IfSome result (λ s. s ≡ name.now) }
     {
@@ -62,7 +63,7 @@ impl Short {
         })
     }
 
-    // The same once more.
+    // A copy of it.
     fn copy(&self) -> Short
         ensures { result ≡ self.now }
     {
@@ -94,7 +95,7 @@ impl Name {
         }
     }
 
-    // The same once more, if it takes no memory of its own.
+    // A copy of the name, if it has no memory of its own.
     pub(crate) fn copy(&self) -> Option<Name>
         ensures { IfSome result (λ n. n ≡ self.now) }
     {

@@ -1,3 +1,4 @@
+//! CLIENT_NAME and HOST_NAME on an open end.
 ghost use Rattle.std.specs.Prelude.{◌≡◌, IfOk, OnErr, OnOk, [], false, if◌then◌else◌};
 ghost use Rattle.ca_wire.specs.Messages.{text_in};
 ghost use Rattle.ca_wire.specs.Reading.{IsWhole};

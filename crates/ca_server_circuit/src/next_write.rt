@@ -1,3 +1,4 @@
+//! Whether the next message of an end may be a write, and the record that a SID leads to.
 ghost use Rattle.std.specs.Prelude.{◌≡◌, option_map};
 ghost use Rattle.ca_server_circuit.specs.Peeking.{NamesBy, is_write, may_write};
 
@@ -6,7 +7,8 @@ use ca_text::Command;
 use ca_wire::Sid;
 
 impl End {
-    // Whether the next message may be a WRITE or a WRITE_NOTIFY, by the low byte of its command: so no header is read.
+    // Whether the next message may be a WRITE or a WRITE_NOTIFY, by the low byte of its command:
+    // so no header is read.
     pub(crate) fn may_write(&self) -> bool
         ensures { result ≡ may_write self.now.link.input.bytes }
     {

@@ -1,3 +1,4 @@
+//! Puts with notification: their elements, and how they begin.
 ghost use Rattle.std.specs.Prelude.{◌≡◌, IfOk, OnErr};
 ghost use Rattle.ca_dbr.specs.Reading.{least_size};
 ghost use Rattle.ca_records.specs.Store.{IsThere};
@@ -10,7 +11,7 @@ use ca_text::{Refusal, Status};
 use ca_wire::Wanted;
 use std::alloc::{AllocError, Global};
 
-/// What the payload of a put gives.
+/// What the payload of a put holds.
 #[derive(Drop)]
 pub(crate) enum Given {
     /// These elements.
@@ -39,8 +40,8 @@ pub(crate) fn put_from(circuit: Handle, channel: Handle, wanted: &Wanted) -> Put
     }
 }
 
-/// Begins the write of this payload to the record at this place under these rights: a put with notification, or a plain write,
-/// which has none. Without memory nothing changes.
+/// Begins the write of this payload to the record at this place under these rights: a put with
+/// notification, or a plain write, which has none. Without memory nothing changes.
 #[inline(always)]
 pub(crate) fn begin(
     alloc: Global,
@@ -73,8 +74,8 @@ pub(crate) fn begin(
     }
 }
 
-/// The elements of a put to this record under these rights, or its first fault before they are read. They may take the memory of a value that
-/// is used no more.
+/// The elements of a put to this record under these rights, or its first fault before they are
+/// read. They may take the memory of a value that is no longer used.
 #[inline(always)]
 fn read_elements(
     alloc: Global,

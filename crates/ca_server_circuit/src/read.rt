@@ -1,3 +1,4 @@
+//! READ_NOTIFY on an open end, and what its reply is made of.
 ghost use Rattle.std.specs.Prelude.{ℕ, ◌≡◌, IfOk, MatchOption, OnErr, OnOk, [], ◌∷◌};
 ghost use Rattle.ca_text.specs.declared.refusal.Refusal.TheVariants.{OutOfMemory};
 ghost use Rattle.ca_link.specs.Calls.{IsOpen};
@@ -83,7 +84,8 @@ impl End {
     }
 }
 
-/// Answers a read of this record under these rights: by the status of its first fault, or the value.
+/// Answers a read of this record under these rights: by the status of its first
+/// fault, or the value.
 fn answer(
     alloc: Global,
     link: &mut Link,
@@ -160,7 +162,8 @@ fn count_of(of: &Record, wanted: &Wanted) -> u32
     if count == 0 { present } else { count }
 }
 
-/// Answers a read by the elements that it is shown, whose image is made in its place, or by the status of the first that has no place in its type.
+/// Answers a read by the elements that it is shown, whose image is made in its place, or by the
+/// status of the first that has no place in its type.
 fn show(
     alloc: Global,
     link: &mut Link,

@@ -1,3 +1,4 @@
+//! SEARCH on a circuit.
 ghost use Rattle.std.specs.Prelude.{◌≡◌, IfOk, OnErr, OnOk, []};
 ghost use Rattle.ca_link.specs.Calls.{IsOpen};
 ghost use Rattle.ca_wire.specs.Reading.{IsWhole};
@@ -19,7 +20,7 @@ use std::alloc::AllocError;
 const REPLY_WANTED: u16 = 10;
 
 impl End {
-    /// SEARCH: answered for a name that is served, and otherwise only where its type asks for that.
+    /// SEARCH: answered for a name that is served, and otherwise only if its type asks for that.
     #[inline(never)]
     pub(crate) fn search(
         &mut self,

@@ -1,3 +1,4 @@
+//! From a SID to its channel and its record.
 ghost use Rattle.std.specs.Prelude.{◌≡◌, ◌≤◌, length};
 ghost use Rattle.ca_text.specs.Limits.{arena_slots};
 ghost use Rattle.ca_records.specs.Store.{records_of};

@@ -1,3 +1,4 @@
+//! Payloads that show a value in a type, written in their place.
 use ca_dbr::{Meta, Value, write_shown};
 use ca_text::Refusal;
 use ca_wire::Payload;
@@ -22,7 +23,7 @@ impl Payload for Shown<'_> {
     }
 }
 
-/// As many zero bytes, in place of an image that a value has not.
+/// n zero bytes, in place of an image that a value does not have.
 #[derive(Drop)]
 pub(crate) struct Zeros {
     pub(crate) size: usize,

@@ -1,3 +1,4 @@
+//! A step of an open end: the next message is taken and handled by its command.
 ghost use Rattle.std.specs.Prelude.{◌≡◌, ◌<◌, IfOk, OnErr, length};
 ghost use Rattle.ca_text.specs.Limits.{output_limit};
 ghost use Rattle.ca_link.specs.Calls.{IsOpen};
@@ -23,7 +24,8 @@ use std::alloc::AllocError;
 pub enum FollowUp {
     /// Nothing: the message did this.
     Quiet(Effect),
-    /// The write to the record at this place was applied, and is to reach its subscriptions; whether it made the record busy, and the SID of its channel.
+    /// The write to the record at this place was applied, and is to reach its subscriptions;
+    /// whether it made the record busy, and the SID of its channel.
     Wrote(usize, bool, u32),
     /// A subscription to the record at this place began; its SID, and its subscription id.
     Began(usize, u32, u32),
@@ -71,7 +73,8 @@ impl FollowUp {
 }
 
 impl End {
-    /// Handles the next message of this circuit where it came, unless 262,144 bytes wait to be sent, and drops it.
+    /// Handles the next message of this circuit where it came, unless 262,144 bytes wait to
+    /// be sent, and drops it.
     #[inline(always)]
     pub(crate) fn step(
         &mut self,
@@ -116,11 +119,13 @@ impl End {
         }
     }
 
-    /// Handles the first message of this circuit, which has this header, at a server of this TCP port, and says what it leaves the server
-    /// to do. The message stays where it came.
+    /// Handles the first message of this circuit, which has this header, at a server of this TCP
+    /// port, and says what it leaves the server to do. The message stays where it came.
     ///
-    /// If there is no memory for it the records and what waits to be sent are as they were, and the end is to be closed.
-    // What is rare is out of line, also from each other, so that a common message does not pay for its locals.
+    /// If there is no memory for it the records and what waits to be sent are as they were, and the
+    /// end is to be closed.
+    // What is rare is out of line, also from each other, so that a common message does
+    // not pay for its locals.
     #[inline(never)]
     fn handle(
         &mut self,
@@ -161,13 +166,13 @@ impl End {
             Command::EventCancel => self.event_cancel(&head.header),
             Command::EventsOff => Ok(self.events_off()),
             Command::EventsOn => Ok(self.events_on()),
-            // Another is ignored.
+            // Any other command is ignored.
             _ => Ok(FollowUp::Quiet(Effect::Quiet)),
         }
     }
 }
 
-/// Why an end is to be closed whose next header is refused for this.
+/// The cause of an end whose next header is refused for this.
 fn cause_of(refusal: Refusal) -> Cause
     ensures { result ≡ cause_for refusal }
 {

@@ -1,3 +1,4 @@
+//! Updates of an open end: a post makes them, and a pump sends them.
 ghost use Rattle.std.specs.Prelude.{◌≡◌, ◌<◌, ◌≤◌, ◌==◌, IfOk, IfSome, OnErr, OnOk, [], ◌∷◌, false, if◌then◌else◌, length, replicate, true};
 ghost use Rattle.std.specs.List.{list_any};
 ghost use Rattle.ca_text.specs.Limits.{element_limit, output_limit, payload_limit};
@@ -24,8 +25,9 @@ use ca_wire::{Alone, Answered, Ioid, Wanted, update_head};
 use std::alloc::{AllocError, Global};
 
 impl End {
-    /// A post to this record: each subscription that it concerns gets an update, in their order. It says whether one is on the record. Without
-    /// memory for one some have it, and the end is to be closed.
+    /// A post to this record: each subscription that it concerns gets an update, in their
+    /// order. It says whether one is on the record. Without memory for one some have it, and
+    /// the end is to be closed.
     #[inline(always)]
     pub(crate) fn post(&mut self, of: &Record, mask: u16) -> Result<bool, AllocError>
         ensures ok { OnOk result (self.new ≡ with_post of.now.name mask
@@ -43,8 +45,9 @@ impl End {
         Ok(on)
     }
 
-    /// A post to this record and then a pump, if they leave no more than one update in the output, for which nothing need go through the
-    /// queues: it is shown at once. If it says false, all is as it was.
+    /// A post to this record and then a pump, if they leave no more than one update in the
+    /// output, for which nothing need go through the queues: it is shown at once. If it says
+    /// false, all is as it was.
     #[inline(always)]
     pub(crate) fn show_at_once(&mut self, of: &Record, mask: u16) -> bool
         requires { IsOpen self.old.link }
@@ -63,21 +66,21 @@ impl End {
         }
     }
 
-    /// Puts updates into the output until none may go. Without memory for the next the end is to be closed, and the output has those
-    /// before it.
+    /// Puts updates into the output until none may go. Without memory for the next the end is to be
+    /// closed, and the output has those before it.
     #[inline(always)]
     pub(crate) fn pump(&mut self) -> Result<(), AllocError>
         requires { IsOpen self.old.link }
         ensures { PumpsEnd self.old result self.new }
     {
-        // So it is after most messages.
+        // Nothing waits after most messages.
         if self.subscriptions.is_idle() {
             return Ok(());
         }
         self.pump_all()
     }
 
-    /// The same where something waits.
+    /// Puts updates into the output until none may go, when some wait.
     #[inline(never)]
     fn pump_all(&mut self) -> Result<(), AllocError>
         requires { IsOpen self.old.link }
@@ -101,7 +104,7 @@ impl End {
         if self.subscriptions.is_idle() {
             return Ok(false);
         }
-        // Mostly one waits alone, and is shown where it is.
+        // Mostly one update waits alone: it is shown without a move.
         let Some((wanted, update)) = self.subscriptions.first() else {
             return self.pump_queued();
         };
@@ -110,7 +113,8 @@ impl End {
         Ok(true)
     }
 
-    /// The same of an update in a queue. The output is not full.
+    /// Puts the next update of a queue into the output, which is not full, and says
+    /// whether there was one.
     #[inline(never)]
     fn pump_queued(&mut self) -> Result<bool, AllocError>
         requires open { IsOpen self.old.link }
@@ -126,7 +130,8 @@ impl End {
     }
 }
 
-/// Shows an update to whoever asked so: GETFAIL and zero bytes if its elements have no place in that type.
+/// Shows an update as its subscription asks: GETFAIL and zero bytes if its elements have
+/// no place in that type.
 #[inline(always)]
 fn show(alloc: Global, link: &mut Link, wanted: &Wanted, shown: &Update) -> Result<(), AllocError>
     requires open { IsOpen link.old }
@@ -142,7 +147,8 @@ fn show(alloc: Global, link: &mut Link, wanted: &Wanted, shown: &Update) -> Resu
     }
 }
 
-/// The eight bytes that show an update to whoever asked so, if it has one element, of the type that is asked for.
+/// The eight bytes that show an update as its subscription asks, if it has one element, of the
+/// type that is asked for.
 #[inline(always)]
 fn shown_alone(wanted: &Wanted, shown: &Update) -> Option<u64>
     ensures { IfSome result (λ n.
@@ -154,7 +160,8 @@ fn shown_alone(wanted: &Wanted, shown: &Update) -> Option<u64>
     shown.value().alone(wanted.data_type)
 }
 
-/// The same of the value of a record.
+/// The eight bytes that show a record's value as a subscription asks, if it has one element, of the
+/// type that is asked for.
 #[inline(always)]
 fn value_alone(wanted: &Wanted, of: &Record) -> Option<u64>
     ensures { IfSome result (λ n. ShowsTo wanted.now
@@ -166,8 +173,9 @@ fn value_alone(wanted: &Wanted, of: &Record) -> Option<u64>
     of.value().alone(wanted.data_type)
 }
 
-/// Puts an update of one element after what waits on an open link. Without memory the link is as it was. As a call of its own it writes the
-/// message in its place; taken in line, after so many tests, it was made aside and copied by another call.
+/// Puts an update of one element after what waits on an open link. Without memory the link is as it
+/// was. As a function of its own it writes the message in its place; inlined, after all those
+/// tests, it made the message elsewhere and copied it.
 #[inline(never)]
 fn send_alone(link: &mut Link, wanted: &Wanted, payload: u64) -> Result<(), AllocError>
     requires { IsOpen link.old }
@@ -187,7 +195,7 @@ fn send_alone(link: &mut Link, wanted: &Wanted, payload: u64) -> Result<(), Allo
     }
 }
 
-/// The same with an image that is made in its place.
+/// Puts an update after what waits on an open link, with an image that is made in its place.
 #[inline(never)]
 fn show_image(
     alloc: Global,
@@ -225,7 +233,7 @@ fn show_image(
         Ok(()) => Ok(()),
         Err(refusal) => match status_of(refusal) {
             None => Err(AllocError),
-            // Whatever it is, an update tells it by GETFAIL.
+            // An update has one status for each refusal: GETFAIL.
             Some(_) => {
                 let about = answered(id, Status::GETFAIL, data_type, count);
                 match send_zeros(alloc, link, about, size) {
@@ -237,7 +245,8 @@ fn show_image(
     }
 }
 
-/// Puts an update with n zero bytes after what waits on an open link. Without memory the link is as it was.
+/// Puts an update with n zero bytes after what waits on an open link. Without memory
+/// the link is as it was.
 #[inline(never)]
 fn send_zeros(
     alloc: Global,

@@ -1,3 +1,4 @@
+//! VERSION on an open end.
 ghost use Rattle.std.specs.Prelude.{◌≡◌, IfOk, OnErr, OnOk, [], ◌∷◌, false, true, if◌then◌else◌};
 ghost use Rattle.ca_link.specs.Calls.{IsOpen};
 ghost use Rattle.ca_wire.specs.Messages.{version_reply};

@@ -1,3 +1,4 @@
+//! WRITE_NOTIFY on an open end.
 ghost use Rattle.std.specs.Prelude.{ℕ, ◌≡◌, IfOk, OnErr, OnOk, [], ◌∷◌, if◌then◌else◌, take};
 ghost use Rattle.ca_text.specs.Command.{command_number};
 ghost use Rattle.ca_text.specs.declared.command.Command.TheVariants as Command;
@@ -24,11 +25,11 @@ use ca_wire::{Head, Wanted, put_status};
 use std::alloc::AllocError;
 
 impl End {
-    /// WRITE_NOTIFY on this circuit: refused in its reply, or applied at once, or it waits until the record is free. On a slow
-    /// record its reply comes as it is finished.
+    /// WRITE_NOTIFY on this circuit: refused in its reply, or applied at once, or it waits until
+    /// the record is free. On a slow record its reply comes when it is finished.
     ///
-    /// The reply of a quick one goes first, so that none is applied for whose reply there is no memory. It is taken back if the put is
-    /// refused, or if there is no memory for the put itself.
+    /// On a quick record the reply goes first, so that no put is applied without memory for its
+    /// reply. It is taken back if the put is refused, or if there is no memory for the put itself.
     #[inline(never)]
     pub(crate) fn write_notify(
         &mut self,

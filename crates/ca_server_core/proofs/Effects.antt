@@ -1,4 +1,4 @@
--- What a step tells of the message that it handled.
+-- What a step reports of the message that it handled.
 use Rattle.std.proofs.Common.{◌≡◌, true, false, refl, ap, ◌∙◌}
 use Rattle.ca_arena.specs.declared.handle.Handle.{Handle}
 use Rattle.ca_records.specs.Store.{Store}
@@ -16,7 +16,7 @@ use Rattle.ca_server_core.specs.Effects.{TellsEffect}
 use Rattle.ca_server_core.specs.Serving.{stepped}
 use Rattle.ca_server_core.proofs.Followed.{MakesBy}
 
--- what a message left to do tells what it did
+-- what a message left to do says what it did
 pub told-as : (m : Fields) (a : Action) (did : FollowUp) (u : Store) → Tells m a did u → effect_of did ≡ effect_due m a
 told-as m (Applies name value true) did u is = ap effect_of is.2
 told-as m (Applies name value false) did u is = ap effect_of is.2
@@ -30,7 +30,7 @@ told-as m (Waits name value) did u is = ap effect_of is
 told-as m (Drops k) did u is = ap effect_of is
 told-as m (Switches on) did u is = ap effect_of is
 
--- a step that tells that, if it handled the message
+-- a step that says that, if it handled the message
 pub tells-by : (y : Server) (h : Handle) (did : FollowUp) (result : Step) (new : Server) → MakesBy (λ (m : Fields) (a : Action). effect_of did ≡ effect_due m a) y h (stepped result) new → ((e : Effect) → result ≡ own.Handled e → e ≡ effect_of did)
     → TellsEffect y h result new
 tells-by y h did (own.Handled e) new made is = (made.0, is e refl ∙ made.1)
@@ -38,7 +38,7 @@ tells-by y h did own.NeedBytes new made is = tt
 tells-by y h did own.OutputFull new made is = tt
 tells-by y h did (own.Closed c left) new made is = tt
 
--- one that handled none tells nothing
+-- one that handled none reports nothing
 pub tells-none : (y : Server) (h : Handle) (result : Step) (new : Server) → (stepped result ≡ steps.Handled → ⊥) → TellsEffect y h result new
 tells-none y h (own.Handled e) new other = absurd (other refl)
 tells-none y h own.NeedBytes new other = tt

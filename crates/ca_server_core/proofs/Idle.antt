@@ -47,7 +47,7 @@ reaches-on w t after h place mask watcher s u on hit listed watches posts =
     ap (λ (x : Record). watches_under x.state.name (under t h)) (there-is s place r watches.0 listed.1 watches.1) ∙ sym watches.2 ∙ hit in
     (r, listed.1, inl (h, listed.2, subst (λ (b : Bool). ReachesOne r.state.name place mask watcher h b w t s w after u) (sym is) (posts, refl)))
 
--- it watches the record no more, and was taken out of the list
+-- it no longer watches the record, and was taken out of the list
 pub reaches-off : (w v : Watched) (t after : Table ServerCircuit) (h : Handle) (place mask watcher : ℕ) (s u : Store) (on : Bool) → on ≡ false → IsListed place watcher h w s → WatchesIn t h place s on → (after ≡ t) × (u ≡ s)
     → (q : Record) → HasAt u place q → LeavesAt q.state.name watcher w v → ReachesNext place mask watcher w t s v after u
 reaches-off w v t after h place mask watcher s u on miss listed watches idle q at leaves =

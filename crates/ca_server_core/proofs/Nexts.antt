@@ -1,4 +1,5 @@
--- The end of a busy put: its reply, and the next put, which reaches all subscriptions on its record.
+-- The end of a busy put: its reply, and the next put, which reaches all
+-- subscriptions on its record.
 use Rattle.std.proofs.Common.{◌≡◌, ◌≢◌, ℕ, ◌⊎◌, inl, inr, Bool, true, false, cond, ◌||◌, List, [], ◌∷◌, Option, Some, None, is_some, Ok, refl, sym, ap, ◌∙◌, subst}
 use Rattle.ca_arena.specs.declared.handle.Handle.{Handle}
 use Rattle.ca_beacon.specs.Clock.{Clock}

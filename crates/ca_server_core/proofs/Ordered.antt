@@ -1,4 +1,4 @@
--- Records stand in the order of their places.
+-- Records are in the order of their places.
 use Rattle.std.proofs.Common.{◌≡◌, ◌∙◌, ℕ, zero, suc, ◌<◌, ◌≤◌, Bool, true, false, List, [], ◌∷◌, Option, Some, None, ap, arith, cond, refl, sym}
 use Rattle.std.specs.Str.{bytes_eq}
 use Rattle.std.proofs.lemmas.Bool.{both_ways}
@@ -39,7 +39,7 @@ before-most [] (suc p) (suc q) le = omega arith
 before-most (Some x ∷ slots) (suc p) (suc q) le = (let h : before q slots ≤ before p slots = before-most slots p q (omega (arith, le)) in omega (arith, h))
 before-most (None ∷ slots) (suc p) (suc q) le = before-most slots p q (omega (arith, le))
 
--- where the record that is found stands among the others
+-- where the record that is found is among the others
 pub stands-before : (s : Store) (name : List ℕ) (p : ℕ) → Finds s name p → AreNamedApart (records_of s) → (i : ℕ) (r : Record) → At (records_of s) i r → r.state.name ≡ name → i ≡ before p s.slots
 stands-before s name p f apart i r at named = apart i (before p s.slots) r f.r at (before-at s.slots p f.r f.at) (named ∙ sym f.named)
 

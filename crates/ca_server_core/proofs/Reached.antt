@@ -233,7 +233,8 @@ module _ (name : List ℕ) (mask : ℕ) (v : Stored) where
 abbrev stored : Record → Stored
 stored r = record { value = r.state.value; meta = r.state.meta }
 
--- A post to the record at a place, which has reached those that watch it from the last to the one at place k.
+-- A post to the record at a place, which has reached those that watch it from the last
+-- to the one at place k.
 pub record Walk (place mask : ℕ) (w0 : Watched) (t0 : Circuits) (s0 : Store) (k : ℕ) (w : Watched) (t : Circuits) (s : Store) : Type 0 where
   pub r : Record
   pub at : HasAt s0 place r

@@ -190,7 +190,8 @@ module _ (name : List ℕ) (hs : List Handle) where
   abbrev passed : (Handle → Bool) → (Handle → Bool) → (Handle → ℕ) → Handle → ServerCircuit → ServerCircuit
   passed done gone left h c = cond (done h) (circuit_without name gone left h c) c
 
-  -- The circuits at the first n places of the list have lost the record, but for those that ended. It is said of each which circuit that is.
+  -- The circuits at the first n places of the list have lost the record, but for those that ended.
+  -- It is said of each which circuit that is.
   pub record Losing (n : ℕ) (t : Circuits) (s : Store) (after : Circuits) (u : Store) : Type 0 where
     pub done : Handle → Bool
     pub gone : Handle → Bool

@@ -86,7 +86,7 @@ steps-and-pumps port s v u t h c mid new said there steps pumps = (
   inl (mid, new, changed-own (λ (x : ServerCircuit). mid) t h c there, pumps, sym (changed-twice t h c mid new there)),
 )
 
--- so many bytes wait on the circuit that was changed
+-- n bytes wait on the circuit that was changed
 pub counted : (n : ℕ) (t : Circuits) (h : Handle) (c new : ServerCircuit) → under t h ≡ Some c → n ≡ length (output_of (Some new)) → n ≡ length (output_of (under (with_changed (λ (x : ServerCircuit). new) h t) h))
 counted n t h c new there counts = counts ∙ ap (λ (o : Option ServerCircuit). length (output_of o)) (sym (changed-own (λ (x : ServerCircuit). new) t h c there))
 

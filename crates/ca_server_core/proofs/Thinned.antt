@@ -1,4 +1,5 @@
--- The calls that begin no subscription, and create no channel, leave the lists of those that watch complete.
+-- The calls that begin no subscription, and create no channel, leave the lists of those
+-- that watch complete.
 use Rattle.std.proofs.Common.{◌≡◌, ℕ, inl, inr, List, [], ◌∷◌, Some, Result, Ok, Err, sym, ap, ◌∙◌, subst}
 use Rattle.std.specs.List.{FoldsTo}
 use Rattle.ca_arena.specs.declared.handle.Handle.{Handle}

@@ -62,12 +62,14 @@ abbrev pub peer_under : Option ServerCircuit → Option Peer
 peer_under (Some c) = peer_on c
 peer_under None = None
 
--- The SID stands for an open channel of this circuit whose record was not removed, which has this name; or for none.
+-- The SID stands for an open channel of this circuit whose record was not removed, which has
+-- this name; or for none.
 abbrev pub NamesUnder : Option ServerCircuit → (sid : ℕ) → Option (List ℕ) → Type 0
 NamesUnder (Some c) sid name = NamesAt c sid name
 NamesUnder None sid name = name ≡ None
 
--- `may_write`: the next message of a circuit may write, by the low byte of its command; or it is no write, or its end is not open.
+-- `may_write`: the next message of a circuit may write, by the low byte of its command; or it is no
+-- write, or its end is not open.
 abbrev pub MayWrite : Server → Handle → Bool → Type 0
 MayWrite y h true = (e : ServerEnd) × HasEnd y h e × (may_write e.link.input.bytes ≡ true)
 MayWrite y h false = (e : ServerEnd) → HasEnd y h e → FirstWritesNothing e

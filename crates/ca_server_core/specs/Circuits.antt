@@ -11,7 +11,8 @@ use Rattle.ca_server_circuit.specs.Circuits.{GivesAt, IsLive, SendsAt}
 abbrev pub AreLive : Table ServerCircuit → Type 0
 AreLive t = (h : Handle) (c : ServerCircuit) → under t h ≡ Some c → IsLive c
 
--- a circuit is held under a handle that may be given; memory is asked for only where no index may have another handle
+-- a circuit is held under a handle that may be given; memory is asked for only if no index
+-- may have another handle
 abbrev pub OpensIn : Table ServerCircuit → ServerCircuit → Result Handle Refusal → Table ServerCircuit → Type 0
 OpensIn t c (Ok h) after = MayGive t h × (after ≡ with_held h c t)
 OpensIn t c (Err refusal.ArenaFull) after = (is_full t ≡ true) × (after ≡ t)

@@ -1,4 +1,5 @@
--- Working: which circuits watch which records, and which have channels to them, beside the circuits of a server.
+-- Working: which circuits watch which records, and which have channels to them, beside the
+-- circuits of a server.
 use Rattle.std.specs.Prelude.{ℕ, ◌≡◌, Bool, false, List, Option, Some, None}
 use Rattle.ca_arena.specs.declared.handle.Handle.{Handle}
 use Rattle.ca_ids.specs.Table.{Table, under}
@@ -9,7 +10,8 @@ use Rattle.ca_model.specs.Speech.{In}
 use Rattle.ca_server_core.specs.Sound.{IsSound}
 use Rattle.ca_server_circuit.specs.Circuits.{watches}
 
--- Each open end is among those that watch the record of each of its subscriptions. Others may be among them too.
+-- Each open end is among those that watch the record of each of its subscriptions. Others
+-- may be among them too.
 abbrev pub Covers : Watched → Table ServerCircuit → Type 0
 Covers w t = (h : Handle) (e : ServerEnd) (s : Subscription) → under t h ≡ Some (Open e) → In e.subscriptions s → IsAmong (watching w s.name) h
 
@@ -21,7 +23,8 @@ AreListed rs w = (name : List ℕ) → record_named rs name ≡ None → line_of
 abbrev pub HasTo : ServerEnd → List ℕ → Type 0
 HasTo e name = (k : Handle) × (c : OpenChannel) × (under e.channels k ≡ Some c) × (c.retired ≡ false) × (c.name ≡ name)
 
--- Each open end is among those that lead to each record to which it has a channel. Others may be among them too.
+-- Each open end is among those that lead to each record to which it has a channel. Others
+-- may be among them too.
 abbrev pub Leads : Watched → Table ServerCircuit → Type 0
 Leads l t = (h : Handle) (e : ServerEnd) (name : List ℕ) → under t h ≡ Some (Open e) → HasTo e name → IsAmong (watching l name) h
 

@@ -1,4 +1,4 @@
--- Vocabulary: what a step tells of the message that it handled (section "CA Protocol Messages").
+-- Vocabulary: what a step reports of the message that it handled (section "CA Protocol Messages").
 use Rattle.std.specs.Prelude.{◌≡◌, Option, Some}
 use Rattle.ca_arena.specs.declared.handle.Handle.{Handle}
 use Rattle.ca_ids.specs.Table.{under}

@@ -1,4 +1,5 @@
--- Working: the reply of a put that is finished, in the table of circuits, and what the end of a busy put leaves to do.
+-- Working: the reply of a put that is finished, in the table of circuits, and what the end of a
+-- busy put leaves to do.
 use Rattle.std.specs.Prelude.{ℕ, ◌≡◌, ◌⊎◌, true, Option, Some, None}
 use Rattle.ca_ids.specs.Table.{Table, under, with_changed}
 use Rattle.ca_ids.specs.Wire.{wire_of}

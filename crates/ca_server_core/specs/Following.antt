@@ -22,7 +22,8 @@ use Rattle.ca_server_circuit.specs.Circuits.{is_open}
 
 -- ---- before
 
--- each open end but this one, for its subscriptions on the record of this name, is among those that watch
+-- each open end but this one, for its subscriptions on the record of this name, is
+-- among those that watch
 abbrev pub CoversBut : Handle → List ℕ → Watched → Table ServerCircuit → Type 0
 CoversBut h name w t =
     (g : Handle) (e : ServerEnd) (s : Subscription) → under t g ≡ Some (server.Open e) → In e.subscriptions s → (IsAmong (watching w s.name) g) ⊎ ((g ≡ h) × (s.name ≡ name))
@@ -38,7 +39,8 @@ CoversFor (effect.Wrote place busies sid) h s w t = IsThere s place × Covers w 
 CoversFor (effect.Began place sid sub) h s w t = CoversAt place h s w t
 CoversFor (effect.Opened place sid) h s w t = Covers w t
 
--- each open end but this one, for its channels to the record of this name, is among those that lead there
+-- each open end but this one, for its channels to the record of this name, is among
+-- those that lead there
 abbrev pub LeadsBut : Handle → List ℕ → Watched → Table ServerCircuit → Type 0
 LeadsBut h name l t =
     (g : Handle) (e : ServerEnd) (n : List ℕ) → under t g ≡ Some (server.Open e) → HasTo e n → (IsAmong (watching l n) g) ⊎ ((g ≡ h) × (n ≡ name))

@@ -1,4 +1,4 @@
--- Vocabulary: what whoever records histories asks of a server.
+-- Vocabulary: what a recorder of histories asks of a server.
 use Rattle.std.specs.Prelude.{ℕ, ◌≡◌, ◌<◌, ◌≤◌, Bool, true, false, List, [], Option, Some, None, option_map, slice_get}
 use Rattle.ca_arena.specs.declared.handle.Handle.{Handle}
 use Rattle.ca_dbr.specs.Elements.{Elements}
@@ -27,8 +27,8 @@ abbrev pub EndsAt : Server → (index : ℕ) → Option Handle → Type 0
 EndsAt y n (Some h) = IsOverAt y.circuits n (Some h) × (without_puts_of h y ≡ y)
 EndsAt y n None = IsOverAt y.circuits n None
 
--- A post to the record of this name, with this mask, concerns the subscription at this place of an open end, which the queue at that place
--- has and no other; or it concerns none there.
+-- A post to the record of this name, with this mask, concerns the subscription at this place of an
+-- open end, which the queue at that place has and no other; or it concerns none there.
 abbrev pub ConcernsUnder : (name : List ℕ) → (mask : ℕ) → (place : ℕ) → Option ServerCircuit → Option ℕ → Type 0
 ConcernsUnder name mask place (Some (Open e)) (Some queue) =
     (s : Subscription) × At e.subscriptions place s × (concerns name mask s ≡ true) × HasAt e.queues queue (key_of s) × AreInOne e.queues
@@ -46,13 +46,15 @@ bytes_under None = []
 abbrev pub AreNamedApart : List Record → Type 0
 AreNamedApart records = (i j : ℕ) (r s : Record) → At records i r → At records j s → r.state.name ≡ s.state.name → i ≡ j
 
--- Of these records, if no two have one name, that of the first name comes before that of the other, or not.
+-- Of these records, if no two have one name, that of the first name comes before that
+-- of the other, or not.
 abbrev pub ComesBefore : List Record → (name other : List ℕ) → Bool → Type 0
 ComesBefore records name other before =
     AreNamedApart records → (i j : ℕ) (r s : Record) → At records i r → At records j s → r.state.name ≡ name → s.state.name ≡ other
     → (before ≡ true → i < j) × (before ≡ false → j ≤ i)
 
--- the SID and the CID of each channel to the record of this name at the open end under a handle, in order of index
+-- the SID and the CID of each channel to the record of this name at the open end under a
+-- handle, in order of index
 abbrev pub channels_under : (name : List ℕ) → Option ServerCircuit → List (ℕ × ℕ)
 channels_under name (Some c) = channels_on name c
 channels_under name None = []

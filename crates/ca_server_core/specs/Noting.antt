@@ -1,5 +1,5 @@
--- Vocabulary: `serve_and_pump`, which is a step, then the finish of the put by which its message made a record busy (section
--- "CA_PROTO_WRITE_NOTIFY"), and then a pump.
+-- Vocabulary: `serve_and_pump`, which is a step, then the finish of the put by which its message
+-- made a record busy (section "CA_PROTO_WRITE_NOTIFY"), and then a pump.
 use Rattle.std.specs.Prelude.{ℕ, ◌≡◌, ◌⊎◌, Bool, true, false, if◌then◌else◌, List, Option, None, Some, Result, Ok, is_some}
 use Rattle.ca_arena.specs.declared.handle.Handle.{Handle}
 use Rattle.ca_ids.specs.Table.{Table, under}
@@ -63,8 +63,8 @@ NotesAt did s noted = noted ≡ None
 
 -- ---- the put of the record to which a message wrote, in the table of circuits
 
--- The busy put of the record of a name ended: its reply went out, and what that leaves to do followed. So many writes were applied before,
--- and so many then.
+-- The busy put of the record of a name ended: its reply went out, and what that leaves to do
+-- followed. This many writes were applied before, and this many then.
 pub record EndsPut (name : List ℕ) (n : ℕ) (t : Table ServerCircuit) (s : Store) (k : ℕ) (last : Table ServerCircuit) (x : Store) : Type 0 where
   pub f : Finished
   pub left : Store
@@ -102,7 +102,8 @@ abbrev pub Tries : Server → Option (List ℕ) → Server → Type 0
 Tries y None new = new ≡ y
 Tries y (Some name) new = (sent : List (Handle × Fields)) × (r : Result (Unit {0}) Refusal) × Finishes y name sent r new
 
--- A message was handled. The put of the record to which it wrote at once was finished, if that was busy then, and no other.
+-- A message was handled. The put of the record to which it wrote at once was finished, if that was
+-- busy then, and no other.
 pub record HandlesAndFinishes (old : Server) (h : Handle) (new : Server) : Type 0 where
   pub put : Option (List ℕ)
   pub stepped : Server
@@ -111,8 +112,8 @@ pub record HandlesAndFinishes (old : Server) (h : Handle) (new : Server) : Type 
   pub notes : Notes old.records stepped.records put
   pub tries : Tries stepped put new
 
--- `serve_and_pump`: what was done with the next message. If it was handled, updates left the queues of an open end then, and so many bytes
--- wait on it.
+-- `serve_and_pump`: what was done with the next message. If it was handled, updates left the queues
+-- of an open end then, and n bytes wait on it.
 abbrev pub ServesAndPumps : Server → Handle → Stepped → (waiting : ℕ) → Server → Type 0
 ServesAndPumps old h Handled waiting new = (finished : Server) × HandlesAndFinishes old h finished × PumpsCounting finished h waiting new
 ServesAndPumps old h did waiting new = Steps old h did new × Closes old h did new

@@ -26,7 +26,8 @@ PostsIn t h place mask s after u =
 abbrev pub WatchesIn : Table ServerCircuit → Handle → (place : ℕ) → Store → (on : Bool) → Type 0
 WatchesIn t h place s on = (r : Record) × HasAt s place r × (on ≡ watches_under r.state.name (under t h))
 
--- The same if its end has a subscription on the record. Else it is taken out of the list of those that watch it, where it is at this place.
+-- The same if its end has a subscription on the record. Else it is taken out of the list of those
+-- that watch it, if it is at this place.
 abbrev pub ReachesOne : (name : List ℕ) → (place : ℕ) → (mask : ℕ) → (watcher : ℕ) → Handle → (still : Bool) → Watched → Table ServerCircuit → Store → Watched → Table ServerCircuit → Store → Type 0
 ReachesOne name place mask watcher h true w t s v after u = PostsIn t h place mask s after u × (v ≡ w)
 ReachesOne name place mask watcher h false w t s v after u = LeavesAt name watcher w v × (after ≡ t) × (u ≡ s)
@@ -35,7 +36,8 @@ ReachesOne name place mask watcher h false w t s v after u = LeavesAt name watch
 abbrev pub IsListed : (place : ℕ) → (watcher : ℕ) → Handle → Watched → Store → Type 0
 IsListed place watcher h w s = (r : Record) × HasAt s place r × At (watching w r.state.name) watcher h
 
--- The circuit at a place of the list of those that watch the record had its post; there may be none.
+-- The circuit at a place of the list of those that watch the record had its
+-- post; there may be none.
 abbrev pub ReachesNext : (place : ℕ) → (mask : ℕ) → (watcher : ℕ) → Watched → Table ServerCircuit → Store → Watched → Table ServerCircuit → Store → Type 0
 ReachesNext place mask watcher w t s v after u =
     (r : Record) × HasAt s place r
@@ -45,7 +47,8 @@ ReachesNext place mask watcher w t s v after u =
 
 -- ---- all circuits
 
--- The post has reached all subscriptions on a record of this name, but for these circuits, which have ended out of memory for it.
+-- The post has reached all subscriptions on a record of this name, but for these circuits, which
+-- have ended out of memory for it.
 pub record ReachesAll (name : List ℕ) (mask : ℕ) (v : Stored) (gone : Handle → Bool) (t : Table ServerCircuit) (s : Store) (after : Table ServerCircuit) (u : Store) : Type 0 where
   pub may : (h : Handle) → gone h ≡ true → (c : ServerCircuit) × (under t h ≡ Some c) × (is_concerned name mask c ≡ true)
   pub circuits : after ≡ with_each (reached name mask v gone) t

@@ -63,8 +63,9 @@ Reports t h did after = IsReport (under t h) (stepped did) × (after ≡ with_fr
 
 -- ---- when a step closes an end
 
--- An end closes out of memory in a step for the next message, which asks for some: nothing is left of that; or its write is applied, and the
--- end is one of those that lacked memory for an update of it.
+-- An end closes out of memory in a step for the next message, which asks for some: nothing
+-- is left of that; or its write is applied, and the end is one of those that lacked memory
+-- for an update of it.
 pub record LacksItself (y : Server) (h : Handle) (e : ServerEnd) (new : Server) : Type 0 where
   pub lacks : LacksMemory y h e new
   pub asks : AsksMemory lacks.next.m lacks.next.replies lacks.next.action

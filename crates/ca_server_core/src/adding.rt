@@ -1,3 +1,4 @@
+//! A record is added to those that a server serves.
 ghost use Rattle.std.specs.Prelude.{ℕ};
 ghost use Rattle.ca_dbr.specs.Elements.{elements};
 ghost use Rattle.ca_model.specs.ServerCalls.{AddsRecord};
@@ -10,8 +11,8 @@ use ca_text::Refusal;
 impl ServerCore {
     /// Serves one more record, neither busy nor waited for, with metadata of zeros.
     ///
-    /// Refused as NameLength if this is no name, as RecordExists if it is served, as BadCount if the record may not have this value, and then
-    /// as OutOfMemory. A refusal changes nothing.
+    /// Refused as NameLength if this is no name, as RecordExists if it is served, as BadCount if
+    /// the record may not have this value, and then as OutOfMemory. A refusal changes nothing.
     pub fn add_record(
         &mut self,
         name: &[u8],

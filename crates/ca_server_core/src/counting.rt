@@ -1,3 +1,5 @@
+//! A step and a pump of one circuit that also report how many bytes wait on it, so that it is
+//! looked up once.
 ghost use Rattle.std.specs.Prelude.{◌≡◌, false, length, true};
 ghost use Rattle.ca_ids.specs.Table.{under};
 ghost use Rattle.ca_model.specs.ServerSteps.{output_of};
@@ -12,8 +14,9 @@ use ca_ids::HeldTable;
 use ca_records::ServedRecords;
 use ca_server_circuit::{Circuit, EndStep};
 
-/// One step of a circuit's end, as `step_on`. If nothing is left to do then, its end is pumped: so a read takes one look-up of its circuit.
-/// Else it says whether the end is idle. So many bytes wait on it in the end.
+/// One step of a circuit's end, as `step_on`. If nothing is left to do then, its end is pumped: so
+/// a read takes one look-up of its circuit. Else it says whether the end is idle. It counts the
+/// bytes that wait on it then.
 #[inline(always)]
 pub(crate) fn step_counting_on(
     port: u16,

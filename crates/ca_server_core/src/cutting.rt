@@ -1,3 +1,4 @@
+//! A circuit is cut, and its end ends.
 ghost use Rattle.ca_model.specs.ServerSteps.{Cuts};
 ghost use Rattle.ca_records.specs.Store.{records_of};
 ghost use Rattle.ca_server_core.specs.Ending.{EndsIn};
@@ -11,8 +12,8 @@ use ca_records::ServedRecords;
 use ca_server_circuit::{Cause, Circuit};
 
 impl ServerCore {
-    /// Cuts a circuit: its end ends, if it is open, and its puts that wait are never applied. A step reports that, with the bytes that
-    /// are left to send. It does not allocate.
+    /// Cuts a circuit: its end ends, if it is open, and its puts that wait are never applied. A
+    /// step reports that, with the bytes that are left to send. It does not allocate.
     pub fn cut(&mut self, circuit: Handle)
         ensures { Cuts self.old circuit self.new }
     {

@@ -1,3 +1,4 @@
+//! What a server answers to a datagram: a reply to each search for a record that it serves.
 ghost use Rattle.std.specs.Prelude.{◌≡◌, ◌≢◌, [], IfErr, IfOk, OnErr, Ok, Err, map};
 ghost use Rattle.std.specs.List.{flat_map};
 ghost use Rattle.ca_dgram.specs.Packing.{ArePacked};
@@ -12,8 +13,9 @@ use ca_wire::{Message, search_reply};
 use std::alloc::{AllocError, Global};
 
 impl ServerCore {
-    /// The datagrams that answer a datagram: a reply for each search in it for a record that is served, in their order. Other searches
-    /// and other messages are not answered, and what follows a message that cannot be read is not looked at.
+    /// The datagrams that answer a datagram: a reply for each search in it for a record that is
+    /// served, in their order. Other searches and other messages are not answered, and what follows
+    /// a message that cannot be read is not looked at.
     ///
     /// Refused as OutOfMemory, only if there is a message in it.
     pub fn datagram(&self, bytes: &[u8]) -> Result<Vec<Vec<u8>>, Refusal>

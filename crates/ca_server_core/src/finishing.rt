@@ -1,3 +1,4 @@
+//! A busy put is finished: its reply is sent, and the next put that waits is applied.
 ghost use Rattle.std.specs.Prelude.{◌≡◌, List};
 ghost use Rattle.ca_arena.specs.declared.handle.Handle.{Handle};
 ghost use Rattle.ca_model.specs.ServerCalls.{Finishes};
@@ -15,11 +16,13 @@ use ca_server_circuit::{Circuit, Effect, FollowUp};
 use ca_text::Refusal;
 
 impl ServerCore {
-    /// Finishes the busy put of the record of this name. Its reply is sent, unless its channel or its circuit is gone. The next put that
-    /// waits is applied, makes the record busy, and reaches all subscriptions on it, on all circuits. A circuit's end without memory for
-    /// the reply, or for an update, has ended.
+    /// Finishes the busy put of the record of this name. Its reply is sent, unless its channel or
+    /// its circuit is gone. The next put that waits is applied, makes the record busy, and reaches
+    /// all subscriptions on it, on all circuits. A circuit's end without memory for the reply, or
+    /// for an update, has ended.
     ///
-    /// Refused as UnknownRecord if no record has the name, and as NotBusy if its record is not busy. A refusal changes nothing.
+    /// Refused as UnknownRecord if no record has the name, and as NotBusy if its record is not
+    /// busy. A refusal changes nothing.
     pub fn finish(&mut self, name: &[u8]) -> Result<(), Refusal>
         ensures { (sent : List (Handle × Fields))
             × Finishes self.old name.now sent result self.new }
@@ -40,7 +43,8 @@ impl ServerCore {
     }
 }
 
-/// What the end of a busy put leaves to do: the next one, if it was applied, is to reach the subscriptions of its record.
+/// What the end of a busy put leaves to do: the next one, if it was applied, is to reach the
+/// subscriptions of its record.
 pub(crate) fn left_by(finished: &Finished) -> FollowUp
     ensures { result ≡ effect_after finished.now }
 {
@@ -50,7 +54,8 @@ pub(crate) fn left_by(finished: &Finished) -> FollowUp
     }
 }
 
-/// Sends the reply of a put that is finished, if its channel is open. If there is no memory for it, the end of its circuit has ended.
+/// Sends the reply of a put that is finished, if its channel is open. If there is no memory for it,
+/// the end of its circuit has ended.
 #[inline(always)]
 pub(crate) fn reply_on(circuits: &mut HeldTable<Circuit>, records: &mut ServedRecords, put: Put)
     requires { IsSound (records_of records.old) circuits.old }

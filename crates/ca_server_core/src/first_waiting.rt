@@ -1,3 +1,5 @@
+//! What a caller may ask of a server: a record, its busy value, who waits first for it, and whether
+//! an end is open.
 ghost use Rattle.std.specs.Prelude.{◌≡◌, option_map};
 ghost use Rattle.ca_dbr.specs.Elements.{elements};
 ghost use Rattle.ca_ids.specs.Table.{under};
@@ -13,8 +15,8 @@ use ca_records::for_histories::waiting_put;
 use ca_records::{Record, ServedRecords};
 
 impl ServerCore {
-    /// The circuit of the put that waits longest for the record of this name: none if no put waits for it, or no record has the name. It is
-    /// the put that the next finish of the record applies.
+    /// The circuit of the put that waits longest for the record of this name: none if no put waits
+    /// for it, or no record has the name. It is the put that the next finish of the record applies.
     pub fn first_waiting(&self, name: &[u8]) -> Option<Handle>
         ensures { result ≡ first_waiting self.now name.now }
     {
@@ -28,7 +30,8 @@ impl ServerCore {
         value_of_busy(&self.records, name)
     }
 
-    /// The record of this name as it is now: its value, the alarm of that and its stamp, and what it may hold.
+    /// The record of this name as it is now: its value, the alarm of that and its stamp,
+    /// and what it may hold.
     pub fn record(&self, name: &[u8]) -> Option<&Record>
         ensures { option_map (λ r. r.now) result ≡ record_now self.now name.now }
     {

@@ -1,3 +1,5 @@
+//! What a handled message leaves to do beyond its own circuit: a write reaches subscriptions, a
+//! subscription or a channel is listed.
 ghost use Rattle.std.specs.Prelude.{◌≡◌, false};
 ghost use Rattle.ca_records.specs.Store.{records_of};
 ghost use Rattle.ca_server_core.specs.Covering.{AreLed, AreListed, Covers};
@@ -15,9 +17,9 @@ use ca_server_watchers::Watchers;
 /// The mask of a write that was applied: VALUE and LOG.
 pub(crate) const WRITE_MASK: u16 = 3;
 
-/// What a message that was handled leaves to do: a write reaches all subscriptions on its record; the circuit watches the record of a
-/// subscription that began, and leads to that of a channel that was created. Without memory for that its end has ended. It says whether an
-/// end may have ended.
+/// What a message that was handled leaves to do: a write reaches all subscriptions on its record;
+/// the circuit watches the record of a subscription that began, and leads to that of a channel that
+/// was created. Without memory for that its end has ended. It says whether an end may have ended.
 #[inline(always)]
 pub(crate) fn follow(
     circuits: &mut HeldTable<Circuit>,

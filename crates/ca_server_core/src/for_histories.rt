@@ -1,4 +1,4 @@
-//! What whoever records histories asks of a server. No server needs these calls.
+//! Calls for a recorder of histories. No server needs them.
 ghost use Rattle.std.specs.Prelude.{◌≡◌, ◌≢◌, ◌<◌, [], IfOk, OnErr, false, length, option_map};
 ghost use Rattle.ca_dbr.specs.Elements.{elements};
 ghost use Rattle.ca_ids.specs.Table.{same_handle, under};
@@ -34,7 +34,8 @@ pub fn has_ended(core: &ServerCore, circuit: Handle) -> bool
     }
 }
 
-/// The circuit of this index, if its end has ended in a call that did not report it. No put of it waits.
+/// The circuit of this index, if its end has ended in a call that did not report
+/// it. No put of it waits.
 pub fn ended_at(core: &ServerCore, index: usize) -> Option<Handle>
     requires { index < length core.now.circuits }
     ensures { EndsAt core.now index result }
@@ -71,8 +72,8 @@ fn know_withdrawn(circuits: &HeldTable<Circuit>, records: &ServedRecords, circui
     let _ = records;
 }
 
-/// The place of the queue that has the subscription at this place of a circuit, if a post to the record of this name, with this mask,
-/// concerns it. None if its end is not open.
+/// The place of the queue that has the subscription at this place of a circuit, if a post to the
+/// record of this name, with this mask, concerns it. None if its end is not open.
 pub fn concerned_at(
     core: &ServerCore,
     circuit: Handle,
@@ -88,7 +89,8 @@ pub fn concerned_at(
     }
 }
 
-/// The bytes that wait on a circuit, or that its end left which has ended in a call that did not report it.
+/// The bytes that wait on a circuit, or that its end left which has ended in a call
+/// that did not report it.
 pub fn bytes_of(core: &ServerCore, circuit: Handle) -> &[u8]
     ensures { result.now ≡ bytes_under (under core.now.circuits circuit) }
 {
@@ -111,8 +113,9 @@ pub fn comes_before(core: &ServerCore, name: &[u8], other: &[u8]) -> bool
     place < next
 }
 
-/// The SID and the CID of each channel to the record of this name on a circuit whose end is open, in order of index. A removal of the
-/// record sends a SERVER_DISCONN to each. Refused without memory, only if there is one.
+/// The SID and the CID of each channel to the record of this name on a circuit whose end is open,
+/// in order of index. A removal of the record sends a SERVER_DISCONN to each. Refused without
+/// memory, only if there is one.
 pub fn channels_to(
     core: &ServerCore,
     circuit: Handle,
@@ -148,7 +151,8 @@ fn value_among<'a>(records: &'a ServedRecords, name: &[u8]) -> Option<&'a Value>
     Some(records.at(place).state().value())
 }
 
-/// The put that waits for the record of this name at this place, if there is one. The one that waits longest is at place 0.
+/// The put that waits for the record of this name at this place, if there is one. The one that
+/// waits longest is at place 0.
 pub fn waiting_at(core: &ServerCore, name: &[u8], place: usize) -> Option<Put>
     ensures { result ≡ put_in (record_named core.now.records name.now) place }
 {

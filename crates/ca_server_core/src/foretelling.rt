@@ -1,4 +1,4 @@
-//! What of an end of a server is asked for only by whoever records histories.
+//! What only a recorder of histories asks of a server's end.
 ghost use Rattle.std.specs.Prelude.{◌≡◌};
 ghost use Rattle.ca_ids.specs.Table.{under};
 ghost use Rattle.ca_server_circuit.specs.Circuits.{is_open};

@@ -1,8 +1,8 @@
-//! A server of Channel Access: its records, and its ends of circuits. It does no input and no output: bytes that came are
-//! given to it, and those that wait to be sent are asked of it.
+//! A server of Channel Access: its records, and its ends of circuits. It does no input and no
+//! output: bytes that came are given to it, and those that wait to be sent are asked of it.
 //!
-//! One circuit's end, and what a message does to it, is the crate below (`ca_server_circuit`). The engine of the program's `ca answer` runs
-//! on this one (`ca_answer`).
+//! One circuit's end, and what a message does to it, is the crate below (`ca_server_circuit`). The
+//! engine of the program's `ca answer` runs on this one (`ca_answer`).
 #![tactic(auto)]
 
 mod adding;

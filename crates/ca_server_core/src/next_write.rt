@@ -1,3 +1,5 @@
+//! Whether the next message may be a write, and to which record: for callers that stamp writes or
+//! read a device first.
 ghost use Rattle.std.specs.Prelude.{option_map};
 ghost use Rattle.ca_ids.specs.Table.{under};
 ghost use Rattle.ca_server_core.specs.Asking.{MayWrite, NamesUnder};
@@ -7,7 +9,8 @@ use ca_arena::Handle;
 use ca_wire::Sid;
 
 impl ServerCore {
-    /// Whether the next message of a circuit may be a write, by the low byte of its command. Of no other message does a step use the time stamp.
+    /// Whether the next message of a circuit may be a write, by the low byte of its command. A step
+    /// uses the time stamp for no other message.
     pub fn may_write(&self, circuit: Handle) -> bool
         ensures { MayWrite self.now circuit result }
     {
@@ -17,7 +20,8 @@ impl ServerCore {
         }
     }
 
-    /// The name of the record of the open channel of this SID on a circuit, if that record was not removed. None if its end is not open.
+    /// The name of the record of the open channel of this SID on a circuit, if that record was not
+    /// removed. None if its end is not open.
     pub fn served_name(&self, circuit: Handle, sid: Sid) -> Option<&[u8]>
         ensures { NamesUnder (under self.now.circuits circuit) sid
             (option_map (λ t. t.now) result) }

@@ -1,3 +1,5 @@
+//! A record has a new value from outside: it reaches the subscriptions on the record, on all
+//! circuits.
 ghost use Rattle.std.specs.Prelude.{◌≡◌, Bool, false};
 ghost use Rattle.ca_arena.specs.declared.handle.Handle.{Handle};
 ghost use Rattle.ca_dbr.specs.Elements.{elements};
@@ -18,11 +20,13 @@ use ca_server_watchers::Watchers;
 use ca_text::Refusal;
 
 impl ServerCore {
-    /// The record of this name has this value from now on, with its alarm and its time stamp. It reaches all subscriptions on the record
-    /// whose mask shares a bit with this one, on all circuits. A circuit's end without memory for an update has ended.
+    /// The record of this name has this value from now on, with its alarm and its time stamp. It
+    /// reaches all subscriptions on the record whose mask shares a bit with this one, on all
+    /// circuits. A circuit's end without memory for an update has ended.
     ///
-    /// Refused as UnknownRecord if no record has the name, as BadType if the value is not of its type, and as BadCount if it has no element
-    /// or more than the greatest count. A refusal changes nothing.
+    /// Refused as UnknownRecord if no record has the name, as BadType if the value is not of
+    /// its type, and as BadCount if it has no element or more than the greatest count. A
+    /// refusal changes nothing.
     pub fn post(&mut self, name: &[u8], value: Value, meta: Meta, mask: u16) -> Result<(), Refusal>
         ensures { (gone : Handle → Bool)
             × Posts self.old name.now (record { value = elements value; meta = meta }) mask gone
@@ -40,9 +44,10 @@ impl ServerCore {
     }
 }
 
-/// The value of the record at this place reaches all subscriptions on it whose mask shares a bit with this one, on all circuits. An end
-/// without memory for an update has ended. The circuits in the record's list are visited, and no other. A list may have some that watch the
-/// record no more: these are taken out, and get nothing. It says whether there may be any.
+/// The value of the record at this place reaches all subscriptions on it whose mask shares a bit
+/// with this one, on all circuits. An end without memory for an update has ended. The circuits in
+/// the record's list are visited, and no other. A list may have some that no longer watch the
+/// record: these are taken out, and get nothing. It says whether there may be any.
 #[inline(always)]
 pub(crate) fn post_to_all(
     circuits: &mut HeldTable<Circuit>,
@@ -61,7 +66,7 @@ pub(crate) fn post_to_all(
     ensures listed { AreListed (records_of records.new) watchers.new }
     ensures none { result ≡ false → circuits.new ≡ circuits.old }
 {
-    // Then a write pays for no more than this test.
+    // If nobody watches any record, a write pays for no more than this test.
     if watchers.is_empty() {
         return false;
     }
@@ -69,7 +74,7 @@ pub(crate) fn post_to_all(
     true
 }
 
-/// The same, by the record's list.
+/// A post to the record at this place reaches each circuit of the record's list.
 #[inline(never)]
 fn post_to_watching(
     circuits: &mut HeldTable<Circuit>,
@@ -92,7 +97,7 @@ fn post_to_watching(
         return;
     };
     post_to_this(circuits, records, watchers, place, mask, before, circuit);
-    // Mostly nobody is left.
+    // The last circuit is mostly the only one.
     let mut left = before;
     'posting: while left > 0 {
         left -= 1;
@@ -100,7 +105,7 @@ fn post_to_watching(
     }
 }
 
-/// The same for the circuit at this place of the list of those that watch the record.
+/// A post reaches the circuit at this place of the list of those that watch the record.
 #[inline(never)]
 fn post_to_one(
     circuits: &mut HeldTable<Circuit>,
@@ -121,7 +126,8 @@ fn post_to_one(
     post_to_this(circuits, records, watchers, place, mask, watcher, circuit);
 }
 
-/// The same for this circuit, which is at this place of the list. It is taken out if it watches the record no more.
+/// A post reaches this circuit, which is at this place of the list. It is taken out if it no
+/// longer watches the record.
 #[inline(always)]
 fn post_to_this(
     circuits: &mut HeldTable<Circuit>,
@@ -143,7 +149,7 @@ fn post_to_this(
     watchers.forget(records.at(place).state().name(), watcher);
 }
 
-/// The same for this circuit. It says whether it has a subscription on the record.
+/// A post reaches this circuit. It says whether the circuit has a subscription on the record.
 #[inline(always)]
 fn post_on(
     circuits: &mut HeldTable<Circuit>,

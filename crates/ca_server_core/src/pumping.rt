@@ -1,3 +1,4 @@
+//! Updates that wait on a circuit move into its output.
 ghost use Rattle.std.specs.Prelude.{List};
 ghost use Rattle.ca_model.specs.ServerSteps.{Pumps, Update};
 ghost use Rattle.ca_records.specs.Store.{records_of};
@@ -11,10 +12,11 @@ use ca_records::ServedRecords;
 use ca_server_circuit::Circuit;
 
 impl ServerCore {
-    /// Puts updates that wait on a circuit after what waits to be sent, until none may go: none is left that may be taken, or 262,144 bytes
-    /// wait. Nothing happens if its end is not open.
+    /// Puts updates that wait on a circuit after what waits to be sent, until none may go: none is
+    /// left that may be taken, or 262,144 bytes wait. Nothing happens if its end is not open.
     ///
-    /// If there is no memory for the next, the end of the circuit has ended, with those before it. A step reports that.
+    /// If there is no memory for the next, the end of the circuit has ended, with those before it.
+    /// A step reports that.
     pub fn pump(&mut self, circuit: Handle)
         ensures { (updates : List Update) × Pumps self.old circuit updates self.new }
     {

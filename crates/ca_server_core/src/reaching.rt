@@ -1,3 +1,4 @@
+//! Which circuits a change of a record may have reached: for callers that pump or wake only these.
 ghost use Rattle.std.specs.Prelude.{◌≡◌, [], option_copied, unwrap_or};
 ghost use Rattle.ca_records.specs.Puts.{record_named};
 ghost use Rattle.ca_records.specs.Store.{records_of};
@@ -11,10 +12,12 @@ use ca_server_watchers::Line;
 
 // Which circuits a call of the server reaches, beside the one that it is of.
 impl ServerCore {
-    /// The circuits that a write, a post or a finish of the record of this name may have left updates on: each that has a subscription on
-    /// the record is among them. None if nobody has one.
+    /// The circuits that a write, a post or a finish of the record of this name may
+    /// have left updates on: each that has a subscription on the record is among them.
+    /// None if nobody has one.
     ///
-    /// Others may be among them. Right after such a call those are, too, whose ends it ended, as there was no memory for their updates.
+    /// Others may be among them: right after such a call also those whose ends it ended, without
+    /// memory for their updates.
     pub fn watching(&self, name: &[u8]) -> Option<&Line>
         ensures { AreAllAmong self.now name.now
             (unwrap_or (option_copied result) []) }
@@ -22,8 +25,8 @@ impl ServerCore {
         self.watchers.line(name)
     }
 
-    /// The circuit of the put that makes the record of this name busy, which gets the reply of the next finish. None if no put does, or no
-    /// record has the name.
+    /// The circuit of the put that makes the record of this name busy, which gets the reply of the
+    /// next finish. None if no put does, or no record has the name.
     pub fn busy_circuit(&self, name: &[u8]) -> Option<Handle>
         ensures { result ≡ busy_circuit self.now name.now }
     {

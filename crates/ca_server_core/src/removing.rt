@@ -1,3 +1,4 @@
+//! A record is removed: all circuits with a channel to it lose the channel.
 ghost use Rattle.std.specs.Prelude.{ℕ, ◌≡◌, Bool};
 ghost use Rattle.ca_arena.specs.declared.handle.Handle.{Handle};
 ghost use Rattle.ca_model.specs.ServerCalls.{Removes};
@@ -14,9 +15,10 @@ use ca_server_watchers::Watchers;
 use ca_text::Refusal;
 
 impl ServerCore {
-    /// Serves the record of this name no more. Its puts go with it: those that wait are never applied. On all circuits each channel to it gets a
-    /// SERVER_DISCONN, loses its subscriptions with their updates, and is retired: its SID stands for nothing until it is cleared. A circuit's
-    /// end without memory for a SERVER_DISCONN has ended.
+    /// Stops serving the record of this name. Its puts go with it: those that wait are never
+    /// applied. On all circuits each channel to it gets a SERVER_DISCONN, loses its subscriptions
+    /// with their updates, and is retired: its SID stands for nothing until it is cleared. A
+    /// circuit's end without memory for a SERVER_DISCONN has ended.
     ///
     /// Refused as UnknownRecord if no record has the name. A refusal changes nothing.
     pub fn remove_record(&mut self, name: &[u8]) -> Result<(), Refusal>
@@ -36,8 +38,8 @@ impl ServerCore {
     }
 }
 
-/// The record of this name was removed, and all circuits lose it. An end without memory for a SERVER_DISCONN has ended. Those that lead to the
-/// record are visited, and no other.
+/// The record of this name was removed, and all circuits lose it. An end without memory for a
+/// SERVER_DISCONN has ended. Those that lead to the record are visited, and no other.
 fn lose_on_all(
     circuits: &mut HeldTable<Circuit>,
     records: &mut ServedRecords,
@@ -55,7 +57,7 @@ fn lose_on_all(
     }
 }
 
-/// The same for the circuit at this place of the list of those that lead to the record.
+/// The circuit at this place of the list of those that lead to the record loses it.
 fn lose_on_next(
     circuits: &mut HeldTable<Circuit>,
     records: &mut ServedRecords,
@@ -73,7 +75,7 @@ fn lose_on_next(
     lose_on(circuits, records, circuit, name);
 }
 
-/// The same for this circuit, if it is there.
+/// This circuit loses the record, if the circuit is there.
 fn lose_on(
     circuits: &mut HeldTable<Circuit>,
     records: &mut ServedRecords,

@@ -1,3 +1,4 @@
+//! The server: its records, its circuits, and the calls that move bytes.
 ghost use Rattle.std.specs.Prelude.{◌≡◌, ◌≢◌, ◌≤◌, IfErr, IfOk, OnErr, false, length};
 ghost use Rattle.ca_text.specs.declared.refusal.Refusal.TheVariants.{OutOfMemory};
 ghost use Rattle.ca_model.specs.Server.{new_server};
@@ -17,8 +18,8 @@ use ca_text::Refusal;
 use std::alloc::{AllocError, Global};
 use std::marker::Model;
 
-/// A server: its records, and its ends of circuits. It does no input and no output: bytes that came are given to it, and
-/// those that wait to be sent are asked of it.
+/// A server: its records, and its ends of circuits. It does no input and no output: bytes that came
+/// are given to it, and those that wait to be sent are asked of it.
 #[derive(Drop)]
 pub struct ServerCore {
     pub(crate) alloc: Global,
@@ -27,7 +28,7 @@ pub struct ServerCore {
     // The moment that was given last.
     pub(crate) moment: u64,
     pub(crate) circuits: HeldTable<Circuit>,
-    // Memory for the bytes of a circuit: one that has none to read and none to send keeps none.
+    // Spare memory for bytes: a circuit with none to read and none to send keeps none.
     pub(crate) spares: Spares,
     // The circuits with subscriptions on each record.
     pub(crate) watchers: Watchers,
@@ -62,8 +63,8 @@ impl Model for ServerCore {
 }
 
 impl ServerCore {
-    /// A server of this TCP port that begins at this moment with these records, under these rules. It has no circuit. It is refused only
-    /// if there are records, since these are copied.
+    /// A server of this TCP port that begins at this moment with these records, under these rules.
+    /// It has no circuit. It is refused only if there are records, since these are copied.
     pub fn new(
         port: u16,
         now: u64,
@@ -90,9 +91,10 @@ impl ServerCore {
         })
     }
 
-    /// A circuit is accepted, and gets a handle. Refused as ArenaFull if none may be given, then as OutOfMemory. A refusal changes nothing.
+    /// A circuit is accepted, and gets a handle. Refused as ArenaFull if none may be given, then as
+    /// OutOfMemory. A refusal changes nothing.
     ///
-    /// Memory is asked for only where no index is free again.
+    /// It allocates only if no freed index can be used again.
     pub fn accept(&mut self) -> Result<Handle, Refusal>
         ensures call { Accepts self.old result self.new }
         ensures memory { IfErr result (λ e. e ≡ OutOfMemory → has_free self.old.circuits ≡ false) }
@@ -104,7 +106,8 @@ impl ServerCore {
         open_on(&mut self.circuits, circuit)
     }
 
-    /// Takes bytes that came on a circuit. Refused as CircuitClosed if its end is not open, then as OutOfMemory. A refusal changes nothing.
+    /// Takes bytes that came on a circuit. Refused as CircuitClosed if its end is not open, then as
+    /// OutOfMemory. A refusal changes nothing.
     pub fn give(&mut self, circuit: Handle, bytes: &[u8]) -> Result<(), Refusal>
         ensures { Gives self.old circuit bytes.now result self.new }
     {
@@ -135,7 +138,8 @@ impl ServerCore {
         sent_on(&mut self.circuits, &mut self.spares, circuit, n);
     }
 
-    /// Writes that are applied from now on have this time stamp: seconds since 1990-01-01 00:00:00 UTC, and nanoseconds.
+    /// Writes that are applied from now on have this time stamp: seconds since 1990-01-01 00:00:00
+    /// UTC, and nanoseconds.
     pub fn stamp(&mut self, seconds: u32, nanos: u32)
         ensures { self.new ≡ stamped (record { seconds = seconds; nanos = nanos }) self.old }
     {
@@ -167,7 +171,7 @@ fn open_on(circuits: &mut HeldTable<Circuit>, circuit: Circuit) -> Result<Handle
     }
 }
 
-// Why a circuit was refused, which is let go.
+// Why a circuit was refused. The circuit is dropped.
 fn refusal_in(refused: (Circuit, Refusal)) -> Refusal
     ensures { result ≡ refused.1 }
 {

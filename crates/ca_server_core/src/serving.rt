@@ -1,3 +1,5 @@
+//! A step, the finish of its put and the pump after it as one call, for servers whose records need
+//! no device.
 ghost use Rattle.std.specs.Prelude.{◌≡◌, false, length, true};
 ghost use Rattle.ca_ids.specs.Table.{under};
 ghost use Rattle.ca_model.specs.ServerSteps.{output_of};
@@ -26,12 +28,14 @@ use ca_server_circuit::{Circuit, Effect, EndStep, FollowUp};
 use ca_server_watchers::Watchers;
 
 impl ServerCore {
-    /// Handles the next message of a circuit as `step` does, finishes the put by which it made a record busy, as `finish` does, and then puts
-    /// updates that wait on the circuit after what waits to be sent, as `pump` does. It says how many bytes wait then: none if its end is not
-    /// open.
+    /// Handles the next message of a circuit as `step` does, finishes the put by which it
+    /// made a record busy, as `finish` does, and then puts updates that wait on the circuit
+    /// after what waits to be sent, as `pump` does. It says how many bytes wait then: none if
+    /// its end is not open.
     ///
-    /// A record that was busy before is finished too if the message wrote to it. The record is found by its place. Where no message was
-    /// handled nothing is pumped, and nothing is said of the bytes. Nothing is left to whoever called, so no effect is told.
+    /// A record that was busy before is finished too if the message wrote to it. The record is
+    /// found by its place. If no message was handled nothing is pumped, and nothing is said of the
+    /// bytes. Nothing is left to the caller, so no effect is reported.
     pub fn serve_and_pump(&mut self, circuit: Handle, waiting: &mut usize) -> Step
         ensures serves { ServesAndPumps self.old circuit (stepped result) waiting.new self.new }
         ensures quiet { (did : Effect) → result ≡ Handled did → did ≡ Quiet }
@@ -75,8 +79,9 @@ impl ServerCore {
     }
 }
 
-/// Does what a message of this circuit leaves to do, finishes the put by which it made a record busy, and pumps the circuit. So many bytes
-/// wait on it then. False if the end of the circuit has ended before that: then nothing was finished, and nothing pumped.
+/// Does what a message of this circuit leaves to do, finishes the put by which it made a record
+/// busy, and pumps the circuit. It says how many bytes wait on it then. False if the end of the
+/// circuit has ended before that: then nothing was finished, and nothing pumped.
 #[inline(always)]
 fn follow_and_pump(
     applied: &mut u64,

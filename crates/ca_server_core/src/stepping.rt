@@ -1,3 +1,4 @@
+//! A step of a circuit: its next message is handled, or the end of the circuit is reported.
 ghost use Rattle.std.specs.Prelude.{◌≡◌, false, length, take, true};
 ghost use Rattle.ca_ids.specs.Table.{under};
 ghost use Rattle.ca_model.specs.ServerSteps.{Steps, output_of};
@@ -30,19 +31,22 @@ pub enum Step {
     NeedBytes,
     /// So many bytes wait to be sent that no message is handled.
     OutputFull,
-    /// The end has ended for this cause, and these bytes are left to be sent. Nothing of it is kept.
+    /// The end has ended for this cause, and these bytes are left to be sent.
+    /// Nothing of it is kept.
     Closed(Cause, Pipe),
 }
 
 impl ServerCore {
-    /// Handles the next message of a circuit, unless 262,144 bytes wait to be sent on it. A write that it applies reaches all subscriptions on
-    /// its record, on all circuits. An end without memory for an update has ended.
+    /// Handles the next message of a circuit, unless 262,144 bytes wait to be sent on it. A write
+    /// that it applies reaches all subscriptions on its record, on all circuits. An end without
+    /// memory for an update has ended.
     ///
-    /// The end closes at a header that is refused, and out of memory if there is none for the message, which changes nothing then, or
-    /// for its own update of its write, which is applied then, though no effect tells it; its replies are not sent. The puts of the circuit
-    /// that wait are never applied.
-    /// The end of a circuit is reported once, whichever call ended it. From then on, and under a handle without a circuit, a step reports a
-    /// cut.
+    /// The end closes at a header that is refused, and out of memory. If the memory was for the
+    /// message, the message changes nothing. If it was for the end's own update of a write, the
+    /// write is applied, though no effect reports it, and its replies are not sent. The puts of the
+    /// circuit that wait are never applied.
+    /// The end of a circuit is reported once, whichever call ended it. From then on, and under a
+    /// handle without a circuit, a step reports a cut.
     pub fn step(&mut self, circuit: Handle) -> Step
         ensures steps { Steps self.old circuit (stepped result) self.new }
         ensures closes { Closes self.old circuit (stepped result) self.new }
@@ -87,8 +91,8 @@ impl ServerCore {
     }
 }
 
-/// One step of a circuit's end, which has ended if it broke, and how many bytes waited to be sent before it. None if there is no circuit, or its
-/// end had ended.
+/// One step of a circuit's end, which has ended if the step broke, and how many bytes waited to be
+/// sent before it. None if there is no circuit, or its end had ended.
 #[inline(always)]
 pub(crate) fn step_on(
     port: u16,
@@ -109,7 +113,7 @@ pub(crate) fn step_on(
     found.step(port, circuit, records)
 }
 
-/// Whether nothing is left to do: so it is after most messages.
+/// Whether nothing is left to do, as after most messages.
 pub(crate) fn is_quiet(effect: FollowUp) -> bool
     ensures { result ≡ is_quiet effect }
 {
@@ -119,8 +123,9 @@ pub(crate) fn is_quiet(effect: FollowUp) -> bool
     }
 }
 
-/// What a step of a circuit answers that handled a message with this effect. If its end has ended since, out of memory, nothing is left of its replies:
-/// these come after the first bytes that waited, and these alone are left. Where it may not have ended its circuit is not looked up again.
+/// The answer of a step that handled a message with this effect. If the end has ended since, out of
+/// memory, the replies are dropped: only the bytes that waited before them are left. If the end
+/// cannot have ended, the circuit is not looked up again.
 pub(crate) fn settle(
     alloc: Global,
     circuits: &mut HeldTable<Circuit>,
@@ -142,7 +147,8 @@ pub(crate) fn settle(
     over(alloc, circuits, circuit, waited)
 }
 
-/// The same of an end that has ended since.
+/// Reports a circuit whose end has ended since. Of what is left, only the bytes that waited
+/// before the step stay.
 #[cold]
 #[inline(never)]
 pub(crate) fn over(
@@ -180,7 +186,7 @@ pub(crate) fn is_open(circuits: &HeldTable<Circuit>, circuit: Handle) -> bool
     }
 }
 
-/// Takes a circuit out whose end has ended, and reports that.
+/// Takes out a circuit whose end has ended, and reports that.
 #[cold]
 #[inline(never)]
 pub(crate) fn report(alloc: Global, circuits: &mut HeldTable<Circuit>, circuit: Handle) -> Step

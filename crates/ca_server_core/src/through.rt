@@ -1,3 +1,5 @@
+//! The short way of a write that nobody else watches: its update is shown at once, on its own
+//! circuit.
 ghost use Rattle.std.specs.Prelude.{ℕ, ◌≡◌, Bool, false, length, true};
 ghost use Rattle.ca_ids.specs.Table.{under};
 ghost use Rattle.ca_model.specs.ServerSteps.{output_of};
@@ -16,9 +18,10 @@ use ca_records::ServedRecords;
 use ca_server_circuit::{Circuit, FollowUp};
 use ca_server_watchers::Watchers;
 
-/// Does what a message of this circuit leaves to do, and pumps the circuit, if the message is a write to a record that is not busy, and either
-/// nobody watches it while the circuit is idle, or this circuit alone does, and its update is shown at once. So many bytes wait then. False, and
-/// nothing changed, if more is to be done.
+/// Does what a message of this circuit leaves to do, and pumps the circuit, if the message is a
+/// write to a record that is not busy, and either nobody watches it while the circuit is idle, or
+/// this circuit alone does, and its update is shown at once. It says how many bytes wait then.
+/// False, and nothing changed, if more is to be done.
 #[inline(always)]
 pub(crate) fn go_through(
     circuits: &mut HeldTable<Circuit>,
@@ -51,7 +54,8 @@ pub(crate) fn go_through(
     go_to_watching(circuits, records, watchers, circuit, place, idle, left)
 }
 
-/// The same of a write to the record at this place, where somebody watches some record.
+/// Goes through, as `go_through`, after a write to the record at this place, when somebody
+/// watches some record.
 #[inline(never)]
 fn go_to_watching(
     circuits: &mut HeldTable<Circuit>,
@@ -88,7 +92,7 @@ fn go_to_watching(
     show_on(circuits, records, circuit, place, left)
 }
 
-/// Whether the last of those that watch, which has so many before it, is this circuit alone.
+/// Whether the last of those that watch, which has n before it, is this circuit alone.
 #[inline(always)]
 fn is_sole(last: Handle, before: usize, circuit: Handle) -> bool
     ensures { result ≡ true → (before ≡ 0) × (last ≡ circuit) }
@@ -96,7 +100,8 @@ fn is_sole(last: Handle, before: usize, circuit: Handle) -> bool
     before == 0 && last.index == circuit.index && last.generation == circuit.generation
 }
 
-/// A post of the value of the record at this place to this circuit, and a pump of it, if its update is shown at once.
+/// A post of the value of the record at this place to this circuit, and a pump of it, if its
+/// update is shown at once.
 #[inline(always)]
 fn show_on(
     circuits: &mut HeldTable<Circuit>,

@@ -41,7 +41,7 @@ module _ {V : Type 0} (items : V → List ℕ) where
   pub not-lined : (es : List (ℕ × V)) (sid : ℕ) → (let none : Option V = None in lookup (nat_eq sid) es ≡ none) → line_of (id_lines items es) sid ≡ None
   not-lined es sid is = lookup-map_values items (nat_eq sid) es ∙ ap (option_map items) is
 
-  -- a line that was taken out is there no more
+  -- a line that was taken out is no longer there
   pub taken-out : {S : Type 0} (m n : HashMap ℕ V S) (sid : ℕ) → hash.UpdatesBy nat_eq (nat_eq sid) m n None → line_of (id_lines items n.entries) sid ≡ None
   taken-out m n sid u = not-lined n.entries sid u.1
 

@@ -1,4 +1,5 @@
--- The order of the subscriptions of an end: which of them are before a place, and where a line of some of them is divided by it.
+-- The order of the subscriptions of an end: which of them are before a place, and where a line of
+-- some of them is divided by it.
 use Rattle.std.proofs.Common.{◌≡◌, ℕ, zero, suc, ◌+◌, ◌<◌, ◌≤◌, inl, inr, Bool, true, false, cond, List, [], ◌∷◌, ◌++◌, length, get_or, take, drop, filter, nat_lt, position, Option, Some, None, is_some, refl, sym, ap, ◌∙◌, subst, arith, length-append}
 use Rattle.std.specs.Prelude.{remove}
 use Rattle.std.specs.List.{position_or_len}

@@ -177,7 +177,7 @@ module _ {E : Type 0} where
   front-empty [] none = refl
   front-empty (w ∷ ws) none = absurd cc
 
-  -- where no queue gives one and events are on, nothing waits
+  -- where no queue returns one and events are on, nothing waits
   pub none-taken : (on : Bool) (old new : List (Queue E)) → AreSwitched on old → Takes old None new → on ≡ true → AreEmpty new
   none-taken on old new are t is i q at =
       let was : At old i q = subst (λ (qs : List (Queue E)). At qs i q) t.1 at in

@@ -1,4 +1,5 @@
--- Working: the subscriptions of an end, which are kept from its first EVENT_ADD on. No clause of a caller needs it.
+-- Working: the subscriptions of an end, which are kept from its first EVENT_ADD on. No clause
+-- of a caller needs it.
 use Rattle.std.specs.Prelude.{Bool, [], Option, Some, None, replicate}
 use Rattle.ca_text.specs.Limits.{circuit_queues}
 use Rattle.ca_queue.specs.Queue.{no_queue, switched}

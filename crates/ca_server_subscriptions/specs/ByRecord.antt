@@ -82,6 +82,6 @@ ArePlacedIn rs qs = (es : Standings) × (name : List ℕ) × ArePlaced es qs × 
 abbrev pub IsSole : Option ℕ → Standings → Type 0
 IsSole sole es = (place : ℕ) (e : SubKey × (Subscription × ℕ)) → sole ≡ Some place → At es place e → receivers_of e.1.0.name es ≡ receiver_of e ∷ []
 
--- it is the only one on the record of this name, and stands under its key
+-- it is the only one on the record of this name, and is under its key
 abbrev pub IsAloneOn : (name : List ℕ) → Subscription × ℕ → Standings → Type 0
 IsAloneOn name of es = (key : SubKey) × (receivers_of name es ≡ receiver_of (key, of) ∷ []) × (lookup (same key) es ≡ Some of)

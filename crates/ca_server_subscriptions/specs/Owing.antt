@@ -18,11 +18,11 @@ addressee_of r = record { queue = r.queue; key = r.key }
 abbrev pub keys_of : List Addressee → List SubKey
 keys_of owed = map (λ (a : Addressee). a.key) owed
 
--- so many of this, and no other
+-- n of this, and no other
 abbrev pub AreCopies : {A : Type 0} → ℕ → A → List A → Type 0
 AreCopies n x xs = (length xs ≡ n) × ((i : ℕ) (y : _) → At xs i y → y ≡ x)
 
--- none is in a later queue than one behind it
+-- none is in a later queue than one after it
 abbrev pub AreInOrder : List Addressee → Type 0
 AreInOrder [] = Unit {0}
 AreInOrder (a ∷ owed) = ((i : ℕ) (b : Addressee) → At owed i b → a.queue ≤ b.queue) × AreInOrder owed
@@ -48,7 +48,8 @@ module _ {E : Type 0} where
   abbrev pub HasAlone : List (Queue E) → ℕ → SubKey → Type 0
   HasAlone qs place key = HasAt qs place key × ((i : ℕ) → HasAt qs i key → i ≡ place)
 
-  -- What holds of the queues: whether events are on, whether nothing waits in them, and whom the update beside them is for.
+  -- What holds of the queues: whether events are on, whether nothing waits in them, and whom the
+  -- update beside them is for.
   pub record IsOwing (on empty : Bool) (owed : List Addressee) (qs : List (Queue E)) : Type 0 where
     pub switched : AreSwitched on qs
     pub quiet : empty ≡ true → AreEmpty qs
@@ -56,7 +57,7 @@ module _ {E : Type 0} where
     pub apart : AreApart (keys_of owed)
     pub ordered : AreInOrder owed
 
-  -- A subscription begins as the queues do it; or memory lacks, and all is as it was.
+  -- A subscription begins as the queues do it; or there is no memory, and all is as it was.
   abbrev pub MayBegin : List (Queue E) → SubKey → E → Result ℕ Refusal → List (Queue E) → Type 0
   MayBegin old key v (Err refusal.OutOfMemory) new = new ≡ old
   MayBegin old key v r new = Begins old key v r new

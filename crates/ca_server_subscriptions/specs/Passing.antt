@@ -8,8 +8,8 @@ use Rattle.ca_model.specs.Speech.{Stored, share_bit}
 use Rattle.ca_server_subscriptions.specs.Pumping.{GivesUpdate}
 use Rattle.ca_server_subscriptions.specs.Subscribed.{HasRoom, Subscribed, after_post, is_on}
 
--- One is on the record of this name, and nothing may be taken. After a post to that record, with this mask, its update for whoever asked so
--- is the next to be taken, and all is then as it was.
+-- One is on the record of this name, and nothing may be taken. After a post to that record, with
+-- this mask, its update for whoever asked so is the next to be taken, and all is then as it was.
 pub record PassesBy (name : List ℕ) (mask : ℕ) (w : Wanted) (s : Subscribed) : Type 0 where
   pub on : list_any (is_on name) s.subscriptions ≡ true
   pub rests : RestBefore s.queues (length s.queues)

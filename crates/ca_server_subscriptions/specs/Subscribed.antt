@@ -40,7 +40,8 @@ module _ {E : Type 0} where
   total [] = 0
   total (q ∷ qs) = length q.subscriptions + total qs
 
--- Each subscription is under its own key, once, and in the queue that it was given; and the queues have no other.
+-- Each subscription is under its own key, once, and in the queue that it was given; and the
+-- queues have no other.
 pub record ArePlaced (es : Standings) (qs : List (Queue Stored)) : Type 0 where
   pub keyed : (i : ℕ) (e : SubKey × (Subscription × ℕ)) → At es i e → e.0 ≡ key_of e.1.0
   pub placed : (i : ℕ) (e : SubKey × (Subscription × ℕ)) → At es i e → HasAt qs e.1.1 e.0

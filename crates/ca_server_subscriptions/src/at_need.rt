@@ -22,9 +22,9 @@ use ca_wire::{Sid, Wanted};
 use std::alloc::{AllocError, Global};
 use std::marker::Model;
 
-/// The subscriptions of an end, in the order of their EVENT_ADDs, and the queues of their updates. They are kept from the first EVENT_ADD on:
-/// most circuits have none, and a server with many is the faster the less of its memory each takes. Until then it is known whether events
-/// are on.
+/// The subscriptions of an end, in the order of their EVENT_ADDs, and the queues of their updates.
+/// They are kept from the first EVENT_ADD on: most circuits have none, and a server with many is
+/// the faster the less of its memory each takes. Until then it is known whether events are on.
 #[derive(Drop)]
 pub struct SubscriptionsAtNeed {
     alloc: Global,
@@ -75,8 +75,8 @@ impl SubscriptionsAtNeed {
         }
     }
 
-    /// Adds one that is new, to the record of this name, and puts its first update in the first queue with room. Without memory all is
-    /// as it was.
+    /// Adds one that is new, to the record of this name, and puts its first update in the first
+    /// queue with room. Without memory all is as it was.
     pub fn begin(
         &mut self,
         wanted: Wanted,
@@ -129,7 +129,8 @@ impl SubscriptionsAtNeed {
         }
     }
 
-    /// Tells that the queues have no other subscriptions, and that one has room unless there are as many as there may be. It does nothing.
+    /// Tells that the queues have no other subscriptions, and that one has room unless there are as
+    /// many as there may be. It does nothing.
     pub fn know(&self)
         ensures known { AreKnown self.now }
         ensures room { HasRoom self.now }
@@ -140,8 +141,9 @@ impl SubscriptionsAtNeed {
         }
     }
 
-    /// A post to the record of this name: each that it concerns gets an update, in their order. It says whether one is on the record. Without
-    /// memory for one all subscriptions stay, and some have the update, so that the end is to be closed.
+    /// A post to the record of this name: each that it concerns gets an update, in their order. It
+    /// says whether one is on the record. Without memory for one all subscriptions stay, and some
+    /// have the update, so that the end is to be closed.
     #[inline(always)]
     pub fn post(
         &mut self,
@@ -175,8 +177,8 @@ impl SubscriptionsAtNeed {
         }
     }
 
-    /// The place of the queue that has the one at this place, if a post to the record of this name, with this mask, concerns it. Only
-    /// whoever records histories needs it.
+    /// The place of the queue that has the one at this place, if a post to the record of this name,
+    /// with this mask, concerns it. Only a recorder of histories needs it.
     pub fn concerned_at(&self, place: usize, name: &[u8], mask: u16) -> Option<usize>
         ensures { ConcernsAt name.now mask place self.now.subscriptions self.now.queues result }
     {
@@ -186,7 +188,8 @@ impl SubscriptionsAtNeed {
         }
     }
 
-    /// Tells if nothing waits and events are on, or if there was no subscription yet, so that no update may be taken.
+    /// Tells if nothing waits and events are on, or if there was no subscription yet, so that no
+    /// update may be taken.
     pub fn is_idle(&self) -> bool
         ensures { result ≡ true → RestBefore self.now.queues (length self.now.queues) }
     {
@@ -196,8 +199,9 @@ impl SubscriptionsAtNeed {
         }
     }
 
-    /// What the only subscription on the record of this name asked for, if there is one alone, a post with this mask concerns it, and
-    /// nothing waits while events are on: its update would be the next to be taken, and would leave all as it is. None says nothing.
+    /// What the only subscription on the record of this name asked for, if there is one alone, a
+    /// post with this mask concerns it, and nothing waits while events are on: its update would be
+    /// the next to be taken, and would leave all as it is. None says nothing.
     #[inline(always)]
     pub fn sole(&mut self, name: &[u8], mask: u16) -> Option<Wanted>
         ensures passes { IfSome result (λ w. PassesBy name.now mask w self.old) }
@@ -210,7 +214,8 @@ impl SubscriptionsAtNeed {
         }
     }
 
-    /// The update that is taken next, and what its subscription asked for, if it was posted while nothing waited. It is not taken yet.
+    /// The update that is taken next, and what its subscription asked for, if it was posted while
+    /// nothing waited. It is not taken yet.
     pub fn first(&self) -> Option<(Wanted, &Update)>
         ensures gives { IfSome result (λ r. MayGive self.now r.0 r.1.now) }
         ensures askable { IfSome result (λ r. IsAskable r.0) }
@@ -231,8 +236,9 @@ impl SubscriptionsAtNeed {
         }
     }
 
-    /// Takes an update from the first queue that may give one, and says what its subscription asked for. None if none may. Without memory,
-    /// which is asked for only if one may be taken, all is as it was.
+    /// Takes an update from the first queue that may give one, and says what its subscription
+    /// asked for. None if none may. Without memory, which is asked for only if one may be
+    /// taken, all is as it was.
     pub fn take(&mut self) -> Result<Option<(Wanted, Update)>, AllocError>
         ensures gives { IfOk result (λ taken. GivesUpdate self.old taken self.new) }
         ensures askable { IfOk result (λ taken. IfSome taken (λ r. IsAskable r.0)) }

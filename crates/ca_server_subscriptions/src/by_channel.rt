@@ -60,7 +60,7 @@ impl ByChannel {
         self.begin(key)
     }
 
-    // The same for a channel that has no line.
+    // One more of its channel, which has no line yet. Without memory all is as it was.
     fn begin(&mut self, key: SubKey) -> Result<(), AllocError>
         requires { ids_in self.old key.sid ≡ [] }
         ensures ok { OnOk result (ids_in self.new ≡ with_id key (ids_in self.old)) }
@@ -72,7 +72,8 @@ impl ByChannel {
         Ok(())
     }
 
-    // The last one of its channel, which `add` put there, is gone again. A line that has none left goes, as in `take_out`.
+    // The last one of its channel, which `add` put there, is gone again. A line that has none left
+    // goes, as in `take_out`.
     pub(crate) fn take_back(&mut self, key: SubKey)
         ensures back { (ids : Ids) → ids_in self.old ≡ with_id key ids → ids_in self.new ≡ ids }
         ensures gone { ids_in self.new key.sid ≡ [] → line_of self.new key.sid ≡ None }
@@ -81,7 +82,7 @@ impl ByChannel {
         self.drop_if_empty(key.sid);
     }
 
-    // The same, but that the line may have none.
+    // The last one of its channel is gone again. The line may be left with none.
     fn pop(&mut self, key: SubKey)
         ensures { (ids : Ids) → ids_in self.old ≡ with_id key ids → ids_in self.new ≡ ids }
     {
@@ -91,8 +92,8 @@ impl ByChannel {
         line.pop();
     }
 
-    // This one, which is at this place of all of the end, is gone. A line that has none left goes, so that SIDs which come and go fill no
-    // memory.
+    // This one, which is at this place of all of the end, is gone. A line that has none left goes,
+    // so that SIDs which come and go fill no memory.
     pub(crate) fn take_out(
         &mut self,
         standing: &IndexMap<SubKey, Standing>,
@@ -109,7 +110,7 @@ impl ByChannel {
         self.drop_if_empty(key.sid);
     }
 
-    // The same, but that the line may have none.
+    // This one, which is at this place of all of the end, is gone. The line may be left with none.
     fn shorten(&mut self, standing: &IndexMap<SubKey, Standing>, place: usize, key: SubKey)
         requires here { At (keys_in standing.now.entries) place key }
         requires apart { AreApart (keys_in standing.now.entries) }
@@ -146,8 +147,8 @@ impl ByChannel {
     }
 }
 
-// Where the one at this place of all of the end is in the line of its channel. Both lists are in the order of EVENT_ADDs, so that those
-// which are before it in the one come first in the other.
+// Where the one at this place of all of the end is in the line of its channel. Both lists are in
+// the order of EVENT_ADDs, so that those which are before it in the one come first in the other.
 fn place_in_channel(
     line: &[u32],
     standing: &IndexMap<SubKey, Standing>,

@@ -64,7 +64,7 @@ impl ByRecord {
         None
     }
 
-    // The same by the hash of the name.
+    // Those on the record of this name, found by the hash of the name.
     #[inline(never)]
     fn hashed(&self, recent: &mut usize, name: &[u8]) -> &[Receiver]
         ensures { result.now ≡ receivers_in self.now name.now }
@@ -101,7 +101,8 @@ impl ByRecord {
         self.begin(name, receiver)
     }
 
-    // The same for a record that has no line.
+    // One more is on the record of this name, which has no line yet. Without
+    // memory all is as it was.
     fn begin(&mut self, name: &[u8], receiver: Receiver) -> Result<(), AllocError>
         requires { receivers_in self.old name.now ≡ [] }
         ensures ok { OnOk result (Adds name.now receiver self.old self.new) }
@@ -114,8 +115,8 @@ impl ByRecord {
         Ok(())
     }
 
-    // The subscription at this place of all of the end, on the record of this name, is gone. A line that has none left goes, so that names
-    // which come and go fill no memory.
+    // The subscription at this place of all of the end, on the record of this name, is gone. A line
+    // that has none left goes, so that names which come and go fill no memory.
     pub(crate) fn take_out(
         &mut self,
         name: &[u8],
@@ -131,7 +132,7 @@ impl ByRecord {
         self.drop_if_empty(name);
     }
 
-    // The same, but that the line may have none.
+    // The subscription at this place is gone from its record. The line may be left with none.
     fn shorten(&mut self, name: &[u8], standing: &IndexMap<SubKey, Standing>, place: usize)
         requires { IsInLine standing.now.entries place (receivers_in self.old name.now) }
         ensures { (key : SubKey) → At (keys_in standing.now.entries) place key

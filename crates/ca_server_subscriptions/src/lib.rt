@@ -1,4 +1,5 @@
-//! The subscriptions of one circuit at a server, each in the queue that it was given, and the updates that wait for it.
+//! The subscriptions of one circuit at a server, each in the queue that it was given, and the
+//! updates that wait for it.
 //!
 //! The server's core holds one for each open end. It takes memory from the first EVENT_ADD on.
 #![tactic(auto)]

@@ -78,8 +78,9 @@ impl Line {
     }
 }
 
-// Where the line has the one at this place of all of the end. Both are in the order of their EVENT_ADDs, so that those which are before it
-// there come before it here, and a search by halving finds it.
+// Where the line has the one at this place of all of the end. Both are in the order of
+// their EVENT_ADDs, so that those which are before it there come before it here, and a
+// search by halving finds it.
 fn place_on_record(
     receivers: &[Receiver],
     standing: &IndexMap<SubKey, Standing>,

@@ -12,7 +12,8 @@ pub(crate) struct Receiver {
     mask: u16,
     // The place of the queue that has it.
     queue: usize,
-    // Where it was found last among all of the end: there it is looked for first. The key decides, since those before it may be gone.
+    // Where it was found last among all of the end: there it is looked for first. The key decides,
+    // since those before it may be gone.
     place: usize,
 }
 

@@ -57,7 +57,7 @@ impl Standing {
         self.wanted
     }
 
-    // The same, if this mask is its.
+    // What its EVENT_ADD asks for, if this is its mask.
     #[inline(always)]
     pub(crate) fn wanted_by(&self, mask: u16) -> Option<Wanted>
         ensures wants { IfSome result (λ w. IsWantedBy mask self.now.0 w) }

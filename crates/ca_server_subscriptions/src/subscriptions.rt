@@ -34,16 +34,19 @@ use std::slice;
 /// The subscriptions of an end, in the order of their EVENT_ADDs, and the queues of their updates.
 #[derive(Drop)]
 pub(crate) struct Subscriptions {
-    // The place in `standing` of a subscription that is the only one on its record, mostly the record that was posted to last: the next post
-    // to it then looks at no line. None if no such place is known, as after each `begin` and `cancel`.
+    // The place in `standing` of a subscription that is the only one on its record, mostly the
+    // record that was posted to last: the next post to it then looks at no line. None if no such
+    // place is known, as after each `begin` and `cancel`.
     sole: Option<usize>,
     standing: IndexMap<SubKey, Standing>,
     queues: Waiting,
-    // A guess of the place in `standing` of the subscription whose update is taken next: the first one that was last posted to, then the one
-    // after each that was taken. Whoever uses it compares the key there, and looks the key up if it is another.
+    // A guess of the place in `standing` of the subscription whose update is taken next: the first
+    // one that was last posted to, then the one after each that was taken. Whoever uses it compares
+    // the key there, and looks the key up if it is another.
     next: usize,
     by_record: ByRecord,
-    // Where the line of a record was found last: mostly the same is asked for again. The name decides.
+    // Where the line of a record was found last: mostly the same is asked for
+    // again. The name decides.
     recent: usize,
     by_channel: ByChannel,
 }
@@ -96,8 +99,8 @@ impl Subscriptions {
         self.standing.contains_key(&key)
     }
 
-    /// Adds one that is new, to the record of this name, and puts its first update in the first queue with room. Without memory all is
-    /// as it was.
+    /// Adds one that is new, to the record of this name, and puts its first update in the first
+    /// queue with room. Without memory all is as it was.
     pub fn begin(
         &mut self,
         wanted: Wanted,
@@ -170,7 +173,8 @@ impl Subscriptions {
         'clearing: while let Some(key) = self.last_of(sid) {
             self.cancel(key);
         }
-        // It does nothing here: it tells the proof that the queues have no other subscriptions, so that none of this SID is left there.
+        // It does nothing here: it tells the proof that the queues have no other subscriptions, so
+        // that none of this SID is left there.
         self.know();
     }
 
@@ -185,7 +189,8 @@ impl Subscriptions {
         }
     }
 
-    /// Tells that the queues have no other subscriptions, and that one has room unless there are as many as there may be. It does nothing.
+    /// Tells that the queues have no other subscriptions, and that one has room unless there are as
+    /// many as there may be. It does nothing.
     pub fn know(&self)
         ensures known { AreKnown self.now }
         ensures room { HasRoom self.now }
@@ -193,8 +198,9 @@ impl Subscriptions {
         let _ = &self.standing;
     }
 
-    /// A post to the record of this name: each that it concerns gets an update, in their order. It says whether one is on the record. Without
-    /// memory for one all subscriptions stay, and some have the update, so that the end is to be closed.
+    /// A post to the record of this name: each that it concerns gets an update, in their order. It
+    /// says whether one is on the record. Without memory for one all subscriptions stay, and some
+    /// have the update, so that the end is to be closed.
     #[inline(always)]
     pub fn post(
         &mut self,
@@ -221,7 +227,7 @@ impl Subscriptions {
         self.post_to_each(name, mask, value, meta)
     }
 
-    // The same by the line of the record.
+    // A post to the record of this name, by the line of the record.
     #[inline(never)]
     fn post_to_each(
         &mut self,
@@ -257,8 +263,8 @@ impl Subscriptions {
         self.queues.recycle(update);
     }
 
-    /// The place of the queue that has the one at this place, if a post to the record of this name, with this mask, concerns it. Only
-    /// whoever records histories needs it.
+    /// The place of the queue that has the one at this place, if a post to the record of this name,
+    /// with this mask, concerns it. Only a recorder of histories needs it.
     pub fn concerned_at(&self, place: usize, name: &[u8], mask: u16) -> Option<usize>
         ensures { ConcernsAt name.now mask place self.now.subscriptions self.now.queues result }
     {
@@ -278,8 +284,9 @@ impl Subscriptions {
         self.queues.is_idle()
     }
 
-    /// What the only subscription on the record of this name asked for, if there is one alone, a post with this mask concerns it, and
-    /// nothing waits while events are on: its update would be the next to be taken, and would leave all as it is. None says nothing.
+    /// What the only subscription on the record of this name asked for, if there is one alone, a
+    /// post with this mask concerns it, and nothing waits while events are on: its update would be
+    /// the next to be taken, and would leave all as it is. None says nothing.
     #[inline(always)]
     pub fn sole(&mut self, name: &[u8], mask: u16) -> Option<Wanted>
         ensures passes { IfSome result (λ w. PassesBy name.now mask w self.old) }
@@ -295,7 +302,7 @@ impl Subscriptions {
         }
     }
 
-    // The same by the line of the record.
+    // What the only subscription on the record asked for, as `sole`, by the line of the record.
     #[inline(never)]
     fn seek_sole(&mut self, name: &[u8], mask: u16) -> Option<Wanted>
         requires on { AreOn self.old.queues }
@@ -312,7 +319,8 @@ impl Subscriptions {
         standing.wanted_by(mask)
     }
 
-    /// The update that is taken next, and what its subscription asked for, if it was posted while nothing waited. It is not taken yet.
+    /// The update that is taken next, and what its subscription asked for, if it was posted while
+    /// nothing waited. It is not taken yet.
     pub fn first(&self) -> Option<(Wanted, &Update)>
         ensures gives { IfSome result (λ r. MayGive self.now r.0 r.1.now) }
         ensures askable { IfSome result (λ r. IsAskable r.0) }
@@ -332,8 +340,9 @@ impl Subscriptions {
         self.queues.drop_first();
     }
 
-    /// Takes an update from the first queue that may give one, and says what its subscription asked for. None if none may. Without memory,
-    /// which is asked for only if one may be taken, all is as it was.
+    /// Takes an update from the first queue that may give one, and says what its subscription
+    /// asked for. None if none may. Without memory, which is asked for only if one may be
+    /// taken, all is as it was.
     pub fn take(&mut self) -> Result<Option<(Wanted, Update)>, AllocError>
         ensures gives { IfOk result (λ taken. GivesUpdate self.old taken self.new) }
         ensures askable { IfOk result (λ taken. IfSome taken (λ r. IsAskable r.0)) }
@@ -355,7 +364,8 @@ impl Subscriptions {
     }
 }
 
-// The subscription of this key, which is looked for at this place first. The place after it comes in its stead.
+// The subscription of this key, which is looked for at this place first. The place after
+// it comes in its stead.
 fn find<'a>(
     standing: &'a IndexMap<SubKey, Standing>,
     next: &mut usize,
@@ -426,7 +436,7 @@ fn sole_on(
     Some(standing.receiver(*key, place))
 }
 
-// The only one on the record of this name, if it is at this place, as it stands there.
+// The only one on the record of this name, if it is at this place, as it is there.
 #[inline(always)]
 fn alone_on<'a>(
     sole: Option<usize>,
@@ -456,13 +466,14 @@ fn place_of(receiver: &Receiver, standing: &IndexMap<SubKey, Standing>) -> usize
     }
 }
 
-// The same by the key.
+// Where this one is, by its key.
 #[inline(never)]
 fn moved_to(receiver: &Receiver, standing: &IndexMap<SubKey, Standing>) -> usize {
     standing.get_index_of(&receiver.key()).unwrap_or(0)
 }
 
-// Where the only one of those on the record of this name is, if there is one alone: here is the first.
+// Where the only one of those on the record of this name is, if there is one
+// alone: here is the first.
 fn sole_of(
     receivers: &[Receiver],
     place: usize,

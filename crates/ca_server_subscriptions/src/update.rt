@@ -41,7 +41,7 @@ impl Update {
         }
     }
 
-    // The same once more.
+    // A copy of the update.
     pub(crate) fn copy(&self, alloc: Global) -> Result<Update, AllocError>
         ensures { IfOk result (λ u. u ≡ self.now) }
     {
@@ -56,7 +56,8 @@ impl Update {
         }
     }
 
-    // It is one of this value from now on, which it copies, into its own memory if that is of this type.
+    // It is one of this value from now on, which it copies, into its own memory if
+    // that is of this type.
     #[inline(always)]
     pub(crate) fn renew(
         &mut self,
@@ -87,7 +88,8 @@ impl Update {
     }
 }
 
-// This value is the same as the other from now on. Its memory is kept if both are of one type. Without memory it has no elements, or is as it was.
+// This value is the same as the other from now on. Its memory is kept if both are of one type.
+// Without memory it has no elements, or is as it was.
 #[inline(always)]
 fn copy_over(alloc: Global, room: &mut Value, value: &Value) -> Result<(), AllocError>
     requires { count_of (elements room.old) ≤ element_limit }
@@ -106,7 +108,7 @@ fn copy_over(alloc: Global, room: &mut Value, value: &Value) -> Result<(), Alloc
     }
 }
 
-// The same in memory of its own.
+// This value is the same as the other from now on, in memory of its own.
 #[inline(never)]
 fn replace(alloc: Global, room: &mut Value, value: &Value) -> Result<(), AllocError>
     ensures ok { OnOk result (elements room.new ≡ elements value.now) }
@@ -135,7 +137,7 @@ fn renew<T: Copy + Drop>(items: &mut Vec<T>, from: &[T]) -> Result<(), AllocErro
     renew_all(items, from)
 }
 
-// The same however many there are.
+// These items, however many there are, in place of those that were there.
 #[inline(never)]
 fn renew_all<T: Copy + Drop>(items: &mut Vec<T>, from: &[T]) -> Result<(), AllocError>
     ensures ok { OnOk result (items.new.items ≡ from.now) }

@@ -23,8 +23,9 @@ use std::collections::VecDeque;
 use std::marker::Model;
 use std::mem;
 
-/// The updates of an end that wait, in its queues. Those of a post that comes while nothing waits stay beside them: mostly they leave before
-/// the next post comes, and their value is then copied once, for however many subscriptions it is. Contracts see the queues, with these
+/// The updates of an end that wait, in its queues. Those of a post that comes while nothing
+/// waits stay beside them: mostly they leave before the next post comes, and their value is then
+/// copied once, for however many subscriptions it is. Contracts see the queues, with these
 /// updates in their own.
 #[derive(Drop)]
 pub(crate) struct Waiting {
@@ -32,7 +33,8 @@ pub(crate) struct Waiting {
     queues: QueuesAtNeed<Update, EventQueue<Update>>,
     // Whether events are on in the queues.
     events_on: bool,
-    // If true, no update waits in the queues. It may be false while none waits: it becomes true again only once `take` finds none with events on.
+    // If true, no update waits in the queues. It may be false while none waits: it becomes true
+    // again only once `take` finds none with events on.
     empty: bool,
     // Whom the update beside the queues is for, in the order in which they get it.
     owed: VecDeque<Addressee, Global>,
@@ -77,7 +79,8 @@ impl Waiting {
         }
     }
 
-    // Adds a subscription with its first update, as the queues do. It may lack memory for those beside them too.
+    // Adds a subscription with its first update, as the queues do. It may be without memory for
+    // those beside them too.
     pub(crate) fn begin(&mut self, key: SubKey, update: Update) -> Result<usize, Refusal>
         requires { HasNone self.old key }
         ensures { MayBegin self.old key update result self.new }
@@ -87,8 +90,8 @@ impl Waiting {
         self.queues.begin(key, update)
     }
 
-    // A post to these subscriptions: each whose mask shares a bit with this one gets an update, in their order. Without memory some may
-    // have it.
+    // A post to these subscriptions: each whose mask shares a bit with this one gets an update, in
+    // their order. Without memory some may have it.
     #[inline(always)]
     pub(crate) fn post(
         &mut self,
@@ -123,7 +126,8 @@ impl Waiting {
         Ok(())
     }
 
-    // The same behind others that wait.
+    // A post to these subscriptions when others wait already: each that it concerns gets an
+    // update, in their order.
     #[inline(never)]
     fn post_behind(
         &mut self,
@@ -147,7 +151,7 @@ impl Waiting {
         Ok(())
     }
 
-    // The same for one subscription. Without memory all is as it was.
+    // A post to this subscription when others wait already. Without memory all is as it was.
     fn put_behind(
         &mut self,
         receiver: &Receiver,
@@ -182,7 +186,8 @@ impl Waiting {
         is_alone(self.events_on, self.empty, &self.owed)
     }
 
-    // The next update that is taken, with its subscription, if it waits beside the queues: none if others wait.
+    // The next update that is taken, with its subscription, if it waits beside the queues:
+    // none if others wait.
     pub(crate) fn first(&self) -> Option<(SubKey, &Update)>
         ensures { IfSome result (λ r. IsNext self.now r.0 r.1.now) }
     {
@@ -207,7 +212,8 @@ impl Waiting {
         }
     }
 
-    // Takes an update from the first queue that may give one, as the queues do. It may lack memory if one may be taken.
+    // Takes an update from the first queue that may give one, as the queues do. It may be without
+    // memory if one may be taken.
     pub(crate) fn take(&mut self) -> Result<Option<(usize, SubKey, Update)>, AllocError>
         ensures ok { IfOk result (λ taken. Takes self.old taken self.new) }
         ensures some { OnErr result ((key : SubKey) × ((v : Stored) × IsNext self.old key v)) }
@@ -268,7 +274,7 @@ fn is_for_any(receivers: &[Receiver], mask: u16) -> bool
     receivers.iter().any(|receiver| receiver.is_masked(mask))
 }
 
-// Whether none of these is in a later queue than one behind it.
+// Whether none of these is in a later queue than one after it.
 #[inline(always)]
 fn are_in_order(receivers: &[Receiver]) -> bool
     ensures { result ≡ true → AreInOrder (map addressee_of receivers.now) }
@@ -289,7 +295,8 @@ fn are_in_order(receivers: &[Receiver]) -> bool
     true
 }
 
-// An update beside the queues is for those of these whose mask shares a bit with this one. Without memory it may be for some of them.
+// An update beside the queues is for those of these whose mask shares a bit with this one. Without
+// memory it may be for some of them.
 #[inline(always)]
 fn owe(
     owed: &mut VecDeque<Addressee, Global>,
@@ -319,7 +326,8 @@ fn forget(owed: &mut VecDeque<Addressee, Global>, key: SubKey)
     owed.retain(|addressee| key != addressee.key);
 }
 
-// Puts the update beside the queues into those of the subscriptions that it is for. Without memory all is as it was.
+// Puts the update beside the queues into those of the subscriptions that it is for. Without
+// memory all is as it was.
 #[inline(always)]
 fn settle(
     alloc: Global,
@@ -342,7 +350,7 @@ fn settle(
     Ok(())
 }
 
-// So many copies of the update.
+// This many copies of the update.
 fn copies_of(alloc: Global, update: &Update, n: usize) -> Result<Vec<Update>, AllocError>
     ensures { IfOk result (λ copies. AreCopies n update.now copies.items) }
 {

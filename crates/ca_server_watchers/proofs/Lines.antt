@@ -35,7 +35,7 @@ all-at P [] i x all at = absurd cc
 all-at P (y ∷ xs) zero x all at = subst P (some_is y x at) all.0
 all-at P (y ∷ xs) (suc i) x all at = all-at P xs i x all.1 at
 
--- keys that differ stand at one place each
+-- keys that differ are at one place each
 distinct-at : (ks : List ℕ) (i j k : ℕ) → IsDistinct nat_eq ks → At ks i k → At ks j k → i ≡ j
 distinct-at [] i j k d a b = absurd cc
 distinct-at (x ∷ ks) zero zero k d a b = refl

@@ -44,7 +44,8 @@ pub record Joins (h : Handle) (old new : List Handle) : Type 0 where
   pub others : (g : Handle) → IsAmong old g → (g.index ≡ h.index → ⊥) → IsAmong new g
   pub only : (g : Handle) → IsAmong new g → (g ≡ h) ⊎ IsAmong old g
 
--- The one at a place was taken out: it is there no more, the others are, and those before it at their places.
+-- The one at a place was taken out: it is no longer there, the others are, and those
+-- before it at their places.
 pub record Leaves (k : ℕ) (old new : List Handle) : Type 0 where
   pub before : (i : ℕ) → i < k → slice_get new i ≡ slice_get old i
   pub others : (i : ℕ) (g : Handle) → At old i g → (i ≡ k → ⊥) → IsAmong new g
@@ -59,7 +60,7 @@ pub record Watches (name : List ℕ) (h : Handle) (old new : Watched) : Type 0 w
   pub joins : Joins h (watching old name) (watching new name)
   pub stay : OthersStay name old new
 
--- The one at a place watches the record of this name no more.
+-- The one at a place no longer watches the record of this name.
 pub record LeavesAt (name : List ℕ) (k : ℕ) (old new : Watched) : Type 0 where
   pub leaves : Leaves k (watching old name) (watching new name)
   pub stay : OthersStay name old new

@@ -8,7 +8,8 @@ use indexmap::IndexMap;
 use std::alloc::{AllocError, Global};
 use std::marker::Model;
 
-/// For each record that is watched, the circuits that watch it. A server has one for its subscriptions, and one for its channels.
+/// For each record that is watched, the circuits that watch it. A server has one for its
+/// subscriptions, and one for its channels.
 #[derive(Drop)]
 pub struct Watchers {
     lines: IndexMap<Vec<u8>, Line>,
@@ -78,7 +79,7 @@ impl Watchers {
         }
     }
 
-    // The same by the hash of the name.
+    // The last of the circuits that watch the record of this name, found by the hash of the name.
     #[inline(never)]
     fn hashed_last(&mut self, name: &[u8], before: &mut usize) -> Option<Handle>
         ensures last { result ≡ slice_get (watching self.old name.now) before.new }
@@ -150,7 +151,8 @@ impl Watchers {
         self.begin(name, circuit)
     }
 
-    // The same for a record that has no line.
+    // This circuit watches the record of this name, which has no line yet. Without
+    // memory all is as it was.
     fn begin(&mut self, name: &[u8], circuit: Handle) -> Result<(), AllocError>
         requires { watching self.old name.now ≡ [] }
         ensures ok { OnOk result (Watches name.now circuit self.old self.new) }
@@ -164,7 +166,8 @@ impl Watchers {
         Ok(())
     }
 
-    /// The circuit at this place of the list of this record watches it no more. The last of the list comes there.
+    /// The circuit at this place of the list of this record no longer watches it. The last of
+    /// the list comes there.
     pub fn forget(&mut self, name: &[u8], place: usize)
         ensures { LeavesAt name.now place self.old self.new }
     {

@@ -101,7 +101,8 @@ fn ended(alloc: Global, rest: &str, events: &[Event]) -> Result<(Stopped, usize)
     Ok((ran.world, ran.done))
 }
 
-/// Which ends of circuits these events of one client and one server leave open, the server's first: those that they neither cut nor restart.
+/// Which ends of circuits these events of one client and one server leave open, the server's first:
+/// those that they neither cut nor restart.
 fn open_after(alloc: Global, events: &[Event]) -> Result<Vec<[bool; 2]>, Refusal> {
     let mut open: Vec<[bool; 2]> = Vec::new(alloc);
     for event in events {
@@ -123,7 +124,7 @@ fn close_all(open: &mut [[bool; 2]], end: usize) {
     }
 }
 
-/// Whether the ends that receive are those, and there is no circuit behind them.
+/// Whether the ends that receive are those, and there is no circuit after them.
 fn are_open(world: &Stopped, open: &[[bool; 2]]) -> bool {
     let none = open.len() as u64;
     world.circuits() == none
@@ -146,14 +147,16 @@ fn waiting_on(world: &Stopped, circuit: u64) -> [u64; 2] {
     ]
 }
 
-/// Whether the script is done whole, and leaves just those ends closed that it cuts or restarts.
+/// Whether the script is done completely, and leaves just those ends closed that
+/// it cuts or restarts.
 fn leaves_ends(alloc: Global, rest: &str) -> Result<bool, Refusal> {
     let (_, events) = world_of(alloc, rest)?;
     let (world, done) = ended(alloc, rest, &events)?;
     Ok(done == events.len() && are_open(&world, &open_after(alloc, &events)?))
 }
 
-/// The same with the events that a seed draws, as far as they can be done.
+/// Whether the script and the events that a seed draws, as far as they can be done, leave just
+/// those ends closed that they cut or restart.
 fn leaves_ends_with(alloc: Global, rest: &str, seed: u64) -> Result<bool, Refusal> {
     let (config, events) = world_of(alloc, rest)?;
     let all = draw_events(alloc, config, events, seed)?;

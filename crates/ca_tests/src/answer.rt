@@ -12,7 +12,7 @@ const REQUESTS: &[u8] =
 const CREATED: &[u8] =
     b"\0\x16\0\0\0\0\0\0\0\x01\0\0\0\0\0\x03\0\x12\0\0\0\x05\0\x01\0\x01\0\0\0\x01\0\0";
 
-/// Bytes that come in pieces of at most n, until so many reads were made.
+/// Bytes that come in pieces of at most n, until this many reads were made.
 #[derive(Drop)]
 struct Pieces<'a> {
     bytes: &'a [u8],
@@ -37,7 +37,7 @@ impl<'a> Read for Pieces<'a> {
 #[test]
 fn failing_output_is_refused(rt: HostRuntime) -> Result<(), Fail> {
     for (passes, output) in [(0, b"".as_slice()), (1, CREATED)] {
-        // The first read gives the first request alone.
+        // The first read returns the first request alone.
         let mut source = Reader::new(Pieces {
             bytes: REQUESTS,
             size: 24,
@@ -61,7 +61,8 @@ const STORED: &[u8] =
 const ANSWERS: &[u8] =
     b"\0\0\0\0\0\0\0\x0d\0\0\0\0\0\0\0\0\0\x16\0\0\0\0\0\0\0\x01\0\0\0\0\0\x03\0\x12\0\0\0\x05\0\x01\0\x01\0\0\0\x01\0\0\0\x0f\0\x08\0\x05\0\x01\0\0\0\x01\0\x01\0\0\0\0\0\x15\0\0\0\0\0\x0c\0\0\0\0\0\0\0\x01\0\0\0\x01\0\0";
 
-/// The status and what was written and told, if the reads after so many fail, those of the reader or of the source over it, or the writes after so many.
+/// The status and what was written and told, if the reads after the first n fail, those of the
+/// reader or of the source over it, or the writes after the first n.
 fn fused(
     alloc: Global,
     size: usize,
@@ -148,7 +149,8 @@ impl Write for Counted {
     }
 }
 
-// 986,880 reads and 61,680 writes are 1,048,560 calls. With 16 more the next ECHO is there, and there is no call left to answer it.
+// 986,880 reads and 61,680 writes are 1,048,560 calls. With 16 more the next ECHO is there, and
+// there is no call left to answer it.
 #[test]
 fn echoes_without_an_end_are_answered_for_1048576_calls(rt: HostRuntime) {
     let mut source = Reader::new(Echoes { read: 0 });

@@ -40,7 +40,8 @@ fn elements(alloc: Global, base: BaseType, element: &[u8]) -> Result<Value, Refu
     Ok(value)
 }
 
-/// Whether a value has an image in this form, which begins with these bytes, and from which it is read again with this metadata.
+/// Whether a value has an image in this form, which begins with these bytes, and from which it is
+/// read again with this metadata.
 fn has_image(
     alloc: Global,
     value: &Value,
@@ -57,7 +58,8 @@ fn has_image(
     Ok(is_sized && bytes.starts_with(front) && again == *value && with == *meta)
 }
 
-/// Whether MOST such elements have an image in each form. That of a form with metadata begins with these bytes, its first element's among them.
+/// Whether MOST such elements have an image in each form. That of a form with metadata begins with
+/// these bytes, its first element's among them.
 fn has_images(
     alloc: Global,
     base: BaseType,

@@ -63,7 +63,8 @@ fn take<Q: Queues<u64>>(queue: &mut Q, given: &mut Vec<u64>) -> Result<(), Refus
     Ok(())
 }
 
-/// One call, by the number that was drawn: of sixteen nine are posts, five takes, one is a cancel and one turns events on or off.
+/// One call, by the number that was drawn: of sixteen nine are posts, five takes, one is a cancel
+/// and one turns events on or off.
 fn call<Q: Queues<u64>>(
     queue: &mut Q,
     drawn: u32,
@@ -88,7 +89,7 @@ fn call<Q: Queues<u64>>(
     }
 }
 
-/// What a queue gives at these calls, and what it gives up when events are on again.
+/// What a queue returns at these calls, and what it gives up when events are on again.
 fn answers<Q: Queues<u64>>(alloc: Global, queue: &mut Q) -> Result<Vec<u64>, Refusal> {
     let mut given = Vec::new(alloc);
     let mut drawn = 1;

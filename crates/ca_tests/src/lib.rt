@@ -1,6 +1,7 @@
-//! The tests of the libraries, a module for each, in a crate of their own, which is run and not proved: a crate with tests would be proved a second time,
-//! with them. They show what no contract says. What a core shows of these libraries is a line of `tools/calls/by-hand`, and each
-//! growth of theirs is refused there by `tools/growths`; what the program shows is a case in `vectors`.
+//! The tests of the libraries, a module for each, in a crate of their own, which is run and not
+//! proved: a crate with tests would be proved a second time, with them. They show what no contract
+//! says. What a core shows of these libraries is a line of `tools/calls/by-hand`, and each growth
+//! of theirs is refused there by `tools/growths`; what the program shows is a case in `vectors`.
 #![tactic(auto)]
 
 #[cfg(test)]

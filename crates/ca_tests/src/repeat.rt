@@ -25,7 +25,8 @@ fn go_to(sends: &[Outgoing], ports: &[u16], bytes: &[u8]) -> bool {
             && sent.bytes() == bytes)
 }
 
-/// Whether a datagram from the member at this port makes these bytes go to the members at these ports.
+/// Whether a datagram from the member at this port makes these bytes go to the
+/// members at these ports.
 fn fans(
     repeater: &mut RepeaterCore,
     from: u16,

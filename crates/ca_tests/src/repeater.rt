@@ -39,7 +39,8 @@ fn hears<R: AllocGlobal + Abort>(
     Ok(())
 }
 
-/// A member registers at this address, another socket sends a datagram there, and the repeater handles both.
+/// A member registers at this address, another socket sends a datagram there, and the
+/// repeater handles both.
 fn pass_on<R: AllocGlobal + Net + Abort>(
     rt: &R,
     repeater: UdpSocket,
@@ -82,7 +83,8 @@ fn a_failing_receive_is_refused(rt: HostRuntime) -> Result<(), Fail> {
     Ok(())
 }
 
-/// Datagrams in memory: those that come, and whither one was tried to be sent. One address takes none.
+/// Datagrams in memory: those that come, and whither one was tried to be sent.
+/// One address takes none.
 #[derive(Drop)]
 struct Script<'a> {
     coming: &'a [(Address, &'a [u8])],
@@ -139,7 +141,8 @@ const SERVER: Address = Address {
     port: 5_064,
 };
 
-/// Whether the member that takes nothing is dropped: of three datagrams the third comes to the other alone.
+/// Whether the member that takes nothing is dropped: of three datagrams the third
+/// comes to the other alone.
 fn is_dropped(alloc: Global, script: &mut Script<'_>) -> bool {
     repeat(alloc, script, 3) == Ok(())
         && script.tried.as_slice() == [MEMBER, DEAF, MEMBER].as_slice()

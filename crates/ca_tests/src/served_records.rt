@@ -4,7 +4,7 @@ use ca_text::Refusal;
 use std::alloc::Global;
 use std::test::Fail;
 
-/// Adds a record of one LONG, and tells its place.
+/// Adds a record of one LONG, and reports its place.
 fn add(alloc: Global, served: &mut ServedRecords, name: &[u8]) -> Result<usize, Refusal> {
     served.add(name, 1, false, Value::Longs(vec![in alloc; 5; 1]?))
 }

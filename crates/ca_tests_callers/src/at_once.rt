@@ -1,6 +1,7 @@
-//! What a client does at once, and not with the next turn of its thread of input and output, which is 10 ms later: seen by a server that speaks by hand, in rows of
-//! which each piece is done once the one before has come there. A row takes some milliseconds, and a second or more if each piece is left to a turn. A busy machine
-//! holds rows up, so one of some is to be soon over.
+//! What a client does at once, and not with the next turn of its thread of input and output, which
+//! is 10 ms later: seen by a server that speaks by hand, in rows of which each piece is done once
+//! the one before has come there. A row takes some milliseconds, and a second or more if each piece
+//! is left to a turn. A busy machine holds rows up, so one of some is to be soon over.
 
 pub(crate) mod channels;
 pub(crate) mod large;
@@ -44,14 +45,16 @@ enum Row {
     Writes,
     // Two writes, once the server has spoken: so its system says later that the first of them came.
     Pairs,
-    // Each after a read, for which its caller waited: so the thread of input and output has left the sockets to callers.
+    // Each after a read, for which its caller waited: so the thread of input and output has left
+    // the sockets to callers.
     WritesAfterReads,
     // Subscriptions that are made, and cancelled.
     Subscriptions,
 }
 
 impl Row {
-    /// How often: that takes 1,000 ms if each is left to a turn, or 1,200 if each pair waits for what the system says 40 ms later.
+    /// How often: that takes 1,000 ms if each is left to a turn, or 1,200 if each pair waits for
+    /// what the system says 40 ms later.
     fn times(self) -> u64 {
         match self {
             Row::Pairs => 30,
@@ -60,7 +63,7 @@ impl Row {
     }
 }
 
-/// A row is soon over within so many milliseconds.
+/// A row is soon over within this many milliseconds.
 pub(crate) const LEFT: u64 = 600;
 
 pub(crate) const ROWS: u64 = 20;
@@ -209,7 +212,8 @@ impl Both {
         Ok(heard(stream)?.command == WRITE)
     }
 
-    /// A read that goes out as soon as it is looked for, and brings what is there when it is waited for.
+    /// A read that goes out as soon as it is looked for, and brings what is there
+    /// when it is waited for.
     pub(crate) fn is_read<R: Wait + Clock>(
         &mut self,
         rt: &R,

@@ -1,4 +1,5 @@
-//! Datagrams that come together, more than are read in a turn: the next turn follows at once, and not 10 ms later.
+//! Datagrams that come together, more than are read in a turn: the next turn follows at once,
+//! and not 10 ms later.
 
 use crate::at_once::LEFT;
 use crate::at_once::channels::name_of;
@@ -22,7 +23,8 @@ const EVENT_ADD: u16 = 1;
 
 const CREATE: u16 = 18;
 
-/// So many come together, for which a socket has room: those of two turns are read at once in any case, and the others take two turns more.
+/// This many come together, for which a socket has room: those of two turns are read at once in any
+/// case, and the others take two turns more.
 const DATAGRAMS: u32 = 200;
 
 /// The first of CIDs that no channel has.
@@ -142,7 +144,8 @@ impl Both {
         Ok(right)
     }
 
-    /// A burst that comes while a listener waits, and whether the client creates the channel that the last of its search replies is for.
+    /// A burst that comes while a listener waits, and whether the client creates the channel that
+    /// the last of its search replies is for.
     fn is_read<R: Wait + Clock>(
         &mut self,
         rt: &R,

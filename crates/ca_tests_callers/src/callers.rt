@@ -1,5 +1,6 @@
-//! A client whose callers are four threads. All 1,024 tickets are outstanding at once, 256 for each caller: one request more is refused, and each
-//! caller collects the outcomes of its own tickets, once.
+//! A client whose callers are four threads. All 1,024 tickets are outstanding at once, 256
+//! for each caller: one request more is refused, and each caller collects the outcomes of
+//! its own tickets, once.
 
 use crate::client::setting;
 use crate::server::{bound, start_server};
@@ -20,7 +21,7 @@ use std::sync::{Arc, Wait};
 use std::thread::{JoinHandle, Threads};
 use std::time::Clock;
 
-/// Waits for at most so many turns, which is long on an idle machine.
+/// Waits for at most this many turns, which is long on an idle machine.
 const TURNS: u64 = 100_000;
 
 /// The tickets of a caller.
@@ -81,7 +82,7 @@ fn records(alloc: Global) -> Result<RecordFile, Refusal> {
     })
 }
 
-/// Uses up the tickets, has four callers collect them, and asks once more.
+/// Uses up the tickets, has four callers collect them, and asks again.
 fn talk<R: Threads + Wait + Clock + Copy + Send + 'static, W: Write>(
     rt: R,
     alloc: Global,
@@ -117,7 +118,8 @@ fn one_more<R: Wait, W: Write>(
     }
 }
 
-/// A caller with its tickets: the first asked for `first` elements, the next for one more, and so on.
+/// A caller with its tickets: the first asked for `first` elements, the next for
+/// one more, and so on.
 #[derive(Drop)]
 struct Part {
     context: Arc<Context<Nobody>>,
@@ -160,7 +162,7 @@ fn make_part<R: Wait + Clock>(
     })
 }
 
-/// Reads of so many elements, of one more, and so on.
+/// Reads of n elements, of one more, and so on.
 fn asked<R: Wait + Clock>(
     rt: &R,
     alloc: Global,
@@ -210,7 +212,7 @@ impl Work for Part {
     }
 }
 
-/// Whether a ticket's outcome has so many elements, and is there once.
+/// Whether a ticket's outcome has n elements, and is there once.
 fn is_right<R: Wait + Clock>(
     rt: &R,
     context: &Context<Nobody>,

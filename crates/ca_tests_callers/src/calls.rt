@@ -1,6 +1,7 @@
-//! Calls of a context that the other programs do not make, against a server: requests by one call, reads into the memory of a value and reads that nobody waits
-//! for, a subscription that is refused and one that is cancelled, waits that end in their time, at once for a ticket that has ended, and at the end of the client;
-//! and a context that is dropped.
+//! Calls of a context that the other programs do not make, against a server: requests by one call,
+//! reads into the memory of a value and reads that nobody waits for, a subscription that is refused
+//! and one that is cancelled, waits that end in their time, at once for a ticket that has ended,
+//! and at the end of the client; and a context that is dropped.
 
 use crate::client::setting;
 use crate::moments::{began, is_within};
@@ -23,13 +24,14 @@ use std::thread;
 use std::thread::Threads;
 use std::time::{Clock, Duration};
 
-/// Waits for at most so many turns, which is long on an idle machine.
+/// Waits for at most this many turns, which is long on an idle machine.
 const TURNS: u64 = 2_000;
 
-/// What is there at once is there within so many milliseconds: much less than a long wait takes.
+/// What is there at once is there within this many milliseconds: much less than a long wait takes.
 const SOON: u64 = 5_000;
 
-/// Reads one after another, each of which is waited for. They take some milliseconds, and this many if each is left to a turn of another thread.
+/// Reads one after another, each of which is waited for. They take some milliseconds, and this many
+/// if each is left to a turn of another thread.
 const READS: u64 = 500;
 
 const LEFT: u64 = 4_000;
@@ -188,7 +190,8 @@ fn show_requests<R: Wait + Clock, W: Write>(
     tell(out, "reads by one call", right)
 }
 
-/// Reads into the memory of a value, reads that are looked for and not waited for, and many that are waited for in turn.
+/// Reads into the memory of a value, reads that are looked for and not waited for, and many that
+/// are waited for in turn.
 fn show_reads<R: Wait + Clock, W: Write>(
     rt: &R,
     alloc: Global,

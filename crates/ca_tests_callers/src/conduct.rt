@@ -1,5 +1,6 @@
-//! What a client does on its circuits, seen by a server that speaks by hand: its priority, its subscriptions and their ends, and what becomes of requests that
-//! are given up, are not answered, or whose channel is cleared or lost.
+//! What a client does on its circuits, seen by a server that speaks by hand: its priority, its
+//! subscriptions and their ends, and what becomes of requests that are given up, are not answered,
+//! or whose channel is cleared or lost.
 
 use crate::client::setting;
 use crate::moments::is_within;
@@ -36,7 +37,8 @@ const READ_NOTIFY: u16 = 15;
 /// A status that a server refuses a subscription with.
 const NO_READ_ACCESS: u32 = 376;
 
-/// Subscriptions that are cancelled as soon as they were made: of many some are so before the thread of input and output has seen them.
+/// Subscriptions that are cancelled as soon as they were made: of many some are so before the
+/// thread of input and output has seen them.
 const AT_ONCE: u64 = 100;
 
 /// Updates that come after a subscription was cancelled.
@@ -46,7 +48,8 @@ fn long() -> Duration {
     Duration::from_secs(10)
 }
 
-/// What listeners heard: how many values, and with which status a subscription ended. While the gate is closed a listener waits in it.
+/// What listeners heard: how many values, and with which status a subscription ended. While the
+/// gate is closed a listener waits in it.
 #[derive(Drop)]
 struct Log {
     values: AtomicU64,
@@ -265,7 +268,7 @@ impl Both {
         }
     }
 
-    /// Subscribes, and tells what came at the server, and the subscription.
+    /// Subscribes, and says what came at the server, and the subscription.
     fn subscribe<R: Wait + Clock>(
         &mut self,
         rt: &R,
@@ -296,7 +299,8 @@ impl Both {
         Ok(cancelled == AT_ONCE && self.is_alone(rt))
     }
 
-    /// Whether all listeners that there were are dropped, within some seconds: none but this has their log.
+    /// Whether all listeners that there were are dropped, within some seconds: none
+    /// but this has their log.
     fn is_alone<R: Wait + Clock>(&self, rt: &R) -> bool {
         for _ in 0..1_000 {
             if Arc::strong_count(&self.log) == 1 {
@@ -334,7 +338,8 @@ impl Both {
         )
     }
 
-    /// Requests while a listener waits, and the thread of input and output with it. Its subscription is cancelled meanwhile: it was told the first of three updates.
+    /// Requests while a listener waits, and the thread of input and output with it. Its
+    /// subscription is cancelled meanwhile: it was told the first of three updates.
     fn show_sent<R: Threads + Wait + Clock + Copy + Send + 'static, W: Write>(
         &mut self,
         rt: &R,
@@ -362,7 +367,8 @@ impl Both {
         say_yes(out, what, is_cancelled && is_quiet)
     }
 
-    /// How many of two requests come while a listener waits: one that is looked for, and one by the call that makes several.
+    /// How many of two requests come while a listener waits: one that is looked for, and one by the
+    /// call that makes several.
     fn sent<R: Wait + Clock>(
         &mut self,
         rt: &R,
@@ -383,7 +389,8 @@ impl Both {
         Ok(sent.wrapping_add(u64::from(self.is_sent(stream)?)))
     }
 
-    /// A caller in a thread of its own that waits for a read, and whether that comes before its wait is over. It is answered.
+    /// A caller in a thread of its own that waits for a read, and whether that comes before its
+    /// wait is over. It is answered.
     fn sent_for_waiter<R: Threads + Wait + Clock + Copy + Send + 'static>(
         &self,
         rt: R,
@@ -410,7 +417,8 @@ impl Both {
         Ok(request.command == READ_NOTIFY && self.log.is_waited_in())
     }
 
-    /// A subscription that is cancelled: one message goes out, and what comes after it is heard by nobody.
+    /// A subscription that is cancelled: one message goes out, and what comes after
+    /// it is heard by nobody.
     fn show_cancelled<R: Wait + Clock, W: Write>(
         &mut self,
         rt: &R,
@@ -464,7 +472,8 @@ impl Both {
         )
     }
 
-    /// A circuit that ends while a request is open: its channel is searched again, and live on another. There a request is open at the end.
+    /// A circuit that ends while a request is open: its channel is searched again, and live on
+    /// another. There a request is open at the end.
     fn show_lost<R: Wait + Clock, W: Write>(
         &mut self,
         rt: &R,

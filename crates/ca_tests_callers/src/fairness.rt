@@ -1,4 +1,5 @@
-//! A server whose device takes its time, and clients that keep two slow records busy: a put on a third is not kept waiting.
+//! A server whose device takes its time, and clients that keep two slow records busy: a put on a
+//! third is not kept waiting.
 
 use crate::server::bound;
 use crate::wire::{connected, greet, is_done, opened, put};
@@ -16,13 +17,15 @@ use std::thread;
 use std::thread::{JoinHandle, Threads};
 use std::time::{Clock, Duration};
 
-/// The puts on each of the two records: one that is processed, and sixteen that wait, which is as many as may.
+/// The puts on each of the two records: one that is processed, and sixteen that wait,
+/// which is as many as may.
 const PUTS: u8 = 17;
 
-/// A call of the device takes so many milliseconds.
+/// A call of the device takes this many milliseconds.
 const CALL: u64 = 50;
 
-/// So many calls may begin between the put on the third record and its own, at most: two, and what a busy machine adds. 32 begin if it has to wait for all others.
+/// This many calls may begin between the put on the third record and its own, at most: two, and
+/// what a busy machine adds. 32 begin if it has to wait for all others.
 const CALLS_BETWEEN: u64 = 20;
 
 /// The records are SLO and a letter.

@@ -1,5 +1,7 @@
-//! Servers whose device holds puts, and clients of them, which speak the protocol by hand. The device of one holds a put until a read on another circuit was answered,
-//! and more puts come meanwhile than may wait. Another ends while its device holds puts: what the device has not begun by then is not processed.
+//! Servers whose device holds puts, and clients of them, which speak the protocol by hand. The
+//! device of one holds a put until a read on another circuit was answered, and more puts come
+//! meanwhile than may wait. Another ends while its device holds puts: what the device has not begun
+//! by then is not processed.
 
 use crate::server::bound;
 use crate::wire::{connected, greet, is_done, is_refused, opened, put, read};
@@ -25,7 +27,7 @@ struct Signs {
     passed: AtomicU64,
 }
 
-/// Holds each put until it is opened, for so many turns at most.
+/// Holds each put until it is opened, for n turns at most.
 #[derive(Drop)]
 struct Gate {
     signs: Arc<Signs>,
@@ -105,7 +107,8 @@ fn show_held<
     tell(out, "puts that passed the device", passed)
 }
 
-/// The server ends once one circuit is closed. Of four puts its device has begun two by then, one has made its record busy, and one waits behind another.
+/// The server ends once one circuit is closed. Of four puts its device has begun two by then, one
+/// has made its record busy, and one waits for another.
 fn show_ended<
     R: Threads
         + Wait
@@ -130,7 +133,8 @@ fn show_ended<
     tell(out, "puts that its device had begun, and no more", begun)
 }
 
-/// Puts on three records, the first of them twice; and then another circuit is closed, and so the server is to end.
+/// Puts on three records, the first of them twice; and then another circuit is closed, and so
+/// the server is to end.
 fn end_beside<R: Net<Stream = TcpStream, Listener = TcpListener>, W: Write>(
     rt: &R,
     signs: &Signs,
@@ -162,7 +166,7 @@ fn end_beside<R: Net<Stream = TcpStream, Listener = TcpListener>, W: Write>(
     )
 }
 
-/// A server of these records, whose puts the gate holds, until so many circuits are closed.
+/// A server of these records, whose puts the gate holds, until n circuits are closed.
 fn start_server<
     R: Threads
         + Wait
@@ -194,7 +198,8 @@ fn start_server<
     }
 }
 
-/// A put on one circuit, which the device holds; a read on another; and then the put is let go, and its circuit reads.
+/// A put on one circuit, which the device holds; a read on another; and then the put is let go,
+/// and its circuit reads.
 fn talk<R: Net<Stream = TcpStream, Listener = TcpListener>, W: Write>(
     rt: &R,
     signs: &Signs,

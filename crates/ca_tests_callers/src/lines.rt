@@ -1,5 +1,6 @@
-//! Both ends in one process, over the six standing records: the lines `get`, `put` and `monitor` against the server of the line `serve`, which is given its
-//! sockets. Each line, what it says, and its status; and at last what the server says, and its.
+//! Both ends in one process, over the six standing records: the lines `get`, `put` and `monitor`
+//! against the server of the line `serve`, which is given its sockets. Each line, what it says, and
+//! its status; and at last what the server says, and its.
 
 use crate::server::bound;
 use crate::{say, say_yes};

@@ -1,5 +1,6 @@
-//! Listeners that take their time. One waits for a reply, which its own thread would read: its wait ends, and hangs no other caller. Another takes three seconds, and
-//! holds up no call that waits for nobody.
+//! Listeners that take their time. One waits for a reply, which its own thread would read: its
+//! wait ends, and hangs no other caller. Another takes three seconds, and holds up no call
+//! that waits for nobody.
 
 use crate::client::setting;
 use crate::moments::{began, is_within};
@@ -20,7 +21,7 @@ use std::thread;
 use std::thread::Threads;
 use std::time::{Clock, Duration};
 
-/// Waits for at most so many turns, which is long on an idle machine.
+/// Waits for at most this many turns, which is long on an idle machine.
 const TURNS: u64 = 2_000;
 
 /// A listener that waits for a read, in the thread that would read its reply.

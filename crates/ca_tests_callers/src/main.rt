@@ -1,12 +1,16 @@
-//! What lies under a client's lock (`state`), and servers and clients in one process, each with a thread of its own. What came of it is `stdout`:
+//! What lies under a client's lock (`state`), and servers and clients in one process, each with a
+//! thread of its own. What came of it is `stdout`:
 //!
-//! - servers whose device holds puts, until a read on another circuit was answered, and at their end (`holding`);
+//! - servers whose device holds puts, until a read on another circuit was answered, and at
+//!   their end (`holding`);
 //! - the lines `get`, `put` and `monitor`, what each says, and its status (`lines`);
 //! - servers whose device takes its time (`fairness`);
-//! - a client whose callers are four threads (`callers`), and the calls that these do not make (`calls`);
+//! - a client whose callers are four threads (`callers`), and the calls that these
+//!   do not make (`calls`);
 //! - reads one after another, whose outcomes are told at once (`prompt`);
 //! - listeners that take their time (`listening`);
-//! - what a client does on its circuits, seen by a server by hand (`conduct`, `peer`), and what it does at once (`at_once`, `bursts`, `reaching`);
+//! - what a client does on its circuits, seen by a server by hand (`conduct`, `peer`), and what it
+//!   does at once (`at_once`, `bursts`, `reaching`);
 //! - clients of name servers, a repeater and two servers (`settings`);
 //! - a client with 10,000 subscriptions on one server (`spreading`).
 //!
@@ -14,7 +18,8 @@
 //!
 //! - large: whether writes go on at once that are larger than a socket takes (`at_once::large`);
 //! - growths: what came of growths that were refused under a client's lock (`state::growths`);
-//! - names PORT: whether a client that searches on a circuit to this port of this host alone reads 21 from TEMP (`settings`).
+//! - names PORT: whether a client that searches on a circuit to this port of this host alone reads
+//!   21 from TEMP (`settings`).
 #![tactic(auto)]
 
 mod at_once;

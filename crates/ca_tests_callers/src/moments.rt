@@ -11,7 +11,7 @@ pub(crate) fn began<R: Clock>(rt: &R) -> Result<Instant, Refusal> {
     }
 }
 
-/// Whether less than so many milliseconds have passed.
+/// Whether less than n milliseconds have passed.
 pub(crate) fn is_within<R: Clock>(rt: &R, began: &Instant, milliseconds: u64) -> bool {
     match began.elapsed(rt) {
         Ok(passed) => passed < Duration::from_millis(milliseconds),

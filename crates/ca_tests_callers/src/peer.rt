@@ -8,7 +8,7 @@ use std::net::{Net, SocketAddr, TcpListener, TcpStream, UdpSocket};
 use std::thread;
 use std::time::{Clock, Duration};
 
-/// A client is waited for so long.
+/// A client is waited for this long.
 const SECONDS: u64 = 10;
 
 const CREATE: u16 = 18;
@@ -16,7 +16,7 @@ const CREATE: u16 = 18;
 /// The name of the record, as a search has it: with zeros up to 8 bytes.
 pub(crate) const TEMP: [u8; 8] = *b"TEMP\0\0\0\0";
 
-/// So many datagrams are looked through for a search.
+/// This many datagrams are looked through for a search.
 const LOOKED_THROUGH: u64 = 1_000;
 
 /// Where searches and circuits of a client come in.
@@ -85,7 +85,8 @@ impl Peer {
         Err(Refusal::Device)
     }
 
-    /// The CID of the next search for this name, of up to 8 bytes, and who asks. Those for others are left out.
+    /// The CID of the next search for this name, of up to 8 bytes, and who asks. Those for
+    /// others are left out.
     pub(crate) fn searched(&self, name: [u8; 8]) -> Result<(u32, SocketAddr), Refusal> {
         for _ in 0..LOOKED_THROUGH {
             let mut bytes = [0u8; 2_048];
@@ -119,7 +120,8 @@ impl Peer {
         Some(stream)
     }
 
-    /// Answers the next search for TEMP, and has the channel created on a new circuit, which it tells with its first message.
+    /// Answers the next search for TEMP, and has the channel created on a new circuit, which it
+    /// tells with its first message.
     pub(crate) fn live<R: Clock>(
         &self,
         rt: &R,
@@ -140,7 +142,8 @@ impl Peer {
     }
 }
 
-/// The CID of a search for this name in a datagram: the name comes right after the CID, which stands there twice.
+/// The CID of a search for this name in a datagram: the name comes right after the CID,
+/// which is there twice.
 fn cid_of(datagram: &[u8], name: [u8; 8]) -> Option<u32> {
     let mut cid = 0u32;
     for part in datagram.chunks(8) {
@@ -152,7 +155,7 @@ fn cid_of(datagram: &[u8], name: [u8; 8]) -> Option<u32> {
     None
 }
 
-/// A channel to so many LONGs that may be read and written. Its SID is its CID.
+/// A channel to n LONGs that may be read and written. Its SID is its CID.
 pub(crate) fn create(stream: &TcpStream, cid: u32, count: u16) -> Result<(), Refusal> {
     let rights = Message {
         command: 22,
@@ -191,7 +194,8 @@ pub(crate) fn heard(stream: &TcpStream) -> Result<Message, Refusal> {
     })
 }
 
-/// Sends a message with this payload, of a multiple of 8 bytes up to 48, in one write: so it is there as a whole.
+/// Sends a message with this payload, of a multiple of 8 bytes up to 48, in one write: so it
+/// is there as a whole.
 pub(crate) fn tell_message(
     stream: &TcpStream,
     message: Message,
@@ -207,7 +211,7 @@ pub(crate) fn tell_message(
     send(stream, &bytes[0..end])
 }
 
-/// The header of a message with so many bytes of payload.
+/// The header of a message with n bytes of payload.
 pub(crate) fn header_of(message: Message, size: usize) -> [u8; 16] {
     let mut header = [0u8; 16];
     header[0..2].copy_from_slice(&message.command.to_be_bytes());

@@ -1,4 +1,5 @@
-//! Reads one after another, each of which is waited for. What comes of one is told at once, and not with the next turn of the thread of input and output, which is 10 ms later.
+//! Reads one after another, each of which is waited for. What comes of one is told at once, and not
+//! with the next turn of the thread of input and output, which is 10 ms later.
 
 use crate::client::setting;
 use crate::moments::{began, is_within};
@@ -18,7 +19,8 @@ use std::sync::{Arc, Wait};
 use std::thread::{JoinHandle, Threads};
 use std::time::Clock;
 
-/// The reads of a row. A busy machine holds up some of them: one in four is over within half a turn, in one of some rows.
+/// The reads of a row. A busy machine holds up some of them: one in four is over within half a
+/// turn, in one of some rows.
 const READS: u64 = 200;
 
 const PROMPT: u64 = 50;
@@ -27,12 +29,13 @@ const HALF: u64 = 5;
 
 const ROWS: u64 = 5;
 
-/// Those of four callers at once are over within so many milliseconds. They take twice as many if each is left to a turn.
+/// Those of four callers at once are over within this many milliseconds. They take twice as many if
+/// each is left to a turn.
 const LEFT: u64 = 1_000;
 
 const CALLERS: u64 = 4;
 
-/// Waits for at most so many turns.
+/// Waits for at most this many turns.
 const TURNS: u64 = 2_000;
 
 pub(crate) fn show<
@@ -76,7 +79,8 @@ fn show_beside<
     shown
 }
 
-/// First by a client without a subscription, whose callers read what comes themselves; then by one that has one, for which the thread reads.
+/// First by a client without a subscription, whose callers read what comes themselves; then by one
+/// that has one, for which the thread reads.
 fn show_rows<R: Threads + Wait + Clock + Copy + Send + 'static, W: Write>(
     rt: R,
     alloc: Global,

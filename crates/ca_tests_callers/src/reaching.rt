@@ -1,5 +1,6 @@
-//! Circuits that a client begins while a caller waits for the sockets: what that one reads and is no reply is looked after at once, and not with the next turn of the thread
-//! of input and output, which is 10 ms later.
+//! Circuits that a client begins while a caller waits for the sockets: what that one reads and is
+//! no reply is looked after at once, and not with the next turn of the thread of input and output,
+//! which is 10 ms later.
 
 use crate::at_once::{LEFT, long};
 use crate::client::setting;
@@ -24,13 +25,14 @@ const READ_NOTIFY: u16 = 15;
 
 const CREATE: u16 = 18;
 
-/// The circuits of a row, one for each priority but the lowest. They take 990 ms if each is left to a turn.
+/// The circuits of a row, one for each priority but the lowest. They take 990 ms if
+/// each is left to a turn.
 const CIRCUITS: u16 = 99;
 
 /// Each at a server of its own, and all circuits stay until the end.
 const ROWS: u64 = 4;
 
-/// So many messages are looked through for one.
+/// This many messages are looked through for one.
 const LOOKED_THROUGH: u64 = 1_000;
 
 /// A caller that waits for a read, which is answered at the end.
@@ -145,7 +147,8 @@ impl Both {
         Ok(false)
     }
 
-    /// A channel that is searched, and found at this server, and the circuit of this priority that comes there for it.
+    /// A channel that is searched, and found at this server, and the circuit of this priority
+    /// that comes there for it.
     fn reached<R: Wait + Clock>(
         &mut self,
         rt: &R,

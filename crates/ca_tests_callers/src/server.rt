@@ -44,7 +44,7 @@ pub(crate) fn bound<R: Net<Stream = TcpStream, Listener = TcpListener>>(
     ))
 }
 
-/// Serves these records, with a device that has nothing to do, until so many circuits are closed.
+/// Serves these records, with a device that has nothing to do, until n circuits are closed.
 pub(crate) fn start_server<
     R: Threads
         + Wait

@@ -1,5 +1,6 @@
-//! Clients that begin with something else than one server for searches: name servers alone, a repeater, two servers, and a server whose circuits have a port of
-//! their own. Each waits for some seconds, so they run beside each other.
+//! Clients that begin with something else than one server for searches: name servers alone, a
+//! repeater, two servers, and a server whose circuits have a port of their own. Each waits for some
+//! seconds, so they run beside each other.
 
 use crate::client::setting;
 use crate::moments::{began, is_within};
@@ -22,7 +23,8 @@ use std::thread;
 use std::thread::{JoinHandle, Threads};
 use std::time::{Clock, Duration};
 
-/// A name server listens after so many milliseconds, and one that closes each circuit at once is watched for as long.
+/// A name server listens after this many milliseconds, and one that closes each circuit at once is
+/// watched for as long.
 const LATE: u64 = 2_500;
 
 /// REPEATER_REGISTER of a client at 127.0.0.1.
@@ -144,7 +146,7 @@ fn read_temp<R: Wait + Clock>(rt: &R, context: &Context<Nobody>) -> Result<bool,
     Ok(value_of(rt, context, &mut caller, channel)? == 21)
 }
 
-/// What a read gives: 0 if it gives no value, or is refused.
+/// What a read returns: 0 if it gives no value, or is refused.
 fn value_of<R: Wait + Clock>(
     rt: &R,
     context: &Context<Nobody>,
@@ -263,7 +265,8 @@ fn at_closing_name_server<
     Ok(tries >= 2 && tries <= 4)
 }
 
-/// The client registers, and a beacon of a server that it had not heard of brings its next search at once, which was due after two seconds.
+/// The client registers, and a beacon of a server that it had not heard of brings its next search
+/// at once, which was due after two seconds.
 fn beside_a_repeater<
     R: Threads
         + Wait

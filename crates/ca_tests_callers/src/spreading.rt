@@ -1,5 +1,5 @@
-//! A client with 10,000 channels of one server and a subscription on each, which `open_spread` spreads over circuits of 288; and one that opens as many channels as there
-//! is room for.
+//! A client with 10,000 channels of one server and a subscription on each, which `open_spread`
+//! spreads over circuits of 288; and one that opens as many channels as there is room for.
 
 use crate::client::setting;
 use crate::server::{bound, start_server};
@@ -19,12 +19,12 @@ use std::thread;
 use std::thread::Threads;
 use std::time::{Clock, Duration};
 
-/// Waits for at most so many turns, which is long on an idle machine.
+/// Waits for at most this many turns, which is long on an idle machine.
 const TURNS: u64 = 3_000;
 
 const CHANNELS: usize = 10_000;
 
-/// A value is put to one channel of so many.
+/// A value is put to one channel of this many.
 const PUTS: usize = 100;
 
 /// 288 channels at each of 100 priorities.
@@ -189,7 +189,7 @@ fn watch<R: Wait + Clock>(
     }
 }
 
-/// Waits until so many were counted, and some turns more, and tells how many they are.
+/// Waits until n were counted, and some turns more, and returns how many they are.
 fn counted<R: Clock>(rt: &R, count: &AtomicU64, wanted: u64) -> u64 {
     for _ in 0..TURNS {
         if count.load(Ordering::SeqCst) >= wanted {
@@ -201,7 +201,8 @@ fn counted<R: Clock>(rt: &R, count: &AtomicU64, wanted: u64) -> u64 {
     count.load(Ordering::SeqCst)
 }
 
-/// A client with as many channels as there is room for. Its engine is not started, so that it searches for none.
+/// A client with as many channels as there is room for. Its engine is not started, so that
+/// it searches for none.
 fn show_full<
     R: Threads
         + Wait

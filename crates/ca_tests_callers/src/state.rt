@@ -1,6 +1,7 @@
-//! What lies under a client's lock, with a socket in memory. Requests that the core refuses use up no cells of the board, and neither do requests that
-//! complete; a full board refuses a request before the core does; a socket that fails at any of its calls completes each open request with Disconnected,
-//! once; and so does a circuit that falls silent, whose channel is told as lost.
+//! What lies under a client's lock, with a socket in memory. Requests that the core refuses use up
+//! no cells of the board, and neither do requests that complete; a full board refuses a request
+//! before the core does; a socket that fails at any of its calls completes each open request with
+//! Disconnected, once; and so does a circuit that falls silent, whose channel is told as lost.
 
 mod circuit;
 mod faults;
@@ -43,7 +44,8 @@ fn show_all<W: Write>(alloc: Global, state: &mut ClientState, out: &mut W) -> Re
     say(out, "channels told as lost", channels)
 }
 
-/// More requests than the board has cells complete, and more are refused by the core; then all cells can be in use, and the board refuses.
+/// More requests than the board has cells complete, and more are refused by the core; then all
+/// cells can be in use, and the board refuses.
 fn show_cells<W: Write>(
     alloc: Global,
     state: &mut ClientState,
@@ -75,8 +77,9 @@ fn all_cells<W: Write>(
     Ok(tickets)
 }
 
-/// The socket fails at its first call, then on another circuit at its second, and so on: where a turn writes and finds nothing to read, and where it makes as many
-/// calls as a turn can, which are one write and eight reads.
+/// The socket fails at its first call, then on another circuit at its second, and so on: where a
+/// turn writes and finds nothing to read, and where it makes as many calls as a turn can, which are
+/// one write and eight reads.
 fn show_faults<W: Write>(
     alloc: Global,
     state: &mut ClientState,

@@ -40,7 +40,8 @@ pub(crate) fn greet(stream: &TcpStream) -> Result<(), Refusal> {
     take(stream, &mut reply)
 }
 
-/// Opens a channel to the record SLO and this letter, under the letter as its CID, and tells its SID.
+/// Opens a channel to the record SLO and this letter, under the letter as its CID,
+/// and reports its SID.
 pub(crate) fn opened(stream: &TcpStream, letter: u8) -> Result<u32, Refusal> {
     send(stream, b"\0\x12\0\x08\0\0\0\0\0\0\0")?;
     send(stream, &[letter])?;

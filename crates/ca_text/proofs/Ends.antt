@@ -43,7 +43,7 @@ same-ends k a b len least most first last =
       | inr past ↦ subst (λ (n : ℕ). get_or a n 0 ≡ get_or b n 0) (omega arith) (same-at k (length a - k) (i - (length a - k)) a b last (omega arith))
     ])
 
--- so that one comparison of such parts tells what a comparison of all does
+-- so that one comparison of such parts says what a comparison of all does
 pub ends-tell : (a b : List ℕ) (x y : ℕ) → (x ≡ y → a ≡ b) → (a ≡ b → x ≡ y) → nat_eq x y ≡ bytes_eq a b
 ends-tell a b x y to from =
     let d : Decides (nat_eq x y) (x ≡ y) = Decides-eqb x y in

@@ -1,4 +1,4 @@
--- What stands at the places of lists.
+-- What is at the places of lists.
 use Rattle.std.proofs.Common.{◌≡◌, ℕ, zero, suc, ◌+◌, ◌<◌, ◌≤◌, ◌⊎◌, inl, inr, List, [], ◌∷◌, ◌++◌, length, Option, Some, refl, sym, ap, arith}
 use Rattle.std.specs.Prelude.{map, slice_set}
 use Rattle.std.proofs.lemmas.Option.{slice_get_within}
@@ -13,18 +13,18 @@ At-one xs k x y p q = cc
 pub At-within : {A : Type 0} (xs : List A) (k : ℕ) (x : A) → At xs k x → k < length xs
 At-within xs k x h = slice_get_within xs k x h
 
--- what stands at a place stays there when the list grows
+-- what is at a place stays there when the list grows
 pub At-append : {A : Type 0} (xs ys : List A) (k : ℕ) (x : A) → At xs k x → At (xs ++ ys) k x
 At-append [] ys k x h = absurd cc
 At-append (z ∷ xs) ys zero x h = h
 At-append (z ∷ xs) ys (suc k) x h = At-append xs ys k x h
 
--- what stands after a list stands at its length and on
+-- what is after a list is at its length and on
 pub At-after : {A : Type 0} (xs ys : List A) (k : ℕ) (x : A) → At ys k x → At (xs ++ ys) (length xs + k) x
 At-after [] ys k x h = (let z : 0 + k ≡ k = omega arith in rw z h)
 At-after (y ∷ xs) ys k x h = (let z : suc (length xs) + k ≡ suc (length xs + k) = omega arith in rw z (At-after xs ys k x h))
 
--- what stands in two lists in a row stands in the one or in the other
+-- what is in two lists in a row is in the one or in the other
 pub At-parts : {A : Type 0} (xs ys : List A) (k : ℕ) (x : A) → At (xs ++ ys) k x → At xs k x ⊎ ((l : ℕ) × (k ≡ length xs + l) × At ys l x)
 At-parts [] ys k x h = inr (k, omega arith, h)
 At-parts (z ∷ xs) ys zero x h = inl h
@@ -34,7 +34,7 @@ At-parts (z ∷ xs) ys (suc k) x h =
       | inr new ↦ inr (new.0, (let e : k ≡ length xs + new.0 = new.1 in omega arith), new.2)
     ]
 
--- what stands in a list that grew by one stood there, or is the new one
+-- what is in a list that grew by one stood there, or is the new one
 pub At-snoc : {A : Type 0} (xs : List A) (y : A) (k : ℕ) (x : A) → At (xs ++ y ∷ []) k x → At xs k x ⊎ ((k ≡ length xs) × (x ≡ y))
 At-snoc [] y zero x h = inr (refl, cc)
 At-snoc [] y (suc k) x h = absurd cc
@@ -60,7 +60,7 @@ At-map f [] k x h = absurd cc
 At-map f (z ∷ xs) zero x h = ap (λ (v : _). Some (f v)) (some_is z x h)
 At-map f (z ∷ xs) (suc k) x h = At-map f xs k x h
 
--- what stands in a mapped list is the image of what stood there
+-- what is in a mapped list is the image of what stood there
 pub At-mapped : {A B : Type 0} (f : A → B) (xs : List A) (k : ℕ) (y : B) → At (map f xs) k y → (x : A) × At xs k x × (y ≡ f x)
 At-mapped f [] k y h = absurd cc
 At-mapped f (z ∷ xs) zero y h = (z, refl, sym (some_is (f z) y h))
@@ -71,7 +71,7 @@ At-or [] j = inr (omega arith)
 At-or (x ∷ xs) zero = inl (x, refl)
 At-or (x ∷ xs) (suc j) = elim (At-or xs j) [ inl h ↦ inl h | inr le ↦ inr (let l : length xs ≤ j = le in omega arith) ]
 
--- what stands in a list after a write was written there, or stood there, at another place
+-- what is in a list after a write was written there, or stood there, at another place
 pub At-set : {A : Type 0} (xs : List A) (i : ℕ) (y : A) (k : ℕ) (x : A) → At (slice_set xs i y) k x → ((k ≡ i) × (x ≡ y)) ⊎ (At xs k x × (k ≡ i → ⊥))
 At-set [] i y k x h = absurd cc
 At-set (z ∷ xs) zero y zero x h = inl (refl, sym (some_is y x h))

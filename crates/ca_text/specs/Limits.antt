@@ -1,5 +1,5 @@
--- The numbers of the protocol and of this implementation: one table, which every definition cites. The constants of the code
--- are proved to be these (`limits_are_these`).
+-- The numbers of the protocol and of this implementation: one table, which every definition cites.
+-- The constants of the code are proved to be these (`limits_are_these`).
 use Rattle.std.specs.Prelude.{ℕ, ◌-◌, ◌^◌}
 
 -- the minor version of the protocol

@@ -65,11 +65,11 @@ refusal_name OutputFull = codes "OutputFull"
 refusal_name (ServerRefused _) = codes "ServerRefused"
 refusal_name RecordExists = codes "RecordExists"
 
--- the status of the server, where it has one
+-- the status of the server, if it has one
 abbrev pub reason : Refusal → List ℕ
 reason (ServerRefused status) = codes " " ++ decimal status.number
 reason _ = []
 
--- what it prints: its number, its name, and the server's status where it has one
+-- what it prints: its number, its name, and the server's status if it has one
 abbrev pub refusal_text : Refusal → List ℕ
 refusal_text r = decimal (refusal_number r) ++ codes " " ++ refusal_name r ++ reason r

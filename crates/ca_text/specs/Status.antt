@@ -1,5 +1,5 @@
--- The statuses, by their numbers (section "Status Codes"). The constants of the code are proved to be these
--- (`statuses_are_these`).
+-- The statuses, by their numbers (section "Status Codes"). The constants of the code are proved to
+-- be these (`statuses_are_these`).
 use Rattle.std.specs.Prelude.{ℕ}
 
 -- it went well

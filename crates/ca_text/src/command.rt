@@ -62,7 +62,7 @@ impl Command {
         }
     }
 
-    /// The command of this number, where there is one.
+    /// The command of this number, if there is one.
     pub fn of(number: u16) -> Option<Command>
         ensures { MatchOption result ((c : Command) → command_number c ≡ number → ⊥)
             (λ c. command_number c ≡ number) }

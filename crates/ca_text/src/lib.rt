@@ -1,6 +1,7 @@
 //! Words of Channel Access: commands, statuses, refusals, masks, names and limits.
 //!
-//! Each stands once in the protocol specification (minor version 13), and every crate above takes it from here.
+//! Each is once in the protocol specification (minor version 13), and every crate
+//! above takes it from here.
 #![tactic(auto)]
 
 mod command;

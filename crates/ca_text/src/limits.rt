@@ -70,7 +70,8 @@ pub const ECHO_SILENCE: u64 = 30_000;
 /// Milliseconds without received bytes after which a client closes the circuit.
 pub const CLOSE_SILENCE: u64 = 35_000;
 
-/// Reads of a circuit in a row that left bytes waiting, after which a client asks for a pause of updates.
+/// Reads of a circuit in a row that left bytes waiting, after which a client asks
+/// for a pause of updates.
 pub const FLOW_READS: usize = 10;
 
 /// Replies to searches in one datagram of a server, at most.

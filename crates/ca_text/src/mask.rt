@@ -3,7 +3,8 @@ ghost use Rattle.ca_text.specs.Mask.{HasEvent};
 
 use std::marker::Model;
 
-/// Which posts concern a subscription: a choice of VALUE 1, LOG 2, ALARM 4 and PROPERTY 8, at least one of them.
+/// Which posts concern a subscription: a choice of VALUE 1, LOG 2, ALARM 4 and PROPERTY 8,
+/// at least one of them.
 ///
 /// Further bits are kept, and select nothing (section "CA_PROTO_EVENT_ADD").
 #[derive(Clone, Copy, Debug)]

@@ -8,8 +8,8 @@ use std::fmt;
 
 /// Why a call was refused. Each has a number, which the programs print.
 ///
-/// The object is then as it was before, but for these: after `Misaligned` or `TooLarge` a reader of a stream
-/// answers `CircuitClosed` from then on, and after `Device` the circuit is closed.
+/// The object is then as it was before, but for these: after `Misaligned` or `TooLarge` a reader of
+/// a stream answers `CircuitClosed` from then on, and after `Device` the circuit is closed.
 #[derive(Clone, Copy, Debug, PartialEq, Eq)]
 pub enum Refusal {
     /// A growth was refused. It comes last in every order of checks.

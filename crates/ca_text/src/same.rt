@@ -2,8 +2,8 @@ ghost use Rattle.std.specs.Prelude.{◌≡◌, ◌+◌, ◌≤◌, drop, length,
 ghost use Rattle.std.specs.Int.{from_le_bytes, w32, w64};
 ghost use Rattle.std.specs.Str.{bytes_eq};
 
-/// Whether two names are the same. Names are compared with each message, and most are short: one of 4 to 16 bytes is compared by
-/// its first and its last four or eight bytes, which may overlap.
+/// Whether two names are the same. Names are compared with each message, and most are short: one of
+/// 4 to 16 bytes is compared by its first and its last four or eight bytes, which may overlap.
 #[inline(always)]
 pub fn is_same_name(a: &[u8], b: &[u8]) -> bool
     ensures { result ≡ bytes_eq a.now b.now }
@@ -18,7 +18,7 @@ pub fn is_same_name(a: &[u8], b: &[u8]) -> bool
     }
 }
 
-// The same of names of 4 to 8 bytes.
+// Whether two names of 4 to 8 bytes are the same.
 #[inline(always)]
 fn is_same_in_fours(a: &[u8], b: &[u8]) -> bool
     requires least { 4 ≤ length a.now }
@@ -30,7 +30,7 @@ fn is_same_in_fours(a: &[u8], b: &[u8]) -> bool
     four_at(a, 0) == four_at(b, 0) && four_at(a, last) == four_at(b, last)
 }
 
-// The same of names of 8 to 16 bytes.
+// Whether two names of 8 to 16 bytes are the same.
 #[inline(always)]
 fn is_same_in_eights(a: &[u8], b: &[u8]) -> bool
     requires least { 8 ≤ length a.now }
@@ -42,7 +42,7 @@ fn is_same_in_eights(a: &[u8], b: &[u8]) -> bool
     eight_at(a, 0) == eight_at(b, 0) && eight_at(a, last) == eight_at(b, last)
 }
 
-// The same however long they are.
+// Whether two names of any length are the same.
 #[inline(never)]
 fn is_same_row(a: &[u8], b: &[u8]) -> bool
     ensures { result ≡ bytes_eq a.now b.now }

@@ -1,12 +1,13 @@
 use std::fmt;
 
-/// The status of a reply or an update: a message number times 8, plus a severity, which is 0 for a warning,
-/// 1 for success, 2 for an error, 3 for information and 6 for a fatal error (section "Status Codes").
+/// The status of a reply or an update: a message number times 8, plus a severity, which is 0
+/// for a warning, 1 for success, 2 for an error, 3 for information and 6 for a fatal error
+/// (section "Status Codes").
 ///
 /// A peer may send any number.
 #[derive(Clone, Copy, Debug, PartialEq, Eq)]
 pub struct Status {
-    /// The number, as it stands in a message.
+    /// The number, as it is in a message.
     pub number: u32,
 }
 

@@ -9,8 +9,9 @@ use std::sync::atomic::{AtomicBool, Ordering};
 // Updates that wait to be printed, at most.
 const UPDATES: usize = 1_024;
 
-/// Hears the updates of a monitor, on the thread of input and output, and hands them over to the thread that prints them. One for which there is no room or no
-/// memory is left out, which that thread is told.
+/// Hears the updates of a monitor, on the thread of input and output, and hands them over to
+/// the thread that prints them. One for which there is no room or no memory is left out, which
+/// that thread is told.
 #[derive(Drop)]
 pub struct Ear {
     alloc: Global,

@@ -1,6 +1,7 @@
 //! The lines of the program `ca` that take threads: `serve`, `get`, `put` and `monitor`.
 //!
-//! No proof speaks of what they do: it is `ca_serve`'s and `ca_client_context`'s, and what the system's sockets carry.
+//! No proof speaks of what they do: it is `ca_serve`'s and `ca_client_context`'s, and what the
+//! system's sockets carry.
 #![tactic(auto)]
 
 mod ear;

@@ -5,8 +5,8 @@ use clap::{Arg, Command};
 use std::alloc::{AllocError, Global};
 use std::net::{Ipv4Addr, SocketAddrV4};
 
-/// `serve --records FILE --listen A:P [--circuits N]`: the file of the records, where circuits and datagrams are taken, and how many circuits
-/// are to be closed until it ends, if it ends at all.
+/// `serve --records FILE --listen A:P [--circuits N]`: the file of the records, where circuits and
+/// datagrams are taken, and how many circuits are to be closed until it ends, if it ends at all.
 #[derive(Clone, Copy, Debug, PartialEq, Eq)]
 pub struct ServeLine<'a> {
     pub records: &'a str,
@@ -68,7 +68,8 @@ fn meant<'a>(
     })
 }
 
-/// The address that a word is, dotted and with a port, in decimal numbers as scripts have them: none if it is no such word.
+/// The address that a word is, dotted and with a port, in decimal numbers as scripts have them:
+/// none if it is no such word.
 pub(crate) fn socket_address(word: &str) -> Option<SocketAddrV4> {
     let (address, port) = read_server(Words::new(word.as_bytes())).ok()?;
     Some(SocketAddrV4::new(Ipv4Addr::from_bits(address), port))

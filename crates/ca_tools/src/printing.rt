@@ -8,8 +8,9 @@ use std::fmt::Write;
 // Calls of a sink, at most.
 const CALLS: u64 = 1 << 62;
 
-/// Prints a line: the name, and the elements of a value with a space before each. Whole numbers are decimal, FLOAT and DOUBLE their bits in
-/// hexadecimal digits, and of a STRING the bytes before the first zero are printed, each that is not in ASCII from space to tilde as a dot.
+/// Prints a line: the name, and the elements of a value with a space before each. Whole numbers are
+/// decimal, FLOAT and DOUBLE their bits in hexadecimal digits, and of a STRING the bytes before the
+/// first zero are printed, each that is not in ASCII from space to tilde as a dot.
 pub(crate) fn print_value<K: Sink>(
     alloc: Global,
     name: &str,

@@ -17,7 +17,8 @@ use std::sync::Wait;
 use std::thread::Threads;
 use std::time::Clock;
 
-/// Whether the words after the program's name are for `run`: the first is the name of one of these lines.
+/// Whether the words after the program's name are for `run`: the first is the name
+/// of one of these lines.
 pub fn takes(words: &[String]) -> bool {
     match words.first() {
         Some(first) => first.as_str() == "serve" || verb_of(first.as_str()).is_some(),
@@ -25,7 +26,8 @@ pub fn takes(words: &[String]) -> bool {
     }
 }
 
-/// Runs the program by the words after its name, of which the first says which line it is, and returns the exit status.
+/// Runs the program by the words after its name, of which the first says which line it is, and
+/// returns the exit status.
 pub fn run<
     R: Threads
         + Wait
@@ -104,7 +106,8 @@ fn serve_line<
     }
 }
 
-// Refused as Device if the file cannot be read or a socket cannot be bound, as BadText if the file is not understood, and as OutOfMemory.
+// Refused as Device if the file cannot be read or a socket cannot be bound, as BadText if the file
+// is not understood, and as OutOfMemory.
 fn made_ready<R: Net<Stream = TcpStream, Listener = TcpListener> + Files>(
     rt: &R,
     alloc: Global,

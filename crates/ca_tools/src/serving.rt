@@ -23,8 +23,9 @@ impl Device for Prompt {
     fn process(&self, _record: &[u8], _value: &Value) {}
 }
 
-/// Serves records at these sockets, which are bound to one port, until so many circuits were closed, or without a number for ever. Its device returns at once, and
-/// beacons go to this host's repeater. Tells where it serves on the sink and a refusal on `err`, and returns the exit status.
+/// Serves records at these sockets, which are bound to one port, until n circuits were closed, or
+/// without end if no number is given. Its device returns at once, and beacons go to this host's
+/// repeater. Tells where it serves on the sink and a refusal on `err`, and returns the exit status.
 pub fn serve_run<
     R: Threads
         + Wait

@@ -20,9 +20,11 @@ use std::time::{Clock, Duration};
 // The mask of posts of values.
 const VALUES: u16 = 1;
 
-/// Reads, puts or monitors a channel: tells on the sink what came, and a refusal on `err`, and returns the exit status.
+/// Reads, puts or monitors a channel: tells on the sink what came, and a refusal on `err`, and
+/// returns the exit status.
 ///
-/// A monitor's updates are heard by this ear, and printed as they come out of what belongs to it; and if one was left out by a further pair, as `new_ear` makes it.
+/// A monitor's updates are heard by this ear, and printed as they come out of what belongs to it;
+/// and if one was left out by a further pair, as `new_ear` makes it.
 pub fn tool_run<
     R: Threads
         + Wait
@@ -128,7 +130,7 @@ fn done<R: Wait + Clock, K: Sink>(
     }
 }
 
-// Waits until a channel is live, and tells its type and its greatest count.
+// Waits until a channel is live, and reports its type and its greatest count.
 fn live_at<R: Wait + Clock>(
     rt: &R,
     context: &Context<Ear>,
@@ -187,7 +189,8 @@ fn outcome_of<R: Wait + Clock>(
     }
 }
 
-// Prints so many updates. If one was left out, the channel is subscribed to anew once all others were printed: that brings the newest value.
+// Prints n updates. If one was left out, the channel is subscribed to again once all others were
+// printed: that brings the newest value.
 fn monitor<R: Wait + Clock, K: Sink>(
     rt: &R,
     alloc: Global,
@@ -234,7 +237,7 @@ fn subscribe<R: Wait>(
     }
 }
 
-// Prints so many updates, or as many as there are if one was left out: how many are left to print.
+// Prints n updates, or as many as there are if one was left out: how many are left to print.
 fn print_updates<R: Clock, K: Sink>(
     rt: &R,
     alloc: Global,
@@ -253,7 +256,8 @@ fn print_updates<R: Clock, K: Sink>(
     Ok(0)
 }
 
-// Waits for an update: none if one was left out and no other waits. Refused as Disconnected if the turns are used up.
+// Waits for an update: none if one was left out and no other waits. Refused as Disconnected if
+// the turns are used up.
 fn next_update<R: Clock>(
     rt: &R,
     heard: &mut Heard,

@@ -22,12 +22,12 @@ pub enum Task<'a> {
     Get,
     /// Puts this text.
     Put(&'a str),
-    /// Prints so many updates.
+    /// Prints n updates.
     Monitor(u64),
 }
 
-/// `get NAME`, `put NAME --value=V` or `monitor NAME --count N`, each with `--server A:P` and, if it is to be another number of turns than 1,000,
-/// `--turns N`.
+/// `get NAME`, `put NAME --value=V` or `monitor NAME --count N`, each with `--server A:P` and, if
+/// it is to be another number of turns than 1,000, `--turns N`.
 #[derive(Clone, Copy, Debug, PartialEq, Eq)]
 pub struct ToolLine<'a> {
     pub task: Task<'a>,

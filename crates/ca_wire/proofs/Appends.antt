@@ -1,4 +1,4 @@
--- What stands in a buffer after an append that may be refused.
+-- What is in a buffer after an append that may be refused.
 use Rattle.std.proofs.Common.{◌≡◌, ◌+◌, ◌<◌, ℕ, List, ◌++◌, Result, Ok, Err, OnOk, OnErr, cond, is_ok, ap, ◌∙◌, append_assoc, arith}
 use Rattle.ca_wire.specs.declared.header.Header.{Header}
 use Rattle.ca_wire.specs.Header.{header_spelling}

@@ -18,7 +18,7 @@ pub record Narrow (h : Header) : Type 0 where
 regroup : (a b c d e f g : List ℕ) → (a ++ (b ++ (c ++ (d ++ (e ++ f))))) ++ g ≡ a ++ (b ++ (c ++ (d ++ (e ++ (f ++ g)))))
 regroup a b c d e f g = simp append_assoc
 
--- the numbers of the 16 bytes, and what stands after them
+-- the numbers of the 16 bytes, and what is after them
 pub short-behind : (h : Header) (x : List ℕ) → short_header h ++ x ≡ number16 h.command ++ (number16 h.size ++ (number16 h.data_type ++ (number16 h.count ++ (number32 h.p1 ++ (number32 h.p2 ++ x)))))
 unfolding short_header
 short-behind h x = regroup (number16 h.command) (number16 h.size) (number16 h.data_type) (number16 h.count) (number32 h.p1) (number32 h.p2) x

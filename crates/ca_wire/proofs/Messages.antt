@@ -20,7 +20,7 @@ message-same m n h p =
     let made : Header → List ℕ → Fields = λ g t. record { command = g.command; data_type = g.data_type; count = g.count; p1 = g.p1; p2 = g.p2; payload = t } in
     ap (λ (g : Header). made g m.payload) h ∙ ap (λ (t : List ℕ). made (header_of n) t) p
 
--- the header, and what stands after it
+-- the header, and what is after it
 pub spells-behind : (m : Fields) (a x : List ℕ) (s : Spells a m) → a ++ x ≡ s.head ++ (m.payload ++ x)
 spells-behind m a x s = ap (λ (t : List ℕ). t ++ x) s.are ∙ append_assoc s.head m.payload x
 
@@ -82,7 +82,7 @@ spelling-bare m h same none =
     let empty : m.payload ≡ [] = nothing m.payload (sym (ap (λ (g : Header). g.size) same) ∙ none) in
     ap header_spelling same ∙ sym (append-nil (header_spelling (header_of m))) ∙ ap (λ (t : List ℕ). header_spelling (header_of m) ++ t) (sym empty)
 
--- what begins with a message has a whole one at its front
+-- what begins with a message has a complete one at its front
 pub one-again : (m : Fields) (a rest : List ℕ) (one : One) → Spells a m → IsOne (a ++ rest) one → (head : Head) × (one ≡ Whole head) × (head.header ≡ header_of m)
 one-again m a rest (Whole head) s is =
     let r = header-front (take head.start (a ++ rest)) s.head (drop head.start (a ++ rest)) (m.payload ++ rest) head.header (header_of m) is.header s.header (take-append-drop head.start (a ++ rest) ∙ spells-behind m a rest s) in

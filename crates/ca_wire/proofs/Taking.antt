@@ -15,7 +15,7 @@ use Rattle.ca_wire.specs.Messages.{on_channel}
 use Rattle.ca_wire.specs.declared.requests.Wanted.{Wanted}
 use Rattle.ca_wire.specs.Reading.{BeginsBare, IsWhole, Takes, HasPayload, Nexts}
 
--- the bytes after a header that stands there
+-- the bytes after a header that is there
 pub held-part : (lent held : List ℕ) (start size : ℕ) → lent ≡ held → take (start + size - start) (drop start lent) ≡ take size (drop start held)
 held-part lent held start size e =
     let n : start + size - start ≡ size = omega arith in

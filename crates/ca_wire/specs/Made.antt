@@ -1,4 +1,5 @@
--- Vocabulary: messages whose payload is made in its place, after the bytes that are there (section "Message Structure").
+-- Vocabulary: messages whose payload is made in its place, after the bytes that are there (section
+-- "Message Structure").
 use Rattle.std.specs.Prelude.{ℕ, ◌≡◌, ◌++◌, List, Result, Ok, Err}
 use Rattle.ca_text.specs.declared.refusal.Refusal.{Refusal}
 use Rattle.ca_text.specs.declared.refusal.Refusal.TheVariants.{OutOfMemory}
@@ -13,13 +14,15 @@ with_payload bytes m = record m { payload = padded bytes }
 abbrev pub Extends : List ℕ → List ℕ → Type 0
 Extends old new = (more : List ℕ) × (new ≡ old ++ more)
 
--- A payload, which is these bytes or is refused, was to be put after the old bytes, with this answer, and left new.
+-- A payload, which is these bytes or is refused, was to be put after the old bytes, with this
+-- answer, and left new.
 abbrev pub Makes : Result (List ℕ) Refusal → List ℕ → Result (Unit {0}) Refusal → List ℕ → Type 0
 Makes made old (Ok _) new = (bytes : List ℕ) × (made ≡ Ok bytes) × (new ≡ old ++ bytes)
 Makes made old (Err OutOfMemory) new = Extends old new
 Makes made old (Err e) new = (made ≡ Err e) × Extends old new
 
--- A message with such a payload was to be put after the old bytes, with this answer, and left new. It takes memory.
+-- A message with such a payload was to be put after the old bytes, with this answer, and left
+-- new. It takes memory.
 abbrev pub PutsMade : Fields → Result (List ℕ) Refusal → List ℕ → Result (Unit {0}) Refusal → List ℕ → Type 0
 PutsMade m made old (Ok _) new = (bytes : List ℕ) × (made ≡ Ok bytes) × (new ≡ old ++ spelling (with_payload bytes m))
 PutsMade m made old (Err OutOfMemory) new = new ≡ old

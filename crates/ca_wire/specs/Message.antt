@@ -31,8 +31,8 @@ pub record Spells (bytes : List ℕ) (m : Fields) : Type 0 where
   pub header : HeaderSpells head (header_of m)
   pub are : bytes ≡ head ++ m.payload
 
--- What making a message of these fields gives: the message with its payload padded; a payload over the limit is
--- refused, and only padding takes memory.
+-- What making a message of these fields gives: the message with its payload padded; a payload over
+-- the limit is refused, and only padding takes memory.
 abbrev pub IsMade : Fields → Result Fields Refusal → Type 0
 IsMade m (Ok made) = IsMessage made × (made ≡ record m { payload = padded m.payload })
 IsMade m (Err TooLarge) = payload_limit < length m.payload

@@ -1,4 +1,5 @@
--- Vocabulary: the messages by name (section "CA Protocol Messages"). Fields that a message does not name are 0.
+-- Vocabulary: the messages by name (section "CA Protocol Messages"). Fields that a message
+-- does not name are 0.
 use Rattle.std.specs.Prelude.{ℕ, ◌^◌, ◌-◌, ◌*◌, ◌+◌, ◌==◌, List, [], ◌∷◌, ◌++◌, replicate, slice_index_or}
 use Rattle.std.specs.Int.{to_be_bytes, w64}
 use Rattle.std.specs.List.{before_first}
@@ -10,9 +11,9 @@ use Rattle.ca_text.specs.Status.{normal}
 use Rattle.ca_wire.specs.Fields.{Fields, padded}
 use Rattle.ca_wire.specs.Header.{header_spelling, number16}
 use Rattle.ca_wire.specs.Message.{header_of}
--- What a request on a channel names: the SID, the IOID or subscription id, and the type and count that are wanted (Wanted). The ids of a
--- channel (ChannelIds). What a search found (Found), a channel as it was created (Created), and what an answer or an update is about
--- (Answered).
+-- What a request on a channel names: the SID, the IOID or subscription id, and the type and count
+-- that are wanted (Wanted). The ids of a channel (ChannelIds). What a search found (Found), a
+-- channel as it was created (Created), and what an answer or an update is about (Answered).
 use Rattle.ca_wire.specs.declared.alone.Alone.{Alone}
 use Rattle.ca_wire.specs.declared.done.Done.{Done}
 use Rattle.ca_wire.specs.declared.requests.Wanted.{Wanted}
@@ -20,7 +21,8 @@ use Rattle.ca_wire.specs.declared.requests.ChannelIds.{ChannelIds}
 use Rattle.ca_wire.specs.declared.replies.Created.{Created}
 use Rattle.ca_wire.specs.declared.replies.Answered.{Answered}
 
--- a command alone: ECHO, EVENTS_OFF, EVENTS_ON ("CA_PROTO_ECHO", "CA_PROTO_EVENTS_OFF", "CA_PROTO_EVENTS_ON")
+-- a command alone: ECHO, EVENTS_OFF, EVENTS_ON ("CA_PROTO_ECHO", "CA_PROTO_EVENTS_OFF",
+-- "CA_PROTO_EVENTS_ON")
 abbrev pub bare : Command → Fields
 bare c = record { command = command_number c; data_type = 0; count = 0; p1 = 0; p2 = 0; payload = [] }
 
@@ -86,7 +88,8 @@ event_cancel_request w = on_channel command.EventCancel w []
 abbrev pub version_reply : Fields
 version_reply = record (bare command.Version) { count = minor_version }
 
--- SEARCH, answered: the TCP port, in place of an address 0xFFFFFFFF, the CID, and the minor version ("CA_PROTO_SEARCH")
+-- SEARCH, answered: the TCP port, in place of an address 0xFFFFFFFF, the CID, and the minor
+-- version ("CA_PROTO_SEARCH")
 abbrev pub search_reply : ℕ → Fields → Fields
 search_reply port m = record (bare command.Search) { data_type = port; p1 = 2 ^ 32 - 1; p2 = m.p2; payload = number16 minor_version ++ replicate 6 0 }
 
@@ -98,7 +101,8 @@ not_found_reply m = record (bare command.NotFound) { data_type = m.data_type; co
 abbrev pub rights_reply : Fields → ℕ → Fields
 rights_reply m bits = record (bare command.AccessRights) { p1 = m.p1; p2 = bits }
 
--- CREATE_CHAN: the record's native type and greatest count, the CID and the SID ("CA_PROTO_CREATE_CHAN")
+-- CREATE_CHAN: the record's native type and greatest count, the CID and the SID
+-- ("CA_PROTO_CREATE_CHAN")
 abbrev pub created_reply : Fields → (data_type count sid : ℕ) → Fields
 created_reply m data_type count sid = record (bare command.CreateChannel) { data_type = data_type; count = count; p1 = m.p1; p2 = sid }
 
@@ -110,7 +114,8 @@ failed_reply m = record (bare command.CreateChannelFail) { p1 = m.p1 }
 abbrev pub cleared_reply : Fields → Fields
 cleared_reply m = clear_request m.p1 m.p2
 
--- READ_NOTIFY with its value: the type, how many elements, the IOID and their image ("CA_PROTO_READ_NOTIFY")
+-- READ_NOTIFY with its value: the type, how many elements, the IOID and their image
+-- ("CA_PROTO_READ_NOTIFY")
 abbrev pub value_reply : Fields → (count : ℕ) → List ℕ → Fields
 value_reply m count image = record m { count = count; p1 = normal; payload = padded image }
 
@@ -119,7 +124,8 @@ value_reply m count image = record m { count = count; p1 = normal; payload = pad
 abbrev pub status_reply : Fields → (status : ℕ) → Fields
 status_reply m status = record m { p1 = status; payload = [] }
 
--- The confirmation of a cancel: an EVENT_ADD without payload, with the type, count and ids of the request ("CA_PROTO_EVENT_CANCEL")
+-- The confirmation of a cancel: an EVENT_ADD without payload, with the type, count and ids of the
+-- request ("CA_PROTO_EVENT_CANCEL")
 abbrev pub cancel_reply : Fields → Fields
 cancel_reply m = record m { command = command_number command.EventAdd; payload = [] }
 
@@ -135,11 +141,13 @@ done d = record { command = command_number command.WriteNotify; data_type = d.da
 abbrev pub no_cid : ℕ
 no_cid = 2 ^ 32 - 1
 
--- ERROR: the CID, the status, and the request's header in its written form with an empty text ("CA_PROTO_ERROR")
+-- ERROR: the CID, the status, and the request's header in its written form with an empty
+-- text ("CA_PROTO_ERROR")
 abbrev pub error_reply : ℕ → ℕ → Fields → Fields
 error_reply cid status m = record (bare command.Error) { p1 = cid; p2 = status; payload = header_spelling (header_of m) ++ replicate 8 0 }
 
--- An update: the type, how many elements, the status, the subscription id and the image ("CA_PROTO_EVENT_ADD")
+-- An update: the type, how many elements, the status, the subscription id and the image
+-- ("CA_PROTO_EVENT_ADD")
 abbrev pub update : (data_type count status id : ℕ) → List ℕ → Fields
 update data_type count status id image =
     record { command = command_number command.EventAdd; data_type = data_type; count = count; p1 = status; p2 = id; payload = padded image }
@@ -166,6 +174,7 @@ ids_in m = record { sid = m.p1; cid = m.p2 }
 abbrev pub created_in : Fields → Created
 created_in m = record { cid = m.p1; sid = m.p2; data_type = m.data_type; count = m.count }
 
--- what a READ_NOTIFY or WRITE_NOTIFY that is a reply, or an update, answers ("CA_PROTO_READ_NOTIFY", "CA_PROTO_EVENT_ADD")
+-- what a READ_NOTIFY or WRITE_NOTIFY that is a reply, or an update, answers
+-- ("CA_PROTO_READ_NOTIFY", "CA_PROTO_EVENT_ADD")
 abbrev pub answer_in : Fields → Answered
 answer_in m = record { id = m.p2; status = record { number = m.p1 }; data_type = m.data_type; count = m.count }

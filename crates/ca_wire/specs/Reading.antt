@@ -1,4 +1,4 @@
--- What reading gives.
+-- What reading returns.
 use Rattle.std.specs.Prelude.{ℕ, ◌≡◌, ◌≢◌, ◌+◌, ◌%◌, ◌≤◌, ◌++◌, List, [], drop, length, take, true, false, Option, Some, None, Result, Ok, Err}
 use Rattle.ca_text.specs.Limits.{payload_limit}
 use Rattle.ca_text.specs.declared.refusal.Refusal.{Refusal}
@@ -16,16 +16,17 @@ use Rattle.ca_text.specs.Command.{command_number}
 use Rattle.ca_text.specs.declared.command.Command.{Command}
 use Rattle.ca_wire.specs.Stream.{Held, NoneBegins, BadAt, NotBad}
 
--- no whole header begins these bytes
+-- no complete header begins these bytes
 abbrev pub NoHeader : List ℕ → Type 0
 NoHeader bytes = (h : Header) (front back : List ℕ) → HeaderSpells front h → bytes ≡ front ++ back → ⊥
 
--- a whole header begins these bytes
+-- a complete header begins these bytes
 pub record BeginsHeader (bytes : List ℕ) (head : Head) : Type 0 where
   pub header : HeaderSpells (take head.start bytes) head.header
   pub room : head.start ≤ length bytes
 
--- A message of this command, which names this and has no payload, begins these bytes, in 16 of them.
+-- A message of this command, which names this and has no payload, begins these
+-- bytes, in 16 of them.
 abbrev pub BeginsBare : List ℕ → Command → Wanted → Type 0
 BeginsBare bytes c w = BeginsHeader bytes (record { header = header_of (on_channel c w []); start = 16 })
 
@@ -37,12 +38,14 @@ NoBare bytes c = (w : Wanted) → BeginsBare bytes c w → ⊥
 abbrev pub short_of : Command → Wanted → Header
 short_of c w = record { command = command_number c; data_type = w.data_type; size = 8; count = w.count; p1 = w.sid; p2 = w.id }
 
--- A message of this command, which names this, with a payload of eight bytes, begins these bytes: its header in 16 of them.
+-- A message of this command, which names this, with a payload of eight bytes, begins these bytes:
+-- its header in 16 of them.
 pub record BeginsShort (bytes : List ℕ) (c : Command) (w : Wanted) : Type 0 where
   pub header : HeaderSpells (take 16 bytes) (short_of c w)
   pub room : 24 ≤ length bytes
 
--- No message of this command with a payload of eight bytes begins these bytes, its header in 16 of them.
+-- No message of this command with a payload of eight bytes begins these bytes, its
+-- header in 16 of them.
 abbrev pub NoShort : List ℕ → Command → Type 0
 NoShort bytes c = (w : Wanted) → BeginsShort bytes c w → ⊥
 
@@ -50,7 +53,8 @@ NoShort bytes c = (w : Wanted) → BeginsShort bytes c w → ⊥
 abbrev pub short_in : List ℕ → Command → Wanted → Fields
 short_in bytes c w = on_channel c w (take 8 (drop 16 bytes))
 
--- A whole message begins these bytes: its header in the first `start` bytes, then `size` bytes of payload.
+-- A complete message begins these bytes: its header in the first `start` bytes, then
+-- `size` bytes of payload.
 pub record IsWhole (bytes : List ℕ) (head : Head) : Type 0 where
   pub header : HeaderSpells (take head.start bytes) head.header
   pub room : head.start + head.header.size ≤ length bytes
@@ -62,7 +66,7 @@ IsOne bytes (one.Whole head) = IsWhole bytes head
 IsOne bytes one.More = NoneBegins bytes × NotBad bytes
 IsOne bytes (one.Bad e) = BadAt bytes e
 
--- From old, these bytes were given, with this answer, and left new. No bytes take no memory.
+-- From old, these bytes were given, with this answer, and left new. No bytes need no memory.
 abbrev pub Gives : Held → List ℕ → Result (Unit {0}) Refusal → Held → Type 0
 Gives old bytes (Ok _) new = (old.closed ≡ false) × (new ≡ record { bytes = old.bytes ++ bytes; closed = false })
 Gives old bytes (Err CircuitClosed) new = (old.closed ≡ true) × (new ≡ old)
@@ -92,7 +96,8 @@ pub record Closes (old : Held) (e : Refusal) (new : Held) : Type 0 where
   pub bad : BadAt old.bytes e
   pub closed : new ≡ record { bytes = old.bytes; closed = true }
 
--- From old, the next message was asked for, with this answer, and left new. Only a payload takes memory.
+-- From old, the next message was asked for, with this answer, and left new. Only a
+-- payload takes memory.
 abbrev pub Nexts : Held → Result (Option Fields) Refusal → Held → Type 0
 Nexts old (Ok (Some m)) new = Takes old m new
 Nexts old (Ok None) new = (old.closed ≡ false) × NoneBegins old.bytes × NotBad old.bytes × (new ≡ old)
@@ -102,12 +107,14 @@ Nexts old (Err TooLarge) new = Closes old TooLarge new
 Nexts old (Err OutOfMemory) new = (old.closed ≡ false) × HasPayload old.bytes × (new ≡ old)
 Nexts old (Err _) new = ⊥
 
--- From old, the next message was asked for, if it is of this command, in 16 bytes without payload; with this answer, and left new.
+-- From old, the next message was asked for, if it is of this command, in 16 bytes without payload;
+-- with this answer, and left new.
 abbrev pub NextsBare : Command → Held → Option Wanted → Held → Type 0
 NextsBare c old (Some w) new = Nexts old (Ok (Some (on_channel c w []))) new
 NextsBare c old None new = (old.closed ≡ false → NoBare old.bytes c) × (new ≡ old)
 
--- The first message was asked for, if it is of this command, with a payload of eight bytes, its header in 16; with this answer.
+-- The first message was asked for, if it is of this command, with a payload of eight bytes, its
+-- header in 16; with this answer.
 abbrev pub FirstShort : Command → Held → Option Wanted → Type 0
 FirstShort c h (Some w) = (h.closed ≡ false) × BeginsShort h.bytes c w
 FirstShort c h None = h.closed ≡ false → NoShort h.bytes c

@@ -10,8 +10,8 @@ use crate::ids::Ioid;
 use ca_text::{Command, Status};
 use std::alloc::AllocError;
 
-/// What an answer or an update says that has one element, whose payload is eight bytes: its command, its type, the id that it answers, and these
-/// bytes as one number.
+/// What an answer or an update says that has one element, whose payload is eight bytes: its
+/// command, its type, the id that it answers, and these bytes as one number.
 #[derive(Clone, Copy, Debug, PartialEq, Eq)]
 pub struct Alone {
     pub command: Command,

@@ -56,7 +56,7 @@ impl Buffer {
         &self.bytes[self.start..]
     }
 
-    /// Puts these bytes after the others. A refusal changes nothing, and no bytes take no memory.
+    /// Puts these bytes after the others. A refusal changes nothing, and no bytes need no memory.
     pub fn push(&mut self, bytes: &[u8]) -> Result<(), AllocError>
         ensures ok { OnOk result (self.new ≡ self.old ++ bytes.now) }
         ensures err { OnErr result ((self.new ≡ self.old) × (bytes.now ≢ [])) }
@@ -78,8 +78,8 @@ impl Buffer {
         spell(message, &mut self.bytes)
     }
 
-    /// Puts the message after the others with this payload of n bytes, which is made in its place. A refusal
-    /// changes nothing.
+    /// Puts the message after the others with this payload of n bytes, which is made in its place.
+    /// A refusal changes nothing.
     pub fn put_made<P: Payload>(
         &mut self,
         head: &Message,
@@ -136,7 +136,8 @@ impl Buffer {
         ensures { self.new ≡ self.old }
     {
         if self.bytes.capacity() == 0 {
-            // The length is set after the swap: a load of the whole row right after a store of its length would wait for that store.
+            // The length is set after the swap: a load of the whole row right after a store of its
+            // length would wait for that store.
             mem::swap(&mut self.bytes, spare);
             self.bytes.clear();
         }
@@ -152,8 +153,8 @@ impl Buffer {
         }
     }
 
-    /// Lets go of the memory of bytes that went, once they are at least half of all: each byte is moved at most once
-    /// for a byte that went.
+    /// Lets go of the memory of bytes that went, once they are at least half of all: each byte is
+    /// moved at most once for a byte that went.
     #[inline(always)]
     fn let_go(&mut self)
         ensures { self.new ≡ self.old }

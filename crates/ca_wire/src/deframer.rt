@@ -81,7 +81,8 @@ impl Deframer {
     /// Takes the message at the front, if a complete one is there.
     ///
     /// After 2 or 3 every call answers 17. After 1 the message is still there.
-    // In line: a message that is handed back in memory is stored field by field, and a load of 16 bytes of it right after has to wait.
+    // In line: a message that is handed back in memory is stored field by field, and a load of 16
+    // bytes of it right after has to wait.
     #[inline(always)]
     pub fn next_message(&mut self) -> Result<Option<Message>, Refusal>
         ensures { Nexts self.old result self.new }
@@ -105,8 +106,9 @@ impl Deframer {
         }
     }
 
-    /// Takes the message at the front as `next_message` does, if it is of this command and its header, in 16 bytes, is all of it. Such a
-    /// message needs no memory. None leaves all as it was.
+    /// Takes the message at the front as `next_message` does, if it is of this command
+    /// and its header, in 16 bytes, is all of it. Such a message needs no memory. None
+    /// leaves all as it was.
     #[inline(always)]
     pub fn next_bare(&mut self, command: Command) -> Option<Wanted>
         ensures { NextsBare command self.old result self.new }
@@ -123,7 +125,8 @@ impl Deframer {
         }
     }
 
-    /// What the message at the front names, if it is of this command, and is a header in 16 bytes and a payload of eight. It stays there.
+    /// What the message at the front names, if it is of this command, and is a header in 16 bytes
+    /// and a payload of eight. It stays there.
     #[inline(always)]
     pub fn first_short(&self, command: Command) -> Option<Wanted>
         ensures { FirstShort command self.now result }
@@ -154,7 +157,8 @@ impl Deframer {
     }
 }
 
-/// The bytes in this room, of which nothing is left then. No bytes take no memory, and leave the room.
+/// The bytes in this room, of which nothing is left then. No bytes need no
+/// memory, and leave the room.
 #[inline(always)]
 fn copied(room: &mut Vec<u8>, bytes: &[u8]) -> Result<Vec<u8>, AllocError>
     ensures ok { IfOk result (λ v. v.items ≡ bytes.now) }

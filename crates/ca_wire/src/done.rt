@@ -11,7 +11,8 @@ use crate::ids::Ioid;
 use ca_text::Command;
 use std::alloc::AllocError;
 
-/// What the reply to a WRITE_NOTIFY of one element says that was done: the type and the id that it named.
+/// What the reply to a WRITE_NOTIFY of one element says that was done: the type and
+/// the id that it named.
 #[derive(Clone, Copy, Debug, PartialEq, Eq)]
 pub struct Done {
     pub data_type: u16,

@@ -3,7 +3,7 @@ ghost use Rattle.ca_wire.specs.Header.{extended_header, header_spelling, short_h
 
 use std::alloc::AllocError;
 
-/// What stands before the payload of a message (section "Message Structure").
+/// What is before the payload of a message (section "Message Structure").
 #[derive(Clone, Copy, Debug, PartialEq, Eq)]
 pub struct Header {
     pub command: u16,
@@ -31,7 +31,7 @@ pub(crate) fn header_size(header: &Header) -> usize
     24
 }
 
-/// Writes the header at the end: in 16 bytes where size and count are both below 65,535, else in 24.
+/// Writes the header at the end: in 16 bytes if size and count are both below 65,535, else in 24.
 #[inline(always)]
 pub fn spell_header(header: &Header, out: &mut Vec<u8>) -> Result<(), AllocError>
     ensures ok { OnOk result (out.new.items ≡ out.old.items ++ header_spelling header.now) }
@@ -46,7 +46,8 @@ pub fn spell_header(header: &Header, out: &mut Vec<u8>) -> Result<(), AllocError
     out.extend_from_slice(&extended_form(header))
 }
 
-/// The header in 16 bytes, also at a size or count of 65,535, with which `spell_header` never writes it so.
+/// The header in 16 bytes, also at a size or count of 65,535, with which
+/// `spell_header` never writes it so.
 pub fn short_form(header: &Header) -> [u8; 16]
     requires size { header.now.size < 65536 }
     requires count { header.now.count < 65536 }

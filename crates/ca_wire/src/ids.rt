@@ -1,4 +1,5 @@
-//! The numbers by which the ends of a circuit name things to each other, a type for each (section "Virtual Circuit").
+//! The numbers by which the ends of a circuit name things to each other, a type for each
+//! (section "Virtual Circuit").
 ghost use Rattle.std.specs.Prelude.{◌≡◌, ◌<◌, ◌≤◌, MatchResult};
 ghost use Rattle.ca_text.specs.Limits.{priority_limit};
 ghost use Rattle.ca_text.specs.declared.refusal.Refusal.TheVariants.{BadPriority};

@@ -8,8 +8,8 @@ ghost use Rattle.ca_wire.specs.Stream.{Held, IsStream};
 ghost use Rattle.ca_wire.specs.Reading.{IsOne, Nexts};
 ghost use Rattle.ca_wire.specs.Traces.{Call, Trace, empty, given_by, taken_by};
 
-/// Bytes are read in one way. Whenever a reader answers that no whole message is there, what was taken and what is
-/// left are the one stream of all bytes that came, in whatever pieces they came.
+/// Bytes are read in one way. Whenever a reader answers that no complete message is there, what was
+/// taken and what is left are the one stream of all bytes that came, in whatever pieces they came.
 pub fn one_reading()
     ensures front { (m n : Fields) (a b x y : List ℕ) → Spells a m → Spells b n → a ++ x ≡ b ++ y
         → (m ≡ n) × (a ≡ b) × (x ≡ y) }

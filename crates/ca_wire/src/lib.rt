@@ -1,5 +1,5 @@
-//! Messages and bytes: the one spelling of a message, its reading in either header form, and the reading of a
-//! stream of messages that comes in any pieces.
+//! Messages and bytes: the one spelling of a message, its reading in either header form, and the
+//! reading of a stream of messages that comes in any pieces.
 #![tactic(auto)]
 
 mod alone;

@@ -18,7 +18,8 @@ pub trait Payload {
         ensures { Makes (made self.now) out.old.items result out.new.items };
 }
 
-/// Writes the one spelling of the message with this payload, of n bytes, at the end. A refusal changes nothing.
+/// Writes the one spelling of the message with this payload, of n bytes, at the end. A
+/// refusal changes nothing.
 pub fn spell_made<P: Payload>(
     head: &Message,
     size: usize,
@@ -39,7 +40,8 @@ pub fn spell_made<P: Payload>(
     }
 }
 
-/// The same, but a refusal may leave some bytes.
+/// Writes the one spelling of the message with this payload at the end. A refusal
+/// may leave some bytes.
 fn write_made<P: Payload>(
     head: &Message,
     size: usize,

@@ -11,7 +11,8 @@ use ca_text::{Command, PAYLOAD_LIMIT, Refusal};
 use std::alloc::{AllocError, Global};
 use std::marker::Model;
 
-/// A message: its header's fields, and a payload of at most 16,777,216 bytes, a multiple of 8 of them.
+/// A message: its header's fields, and a payload of at most 16,777,216 bytes, a
+/// multiple of 8 of them.
 #[derive(Debug, Drop)]
 pub struct Message {
     command: u16,
@@ -141,7 +142,8 @@ impl Message {
         Message::of_fields(command.number(), data_type, count, p1, p2, payload)
     }
 
-    /// The message of these fields, its payload filled with zeros up to a multiple of 8. Only these take memory.
+    /// The message of these fields, its payload filled with zeros up to a multiple of 8.
+    /// Only these take memory.
     pub(crate) fn with_padding(
         command: u16,
         data_type: u16,
@@ -252,7 +254,8 @@ impl Message {
     }
 }
 
-/// Writes the one spelling of the message at the end. It grows the buffer once, by just what it writes, before it writes.
+/// Writes the one spelling of the message at the end. It grows the buffer once, by just what it
+/// writes, before it writes.
 #[inline(always)]
 pub fn spell(message: &Message, out: &mut Vec<u8>) -> Result<(), AllocError>
     ensures ok { OnOk result (out.new.items ≡ out.old.items ++ spelling message.now) }
@@ -262,14 +265,14 @@ pub fn spell(message: &Message, out: &mut Vec<u8>) -> Result<(), AllocError>
     ensures capacity { vec_capacity out.old ≤ vec_capacity out.new }
 {
     let header = message.header();
-    // Where there is room a header alone is written without a call.
+    // If there is room a header alone is written without a call.
     if header.size == 0 && header.count < EXTENDED && out.capacity() - out.len() >= 16 {
         return out.extend_from_slice(&short_form(&header));
     }
     spell_all(message, out)
 }
 
-/// The same for a message with a payload too.
+/// Writes the one spelling of a message, with or without a payload, at the end.
 #[inline(never)]
 fn spell_all(message: &Message, out: &mut Vec<u8>) -> Result<(), AllocError>
     ensures ok { OnOk result (out.new.items ≡ out.old.items ++ spelling message.now) }
@@ -290,7 +293,8 @@ pub fn spelled_size(message: &Message) -> usize
     header_size(&message.header()) + message.payload.len()
 }
 
-/// The message whose one spelling begins the bytes. Its payload is put into the room, and no memory is taken.
+/// The message whose one spelling begins the bytes. Its payload is put into the room,
+/// and no memory is taken.
 pub fn message_at(bytes: &[u8], room: Vec<u8>) -> Message
     requires front { FrontFits bytes.now (vec_capacity room) }
     requires empty { room.items ≡ [] }

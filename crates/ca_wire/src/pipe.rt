@@ -54,7 +54,8 @@ impl Pipe {
         self.buffer.bytes()
     }
 
-    /// Puts the one spelling of the message after what waits. A refusal changes nothing; a message takes memory.
+    /// Puts the one spelling of the message after what waits. A refusal changes nothing; a
+    /// message takes memory.
     pub fn put(&mut self, message: &Message) -> Result<(), AllocError>
         ensures ok { OnOk result (self.new ≡ self.old ++ spelling message.now) }
         ensures err { OnErr result (self.new ≡ self.old) }
@@ -62,8 +63,8 @@ impl Pipe {
         self.buffer.put(message)
     }
 
-    /// Puts the message after what waits, with this payload of n bytes, which is made in its place. A refusal
-    /// changes nothing.
+    /// Puts the message after what waits, with this payload of n bytes, which is made in its place.
+    /// A refusal changes nothing.
     pub fn put_made<P: Payload>(
         &mut self,
         head: &Message,

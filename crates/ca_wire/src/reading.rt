@@ -7,7 +7,7 @@ use crate::ids::{Ioid, Sid};
 use crate::requests::Wanted;
 use ca_text::{Command, PAYLOAD_LIMIT, Refusal};
 
-/// The header of a whole message, and where its payload starts.
+/// The header of a complete message, and where its payload starts.
 #[derive(Clone, Copy, Debug, PartialEq, Eq)]
 pub struct Head {
     pub header: Header,
@@ -15,18 +15,19 @@ pub struct Head {
     pub start: usize,
 }
 
-/// What stands at the front of bytes.
+/// What is at the front of bytes.
 #[derive(Clone, Copy, Debug, PartialEq, Eq)]
 pub enum One {
-    /// A whole message.
+    /// A complete message.
     Whole(Head),
     /// Less than one.
     More,
-    /// A whole header that is refused: as Misaligned for a size that is no multiple of 8, else as TooLarge for one over the limit.
+    /// A complete header that is refused: as Misaligned for a size that is no multiple of 8, else
+    /// as TooLarge for one over the limit.
     Bad(Refusal),
 }
 
-/// What begins these bytes. A bad header is told as soon as it is whole.
+/// What begins these bytes. A bad header is told as soon as it is complete.
 pub fn read_one(bytes: &[u8]) -> One
     ensures { IsOne bytes.now result }
 {
@@ -88,7 +89,8 @@ pub(crate) fn head_at(bytes: &[u8]) -> Option<Head>
     Some(Head { header, start: 24 })
 }
 
-/// What the message at the front names, if it is of this command and its header, in 16 bytes, is all of it.
+/// What the message at the front names, if it is of this command and its header, in 16
+/// bytes, is all of it.
 #[inline(always)]
 pub(crate) fn bare_at(bytes: &[u8], command: Command) -> Option<Wanted>
     ensures { MatchOption result (NoBare bytes.now command) (BeginsBare bytes.now command) }
@@ -116,7 +118,8 @@ pub(crate) fn bare_at(bytes: &[u8], command: Command) -> Option<Wanted>
     })
 }
 
-/// What the message at the front names, if it is of this command, and is a header in 16 bytes and a payload of eight.
+/// What the message at the front names, if it is of this command, and is a header in 16 bytes
+/// and a payload of eight.
 #[inline(always)]
 pub(crate) fn short_at(bytes: &[u8], command: Command) -> Option<Wanted>
     ensures { MatchOption result (NoShort bytes.now command) (BeginsShort bytes.now command) }
@@ -144,7 +147,7 @@ pub(crate) fn short_at(bytes: &[u8], command: Command) -> Option<Wanted>
     })
 }
 
-/// The two-byte number at the front, and what stands after it.
+/// The two-byte number at the front, and what is after it.
 fn number16_at(bytes: &[u8]) -> (u16, &[u8])
     requires { 2 ≤ length bytes.now }
     ensures front { bytes.now ≡ number16 result.0 ++ result.1.now }
@@ -154,7 +157,7 @@ fn number16_at(bytes: &[u8]) -> (u16, &[u8])
     (u16::from_be_bytes([front[0], front[1]]), rest)
 }
 
-/// The four-byte number at the front, and what stands after it.
+/// The four-byte number at the front, and what is after it.
 fn number32_at(bytes: &[u8]) -> (u32, &[u8])
     requires { 4 ≤ length bytes.now }
     ensures front { bytes.now ≡ number32 result.0 ++ result.1.now }

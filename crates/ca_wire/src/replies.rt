@@ -1,5 +1,5 @@
-//! The messages of a server, by name: how each is made, and what it says (section "CA Protocol Messages"). `request` is the
-//! message that a reply answers.
+//! The messages of a server, by name: how each is made, and what it says (section "CA Protocol
+//! Messages"). `request` is the message that a reply answers.
 ghost use Rattle.std.specs.Prelude.{◌≡◌, ◌++◌, [], IfOk, MatchOption, replicate};
 ghost use Rattle.ca_text.specs.declared.command.Command.TheVariants as command;
 ghost use Rattle.ca_text.specs.Limits.{minor_version};

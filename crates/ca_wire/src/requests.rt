@@ -1,4 +1,5 @@
-//! The messages of a client, by name: how each is made, and what it says (section "CA Protocol Messages").
+//! The messages of a client, by name: how each is made, and what it says (section "CA
+//! Protocol Messages").
 ghost use Rattle.std.specs.Prelude.{◌≡◌, ◌≢◌, ◌==◌, ◌+◌, ◌%◌, ◌<◌, ◌≤◌, ◌++◌, ◌∷◌, [], IfOk, OnErr, length, position};
 ghost use Rattle.ca_text.specs.Limits.{payload_limit};
 ghost use Rattle.ca_wire.specs.Message.{header_of};
@@ -13,7 +14,8 @@ use std::alloc::{AllocError, Global};
 /// Data type of a SEARCH that wants no answer if the name is unknown.
 const NO_REPLY_WANTED: u16 = 5;
 
-/// What a request on a channel names: the SID, the IOID or subscription id, and the type and count that are wanted.
+/// What a request on a channel names: the SID, the IOID or subscription id, and the type and
+/// count that are wanted.
 #[derive(Clone, Copy, Debug, PartialEq, Eq)]
 pub struct Wanted {
     pub sid: Sid,
@@ -154,8 +156,8 @@ pub fn event_cancel_request(alloc: Global, wanted: Wanted) -> Message
 // ---- what they say
 
 impl Message {
-    /// The channel, the request or subscription, the type and the count that it names: READ_NOTIFY, WRITE, WRITE_NOTIFY,
-    /// EVENT_ADD or EVENT_CANCEL.
+    /// The channel, the request or subscription, the type and the count that it names: READ_NOTIFY,
+    /// WRITE, WRITE_NOTIFY, EVENT_ADD or EVENT_CANCEL.
     pub fn wanted(&self) -> Wanted
         ensures { result ≡ wanted_in self.now }
     {
@@ -177,7 +179,8 @@ impl Message {
         }
     }
 
-    /// The text in a CLIENT_NAME, HOST_NAME, SEARCH or CREATE_CHAN: up to the first zero of the payload, or all of it.
+    /// The text in a CLIENT_NAME, HOST_NAME, SEARCH or CREATE_CHAN: up to the first zero of the
+    /// payload, or all of it.
     pub fn text(&self) -> &[u8]
         ensures { result.now ≡ text_in self.now.payload }
     {

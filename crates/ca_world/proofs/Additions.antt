@@ -52,7 +52,7 @@ module _ {A : Type 0} where
   above-at (suc n) x (y ∷ xs) zero z le at = absurd (omega (arith, le))
   above-at (suc n) x (y ∷ xs) (suc k) z le at = above-at n x xs k z (omega (arith, le)) at
 
-  -- what stands there is the one, or stood at this place
+  -- what is there is the one, or stood at this place
   abbrev pub WasAt : ℕ → A → List A → ℕ → A → Type 0
   WasAt n x xs i z = ((i ≡ n) × (z ≡ x)) ⊎ ((k : ℕ) × At xs k z × (((k < n) × (i ≡ k)) ⊎ ((n ≤ k) × (i ≡ suc k))))
 
@@ -146,7 +146,7 @@ module _ (n : ℕ) (cs : List Record) (rs : List model.RecordSide) (name : List 
 
 -- ---- a server after it
 
--- it stands behind as many as are there
+-- it is after as many as are there
 pub stands-behind : (s : RecordState) (y core : Server) (n m : ℕ) (rs : List model.RecordSide) → AddsRecord y s n (Ok tt) core → AreInOrder y.records rs → m ≤ length y.records → take m y.records ≡ take n y.records → drop m y.records ≡ drop n y.records → StandsBehind m core.records rs s.name
 stands-behind s y core n m rs adds order within before behind =
     let is : core.records ≡ put_at m (new_record s) y.records = ap (λ (z : Server). z.records) adds.1 ∙ sym (λ t. before t ++ new_record s ∷ behind t) in

@@ -115,7 +115,7 @@ module _ (w : Inside) (i : ℕ) (x : real.ClientSide) (at : At w.clients.items i
       let logs = length-map w.client_logs.items (λ (l : Vec Written Global). map line_of l.items) in
       omega (arith, within, logs)
 
-  -- a step tells no more than its requests and channels have names, or one thing more
+  -- a step reports no more than its requests and channels have names, or one thing more
   pub here-few : (k : ℕ) (ks : List Joined) → TellsFew (length x.names.requests.items + length x.names.channels.items + 1) k (client_of x) ks
   here-few k ks j there =
       let here = At-map client_of w.clients.items i x at in

@@ -1,4 +1,5 @@
--- Which ends of circuits end beside one that is closed, by the core after that as by the one before it.
+-- Which ends of circuits end beside one that is closed, by the core after that as
+-- by the one before it.
 use Rattle.std.proofs.Common.{◌≡◌, ℕ, ◌==◌, ◌&&◌, Bool, true, false, List, Option, Some, None, refl, sym, ap, ◌∙◌}
 use Rattle.std.specs.Prelude.{if◌then◌else◌}
 use Rattle.ca_arena.specs.declared.handle.Handle.{Handle}

@@ -1,5 +1,5 @@
--- How many notices the end of a client's circuit tells: no more than the client's requests and channels have names. So room for the lines
--- of a log can be made first, with no count in the core.
+-- How many notices the end of a client's circuit tells: no more than the client's requests and
+-- channels have names. So room for the lines of a log can be made first, with no count in the core.
 use Rattle.std.proofs.Common.{◌≡◌, ℕ, zero, suc, ◌+◌, ◌<◌, ◌≤◌, Bool, true, false, List, [], ◌∷◌, Option, Some, None, filter, length, refl, sym, ap, subst, ◌∙◌, arith}
 use Rattle.std.specs.Prelude.{filter_map, find, if◌then◌else◌, map, option_map, unwrap_or}
 use Rattle.std.proofs.lemmas.List.{length-append, length-map}

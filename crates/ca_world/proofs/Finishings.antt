@@ -68,7 +68,7 @@ use Rattle.ca_world_data.proofs.Worlds.{set-map, set-same, world_of}
 
 -- ---- the value of a put that waits
 
--- what an entry tells, if a value was found
+-- what an entry says, if a value was found
 pub wait-found : {A : Type 0} (f : A → Elements) (e : history.Entry) (p : PutPlace) (o : Option A) (v : A) → o ≡ Some v → WaitIn e p (option_map f o) → TellsWait e p (f v)
 wait-found f e p o v is tells = subst (λ (x : Option _). WaitIn e p (option_map f x)) is tells
 
@@ -78,7 +78,7 @@ waits-found f log p o v is tells = subst (λ (x : Option _). WaitsIn log p (opti
 
 -- ---- logs
 
--- more entries behind others
+-- more entries after others
 pub grown-twice : {A : Type 0} (life : ℕ) (some more : List A) (logs : List (List A)) → grown life more (grown life some logs) ≡ grown life (some ++ more) logs
 grown-twice life some more [] = refl
 grown-twice zero some more (l ∷ ls) = ap (λ (z : List _). z ∷ ls) (append_assoc l some more)
@@ -115,7 +115,7 @@ busy-one y name r p b named busy is =
     let same : r ≡ is.c = some_is r is.c (sym named ∙ is.named) in
     some_is p b (sym busy ∙ ap (λ (z : Record). z.busy) same ∙ is.busy)
 
--- the reply stands behind what waited
+-- the reply is after what waited
 pub finish-behind : (y core : Server) (name : List ℕ) (sent : List (Handle × Fields)) (b : Put) → Finishes y name sent (Ok tt) core → IsBusy y name b → IsMessage (finish_reply b)
     → AreBehind (length (bytes_under (under y.circuits b.circuit))) (bytes_under (under core.circuits b.circuit)) (map (λ (s : Handle × Fields). s.1) sent)
 finish-behind y core name sent b (f, mid, replies, core_is) is fits =
@@ -149,7 +149,7 @@ finish-behind y core name sent b (f, mid, replies, core_is) is fits =
       few = inl (ap bodies sent_is);
     }
 
--- if no more bytes wait than before, none is behind
+-- if no more bytes wait than before, none is after
 pub none-behind : (waited : ℕ) (bytes : List ℕ) (ms : List Fields) → AreBehind waited bytes ms → length bytes ≤ waited → ms ≡ []
 none-behind waited bytes ms behind few = elim behind.few [
   | inl none ↦ none
@@ -255,7 +255,7 @@ module _ (w : model.World) (i : ℕ) (y : model.ServerSide) (name : List ℕ) (a
   l : Lives w i y
   l = (runs.reached w (at_run.0, at_run.1, None, at_run.2, (w, at_run.3, refl))).1.sound.writes.lives i y at
 
-  -- the log of its life tells what the two records are
+  -- the log of its life says what the two records are
   agree-beside : (c : Record) (r : model.RecordSide) → IsBeside y.core y.records name c r → Agrees (IsPutOf w.circuits i) l.log c r
   agree-beside c r (named, (place, in_rs, is_name)) =
       let f = found (IsPutOf w.circuits i) l.log y.core.records y.records name c l.life.each named in
@@ -357,7 +357,8 @@ replied-there : (p : PutPlace) (sent : List (Handle × Fields)) (ks : List model
     → replied_in p sent ks ≡ slice_set ks p.circuit (with_down (j.lists.down ++ about p.place history.Reply (map (λ (s : Handle × Fields). s.1) sent)) j)
 replied-there p sent ks j at = ap (λ (o : Option model.Joined). unwrap_or (option_map (λ (c : model.Joined). slice_set ks p.circuit (with_down (c.lists.down ++ about p.place history.Reply (map (λ (s : Handle × Fields). s.1) sent)) c)) o) ks) at
 
--- Numbers wait on circuits, of which one has its messages held aside; it has them again, and the reply.
+-- Numbers wait on circuits, of which one has its messages held aside; it has them
+-- again, and the reply.
 pub set-aside : (waits : Bool) (i : ℕ) (core : Server) (name : List ℕ) (p : PutPlace) (sent : List (Handle × Fields)) (ks bare after last : List model.Joined) (j c : model.Joined) (told : List history.Told) → At ks p.circuit j
     → bare ≡ slice_set ks p.circuit (with_down [] j) → after ≡ numbered waits i core name bare → At after p.circuit c → told ≡ j.lists.down ++ about p.place history.Reply (map (λ (s : Handle × Fields). s.1) sent)
     → last ≡ slice_set after p.circuit (with_down told c) → last ≡ replied_in p sent (numbered waits i core name ks)
@@ -416,7 +417,7 @@ pub bare-alike : (i : ℕ) (core : Server) (ks : List Joined) (k : ℕ) (j new :
 bare-alike i core ks k j new at is all =
     subst (AllAlike i core) (sym (bare-is ks k j new is)) (alike-bare i core (map joined_of ks) k (joined_of j) [] (At-map joined_of ks k j at) all)
 
--- on the circuit of the busy put the reply stands behind what waited
+-- on the circuit of the busy put the reply is after what waited
 pub reply-behind : (y core : Server) (name : List ℕ) (k waited : ℕ) (ks : List model.Joined) (j : model.Joined) (sent : List (Handle × Fields)) → IsBusyOn y name k ks → At ks k j → waited ≡ length (bytes_under (under y.circuits j.at_server)) → Finishes y name sent (Ok tt) core
     → AreBehind waited (bytes_under (under core.circuits j.at_server)) (map (λ (s : Handle × Fields). s.1) sent)
 reply-behind y core name k waited ks j sent busy at long finishes =
@@ -509,7 +510,7 @@ next-both logs life [] (Some v) (log, there, (p, first, rest)) = absurd cc
 next-both logs life (p ∷ ps) None next = absurd cc
 next-both logs life (p ∷ ps) (Some v) next = refl
 
--- a put that is applied next is told behind the finish
+-- a put that is applied next is told after the finish
 pub entries-two : (life number : ℕ) (p first : model.PutPlace) (value : Elements) (next : Option model.PutPlace) (some : Option Elements) (was mid now : List (List history.Entry)) → next ≡ Some first → some ≡ Some value
     → mid ≡ grown life (finish_entry p ∷ []) was → now ≡ grown life (history.Applied first.circuit first.place number (record { value = value; meta = unset }) true ∷ []) mid
     → now ≡ grown life (finish_entry p ∷ applied_of number next some) was
@@ -560,7 +561,7 @@ pub none-busy : {A : Type 0} (f : A → Elements) (o : Option A) (y : Server) (n
 none-busy f None y name is has = sym is
 none-busy f (Some v) y name is has = absurd cc
 
--- the record that was found stands beside the core's
+-- the record that was found is beside the core's
 pub found-beside : (y : ServerSide) (rs : List Held) (name : List ℕ) (r : Held) (b : Put) (busy : IsBusy y.core name b) → rs ≡ y.records.items → IsFound rs name (Some r) → IsBeside y.core (map record_of y.records.items) name busy.c (record_of r)
 found-beside y rs name r b busy same (place, at, is) =
     (busy.named, (place, subst (λ (z : List Held). At (map record_of z) place (record_of r)) same (At-map record_of rs place r at), is))

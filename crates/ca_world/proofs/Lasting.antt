@@ -36,7 +36,7 @@ quiet-by w new e (Err OutOfMemory) d s q = subst (λ (v : World). ClientsQuiet v
 quiet-by w new e (Err BadEvent) d s q = subst (λ (v : World). ClientsQuiet v) (sym d.1) q
 quiet-by w new e (Err _) d s q = absurd d
 
--- each handle means what stands beside it
+-- each handle means what is beside it
 pub mean-by : (w new : World) (e : Event) (r : Result (Unit {0}) Refusal) → Does w e r new → ClientsStand w → ClientsQuiet w → AreMeant w.clients → AreMeant new.clients
 mean-by w new e (Ok u) d s q m = mean-happens w new e s q m d
 mean-by w new e (Err OutOfMemory) d s q m = subst (λ (v : World). AreMeant v.clients) (sym d.1) m

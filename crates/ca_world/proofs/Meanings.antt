@@ -1,4 +1,4 @@
--- Every event keeps that each handle means what stands beside it.
+-- Every event keeps that each handle means what is beside it.
 use Rattle.std.proofs.Common.{◌≡◌, ℕ, zero, suc, ◌+◌, inl, inr, Bool, true, false, cond, drop, List, [], ◌∷◌, ◌++◌, length, Option, Some, None, Ok, refl, sym, ◌∙◌, subst}
 use Rattle.std.specs.Prelude.{option_map, slice_get, slice_set, unwrap_or}
 use Rattle.std.specs.List.{FoldsTo}
@@ -66,7 +66,7 @@ module _ (w : World) (i : ℕ) (x : ClientSide) (at : At w.clients i x) (all : A
 
 -- ---- servers
 
--- a circuit is noted, or changed where it stands
+-- a circuit is noted, or changed where it is
 at-mean : (w : World) (k : ℕ) (f : Joined → Joined) (o : Option Joined) → AreMeant w.clients → AreMeant (unwrap_or (option_map (λ (c : Joined). with_circuit k (f c) w) o) w).clients
 at-mean w k f None all = all
 at-mean w k f (Some c) all = all

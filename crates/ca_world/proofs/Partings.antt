@@ -1,4 +1,5 @@
--- How many notices a moment makes a client tell, over all its ends that fall silent: no more than its requests and channels have names.
+-- How many notices a moment makes a client tell, over all its ends that fall silent: no more than
+-- its requests and channels have names.
 use Rattle.std.proofs.Common.{◌≡◌, ℕ, ◌+◌, ◌≤◌, inl, inr, List, ◌++◌, length, sym, ap, subst, ◌∙◌, arith}
 use Rattle.std.specs.Prelude.{map}
 use Rattle.std.proofs.lemmas.List.{length-append, length-map}

@@ -232,7 +232,7 @@ pub post-told : (i : ℕ) (name : List ℕ) (v told : Stored) (mask : ℕ) (y y'
 post-told i name v told mask y y' core gone ks ks' logs mid logs' posts is_v is_l did =
     (gone, core, inl (posts, subst (λ (z : Stored × List (List Entry)). TellsPost i name z.0 mask (record y { core = core }) ks z.1 y' ks' logs') (λ t. (is_v t, is_l t)) did))
 
--- want of memory is no refusal
+-- being out of memory is no refusal
 pub post-kept : (i : ℕ) (name : List ℕ) (v : Stored) (mask : ℕ) (y : ServerSide) (core : Server) (gone : Handle → Bool) (ks : List model.Joined) (logs mid : List (List Entry)) (e : Refusal) → Posts y.core name v mask gone (Err e) core → mid ≡ logs
     → PostsAt i name v mask y ks logs (Ok tt) (record y { core = core }) ks mid
 post-kept i name v mask y core gone ks logs mid e posts is_l =

@@ -149,7 +149,7 @@ none-spelled (m ∷ ms) none =
     let long = spelling-long m in
     absurd (omega (arith, none, both, long))
 
--- behind what waited stand the updates
+-- after what waited are the updates
 pub behind : (us : List Update) (e after : ServerEnd) (bytes : List ℕ) (waited : ℕ) → FoldsTo Leaves e us after → bytes ≡ after.link.output → waited ≡ length e.link.output → drop waited bytes ≡ spelled (shown_by us)
 behind us e after bytes waited folds is size =
     ap (drop waited) (is ∙ waits-then us e after folds) ∙ drop_at e.link.output (spelled (shown_by us)) waited (sym size)

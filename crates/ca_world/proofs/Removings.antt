@@ -59,7 +59,8 @@ use Rattle.ca_world.proofs.Postings.{each-under, ending-keeps}
 
 -- ---- what stands
 
--- in every run the queues of an open circuit have the subscriptions that stand, and nothing waits there for others
+-- in every run the queues of an open circuit have the subscriptions that stand, and nothing
+-- waits there for others
 pub run-seated : (w : model.World) (i : ℕ) → IsReached w → AllSeated i w.circuits
 run-seated w i (s, es, ok, folds) k j there mine on =
     let runs : Runs s es None w = (w, folds, refl) in

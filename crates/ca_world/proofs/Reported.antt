@@ -79,7 +79,7 @@ reported-set ys i y all one k x at = elim (At-set ys i y k x at) [
 side-reported : (w : World) (i : ℕ) (y : ServerSide) → AllReported w.servers → At w.servers i y → (z : ServerSide) → z.core ≡ y.core → AllReported (slice_set w.servers i z)
 side-reported w i y all at z same = reported-set w.servers i z all (subst HasReported (sym same) (all i y at))
 
--- a circuit is noted, or changed where it stands
+-- a circuit is noted, or changed where it is
 at-reported : (w : World) (k : ℕ) (f : Joined → Joined) (o : Option Joined) → AllReported w.servers → AllReported (unwrap_or (option_map (λ (c : Joined). with_circuit k (f c) w) o) w).servers
 at-reported w k f None all = all
 at-reported w k f (Some c) all = all

@@ -13,7 +13,8 @@ use Rattle.ca_laws_runs.proofs.StepWhole.{run-serves}
 use Rattle.ca_world_servers.specs.Removing.{AllSeated}
 use Rattle.ca_world.specs.Whole.{IsReached}
 
--- the queues of an open circuit have the subscriptions that stand, and nothing waits there for others
+-- the queues of an open circuit have the subscriptions that stand, and nothing
+-- waits there for others
 pub run-seated : (w : model.World) (i : ℕ) → IsReached w → AllSeated i w.circuits
 run-seated w i (s, es, ok, folds) k j there mine on =
     let runs : Runs s es None w = (w, folds, refl) in

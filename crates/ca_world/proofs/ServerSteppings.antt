@@ -1,4 +1,5 @@
--- What a step leaves of a server whose end is closed then: as if no step had been taken, unless that wrote.
+-- What a step leaves of a server whose end is closed then: as if no step had been
+-- taken, unless that wrote.
 use Rattle.std.proofs.Common.{◌≡◌, ℕ, ◌==◌, ◌&&◌, Bool, true, false, not, List, [], ◌∷◌, ◌++◌, filter, refl, sym, ap, ◌∙◌}
 use Rattle.std.specs.Prelude.{if◌then◌else◌}
 use Rattle.std.specs.Str.{bytes_eq}
@@ -49,7 +50,7 @@ module _ (h : Handle) where
       go true is same = same ∙ sym (ap (λ (b : Bool). if not b then p ∷ filter stays ps else filter stays ps) (within p.put is))
       go false is same = (λ t. if stays p then p ∷ same t else same t)
 
-  -- some puts of this circuit wait no more
+  -- some puts of this circuit no longer wait
   pub clears-same : (f : Put → Bool) → ((p : Put) → f p ≡ true → here p ≡ true) → (rs : List Record) → withdrawn here (withdrawn f rs) ≡ withdrawn here rs
   clears-same f within [] = refl
   clears-same f within (r ∷ rs) = (λ t. record r { waiting = fewer f within r.waiting t } ∷ clears-same f within rs t)

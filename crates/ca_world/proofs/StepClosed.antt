@@ -94,7 +94,7 @@ cut-closed core h e has =
 abbrev LacksAll : (before : Server) (h : Handle) (e : ServerEnd) → Action → Server → Type 0
 LacksAll before h e action new = (l : LacksMemory before h e new) × (busies_of action ≡ left_written l.written l.next.action)
 
--- the end that handled a message and was closed for want of memory
+-- the end that handled a message and was closed out of memory
 lacks-handled : (before core : Server) (h : Handle) (e : ServerEnd) (did : Effect) → HasEnd before h e → (d : IsHandled before core h e did) → NeedsMemory d.next.m d.next.replies d.next.action → LacksAll before h e d.next.action (closed h core)
 lacks-handled before core h e did has d needs = go (is_write d.next.action) refl
   where
@@ -254,7 +254,8 @@ module _ (before core : Server) (j : Joined) (ks : List Joined) (rs : List Recor
   none-some : (b : Bool) → (let n : Option Bool = None in n ≡ Some b) → ⊥
   none-some b e = cc
 
-  -- Where the end closed the same subscriptions stand at the ends and on the circuits, if its message wrote.
+  -- Where the end closed the same subscriptions are at the ends and on the circuits,
+  -- if its message wrote.
   pub closed-alike : (left : List ℕ) (cause : Why) → StepsOpen before j.at_server m.e (stepped.Closed cause left) core → (busies : Bool) → wrote_in core t.applied a.command a.write ≡ Some busies → AllAlike t.server core ks
   closed-alike left why.OutOfMemory steps busies is = lacks-alike before core j ks rs a t m steps.1 _ (lacks-wrote before core j ks rs a t m steps.1) busies is
   closed-alike left why.Misaligned steps busies is = absurd (none-some busies (sym (unwritten steps.3) ∙ is))

@@ -1,4 +1,5 @@
--- What is known of the circuits once a message was handled: for what it did to be told, and for its end to close.
+-- What is known of the circuits once a message was handled: for what it did to be told, and
+-- for its end to close.
 use Rattle.std.proofs.Common.{◌≡◌, ℕ, ◌<◌, inl, inr, Bool, true, false, List, [], ◌∷◌, Option, Some, None, refl, sym, ap, subst, ◌∙◌}
 use Rattle.std.specs.Prelude.{filter, if◌then◌else◌, map, option_map, slice_set}
 use Rattle.std.specs.List.{fold}
@@ -125,7 +126,7 @@ alike-set d s i core ks k j at all n g there mine on = elim (At-set ks k (with_l
       subst (λ (z : Joined). IsAlike (under core.circuits z.at_server) z) (sym is.1) (lists-alike d s (under core.circuits j.at_server) j was)
 ]
 
--- The same subscriptions stand at the ends and on the circuits, once a message's write reached them.
+-- The same subscriptions are at the ends and on the circuits, once a message's write reached them.
 pub alike-wrote : (y : Server) (h : Handle) (e : ServerEnd) → HasEnd y h e → (next : Next y h e) (gone : Handle → Bool) (core : Server) → Reaches next.action gone next.after core → is_write next.action ≡ true
     → (i : ℕ) (ks : List Joined) → AllAlike i y ks → AllAlike i core ks
 alike-wrote y h e has next gone core reaches wrote i ks alike = go next.action next.handles reaches wrote
@@ -225,7 +226,8 @@ module _ (before core : Server) (j : Joined) (ks : List Joined) (rs : List Recor
   pub handled-same : (busies : Bool) → wrote_by did ≡ Some busies → (place : ℕ) → numbers_after place d.next.action j ≡ j
   handled-same busies wrote place = write-same place d.next.action j (busies-writes d.next.action busies (sym handled-wrote ∙ wrote))
 
-  -- The same subscriptions stand at the ends and on the circuits, once its write reached them; the lists of its circuit are aside.
+  -- The same subscriptions are at the ends and on the circuits, once its write reached them; the
+  -- lists of its circuit are aside.
   pub alike-after : (busies : Bool) → wrote_by did ≡ Some busies → (k place : ℕ) → At ks k j → AllAlike t.server core (slice_set ks k (with_lists [] [] (numbers_after place d.next.action j)))
   alike-after busies wrote k place at =
       let written : is_write d.next.action ≡ true = busies-writes d.next.action busies (sym handled-wrote ∙ wrote) in

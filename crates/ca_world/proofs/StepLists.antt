@@ -1,4 +1,5 @@
--- What a message does to other circuits, and how ends end, whatever went down and was handled on the circuit that handled it.
+-- What a message does to other circuits, and how ends end, whatever went down and was handled on
+-- the circuit that handled it.
 use Rattle.std.proofs.Common.{◌≡◌, ℕ, zero, suc, ◌==◌, ◌&&◌, Bool, true, false, List, [], ◌∷◌, Option, Some, None, refl, sym, ap, ◌∙◌}
 use Rattle.std.specs.Prelude.{if◌then◌else◌, is_some, map, option_map, slice_set, unwrap_or}
 use Rattle.std.specs.List.{fold}
@@ -96,6 +97,7 @@ module _ (i : ℕ) (core : Server) (action : Action) (ks : List Joined) (k : ℕ
       ap (map (ending (ends_by i core))) writes-aside ∙ map-set (ending (ends_by i core)) (map writes ks) k (with_lists d s (writes j))
       ∙ ap (slice_set (map (ending (ends_by i core)) (map writes ks)) k) (ending-lists d s (ends_by i core) (writes j) refl)
 
--- What a message does to its circuit, the numbers that wait there and how it ends leave these lists as they are.
+-- What a message does to its circuit, the numbers that wait there and how it ends leave
+-- these lists as they are.
 abbrev Lasts : Joined → Joined → Type 0
 Lasts j new = (new.lists.down ≡ j.lists.down) × (new.lists.handled ≡ j.lists.handled)

@@ -23,7 +23,8 @@ use Rattle.ca_world_servers.specs.Effects.{IsTold, TellsClear, TellsMessage, Tel
 use Rattle.ca_world_servers.proofs.Done.{map-same}
 use Rattle.ca_world.proofs.Postings.{posted-keeps}
 
--- What is told of a message leaves the server its circuits, its core and its life, and each circuit its ends.
+-- What is told of a message leaves the server its circuits, its core and its life, and
+-- each circuit its ends.
 pub record Stays (y : ServerSide) (ks : List model.Joined) (y' : ServerSide) (ks' : List model.Joined) : Type 0 where
   pub numbers : y'.circuits.items ≡ y.circuits.items
   pub core : y'.core ≡ y.core

@@ -1,4 +1,5 @@
--- The numbers of a write that wait on circuits, by the core after its step as by the one before it: the ends that differ have ended.
+-- The numbers of a write that wait on circuits, by the core after its step as by the one before it:
+-- the ends that differ have ended.
 use Rattle.std.proofs.Common.{◌≡◌, ℕ, zero, suc, ◌==◌, ◌&&◌, Bool, true, false, List, [], ◌∷◌, Option, Some, None, refl, sym, ap, subst, ◌∙◌, inl, inr}
 use Rattle.std.specs.Prelude.{filter, if◌then◌else◌, is_some, map, option_map, unwrap_or}
 use Rattle.std.specs.List.{fold}
@@ -65,7 +66,8 @@ module _ (ends : Joined → Option (List ℕ)) (blind : IsBlind ends) where
   ending-as : (j : Joined) (o : Option (List ℕ)) → ends j ≡ o → ending ends j ≡ unwrap_or (option_map (λ (left : List ℕ). server_closed left j) o) j
   ending-as j o is = ap (λ (z : Option (List ℕ)). unwrap_or (option_map (λ (left : List ℕ). server_closed left j) z) j) is
 
-  -- One core has the same keys as another of each end that does not end: the circuit, once it ended or not, is the same by both.
+  -- One core has the same keys as another of each end that does not end: the circuit, once it ended
+  -- or not, is the same by both.
   module _ (i : ℕ) (a b : Server) (name : List ℕ) (mask : ℕ) where
     agree-one : (j : Joined) → (ends j ≡ None → j.server == i && j.lists.server_open ≡ true → keys_concerned name mask (under a.circuits j.at_server) ≡ keys_concerned name mask (under b.circuits j.at_server))
         → ending ends (numbers_posted i a name mask j) ≡ ending ends (numbers_posted i b name mask j)
@@ -162,7 +164,8 @@ module _ (y : Server) (h : Handle) (e taken : ServerEnd) (has : HasEnd y h e) (s
       ∙ ap (λ (t : Table ServerCircuit). keys_concerned name write_mask (under t g)) (wrote-circuits y h taken m replies name value busies after handles)
       ∙ same-keys y h e has (record taken { link = with_sent replies taken.link }) subs name write_mask g
 
-  -- The numbers of a message's write, on circuits once the ends that ended are told: by the core after it, and by the one before.
+  -- The numbers of a message's write, on circuits once the ends that ended are told: by the core
+  -- after it, and by the one before.
   module _ (after mid core : Server) (gone : Handle → Bool) (ends : Joined → Option (List ℕ)) (blind : IsBlind ends)
       (quits : (j : Joined) → ends j ≡ None → j.server == i && j.lists.server_open ≡ true → (under core.circuits j.at_server ≡ under mid.circuits j.at_server) × (left_by (under mid.circuits j.at_server) ≡ None)) where
     keys : (name : List ℕ) (value : Elements) (busies : Bool) → Handles y h taken m replies (Applies name value busies) after → mid ≡ after_post name write_mask (stored_now after value) gone after
@@ -199,7 +202,8 @@ module _ (y : Server) (h : Handle) (e taken : ServerEnd) (has : HasEnd y h e) (s
 
 -- ---- the two ways in which ends end
 
--- of the ends at server i those that did not end in the call, and are none of another circuit that is closed
+-- of the ends at server i those that did not end in the call, and are none of another
+-- circuit that is closed
 pub quits-by : (i : ℕ) (core : Server) (j : Joined) → ends_by i core j ≡ None → j.server == i && j.lists.server_open ≡ true → left_by (under core.circuits j.at_server) ≡ None
 quits-by i core j none opened = sym (ap (λ (b : Bool). if b then left_by (under core.circuits j.at_server) else None) opened) ∙ none
 

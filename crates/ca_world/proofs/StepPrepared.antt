@@ -25,7 +25,7 @@ use Rattle.ca_world_servers.specs.declared.ahead.Ahead.{Ahead}
 use Rattle.ca_world_servers.specs.Effects.{BeginsNew, MayLackFor, numbers_by}
 use Rattle.ca_world_servers.proofs.Dealt.{begins-new, due-cases, idle}
 
--- ---- bytes behind others
+-- ---- bytes after others
 
 module _ (waited : ℕ) (bytes : List ℕ) (ms : List Fields) (behind : StandBehind waited bytes ms) where
   size : length bytes ≡ waited + length (spelled ms)
@@ -136,7 +136,7 @@ numbers-aside m (Switches on) place j = refl
 -- ---- the core after the step
 
 module _ (before core : Server) (j : Joined) (ks : List Joined) (rs : List RecordSide) (a : Ahead) (t : Turn) (did : Effect) (m : MayStep t before j ks rs a) (d : IsHandled before core j.at_server m.e did) where
-  -- the replies are behind what waited
+  -- the replies are after what waited
   pub handled-behind : StandBehind t.waited (output_of (under core.circuits t.at)) d.next.replies
   handled-behind =
       let own = next-own before j.at_server m.e m.has d.next in

@@ -63,7 +63,7 @@ named-at cs name i c apart at named =
     let same : f.0 ≡ c = At-one cs i f.0 c (subst (λ (n : ℕ). At cs n f.0) place d.1) at in
     f.1 ∙ ap (λ (r : Record). Some r) same
 
--- records in order stand beside each other
+-- records in order are beside each other
 beside-by : (cs : List Record) (rs : List model.RecordSide) → AreInOrder cs rs → AreBeside cs rs
 beside-by cs rs order = record {
   each = λ i c r at to.

@@ -90,7 +90,7 @@ unstamped-set ys i y all one k x at = elim (At-set ys i y k x at) [
 side-unstamped : (w : World) (i : ℕ) (y : ServerSide) → AllUnstamped w.servers → At w.servers i y → (z : ServerSide) → z.core ≡ y.core → AllUnstamped (slice_set w.servers i z)
 side-unstamped w i y all at z same = unstamped-set w.servers i z all (subst IsUnstamped (sym same) (all i y at))
 
--- a circuit is noted, or changed where it stands
+-- a circuit is noted, or changed where it is
 at-unstamped : (w : World) (k : ℕ) (f : Joined → Joined) (o : Option Joined) → AllUnstamped w.servers → AllUnstamped (unwrap_or (option_map (λ (c : Joined). with_circuit k (f c) w) o) w).servers
 at-unstamped w k f None all = all
 at-unstamped w k f (Some c) all = all

@@ -81,7 +81,7 @@ module _ (cs : List ClientSide) (ss : List ServerSide) (ks : List Joined) (cl : 
         let is = same-circuit cs ss ks cl sl m k a.j a.at can.j can.joins.at in
         ap (λ (z : Ends). z.client_open) a.is ∙ (sym (ap (λ (z : model.Joined). z.lists.client_open) is) ∙ can.is_open)
 
-    -- so many bytes wait
+    -- n bytes wait
     pub waits-up : (j : Joined) (x : ClientSide) (n : ℕ) → At ks k j → At cs e.client x → n ≡ length (waiting_up (client_of x) (joined_of j)) → Waits w k Up n
     waits-up j x n at client many =
         let is : e ≡ ends_of j = a.is ∙ ap ends_of (At-one ks k a.j j a.at at) in

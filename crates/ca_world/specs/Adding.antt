@@ -20,7 +20,8 @@ pub record AreInOrder (cs : List Record) (rs : List RecordSide) : Type 0 where
   pub like : AreLike cs rs
   pub apart : AreNamedApart cs
 
--- Among the core's records the one of this name stands after the first n of those beside it; no two have one name.
+-- Among the core's records the one of this name is after the first n of those beside it;
+-- no two have one name.
 pub record StandsBehind (n : ℕ) (cs : List Record) (rs : List RecordSide) (name : List ℕ) : Type 0 where
   pub old : List Record
   pub r : Record

@@ -26,11 +26,11 @@ use Rattle.ca_world_data.specs.Seen.{record_of, server_of}
 
 -- ---- the value of a put that waits
 
--- the entry tells that the put at this place came to wait with this value
+-- the entry says that the put at this place came to wait with this value
 abbrev pub TellsWait : history.Entry → PutPlace → Elements → Type 0
 TellsWait e p value = (r : ℕ) × (v : Stored) × (e ≡ history.Waits p.circuit p.place r v) × (v.value ≡ value)
 
--- an entry of this log tells so, if a value was found
+-- an entry of this log says so, if a value was found
 abbrev pub WaitsIn : List history.Entry → PutPlace → Option Elements → Type 0
 WaitsIn log p (Some value) = (e : history.Entry) × In log e × TellsWait e p value
 WaitsIn log p None = Unit {0}
@@ -61,8 +61,9 @@ abbrev pub IsFound : List Held → (name : List ℕ) → Option Held → Type 0
 IsFound rs name None = Unit {0}
 IsFound rs name (Some r) = (place : ℕ) × At rs place r × (r.name.items ≡ name)
 
--- What holds of a record of this name, so that its busy put may be finished: the put came on the circuit of its handle, its reply is a
--- message, the log tells the value of the put that waits first, and writes are stored with no stamp.
+-- What holds of a record of this name, so that its busy put may be finished: the put came on the
+-- circuit of its handle, its reply is a message, the log says the value of the put that waits
+-- first, and writes are stored with no stamp.
 pub record MayFinish (name : List ℕ) (y : Side) (ks : List Joined) (logs : List (List history.Entry)) : Type 0 where
   pub handle : (c : Record) (r : RecordSide) (b : Put) (p : PutPlace) (j : Joined) → IsBeside y.core y.records name c r → c.busy ≡ Some b → r.busy ≡ Some p → At ks p.circuit j → j.at_server ≡ b.circuit
   pub fits : (c : Record) (b : Put) → record_named y.core.records name ≡ Some c → c.busy ≡ Some b → IsMessage (finish_reply b)
@@ -90,7 +91,7 @@ pub record IsBusyOn (y : Server) (name : List ℕ) (k : ℕ) (ks : List Joined) 
 abbrev pub with_down : List history.Told → Joined → Joined
 with_down told j = record j { lists = record j.lists { down = told } }
 
--- Behind so many bytes these messages are spelled: none, or one without a payload.
+-- After n bytes these messages are spelled: none, or one without a payload.
 pub record AreBehind (waited : ℕ) (bytes : List ℕ) (ms : List Fields) : Type 0 where
   pub begun : List ℕ
   pub long : length begun ≡ waited
@@ -117,8 +118,8 @@ applied_of number p value = []
 abbrev pub numbered : Bool → (i : ℕ) → Server → (name : List ℕ) → List Joined → List Joined
 numbered waits i core name ks = if waits then map (numbers_posted i core name write_mask) ks else ks
 
--- The core of server i finished its busy put, which came at this place: the numbers of the next wait, if there is one, and the reply
--- went down.
+-- The core of server i finished its busy put, which came at this place: the numbers of the next
+-- wait, if there is one, and the reply went down.
 pub record Finished (i : ℕ) (name : List ℕ) (p : PutPlace) (waits : Bool) (y : Server) (ks : List Joined) (y' : Server) (ks' : List Joined) : Type 0 where
   pub sent : List (Handle × Fields)
   pub finishes : Finishes y name sent (Ok tt) y'
@@ -134,8 +135,8 @@ pub record TellsFinish (i : ℕ) (name : List ℕ) (p : PutPlace) (number : ℕ)
   pub numbers : mid.circuits.items ≡ y.circuits.items
   pub reports : Reports i mid after (grown y.life (finish_entry p ∷ applied_of number next value) logs) y' ks' logs'
 
--- The busy put of a record of server i is finished: its core says so, the log has it and the next that is applied, the numbers of that wait,
--- the reply went down, and ends that ended are reported.
+-- The busy put of a record of server i is finished: its core says so, the log has it and the next
+-- that is applied, the numbers of that wait, the reply went down, and ends that ended are reported.
 pub record Ends (i : ℕ) (name : List ℕ) (y : ServerSide) (ks : List Joined) (logs : List (List history.Entry)) (y' : ServerSide) (ks' : List Joined) (logs' : List (List history.Entry)) : Type 0 where
   pub sent : List (Handle × Fields)
   pub core : Server

@@ -26,7 +26,7 @@ shown_by updates = map (λ (u : Update). u.message) updates
 abbrev pub UpdatesFit : Server → Handle → Type 0
 UpdatesFit y h = (updates : List Update) (new : Server) → Pumps y h updates new → AreGood (shown_by updates)
 
--- Bytes behind so many that waited: their updates went down.
+-- Bytes after the n that waited: their updates went down.
 pub record TellsBehind (waited : ℕ) (bytes : List ℕ) (j : model.Joined) (read : ℕ) (new : model.Joined) : Type 0 where
   pub n : ℕ
   pub is : read ≡ waited + n
@@ -45,7 +45,8 @@ pub record Pumped (y : Server) (j new : model.Joined) : Type 0 where
 abbrev pub over_core : Handle → (left : List ℕ) → Server → Server
 over_core h left y = closed h (ended h why.OutOfMemory left y)
 
--- The end was pumped until it rests; or it ended out of memory for the next update, and left these bytes.
+-- The end was pumped until it rests; or it ended out of memory for the next update,
+-- and left these bytes.
 abbrev pub PumpsUntil : Server → model.Joined → Option (List ℕ) → Server → model.Joined → Type 0
 PumpsUntil y j None y' new = (p : Pumped y j new) × Rests p.after × (y' ≡ with_end j.at_server p.after y)
 PumpsUntil y j (Some left) y' new =

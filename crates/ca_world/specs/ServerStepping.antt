@@ -1,4 +1,5 @@
--- Working: a step of a server's end, by what becomes of the side of its server, of the circuits and of the logs.
+-- Working: a step of a server's end, by what becomes of the side of its server, of the
+-- circuits and of the logs.
 use Rattle.std.specs.Prelude.{ℕ, ◌≡◌, ◌≢◌, ◌⊎◌, Bool, if◌then◌else◌, List, Option, Some, None, length, map, option_map, slice_get, slice_set, unwrap_or}
 use Rattle.ca_arena.specs.declared.handle.Handle.{Handle}
 use Rattle.ca_wire.specs.Fields.{Fields}
@@ -12,7 +13,8 @@ use Rattle.ca_model.specs.ServerSteps as stepped
 use Rattle.ca_model.specs.ServerEvents.{ending, ends_at, ends_by, ends_here, handled_at, logged_by, numbers_after, records_after, reported, withdrawals, without_puts, write_numbers}
 use Rattle.ca_model.specs.World.{Joined, PutPlace, RecordSide, ServerSide, grown, log_length}
 
--- A call of a server is over, with this core and these records: these ends of circuits end, and their puts that wait are withdrawn.
+-- A call of a server is over, with this core and these records: these ends of circuits end, and
+-- their puts that wait are withdrawn.
 pub record Quits (ends : Joined → Option (List ℕ)) (core : Server) (y : ServerSide) (rs : List RecordSide) (ks : List Joined) (logs : List (List Entry)) (y' : ServerSide) (ks' : List Joined) (logs' : List (List Entry)) : Type 0 where
   pub side : y' ≡ record y { core = reported core; records = map (without_puts (ends_at ends ks)) rs }
   pub circuits : ks' ≡ map (ending ends) ks
@@ -32,7 +34,8 @@ circuits_acted k j y action ks = map (write_numbers j.server y.core action) (sli
 abbrev pub logs_acted : (k : ℕ) → Joined → ServerSide → Action → List (List Entry) → List (List Entry)
 logs_acted k j y action logs = grown y.life (logged_by y.core j.at_server (put_place k j) action y.records) logs
 
--- circuit k is noted as having handled that message, by these replies; the logs were those, and are these
+-- circuit k is noted as having handled that message, by these replies; the logs were
+-- those, and are these
 abbrev pub circuits_noted : (k : ℕ) → Joined → ServerSide → List Fields → (logs logs' : List (List Entry)) → List Joined → List Joined
 circuits_noted k j y replies logs logs' ks =
     let step : Step = record { sent = length j.lists.down; logged = log_length y.life logs; after = log_length y.life logs' } in

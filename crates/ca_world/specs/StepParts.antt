@@ -37,7 +37,8 @@ use Rattle.ca_world_servers.specs.Parting.{AreBeside}
 abbrev pub IsAheadOf : Server → Joined → List RecordSide → Ahead → Type 0
 IsAheadOf core j rs a = (t : history.Sent) → At j.lists.up (length j.lists.handled) t → IsAhead core j.at_server rs t.message a
 
--- The step is of the end under this handle: how much waited there, and how much was applied, as the core was.
+-- The step is of the end under this handle: how much waited there, and how much was
+-- applied, as the core was.
 pub record IsTurn (core : Server) (h : Handle) (e : ServerEnd) (t : Turn) : Type 0 where
   pub here : t.at ≡ h
   pub waited : t.waited ≡ length e.link.output
@@ -79,7 +80,8 @@ pub record MayBegin (i : ℕ) (core : Server) (j : Joined) (ks : List Joined) (r
 
 -- ---- after it
 
--- The end handled a message, which had this effect; its write, if it is one, reached the subscriptions of its record.
+-- The end handled a message, which had this effect; its write, if it is one, reached the
+-- subscriptions of its record.
 pub record IsHandled (before core : Server) (h : Handle) (e : ServerEnd) (did : Effect) : Type 0 where
   pub next : Next before h e
   pub gone : Handle → Bool
@@ -87,14 +89,15 @@ pub record IsHandled (before core : Server) (h : Handle) (e : ServerEnd) (did : 
   pub reaches : Reaches next.action gone next.after core
   pub tells : did ≡ effect_due next.m next.action
 
--- Behind so many bytes these messages are spelled.
+-- After n bytes these messages are spelled.
 pub record StandBehind (waited : ℕ) (bytes : List ℕ) (ms : List Fields) : Type 0 where
   pub begun : List ℕ
   pub long : waited ≡ length begun
   pub are : bytes ≡ begun ++ spelled ms
   pub good : AreGood ms
 
--- What the message did is begun on its circuit, whose lists are held aside with room for its replies and its step.
+-- What the message did is begun on its circuit, whose lists are held aside with room for its
+-- replies and its step.
 pub record IsPrepared (before : Server) (e : ServerEnd) (j : Joined) (next : Next before j.at_server e) (r : Prepared) (new : Joined) : Type 0 where
   pub told : map told_of r.told.items ≡ about (length j.lists.handled) history.Reply next.replies
   pub circuit : new ≡ with_lists [] [] (numbers_after (length j.lists.handled) next.action j)
@@ -106,8 +109,8 @@ pub record AreAside (j : Joined) (r : Prepared) : Type 0 where
   pub room_down : vec_len r.down + length r.told.items ≤ vec_capacity r.down
   pub room_handled : vec_len r.handled + 1 ≤ vec_capacity r.handled
 
--- What a message did is told, ends that ended by its write are reported, and it is noted on its circuit. The circuits are those with the lists of
--- circuit k aside.
+-- What a message did is told, ends that ended by its write are reported, and it is noted on its
+-- circuit. The circuits are those with the lists of circuit k aside.
 pub record NotesAt (k i : ℕ) (did : Effect) (a : Ahead) (r : Prepared) (y : ServerSide) (ks : List Joined) (logs : List (List history.Entry)) (y' : ServerSide) (ks' : List Joined) (logs' : List (List history.Entry)) : Type 0 where
   pub mid : ServerSide
   pub circuits : List Joined
@@ -121,7 +124,8 @@ pub record NotesAt (k i : ℕ) (did : Effect) (a : Ahead) (r : Prepared) (y : Se
       let step : history.Step = record { sent = length r.down.items; logged = log_length y.life logs; after = log_length y.life logs' } in
       ks' ≡ slice_set over k (with_handled step (map told_of r.told.items) (with_lists (map told_of r.down.items) (map step_of r.handled.items) x))
 
--- A write is told, if the message wrote, and then the end that closed and those that ended beside it.
+-- A write is told, if the message wrote, and then the end that closed and those
+-- that ended beside it.
 pub record ClosesWith (k i : ℕ) (h : Handle) (place : ℕ) (wrote : Option Bool) (write : Option Coming) (left : List ℕ) (y : ServerSide) (ks : List Joined) (logs : List (List history.Entry)) (y' : ServerSide) (ks' : List Joined) (logs' : List (List history.Entry)) : Type 0 where
   pub mid : ServerSide
   pub circuits : List Joined
@@ -131,7 +135,8 @@ pub record ClosesWith (k i : ℕ) (h : Handle) (place : ℕ) (wrote : Option Boo
 
 -- ---- the whole
 
--- A step of the server's end of circuit k, with the numbers of the server's circuits; without memory all is as it was.
+-- A step of the server's end of circuit k, with the numbers of the server's circuits; without
+-- memory all is as it was.
 abbrev pub StepsServer : (k : ℕ) → ServerSide → List Joined → List (List history.Entry) → Result (Unit {0}) Refusal → ServerSide → List Joined → List (List history.Entry) → Type 0
 StepsServer k y ks logs (Ok _) y' ks' logs' =
     (y'.circuits.items ≡ y.circuits.items) × ((j : Joined) → At ks k j → StepsAt k j (server_of y) ks logs (server_of y') ks' logs')

@@ -7,7 +7,8 @@ use Rattle.ca_world.specs.declared.step.AfterEvent.{AfterEvent}
 use Rattle.ca_world.specs.declared.step.AfterEvent.TheVariants.{Done, Refused, Stopped}
 use Rattle.ca_world_data.specs.Does.{Does}
 
--- The event happened; or it was refused, and nothing changed; or some clients had the moment, and the next one had no memory for it.
+-- The event happened; or it was refused, and nothing changed; or some clients had the moment, and
+-- the next one had no memory for it.
 abbrev pub Steps : World → Event → AfterEvent → Type 0
 Steps old e (Done new) = Happens old e new
 Steps old e (Refused new refusal) = Does old e (Err refusal) new

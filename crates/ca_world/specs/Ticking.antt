@@ -1,4 +1,5 @@
--- Vocabulary: what handing a moment to a world gives; and, working, what it leaves of clients, logs and circuits.
+-- Vocabulary: what handing a moment to a world gives; and, working, what it leaves of
+-- clients, logs and circuits.
 use Rattle.std.specs.Prelude.{ℕ, ◌≡◌, List, [], Ok, Err, Result, length}
 use Rattle.std.specs.declared.alloc.AllocError.{AllocError}
 use Rattle.ca_text.specs.declared.refusal.Refusal.TheVariants.{OutOfMemory}
@@ -15,7 +16,8 @@ use Rattle.ca_world_data.specs.declared.client.ClientSide.{ClientSide}
 use Rattle.ca_world_data.specs.Found.{AreNumbered}
 use Rattle.ca_world_data.specs.Ticks.{TellsFew}
 
--- All clients had the moment; or it goes back, and nothing changed; or some had it, and the next one had no memory for it.
+-- All clients had the moment; or it goes back, and nothing changed; or some had it, and the next
+-- one had no memory for it.
 abbrev pub Ticks : World → (moment : ℕ) → AfterTick → Type 0
 Ticks old moment (Done new) = Happens old (Tick moment) new
 Ticks old moment (Back new) = (CanBe old (Tick moment) → ⊥) × (new ≡ old)

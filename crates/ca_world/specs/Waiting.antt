@@ -15,7 +15,7 @@ abbrev pub waiting_for : Way → Joined → ClientSide → ServerSide → List �
 waiting_for Up j x y = waiting_up x j
 waiting_for Down j x y = waiting_down y j
 
--- so many wait on circuit k
+-- n wait on circuit k
 pub record Waits (w : World) (k : ℕ) (way : Way) (n : ℕ) : Type 0 where
   pub j : Joined
   pub x : ClientSide
@@ -27,7 +27,7 @@ pub record Waits (w : World) (k : ℕ) (way : Way) (n : ℕ) : Type 0 where
 abbrev pub IsNoCircuit : World → (k : ℕ) → Type 0
 IsNoCircuit w k = (j : Joined) (x : ClientSide) (y : ServerSide) → Joins w k j x y → ⊥
 
--- so many wait on circuit k: none if there is no such circuit
+-- n wait on circuit k: none if there is no such circuit
 abbrev pub AreWaiting : World → (k : ℕ) → Way → (n : ℕ) → Type 0
 AreWaiting w k way n = Waits w k way n ⊎ (IsNoCircuit w k × (n ≡ 0))
 

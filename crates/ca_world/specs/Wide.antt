@@ -1,4 +1,5 @@
--- Working: what a client asks for as a type and a count, which may be greater than a message carries.
+-- Working: what a client asks for as a type and a count, which may be greater
+-- than a message carries.
 use Rattle.std.specs.Prelude.{ℕ, ◌≡◌, ◌<◌, ◌⊎◌, Option, Some, None}
 use Rattle.ca_model.specs.ClientCalls.{Shape}
 use Rattle.ca_text.specs.Limits.{element_limit, priority_limit}

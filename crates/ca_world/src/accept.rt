@@ -6,8 +6,9 @@ use ca_text::Refusal;
 use ca_world_data::accepting::{accept_on, first_served};
 
 impl World {
-    /// The first circuit that a client wants, of those whose address has a server, is made: the server accepts it, and the client sends
-    /// what comes first on it. A server without room refuses it, and tells nothing.
+    /// The first circuit that a client wants, of those whose address has a server, is made: the
+    /// server accepts it, and the client sends what comes first on it. A server without room
+    /// refuses it, and reports nothing.
     pub fn accept(&mut self, client: usize) -> Result<(), Refusal>
         ensures { Does self.old (event.Accept client) result self.new }
     {

@@ -20,7 +20,8 @@ use ca_world_data::server::{RecordSide, ServerSide};
 use std::alloc::{AllocError, Global};
 
 impl World {
-    /// A record is added to those of a server, with a number that none of this life had. What the server refuses changes nothing.
+    /// A record is added to those of a server, with a number that none of this life had. What the
+    /// server refuses changes nothing.
     pub fn add(
         &mut self,
         server: usize,
@@ -86,7 +87,7 @@ fn add_at(
     add_counted(alloc, side, logs, name, count_of(count), slow, value)
 }
 
-// The same of a count that the core takes.
+// A record with a count that the core takes is added to those of this server.
 fn add_counted(
     alloc: Global,
     side: &mut ServerSide,
@@ -138,7 +139,7 @@ fn add_counted(
     }
 }
 
-// What the event is to which a server answered so: want of memory is no refusal of the server's.
+// What the event is to which a server answered so. Being out of memory is no refusal of a server.
 fn settle(refusal: Refusal) -> Result<(), Refusal>
     ensures { Settles refusal result }
 {

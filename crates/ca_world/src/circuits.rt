@@ -27,7 +27,8 @@ impl World {
         self.circuits.len() as u64
     }
 
-    /// How many bytes of a circuit wait to go this way, at their end or of what it left: 0 if there is no such circuit.
+    /// How many bytes of a circuit wait to go this way, at their end or of what it left: 0 if
+    /// there is no such circuit.
     pub fn waiting(&self, circuit: u64, way: Way) -> u64
         ensures { AreWaiting self.now circuit way result }
     {
@@ -36,7 +37,8 @@ impl World {
 }
 
 impl Stopped {
-    /// How many bytes of a circuit wait to go this way, at their end or of what it left: 0 if there is no such circuit.
+    /// How many bytes of a circuit wait to go this way, at their end or of what it left: 0 if
+    /// there is no such circuit.
     pub fn waiting(&self, circuit: u64, way: Way) -> u64
         ensures { AreWaiting self.now circuit way result }
     {

@@ -21,7 +21,8 @@ use ca_world_data::way::push_sent;
 use std::alloc::Global;
 
 impl World {
-    /// A client clears a channel. The call is in its log, and then what that tells. A refusal of the call is a line of its log.
+    /// A client clears a channel. The call is in its log, and then what that tells. A refusal of
+    /// the call is a line of its log.
     pub fn clear(&mut self, client: usize, channel: usize) -> Result<(), Refusal>
         ensures { Does self.old (event.Clear client channel) result self.new }
     {

@@ -7,8 +7,8 @@ use ca_text::Refusal;
 use ca_world_data::hearing::hear_datagram;
 
 impl World {
-    /// A datagram from this address comes to a client: search replies and beacons. The channels that it finds are created on circuits that
-    /// are connected, and wait for the others.
+    /// A datagram from this address comes to a client: search replies and beacons. The channels
+    /// that it finds are created on circuits that are connected, and wait for the others.
     pub fn client_datagram(
         &mut self,
         client: usize,

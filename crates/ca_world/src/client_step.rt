@@ -7,8 +7,8 @@ use ca_world_data::ends::ends_at;
 use ca_world_data::stepping::step_client;
 
 impl World {
-    /// A client's end of a circuit takes the next message that came, if there is one. What it tells is in the client's log, and what it
-    /// sends goes up its circuits. Its end may close then.
+    /// A client's end of a circuit takes the next message that came, if there is one. What it tells
+    /// is in the client's log, and what it sends goes up its circuits. Its end may close then.
     pub fn client_step(&mut self, circuit: usize) -> Result<(), Refusal>
         ensures { Does self.old (event.ClientStep circuit) result self.new }
     {

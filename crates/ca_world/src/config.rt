@@ -46,7 +46,8 @@ impl Config {
         Ok(())
     }
 
-    /// One server more, unless another has its address: whether it was added. Without memory nothing changes.
+    /// One server more, unless another has its address: whether it was added. Without
+    /// memory nothing changes.
     pub fn add_server(&mut self, server: ServerSetting) -> Result<bool, AllocError>
         ensures { AddsServer self.old server result self.new }
     {

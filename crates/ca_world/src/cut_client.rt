@@ -41,7 +41,8 @@ impl World {
     }
 }
 
-// The end of a circuit at this client is cut. It tells of each request and of each channel at most once.
+// The end of a circuit at this client is cut. It reports each request and of each
+// channel at most once.
 fn cut_at(
     side: &mut ClientSide,
     joined: &mut Joined,

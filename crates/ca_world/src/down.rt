@@ -17,8 +17,8 @@ use ca_world_data::server::ServerSide;
 use std::alloc::Global;
 
 impl World {
-    /// The first n bytes that wait at a server, or that its end left, reach the client of a circuit: it may ask for a pause of
-    /// updates, or for their return.
+    /// The first n bytes that wait at a server, or that its end left, reach the client of a
+    /// circuit: it may ask for a pause of updates, or for their return.
     pub fn down(&mut self, circuit: usize, n: usize) -> Result<(), Refusal>
         ensures { Does self.old (event.Down circuit n) result self.new }
     {
@@ -130,7 +130,7 @@ fn take_down(
     }
 }
 
-// Puts this command behind what the client sent, if there is one. There is room for it.
+// Puts this command after what the client sent, if there is one. There is room for it.
 fn push_flow(alloc: Global, up: &mut Vec<Sent>, flow: Option<Command>)
     requires { vec_len up.old + 1 ≤ vec_capacity up.old }
     ensures { map sent_of up.new.items ≡ map sent_of up.old.items ++ flow_said flow }

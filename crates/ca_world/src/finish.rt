@@ -39,8 +39,8 @@ use std::alloc::{AllocError, Global};
 const WRITE_MASK: u16 = 3;
 
 impl World {
-    /// The busy put of a record of a server is finished: its reply goes down, and the next put that waits is applied. A finish that the
-    /// server refuses changes nothing.
+    /// The busy put of a record of a server is finished: its reply goes down, and the next put that
+    /// waits is applied. A finish that the server refuses changes nothing.
     pub fn finish(&mut self, server: usize, name: &[u8]) -> Result<(), Refusal>
         ensures { Does self.old (event.Finish server name.now) result self.new }
     {
@@ -58,8 +58,9 @@ impl World {
     }
 }
 
-// A put is finished at this server. A finish that its core would refuse changes nothing. A record that is busy in the core is there beside it,
-// with the circuit of its put; were it not, that would be answered as if out of memory.
+// A put is finished at this server. A finish that its core would refuse changes nothing. A record
+// that is busy in the core is there beside it, with the circuit of its put; were it not, that would
+// be answered as if out of memory.
 fn finish_at(
     alloc: Global,
     server: usize,
@@ -111,8 +112,8 @@ fn finish_at(
     Ok(())
 }
 
-// Makes room for all that a finish leaves: in the log of this life, and on this circuit for a reply. One more post may be counted for each
-// subscription.
+// Makes room for all that a finish leaves: in the log of this life, and on this circuit for a
+// reply. One more post may be counted for each subscription.
 fn reserve_finish(
     circuit: usize,
     records: &[RecordSide],
@@ -235,8 +236,9 @@ fn tell_entries(
     );
 }
 
-// The core finishes the busy put of a record, which came at this place: its reply goes down, and the numbers of the next wait, if there is
-// one. They go by the core as it was. The circuit's messages down are held aside meanwhile, with room for the reply.
+// The core finishes the busy put of a record, which came at this place: its reply goes down, and
+// the numbers of the next wait, if there is one. They go by the core as it was. The circuit's
+// messages down are held aside meanwhile, with room for the reply.
 fn finish_on(
     alloc: Global,
     server: usize,
@@ -311,7 +313,8 @@ fn give_down(joined: &mut Joined, down: Vec<Told>)
     joined.lists.down = down;
 }
 
-// The reply went down if more bytes wait than before: its message has no payload, so that it takes no memory.
+// The reply went down if more bytes wait than before: its message has no payload, so
+// that it needs no memory.
 fn tell_reply(
     alloc: Global,
     core: &ServerCore,

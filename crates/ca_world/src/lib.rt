@@ -1,5 +1,5 @@
-//! A world of clients, servers and their circuits, run event by event over the real cores and their bytes. It keeps the
-//! histories of the circuits, and the logs of all lives, beside the cores.
+//! A world of clients, servers and their circuits, run event by event over the real cores and their
+//! bytes. It keeps the histories of the circuits, and the logs of all lives, beside the cores.
 #![tactic(auto)]
 
 mod accept;

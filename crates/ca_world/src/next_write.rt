@@ -1,4 +1,5 @@
-//! The put that waits first for a record: its value, as the log of its server's life has it, and the records once it makes its record busy.
+//! The put that waits first for a record: its value, as the log of its server's life has it, and
+//! the records once it makes its record busy.
 ghost use Rattle.std.specs.Prelude.{◌≡◌, IfOk, if◌then◌else◌, map, option_map};
 ghost use Rattle.std.specs.Str.{bytes_eq};
 ghost use Rattle.ca_dbr.specs.Elements.{elements};
@@ -23,7 +24,7 @@ pub(crate) fn next_records(records: &mut [RecordSide], name: &[u8])
     }
 }
 
-// The same of this record, if it has the name.
+// The put that waits first makes this record busy, or none does, if the record has the name.
 fn next_if(side: &mut RecordSide, name: &[u8])
     ensures { record_of side.new
         ≡ if bytes_eq (record_of side.old).name name.now
@@ -35,7 +36,7 @@ fn next_if(side: &mut RecordSide, name: &[u8])
     }
 }
 
-// The same of the record itself.
+// The put that waits first makes this record busy, or none does.
 fn next_busy(side: &mut RecordSide)
     ensures { record_of side.new ≡ world.next_busy (record_of side.old) }
 {
@@ -93,7 +94,7 @@ fn value_waiting<'a>(log: &'a [Entry], put: PutPlace) -> Option<&'a Value>
     None
 }
 
-// The same, if this entry tells of it.
+// The value with which the put of this place came to wait, if this entry tells of it.
 fn value_in<'a>(entry: &'a Entry, put: PutPlace) -> Option<&'a Value>
     ensures { WaitIn
         (entry_of entry.now)

@@ -53,7 +53,7 @@ fn open_on(
     open_carried(alloc, moment, side, logs, name, priority_of(priority))
 }
 
-// The same of a priority that the core takes.
+// A client opens a channel of this name, with a priority that the core takes.
 fn open_carried(
     alloc: Global,
     moment: u64,

@@ -23,7 +23,8 @@ use ca_world_data::server::ServerSide;
 use std::alloc::Global;
 
 impl World {
-    /// A value is posted to a record of a server, with a mask. A post that the server refuses changes nothing.
+    /// A value is posted to a record of a server, with a mask. A post that the server
+    /// refuses changes nothing.
     pub fn post(
         &mut self,
         server: usize,
@@ -99,7 +100,8 @@ fn post_at(
     }
 }
 
-// The core of this server has the post: it goes into the log, its numbers wait, and ends that ended by it are reported.
+// The core of this server has the post: it goes into the log, its numbers wait, and ends that
+// ended by it are reported.
 fn tell_post(
     alloc: Global,
     server: usize,

@@ -25,7 +25,8 @@ use ca_world_data::withdrawing::{withdraw, withdrawals};
 use std::alloc::Global;
 
 impl World {
-    /// Updates leave the queues of a server's end of a circuit until none may; or the end ends out of memory for the next.
+    /// Updates leave the queues of a server's end of a circuit until none may; or the end ends out
+    /// of memory for the next.
     pub fn pump(&mut self, circuit: usize) -> Result<(), Refusal>
         ensures { Does self.old (event.Pump circuit) result self.new }
     {
@@ -82,8 +83,8 @@ fn pump_at(
     Ok(())
 }
 
-// Pumps the open end of a circuit, and tells the updates. If one of them could not be told, its end ends before that. What it leaves, if
-// it ended.
+// Pumps the open end of a circuit, and tells the updates. If one of them could not be told, its end
+// ends before that. What it leaves, if it ended.
 fn pump_end(alloc: Global, core: &mut ServerCore, joined: &mut Joined) -> Option<Pipe>
     requires serves { IsServing core.old joined.old.at_server }
     requires fits { UpdatesFit core.old joined.old.at_server }
@@ -107,7 +108,8 @@ fn pump_end(alloc: Global, core: &mut ServerCore, joined: &mut Joined) -> Option
     Some(first_of(left, read))
 }
 
-// Tells the updates that stand behind so many bytes that waited. So many bytes are those that waited and those that were told.
+// Tells the updates that are after the n bytes that waited. It returns how many bytes
+// waited and were told.
 fn tell_behind(alloc: Global, bytes: &[u8], waited: usize, joined: &mut Joined) -> usize
     requires within { waited ≤ length bytes.now }
     requires spelled { AreSpelled (drop waited bytes.now) }

@@ -19,8 +19,8 @@ use ca_world_data::way::{prepare, push_sent, wanted_on};
 use std::alloc::Global;
 
 impl World {
-    /// A client asks for the value of a channel, as this type and with this many elements. A refusal of the call is a line of
-    /// its log.
+    /// A client asks for the value of a channel, as this type and with this many elements. A
+    /// refusal of the call is a line of its log.
     pub fn read(
         &mut self,
         client: usize,
@@ -80,7 +80,7 @@ fn read_on(
     }
 }
 
-// The same of a type and a count that a message carries.
+// A client asks for the value of a channel, as a type and a count that a message carries.
 fn read_carried(
     alloc: Global,
     client: usize,

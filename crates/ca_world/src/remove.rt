@@ -75,8 +75,8 @@ fn remove_at(
     }
 }
 
-// The core of this server has no such record any more: that goes into the log, each circuit loses its channels to it, and ends that ended by
-// it are reported.
+// The core of this server has no such record any more: that goes into the log, each circuit loses
+// its channels to it, and ends that ended by it are reported.
 fn tell_removal(
     alloc: Global,
     server: usize,

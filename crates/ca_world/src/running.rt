@@ -18,13 +18,14 @@ pub struct Ran {
     pub world: Stopped,
     /// How many events were done.
     pub done: usize,
-    /// Why the next one was not: BadEvent if it cannot be done, OutOfMemory if it can. None if there is no next one.
+    /// Why the next one was not: BadEvent if it cannot be done, OutOfMemory if it can. None if
+    /// there is no next one.
     pub refusal: Option<Refusal>,
 }
 
 /// Is told how far a run is.
 pub trait Progress {
-    /// The run has done so many of all its events.
+    /// The run has done n of all its events.
     fn has_done(&mut self, done: usize, all: usize);
 }
 
@@ -36,9 +37,11 @@ impl Progress for Silence {
     fn has_done(&mut self, _done: usize, _all: usize) {}
 }
 
-/// Runs events in order over the real cores, from the world before any event, as far as they can be done and memory allows.
+/// Runs events in order over the real cores, from the world before any event, as far as they can be
+/// done and memory allows.
 ///
-/// Whatever the events are, the world where the run ended is safe, and legal. Refused if there was no memory for the world before any event.
+/// Whatever the events are, the world where the run ended is safe, and legal. Refused if there was
+/// no memory for the world before any event.
 pub fn run(config: Config, events: &[Event]) -> Result<Ran, AllocError>
     ensures { IfOk result (λ r. HasRun
         config

@@ -46,8 +46,8 @@ use ca_world_servers::ends_with::report_ends_with;
 use ca_world_servers::handling::{note_handled, reserve_handled};
 use std::alloc::{AllocError, Global};
 
-// The end whose step it is: the numbers of its circuit and its server, and the handle by which that has it. How many bytes waited there before the
-// step, and how many writes were applied.
+// The end whose step it is: the numbers of its circuit and its server, and the handle by which that
+// has it. How many bytes waited there before the step, and how many writes were applied.
 #[derive(Clone, Copy)]
 struct Turn {
     alloc: Global,
@@ -67,7 +67,8 @@ struct Prepared {
 }
 
 impl World {
-    /// A step of a server's end of a circuit: it handles the next message that came, or there is none, or the end closes.
+    /// A step of a server's end of a circuit: it handles the next message that came, or there is
+    /// none, or the end closes.
     pub fn server_step(&mut self, circuit: usize) -> Result<(), Refusal>
         ensures { Does self.old (event.ServerStep circuit) result self.new }
     {
@@ -94,7 +95,8 @@ impl World {
     }
 }
 
-// A step of the end of a circuit at this server. All that may lack memory but the replies is made before it.
+// A step of the end of a circuit at this server. All that needs memory, except the
+// replies, is made before it.
 fn step_at(
     alloc: Global,
     circuit: usize,
@@ -144,7 +146,7 @@ fn step_at(
     Ok(())
 }
 
-// Whether one more post can be counted for each subscription that stands, where a message writes.
+// Whether one more post can be counted for each subscription that stands, if a message writes.
 fn check_write(circuits: &[Joined], write: &Option<Coming>) -> Result<(), AllocError>
     ensures { OnOk result ((w : coming.Coming) → write.now ≡ Some w → AllMayCount circuits.now) }
 {
@@ -230,7 +232,8 @@ fn step_end(
     }
 }
 
-// A message was handled, with this effect. If there is no memory for what it leaves, its end closes.
+// A message was handled, with this effect. If there is no memory for what it
+// leaves, its end closes.
 fn tell_step(
     turn: &Turn,
     side: &mut ServerSide,
@@ -287,8 +290,8 @@ fn tell_step(
     }
 }
 
-// The replies to a message that was handled with this effect, which is begun on its circuit. Without memory the circuit is as it was: its message
-// needs some.
+// The replies to a message that was handled with this effect, which is begun on its circuit.
+// Without memory the circuit is as it was: its message needs some.
 fn prepare(
     turn: &Turn,
     core: &ServerCore,
@@ -319,7 +322,8 @@ fn prepare(
     Ok(prepared)
 }
 
-// The replies behind the bytes that waited on a circuit, as those to the message at this place. Without replies no memory is needed.
+// The replies after the bytes that waited on a circuit, as those to the message at this place.
+// Without replies no memory is needed.
 fn replies_behind(turn: &Turn, core: &ServerCore, place: usize) -> Result<Vec<Told>, AllocError>
     requires { (ms : List Fields)
         × StandBehind turn.now.waited (output_of (under core.now.circuits turn.now.at)) ms }
@@ -337,7 +341,8 @@ fn replies_behind(turn: &Turn, core: &ServerCore, place: usize) -> Result<Vec<To
     Ok(all)
 }
 
-// Makes room for so many replies to a message that is handled, beside that for its step. Without replies no memory is needed.
+// Makes room for n replies to a message that is handled, beside that for its step. Without replies
+// no memory is needed.
 fn reserve_replies(joined: &mut Joined, replies: usize) -> Result<(), AllocError>
     requires { HasRoomToNote 0 joined.old }
     ensures same { joined_of joined.new ≡ joined_of joined.old }
@@ -351,7 +356,8 @@ fn reserve_replies(joined: &mut Joined, replies: usize) -> Result<(), AllocError
     Ok(())
 }
 
-// What the message did is begun on its circuit, whose lists are held aside. Without memory it is as it was.
+// What the message did is begun on its circuit, whose lists are held aside. Without
+// memory it is as it was.
 fn begin(
     alloc: Global,
     joined: &mut Joined,
@@ -409,7 +415,8 @@ fn give_lists(joined: &mut Joined, down: Vec<Told>, handled: Vec<Step>)
     joined.lists.handled = handled;
 }
 
-// What the message did is told, ends that ended by its write are reported, and it is noted on its circuit.
+// What the message did is told, ends that ended by its write are reported, and it is
+// noted on its circuit.
 fn note(
     turn: &Turn,
     side: &mut ServerSide,
@@ -508,7 +515,8 @@ fn report_written(
     report_ends(turn.alloc, turn.server, side, circuits, logs);
 }
 
-// The lists of the circuit are given back, and the message is noted as handled in this step, by these replies.
+// The lists of the circuit are given back, and the message is noted as handled in this
+// step, by these replies.
 fn note_on(joined: &mut Joined, down: Vec<Told>, handled: Vec<Step>, step: Step, told: Vec<Told>)
     requires down { vec_len down + length told.items ≤ vec_capacity down }
     requires handled { vec_len handled + 1 ≤ vec_capacity handled }
@@ -532,7 +540,8 @@ fn logged_of(logs: &[Vec<Entry>], life: usize) -> usize
     0
 }
 
-// The end has closed, with these bytes left. Its message's write is told, if it wrote, and all ends that ended are reported.
+// The end has closed, with these bytes left. Its message's write is told, if it wrote, and all ends
+// that ended are reported.
 fn close_stepped(
     turn: &Turn,
     side: &mut ServerSide,

@@ -52,7 +52,7 @@ impl World {
         }
     }
 
-    // The same in place. What is refused changes nothing.
+    // An event that is no moment happens, in place. What is refused changes nothing.
     pub(crate) fn happen(&mut self, event: &Event) -> Result<(), Refusal>
         requires { moment_of (event_of event.now) ≡ None }
         ensures { Does self.old (event_of event.now) result self.new }
@@ -202,7 +202,7 @@ impl World {
         server < self.servers.len()
     }
 
-    // The same value again.
+    // A copy of the value.
     fn copy_value(&self, value: &Value) -> Result<Value, AllocError>
         ensures { IfOk result (λ v. elements v ≡ elements value.now) }
     {

@@ -11,8 +11,9 @@ use ca_world_data::joined::Joined;
 use ca_world_data::server::ServerSide;
 use std::marker::Model;
 
-/// A world where a run has ended: after its last event, before one that was refused, or within a moment, which a beginning of its clients had
-/// and the next one had no memory for. Nothing more happens in it.
+/// A world where a run has ended: after its last event, before one that was refused, or
+/// within a moment, which a beginning of its clients had and the next one had no memory for.
+/// Nothing more happens in it.
 #[derive(Drop)]
 pub struct Stopped {
     pub(crate) clients: Vec<ClientSide>,

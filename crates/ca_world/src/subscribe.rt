@@ -19,8 +19,8 @@ use ca_world_data::way::{prepare, push_sent, wanted_on};
 use std::alloc::Global;
 
 impl World {
-    /// A client subscribes to a channel, as this type, with this many elements and on these events. A refusal of the call is a
-    /// line of its log.
+    /// A client subscribes to a channel, as this type, with this many elements and on these events.
+    /// A refusal of the call is a line of its log.
     pub fn subscribe(
         &mut self,
         client: usize,
@@ -89,7 +89,7 @@ fn subscribe_on(
     }
 }
 
-// The same of a type and a count that a message carries.
+// A client subscribes to a channel, as a type and a count that a message carries.
 fn subscribe_carried(
     alloc: Global,
     client: usize,

@@ -24,7 +24,8 @@ pub enum AfterTick {
 }
 
 impl World {
-    /// A moment is handed to all clients, in order. What each sends goes up its circuits, and its ends that were silent too long end.
+    /// A moment is handed to all clients, in order. What each sends goes up its circuits, and its
+    /// ends that were silent too long end.
     pub fn tick(self, moment: u64) -> AfterTick
         ensures { Ticks self moment result }
     {

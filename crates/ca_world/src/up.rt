@@ -11,7 +11,8 @@ use ca_world_data::joined::Joined;
 use ca_world_data::server::ServerSide;
 
 impl World {
-    /// The first n bytes that wait at a client, or that its end left, reach the server of a circuit.
+    /// The first n bytes that wait at a client, or that its end left, reach the
+    /// server of a circuit.
     pub fn up(&mut self, circuit: usize, n: usize) -> Result<(), Refusal>
         ensures { Does self.old (event.Up circuit n) result self.new }
     {

@@ -1,4 +1,5 @@
-//! Numbers of a client's calls that are greater than any that a message carries: its core would refuse them.
+//! Numbers of a client's calls that are greater than any that a message carries: its
+//! core would refuse them.
 ghost use Rattle.std.specs.Prelude.{ℕ, ◌≡◌, map};
 ghost use Rattle.ca_world.specs.Wide.{Carries, IsCount, IsPriority, IsWide};
 ghost use Rattle.ca_world_data.specs.Found.{AreNumbered};
@@ -45,7 +46,8 @@ pub(crate) fn carried(data_type: u64, count: u64) -> Option<(u16, u32)>
     Some((data_type as u16, count as u32))
 }
 
-/// A client asks for a type or a count of a channel that no message carries: its core refuses that, and the refusal is a line of its log.
+/// A client asks for a type or a count of a channel that no message carries: its core refuses that,
+/// and the refusal is a line of its log.
 pub(crate) fn refuse_wide(
     client: usize,
     side: &mut ClientSide,

@@ -11,8 +11,8 @@ use ca_world_data::server::ServerSide;
 use std::alloc::{AllocError, Global};
 use std::marker::Model;
 
-/// A world: its clients, its servers and its circuits, in the order in which they were accepted; the logs of all lives of clients
-/// and of servers; and the moment handed in last.
+/// A world: its clients, its servers and its circuits, in the order in which they were accepted;
+/// the logs of all lives of clients and of servers; and the moment handed in last.
 #[derive(Drop)]
 pub struct World {
     pub(crate) alloc: Global,

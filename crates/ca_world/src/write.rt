@@ -20,7 +20,8 @@ use ca_world_data::way::{prepare, push_sent};
 use std::alloc::Global;
 
 impl World {
-    /// A client writes a value to a channel, with no answer if that is done. A refusal of the call is a line of its log.
+    /// A client writes a value to a channel, with no answer if that is done. A refusal of the call
+    /// is a line of its log.
     pub fn write(&mut self, client: usize, channel: usize, value: &Value) -> Result<(), Refusal>
         ensures { Does self.old (event.Write client channel (elements value.now)) result self.new }
     {

@@ -20,7 +20,8 @@ use ca_world_data::way::{prepare, push_sent, wanted_on};
 use std::alloc::Global;
 
 impl World {
-    /// A client writes a value to a channel, to be told once that is done. A refusal of the call is a line of its log.
+    /// A client writes a value to a channel, to be told once that is done. A refusal of the call
+    /// is a line of its log.
     pub fn write_notify(
         &mut self,
         client: usize,

@@ -23,7 +23,7 @@ lefts-none zero f (j ∷ js) = refl
 lefts-none (suc p) f [] = refl
 lefts-none (suc p) f (j ∷ js) = ap (λ (t : List Joined). j ∷ t) (lefts-none p f js)
 
--- none stands there
+-- none is there
 pub lefts-over : (p : ℕ) (f : List ℕ → Joined → Joined) (js : List Joined) (lefts : List (List ℕ)) → length js ≤ p → lefts_from p f js lefts ≡ js
 lefts-over zero f [] [] le = refl
 lefts-over zero f [] (l ∷ lefts) le = refl

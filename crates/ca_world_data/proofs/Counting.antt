@@ -62,7 +62,7 @@ at-none name mask p (Some (Open e)) j none = ap (λ (t : List SubKey). fold with
         ap (λ (z : Option Subscription). map key_of (filter (concerns name mask) (option_to_list z))) is
         ∙ ap (λ (b : Bool). map key_of (if b then s ∷ [] else [])) (none s is)
 
--- one is: it stands on the circuit, in the queue of that place
+-- one is: it is on the circuit, in the queue of that place
 module _ (name : List ℕ) (mask p n : ℕ) (e : ServerEnd) (j : Joined) (alike : AreAlike e j) (d : ConcernsUnder name mask p (Some (Open e)) (Some n)) where
   abbrev s : Subscription
   s = d.0
@@ -138,7 +138,7 @@ pub each-next : (f : Joined → Joined) (i : ℕ) (ks : List Opened) (j new : Op
 each-next f i ks j new at is =
     ap (map_from (i + 1) f) (set-map joined_of ks i new ∙ ap (slice_set (map joined_of ks) i) is) ∙ from-here i f (map joined_of ks) (joined_of j) (At-map joined_of ks i j at)
 
--- ---- what stands at a place
+-- ---- what is at a place
 
 pub kept-there : (p n : ℕ) (j : Opened) (s : Kept) → IsPlaced p n (joined_of j) → At j.standing.items p s → s.posts < post_limit
 kept-there p n j s h at =

@@ -45,7 +45,7 @@ count-few c (s ∷ sent) = go (same_handle s.circuit c) (filter (λ (z : Sending
     go true xs few = omega (arith, few)
     go false xs few = omega (arith, few)
 
--- there is room for messages that are no more, wherever they go
+-- there is room for messages that are no more, on whichever circuit they go
 pub room-each : (i n : ℕ) (numbers : List ℕ) (sent : List Sending) (ks : List Opened) → AreNumbered numbers (map joined_of ks) i → HasRoomOnEach n numbers ks → length sent ≤ n → HasRoomForAll i sent ks
 room-each i n numbers sent ks numbered room few p s at k there =
     let count = count-few s.circuit sent in

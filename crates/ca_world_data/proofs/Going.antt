@@ -1,4 +1,5 @@
--- Messages that a client sends without being called for it go up its circuits, one after another, where there is room for them.
+-- Messages that a client sends without being called for it go up its circuits, one after another,
+-- where there is room for them.
 use Rattle.std.proofs.Common.{◌≡◌, ℕ, suc, ◌+◌, ◌<◌, ◌≤◌, Bool, true, false, inl, inr, List, [], ◌∷◌, ◌++◌, Option, Some, None, eqb, length, refl, sym, ap, subst, ◌∙◌, arith}
 use Rattle.std.specs.Prelude.{MatchOption, ◌&&◌, cond, filter, map, slice_set, vec_capacity, vec_len}
 use Rattle.std.proofs.lemmas.Bool.{cases_lt}

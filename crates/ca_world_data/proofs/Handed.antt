@@ -1,4 +1,4 @@
--- What became of a request, as a client's log tells it.
+-- What became of a request, as a client's log says.
 use Rattle.std.proofs.Common.{◌≡◌, ℕ, zero, suc, ◌≤◌, Bool, true, false, ◌||◌, List, [], ◌∷◌, Option, Some, None, length, refl, sym, ap, subst, ◌∙◌, arith}
 use Rattle.std.specs.Prelude.{map, unwrap_or, Vec}
 use Rattle.std.specs.List.{list_any}

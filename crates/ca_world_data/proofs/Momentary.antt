@@ -54,7 +54,7 @@ lacks-sent x moment f told some =
 pub lacks-ends : (x : Client) (moment : ℕ) (f : Foretold) → Foretells x moment f → f.ends ≡ true → ClientTicks x moment (Err OutOfMemory) [] x
 lacks-ends x moment f told on = (inr (inl (told.some on)), (refl, refl))
 
--- a refusal is for want of memory, and changes nothing
+-- a refusal is out of memory, and changes nothing
 pub refuses-so : (x y : Client) (moment : ℕ) (e : Refusal) (sent : List Sending) → ClientTicks x moment (Err e) sent y → ClientTicks x moment (Err OutOfMemory) [] x × (y ≡ x)
 refuses-so x y moment OutOfMemory sent does = ((does.0, (refl, refl)), does.1.1)
 refuses-so x y moment _ sent does = absurd does

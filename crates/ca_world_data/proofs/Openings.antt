@@ -6,7 +6,7 @@ use Rattle.ca_text.specs.Place.{At}
 use Rattle.ca_text.proofs.Places.{some_is}
 use Rattle.ca_model.specs.World.{numbered}
 
--- what stands at a place is the first of those from there on
+-- what is at a place is the first of those from there on
 pub drop-next : {A : Type 0} (xs : List A) (i : ℕ) (x : A) → At xs i x → drop i xs ≡ x ∷ drop (i + 1) xs
 drop-next [] i x at = absurd cc
 drop-next (y ∷ xs) zero x at = ap (λ (z : _). z ∷ xs) (some_is y x at)

@@ -1,4 +1,5 @@
--- How many notices a step of a client's end tells: those of a channel's requests and one more at most, or those of the end of its circuit.
+-- How many notices a step of a client's end tells: those of a channel's requests and one more at
+-- most, or those of the end of its circuit.
 use Rattle.std.proofs.Common.{◌≡◌, ◌⊎◌, ℕ, ◌+◌, ◌≤◌, ◌==◌, Bool, true, false, inl, inr, List, [], ◌∷◌, Option, Some, None, length, refl, sym, ap, subst, arith}
 use Rattle.std.specs.Prelude.{if◌then◌else◌}
 use Rattle.std.proofs.lemmas.List.{length-append}

@@ -44,7 +44,7 @@ pub spelled-both : (a b : List Fields) → spelled (a ++ b) ≡ spelled a ++ spe
 spelled-both [] b = refl
 spelled-both (m ∷ a) b = ap (λ (t : List ℕ). spelling m ++ t) (spelled-both a b) ∙ sym (append_assoc (spelling m) (spelled a) (spelled b))
 
--- the bytes behind those that were read
+-- the bytes after those that were read
 pub spelled-rest : (front back : List Fields) (bytes : List ℕ) (n : ℕ) → bytes ≡ spelled (front ++ back) → n ≡ length (spelled front) → drop n bytes ≡ spelled back
 spelled-rest front back bytes n are size =
     ap (drop n) (are ∙ spelled-both front back) ∙ drop_at (spelled front) (spelled back) n (sym size)
@@ -53,7 +53,7 @@ pub good-rest : (front back : List Fields) → AreGood (front ++ back) → AreGo
 good-rest [] back good = good
 good-rest (m ∷ front) back good = good-rest front back (λ i n at. good (suc i) n at)
 
--- a message begins the bytes behind
+-- a message begins the bytes after
 pub begins-behind : (front back : List Fields) (bytes : List ℕ) (n : ℕ) → AreGood (front ++ back) → bytes ≡ spelled (front ++ back) → n ≡ length (spelled front) → n < length bytes → BeginsSpelled (drop n bytes)
 begins-behind front [] bytes n good are size lt =
     let whole : length bytes ≡ length (spelled front) = ap (λ (t : List ℕ). length t) (are ∙ ap spelled (append-nil front)) in

@@ -30,7 +30,7 @@ set-same (y ∷ xs) (suc i) x at = ap (λ (t : List _). y ∷ t) (set-same xs i 
 pub found : {A : Type 0} (xs : List A) (k : ℕ) (x d : A) → k < length xs → x ≡ get_or xs k d → At xs k x
 found xs k x d lt e = subst (λ (z : _). At xs k z) (sym e) (slice_get-get_or xs k d lt)
 
--- one stands at each place within
+-- one is at each place within
 pub one-at : {A : Type 0} (xs : List A) (k : ℕ) → k < length xs → (x : A) × At xs k x
 one-at [] k lt = absurd (omega (arith, lt))
 one-at (x ∷ xs) zero lt = (x, refl)

@@ -91,7 +91,7 @@ MayRefuse refusal.ArenaFull = Unit {0}
 MayRefuse refusal.OutOfMemory = Unit {0}
 MayRefuse e = ⊥
 
--- only want of memory refuses the event
+-- the event is refused only out of memory
 abbrev pub RefusedAs : Refusal → Result (Unit {0}) Refusal → Type 0
 RefusedAs refusal.ArenaFull r = r ≡ Ok tt
 RefusedAs e r = r ≡ Err refusal.OutOfMemory

@@ -21,7 +21,8 @@ use Rattle.ca_world_data.specs.Seen.{joined_of}
 use Rattle.ca_world_data.specs.Speaking.{CallsOn, GoesBy, HasRoomUp}
 use Rattle.ca_world_data.specs.Telling.{call_lines}
 
--- where the CLEAR_CHANNEL of a channel that stands so goes, and under which SID; none goes if it is not live
+-- where the CLEAR_CHANNEL of a channel that stands so goes, and under which SID; none
+-- goes if it is not live
 abbrev pub ClearsAs : List Joined → (i : ℕ) → Way → Option Standing → Type 0
 ClearsAs ks i w (Some (On c (Live n rights))) = GoesBy w.circuit ks i c × (w.sid ≡ n.sid)
 ClearsAs ks i w there = w.circuit ≡ None
@@ -29,7 +30,8 @@ ClearsAs ks i w there = w.circuit ≡ None
 abbrev pub IsClearWay : Client → List Joined → (i : ℕ) → Handle → Way → Type 0
 IsClearWay x ks i h w = ClearsAs ks i w (standing_at x h)
 
--- the channel of this number has this handle, and there is room for what its end leaves, where it tells of each request at most once
+-- the channel of this number has this handle, and there is room for what its end leaves, if it
+-- reports each request at most once
 pub record IsReadyToClear (i c : ℕ) (x : real.ClientSide) (ks : List Opened) (logs : List (Vec Written Global)) (p : Handle × Way) : Type 0 where
   pub named : At x.names.channels.items c p.0
   pub way : IsClearWay x.core (map joined_of ks) i p.0 p.1

@@ -39,7 +39,7 @@ step_at j logged after = record { sent = length j.lists.up; logged = logged; aft
 abbrev pub IsHeard : (k logged after : ℕ) → List Joined → List Joined → Type 0
 IsHeard k logged after ks ks' = (j : Joined) → At ks k j → ks' ≡ slice_set ks k (heard_in (step_at j logged after) j)
 
--- what the end is about to send is known, and there is room for that, for its step, and for so many lines
+-- what the end is about to send is known, and there is room for that, for its step, and for n lines
 pub record IsReadyToStep (i k : ℕ) (x : real.ClientSide) (lines : ℕ) (sent : List Foretold) (ks : List Opened) (logs : List (Vec Written Global)) : Type 0 where
   pub foretold : (j : Opened) → At ks k j → SendsNext x.core j.at_client sent
   pub logs_room : HasRoom lines x.life logs
@@ -52,7 +52,7 @@ notices_in (answer.Notices told) = told
 notices_in answer.NeedBytes = []
 notices_in (answer.Closed c) = c.notices
 
--- a step on this circuit tells so many notices at most
+-- a step on this circuit tells n notices at most
 abbrev pub TellsAtMost : (lines : ℕ) → Client → Handle → Type 0
 TellsAtMost lines x c = (did : Stepped) (sent : List Sending) (new : Client) → ClientSteps x c did sent new → length (notices_in did) ≤ lines
 

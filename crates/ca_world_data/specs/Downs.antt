@@ -26,7 +26,8 @@ flow_said None = []
 abbrev pub with_said : List Sent → model.Joined → model.Joined
 with_said more j = record j { lists = record j.lists { up = j.lists.up ++ more } }
 
--- The client takes these bytes, after which more wait or none, under this handle: what it sent goes up.
+-- The client takes these bytes, after which more wait or none, under this handle:
+-- what it sent goes up.
 abbrev pub TakesDown : ClientSide → Handle → List ℕ → Bool → List Sent → Result (Unit {0}) Refusal → ClientSide → List Sent → Type 0
 TakesDown x c bytes more up (Ok _) x' up' =
     ((sent : List Sending) × ClientGives x.core c bytes more (Ok tt) sent x'.core) × (x' ≡ record x { core = x'.core }) × (up' ≡ up ++ flow_said (flow_at more x.core c))

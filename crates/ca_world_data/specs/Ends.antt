@@ -15,7 +15,7 @@ ends_of j = record {
   server_open = j.lists.server_open;
 }
 
--- the circuit of this place has these ends, among so many clients and servers
+-- the circuit of this place has these ends, among these numbers of clients and servers
 pub record AreEnds (clients servers : ℕ) (circuits : List Joined) (k : ℕ) (e : Ends) : Type 0 where
   pub j : Joined
   pub at : At circuits k j
@@ -23,6 +23,6 @@ pub record AreEnds (clients servers : ℕ) (circuits : List Joined) (k : ℕ) (e
   pub client : j.client < clients
   pub server : j.server < servers
 
--- no circuit of this place joins some of so many clients and servers
+-- no circuit of this place joins some of these numbers of clients and servers
 abbrev pub NoEnds : (clients servers : ℕ) → List Joined → (k : ℕ) → Type 0
 NoEnds clients servers circuits k = (j : Joined) → At circuits k j → j.client < clients → j.server < servers → ⊥

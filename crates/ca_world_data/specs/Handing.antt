@@ -21,7 +21,7 @@ abbrev pub IfSame : {A : Type 0} → A → A → Bool → Type 0
 IfSame a b true = a ≡ b
 IfSame a b false = a ≡ b → ⊥
 
--- the line tells what became of what was meant so, or not
+-- the line says what became of what was meant so, or not
 abbrev pub Tells : Intent → Line → Bool → Type 0
 Tells meant l true = (o : Outcome) × (l ≡ line.Noticed meant o)
 Tells meant l false = (o : Outcome) → l ≡ line.Noticed meant o → ⊥
@@ -35,7 +35,8 @@ ToldAt log meant None = (place : ℕ) (o : Outcome) → At log place (line.Notic
 abbrev pub log_of : ℕ → List (List history.Line) → List history.Line
 log_of life logs = unwrap_or (slice_get logs life) []
 
--- the request of this number has this line that may be handed out, or none, and there is room for a line more
+-- the request of this number has this line that may be handed out, or none, and there is
+-- room for a line more
 pub record IsReadyToHand (n : ℕ) (x : real.ClientSide) (logs : List (Vec Line Global)) (place : Option ℕ) : Type 0 where
   pub q : Handle × Intent
   pub named : At x.names.requests.items n q

@@ -7,7 +7,8 @@ use Rattle.ca_model.specs.ClientEnds.{Arrival, ClientReceives}
 use Rattle.ca_model.specs.World.{ClientSide, Joined}
 use Rattle.ca_world_data.specs.Speaking.{sent_up}
 
--- Client i took the datagram, and what it sent went up its circuits; or it had no memory for it, and nothing is changed.
+-- Client i took the datagram, and what it sent went up its circuits; or it had no memory for it,
+-- and nothing is changed.
 abbrev pub HearsDatagram : (i : ℕ) → Arrival → ClientSide → List Joined → Result (Unit {0}) Refusal → ClientSide → List Joined → Type 0
 HearsDatagram i a x ks (Ok _) x' ks' =
     (sent : List Sending) × ClientReceives x.core a (Ok tt) sent x'.core × (x' ≡ record x { core = x'.core }) × (ks' ≡ map (sent_up i x.names sent) ks)

@@ -13,7 +13,7 @@ use Rattle.ca_world_data.specs.Seen.{line_of}
 abbrev pub lines_in : List (Vec Line Global) → List (List history.Line)
 lines_in logs = map (λ (log : Vec Line Global). map line_of log.items) logs
 
--- there is room for so many lines in the log of a life, if it has one
+-- there is room for n lines in the log of a life, if it has one
 abbrev pub HasRoom : (lines life : ℕ) → List (Vec Line Global) → Type 0
 HasRoom lines life logs = (log : Vec Line Global) → At logs life log → vec_len log + lines ≤ vec_capacity log
 

@@ -6,7 +6,7 @@ use Rattle.ca_text.specs.Place.{At}
 use Rattle.ca_model.specs.ClientEvents.{meant_by}
 use Rattle.ca_model.specs.World.{ClientSide, Names}
 
--- each handle means what stands beside it, so that none is named twice with another intent
+-- each handle means what is beside it, so that none is named twice with another intent
 abbrev pub MeanTheirs : List (Handle × Intent) → Type 0
 MeanTheirs names = (i : ℕ) (e : Handle × Intent) → At names i e → meant_by names e.0 ≡ e.1
 

@@ -14,7 +14,7 @@ use Rattle.ca_world_data.specs.declared.joined.Standing.{Standing as Kept}
 
 -- ---- an end beside its circuit
 
--- the keys of the subscriptions that stand on a circuit
+-- the keys of the subscriptions that are on a circuit
 abbrev pub keys_on : Joined → List SubKey
 keys_on j = map (λ (s : Standing). s.key) j.standing
 
@@ -22,7 +22,7 @@ keys_on j = map (λ (s : Standing). s.key) j.standing
 abbrev pub keys_within : {E : Type 0} → List (Queue E) → List (List SubKey)
 keys_within queues = map (λ (q : Queue _). q.subscriptions) queues
 
--- The same subscriptions stand at an open end and on its circuit, each once, in the same queues.
+-- The same subscriptions are at an open end and on its circuit, each once, in the same queues.
 pub record AreAlike (e : ServerEnd) (j : Joined) : Type 0 where
   pub keys : map key_of e.subscriptions ≡ keys_on j
   pub apart : AreApart (keys_on j)
@@ -61,7 +61,8 @@ abbrev pub keys_at : (name : List ℕ) → (mask : ℕ) → (p : ℕ) → Option
 keys_at name mask p (Some (Open e)) = map key_of (filter (concerns name mask) (option_to_list (slice_get e.subscriptions p)))
 keys_at name mask p c = []
 
--- a subscription stands at this place, whose key the queue at that place has, and one more post may be counted
+-- a subscription is at this place, whose key the queue at that place has, and one
+-- more post may be counted
 pub record IsPlaced (p n : ℕ) (j : Joined) : Type 0 where
   pub s : Standing
   pub at : At j.standing p s

@@ -13,7 +13,8 @@ use Rattle.ca_world_data.specs.declared.server.ServerSide.{ServerSide}
 use Rattle.ca_world_data.specs.Reporting.{Reports}
 use Rattle.ca_world_data.specs.Seen.{server_of}
 
--- The core of server i has this post: it is in the log, its numbers wait, and ends that ended by it are reported.
+-- The core of server i has this post: it is in the log, its numbers wait, and ends that
+-- ended by it are reported.
 abbrev pub TellsPost : (i : ℕ) → (name : List ℕ) → Stored → (mask : ℕ) → ServerSide → List Joined → List (List Entry) → ServerSide → List Joined → List (List Entry) → Type 0
 TellsPost i name v mask y ks logs y' ks' logs' =
     Reports i y (map (numbers_posted i y.core name mask) ks) (grown y.life (posted_entry (server_of y) name v mask) logs) y' ks' logs'

@@ -70,7 +70,8 @@ abbrev pub ClosesAt : Option ℕ → (i : ℕ) → Handle → List ℕ → List 
 ClosesAt (Some k) i h left ks ks' = (s : IsServed ks i h k) × (ks' ≡ slice_set ks k (server_closed left s.j))
 ClosesAt None i h left ks ks' = IsUnserved ks i h × (ks' ≡ ks)
 
--- The end of this index was reported, if it had ended, and its circuit ended; or there is none such.
+-- The end of this index was reported, if it had ended, and its circuit ended;
+-- or there is none such.
 abbrev pub ReportsAt : (index i : ℕ) → Server → List Joined → Server → List Joined → Type 0
 ReportsAt n i core ks core' ks' =
     ((e : IsEnded core n) × (core' ≡ record core { circuits = with_freed e.h core.circuits }) × ((k : Option ℕ) × ClosesAt k i e.h e.left ks ks'))
@@ -78,7 +79,8 @@ ReportsAt n i core ks core' ks' =
 
 -- ---- all ends
 
--- The call of server i is over: each end that ended is reported, its circuit ends, and its puts that wait are withdrawn.
+-- The call of server i is over: each end that ended is reported, its circuit ends, and its puts
+-- that wait are withdrawn.
 pub record Reports (i : ℕ) (y : ServerSide) (ks : List Joined) (logs : List (List history.Entry)) (y' : ServerSide) (ks' : List Joined) (logs' : List (List history.Entry)) : Type 0 where
   pub side :
       server_of y' ≡ record (server_of y) { core = reported y.core; records = map (without_puts (gone_at i y.core ks)) (map record_of y.records.items) }

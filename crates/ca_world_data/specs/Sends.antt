@@ -14,11 +14,12 @@ use Rattle.std.specs.Prelude.{map}
 abbrev pub count_on : Handle → List Sending → ℕ
 count_on c sent = length (filter (λ (s : Sending). same_handle s.circuit c) sent)
 
--- Each circuit that is open at client i, and on which one of these messages goes, has room for all that go on it.
+-- Each circuit that is open at client i, and on which one of these messages goes, has room
+-- for all that go on it.
 abbrev pub HasRoomForAll : (i : ℕ) → List Sending → List Opened → Type 0
 HasRoomForAll i sent ks = (p : ℕ) (s : Sending) → At sent p s → (k : ℕ) → IsAt (map joined_of ks) i s.circuit k → HasRoomUp (count_on s.circuit sent) (Some k) ks
 
--- There is room for so many messages on each of the circuits of these numbers.
+-- There is room for n messages on each of the circuits of these numbers.
 abbrev pub HasRoomOnEach : (messages : ℕ) → (numbers : List ℕ) → List Opened → Type 0
 HasRoomOnEach n numbers ks = (p k : ℕ) → At numbers p k → HasRoomUp n (Some k) ks
 
@@ -31,7 +32,8 @@ IsRepeated sent place false = Unit {0}
 abbrev pub KeepsRoom : List Opened → List Opened → Type 0
 KeepsRoom ks ks' = (k n : ℕ) → HasRoomUp n (Some k) ks → HasRoomUp n (Some k) ks'
 
--- one message more took its place on this circuit, if there is one; others have the room that they had
+-- one message more took its place on this circuit, if there is one; others have
+-- the room that they had
 pub record LeavesRoom (circuit : Option ℕ) (ks ks' : List Opened) : Type 0 where
   pub less : (k n : ℕ) → HasRoomUp (n + 1) (Some k) ks → HasRoomUp n (Some k) ks'
   pub others : (k n : ℕ) → (circuit ≡ Some k → ⊥) → HasRoomUp n (Some k) ks → HasRoomUp n (Some k) ks'

@@ -19,7 +19,7 @@ use Rattle.ca_world_data.specs.declared.server.ServerSide.{ServerSide}
 use Rattle.ca_world_data.specs.Seen.{joined_of, record_of, server_of}
 use Rattle.ca_world_data.specs.Withdrawing.{all_withdrawn}
 
--- there is room for so many entries in the log of a life, if it has one
+-- there is room for n entries in the log of a life, if it has one
 abbrev pub HasRoomFor : (entries life : ℕ) → List (Vec Entry Global) → Type 0
 HasRoomFor entries life logs = (log : Vec Entry Global) → At logs life log → vec_len log + entries ≤ vec_capacity log
 
@@ -36,7 +36,8 @@ IsServing y h = (e : ServerEnd) × HasEnd y h e
 abbrev pub cut_core : Handle → Server → Server
 cut_core h y = closed h (ended h why.Cut (output_of (under y.circuits h)) y)
 
--- The end at the server of circuit k is cut: it leaves what waited, and its puts that wait are withdrawn.
+-- The end at the server of circuit k is cut: it leaves what waited, and its puts
+-- that wait are withdrawn.
 abbrev pub CutsServer : (k : ℕ) → ServerSide → Joined → List (List history.Entry) → Result (Unit {0}) Refusal → ServerSide → Joined → List (List history.Entry) → Type 0
 CutsServer k y j logs (Ok _) y' j' logs' =
     (server_of y' ≡ record (server_of y) { core = cut_core j.at_server y.core; records = map (without_puts (λ n. n == k)) (map record_of y.records.items) })

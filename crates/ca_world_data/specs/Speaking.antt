@@ -38,7 +38,7 @@ abbrev pub GoesUp : Option ℕ → history.Sent → List Joined → List Joined 
 GoesUp None s ks ks' = ks' ≡ ks
 GoesUp (Some k) s ks ks' = (j : Joined) → At ks k j → ks' ≡ slice_set ks k (with_up s j)
 
--- there is room for so many more messages on this circuit, if there is one
+-- there is room for n more messages on this circuit, if there is one
 abbrev pub HasRoomUp : (messages : ℕ) → Option ℕ → List Opened → Type 0
 HasRoomUp n None ks = Unit {0}
 HasRoomUp n (Some k) ks = (j : Opened) → At ks k j → vec_len j.lists.up + n ≤ vec_capacity j.lists.up
@@ -48,7 +48,8 @@ abbrev pub GoesBy : Option ℕ → List Joined → (i : ℕ) → Handle → Type
 GoesBy None ks i c = IsNowhere ks i c
 GoesBy (Some k) ks i c = IsAt ks i c k
 
--- where messages on this channel go, if it is live: on which circuit, under which SID, and with how many elements at most
+-- where messages on this channel go, if it is live: on which circuit, under which SID, and with how
+-- many elements at most
 abbrev pub IsWay : Client → List Joined → (i : ℕ) → Handle → Way → Type 0
 IsWay x ks i h w = (l : LiveChannel) → IsLive x h l → (w.sid ≡ l.native.sid) × (w.count ≡ l.native.count) × GoesBy w.circuit ks i l.circuit
 

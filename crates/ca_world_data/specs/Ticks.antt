@@ -9,7 +9,8 @@ use Rattle.ca_model.specs.ClientEvents.{after_tick, lines_of}
 use Rattle.ca_model.specs.World.{ClientSide, Joined, grown}
 use Rattle.ca_world_data.specs.Speaking.{sent_up}
 
--- The moment was handed to client i: what it sent went up its circuits, and ends that fell silent have ended; or it had no memory for it.
+-- The moment was handed to client i: what it sent went up its circuits, and ends that fell silent
+-- have ended; or it had no memory for it.
 abbrev pub TicksClient : (i moment : ℕ) → ClientSide → List (List Line) → List Joined → Result (Unit {0}) AllocError → ClientSide → List (List Line) → List Joined → Type 0
 TicksClient i moment x logs ks (Ok _) x' logs' ks' =
     (t : Ticked) × (sent : List Sending) × ClientTicks x.core moment (Ok t) sent x'.core × (x' ≡ record x { core = x'.core })

@@ -21,7 +21,8 @@ use Rattle.ca_world_data.specs.Logs.{HasRoom}
 use Rattle.ca_world_data.specs.Seen.{joined_of}
 use Rattle.ca_world_data.specs.Speaking.{CallsOn, GoesBy, HasRoomUp}
 
--- where the EVENT_CANCEL of this subscription goes, whose channel stands so, and what it names; none goes if that is not live
+-- where the EVENT_CANCEL of this subscription goes, whose channel stands so, and what it names;
+-- none goes if that is not live
 abbrev pub GoesAs : Handle → Subscription → List Joined → (i : ℕ) → Cancelling → Option Standing → Type 0
 GoesAs s d ks i w (Some (On c (Live n rights))) = GoesBy w.circuit ks i c × (w.wanted ≡ wanted_by n.sid s d)
 GoesAs s d ks i w there = w.circuit ≡ None

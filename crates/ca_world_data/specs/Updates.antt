@@ -1,4 +1,5 @@
--- Working: messages of a server that are read off its bytes; of updates, each with the number that its queue gives.
+-- Working: messages of a server that are read off its bytes; of updates, each with the number
+-- that its queue returns.
 use Rattle.std.specs.Prelude.{ℕ, ◌≡◌, ◌++◌, List, [], ◌∷◌, Option, Some, Ok, Err, Result, length}
 use Rattle.std.specs.List.{FoldsTo}
 use Rattle.std.specs.declared.alloc.AllocError.{AllocError}
@@ -46,13 +47,13 @@ pub record TellsOne (j : Joined) (m : Fields) (new : Joined) : Type 0 where
   pub is :
       new ≡ record j { queues = queues; lists = record j.lists { down = j.lists.down ++ record { message = m; place = item.0; cause = item.1 } ∷ [] } }
 
--- The update that begins these bytes went down, and has so many of them; or not, and nothing changed.
+-- The update that begins these bytes went down, and has n of them; or not, and nothing changed.
 abbrev pub TellsNext : List ℕ → Joined → Result ℕ AllocError → Joined → Type 0
 TellsNext bytes j (Ok n) new =
     (m : Fields) (rest : List ℕ) → IsMessage m → bytes ≡ spelling m ++ rest → (n ≡ length (spelling m)) × TellsOne j m new
 TellsNext bytes j (Err e) new = new ≡ j
 
--- Of these messages, the first ones went down, and have so many bytes.
+-- Of these messages, the first ones went down, and have n bytes.
 pub record TellsSome (ms : List Fields) (j : Joined) (read : ℕ) (new : Joined) : Type 0 where
   pub front : List Fields
   pub back : List Fields

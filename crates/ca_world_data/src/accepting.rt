@@ -1,4 +1,5 @@
-//! A circuit that a client wants is accepted by its server. All room is made first, since no core takes such a call back.
+//! A circuit that a client wants is accepted by its server. All room is made first, since no core
+//! takes such a call back.
 ghost use Rattle.std.specs.Prelude.{◌≡◌, ◌<◌, ◌≤◌, ◌+◌, [], IfOk, OnOk, length, map, option_and_then, replicate, slice_set, vec_len};
 ghost use Rattle.ca_client_core.specs.ForAccepts.{connecting_sent, wanted_in_place};
 ghost use Rattle.ca_client_core.specs.ForHistories.{sending_of};
@@ -49,7 +50,8 @@ use ca_text::{ARENA_SLOTS, CIRCUIT_QUEUES, Refusal};
 use ca_wire::Pipe;
 use std::alloc::{AllocError, Global};
 
-/// The first circuit that a client wants whose address has a server, with the number of that server.
+/// The first circuit that a client wants whose address has a server, with the
+/// number of that server.
 pub fn first_served(core: &ClientCore, servers: &[ServerSide]) -> Option<(WantedCircuit, usize)>
     ensures { result ≡ first_served servers.now (wanted core.now) }
 {
@@ -99,8 +101,8 @@ fn is_same(a: Address, b: Address) -> bool
     a.host == b.host && a.port == b.port
 }
 
-/// This server accepts the circuit that this client wants under this handle, which is connected then. A server without room refuses
-/// it, and nothing changes.
+/// This server accepts the circuit that this client wants under this handle, which is connected
+/// then. A server without room refuses it, and nothing changes.
 pub fn accept_on(
     alloc: Global,
     client: usize,
@@ -235,7 +237,7 @@ fn make_room(
     circuits.reserve(1)
 }
 
-// Makes it so many numbers at least.
+// Makes it n numbers at least.
 fn widen(numbers: &mut Vec<usize>, places: usize) -> Result<(), AllocError>
     ensures kept { Extends numbers.old.items numbers.new.items }
     ensures wide { OnOk result (places ≤ length numbers.new.items) }
@@ -292,7 +294,8 @@ fn begin_circuit(
     }
 }
 
-// The client connects a circuit on which nothing was sent: what it sends first goes up, or its end has ended at once, which is told.
+// The client connects a circuit on which nothing was sent: what it sends first goes up, or its end
+// has ended at once, which is told.
 fn connect_side(
     side: &mut ClientSide,
     logs: &mut Vec<Vec<Line>>,

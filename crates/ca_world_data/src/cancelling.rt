@@ -17,8 +17,8 @@ use ca_client_core::for_histories::{live_on, subscribed};
 use ca_text::Refusal;
 use ca_wire::Wanted;
 
-/// The end of a subscription: its handle, what was meant by it, and on which circuit of the world its EVENT_CANCEL goes, if one
-/// does, with what that names.
+/// The end of a subscription: its handle, what was meant by it, and on which circuit of the world
+/// its EVENT_CANCEL goes, if one does, with what that names.
 #[derive(Clone, Copy)]
 pub struct Cancelling {
     pub handle: Handle,

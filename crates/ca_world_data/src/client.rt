@@ -3,8 +3,8 @@ use crate::settings::ClientSetting;
 use ca_arena::Handle;
 use ca_client_core::ClientCore;
 
-/// What a client's handles name, by number: its channels; its requests and its subscriptions, each with its intent; and how many
-/// plain writes it accepted.
+/// What a client's handles name, by number: its channels; its requests and its subscriptions, each
+/// with its intent; and how many plain writes it accepted.
 #[derive(Drop)]
 pub struct Names {
     pub channels: Vec<Handle>,

@@ -15,7 +15,7 @@ pub struct Ends {
     pub server_open: bool,
 }
 
-/// The ends of the circuit at this place, among so many clients and servers.
+/// The ends of the circuit at this place, among these numbers of clients and servers.
 pub fn ends_at(clients: usize, servers: usize, circuits: &[Joined], circuit: usize) -> Option<Ends>
     ensures { MatchOption result (NoEnds clients servers circuits.now circuit)
         (AreEnds clients servers circuits.now circuit) }

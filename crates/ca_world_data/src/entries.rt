@@ -8,7 +8,7 @@ ghost use Rattle.ca_world_data.specs.ServerCuts.{HasRoomFor};
 use crate::history::Entry;
 use std::alloc::AllocError;
 
-/// Makes room for so many more entries in the log of a life.
+/// Makes room for n more entries in the log of a life.
 pub fn reserve_entries(
     logs: &mut Vec<Vec<Entry>>,
     life: usize,
@@ -23,7 +23,7 @@ pub fn reserve_entries(
     Ok(())
 }
 
-/// Puts entries behind those of a life's log, in which there is room.
+/// Puts entries after those of a life's log, in which there is room.
 pub fn push_entries(logs: &mut Vec<Vec<Entry>>, life: usize, entries: Vec<Entry>)
     requires { HasRoomFor (length entries.items) life logs.old.items }
     ensures { entries_in logs.new.items
@@ -34,7 +34,7 @@ pub fn push_entries(logs: &mut Vec<Vec<Entry>>, life: usize, entries: Vec<Entry>
     }
 }
 
-/// The same. The room that there was for more is there still.
+/// Puts entries after those of a life's log. The room that there was for more is still there.
 pub fn push_some(logs: &mut Vec<Vec<Entry>>, life: usize, entries: Vec<Entry>)
     requires { HasRoomFor (length entries.items) life logs.old.items }
     ensures logged { entries_in logs.new.items
@@ -47,7 +47,7 @@ pub fn push_some(logs: &mut Vec<Vec<Entry>>, life: usize, entries: Vec<Entry>)
     }
 }
 
-// Puts entries behind others. There is room for them.
+// Puts entries after others. There is room for them.
 fn push_all(log: &mut Vec<Entry>, entries: Vec<Entry>)
     requires { vec_len log.old + length entries.items ≤ vec_capacity log.old }
     ensures items { log.new.items ≡ log.old.items ++ entries.items }
@@ -59,7 +59,7 @@ fn push_all(log: &mut Vec<Entry>, entries: Vec<Entry>)
     }
 }
 
-/// Puts an entry behind those of a life's log, in which there is room.
+/// Puts an entry after those of a life's log, in which there is room.
 pub fn push_entry(logs: &mut Vec<Vec<Entry>>, life: usize, entry: Entry)
     requires { HasRoomFor 1 life logs.old.items }
     ensures logged { entries_in logs.new.items

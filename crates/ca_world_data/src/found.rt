@@ -6,7 +6,8 @@ ghost use Rattle.ca_world_data.specs.Seen.{joined_of};
 use crate::joined::Joined;
 use ca_arena::Handle;
 
-/// The number of the circuit that is open at this client under this handle, by the client's numbers.
+/// The number of the circuit that is open at this client under this handle, by
+/// the client's numbers.
 pub fn circuit_of(
     numbers: &[usize],
     circuits: &[Joined],

@@ -1,4 +1,4 @@
-//! What became of a request, as a client's log tells it, for whoever collects it.
+//! What became of a request, as a client's log says, for whoever collects it.
 ghost use Rattle.std.specs.Prelude.{◌≡◌, MatchResult, map};
 ghost use Rattle.std.specs.List.{list_any};
 ghost use Rattle.ca_model.specs.ClientEvents.{HandsOut, hands_out};
@@ -11,8 +11,8 @@ use crate::history::{Intent, Line};
 use crate::logs::reserve_lines;
 use ca_text::Refusal;
 
-/// The place of the line that tells what became of the request of this number, if it may be handed out: if there is one, and it was neither
-/// handed out nor given up. There is room for a line more.
+/// The place of the line that says what became of the request of this number, if it may be handed
+/// out: if there is one, and it was neither handed out nor given up. There is room for a line more.
 ///
 /// Refused as BadEvent if no request has this number, then as OutOfMemory.
 pub fn prepare_handing(
@@ -79,7 +79,7 @@ fn is_handed(line: &Line, request: usize) -> bool
     }
 }
 
-// The place of the first line that tells what became of what was meant so.
+// The place of the first line that says what became of what was meant so.
 fn told_in(log: &[Line], meant: Intent) -> Option<usize>
     ensures { ToldAt log.now meant result }
 {
@@ -91,7 +91,7 @@ fn told_in(log: &[Line], meant: Intent) -> Option<usize>
     None
 }
 
-// Whether this line tells it.
+// Whether this line says it.
 fn tells(line: &Line, meant: Intent) -> bool
     ensures { Tells meant line.now result }
 {

@@ -11,7 +11,8 @@ use ca_client_core::Address;
 use ca_client_core::for_datagrams::take_datagram;
 use ca_text::Refusal;
 
-/// A datagram that came from this address is taken by a client: what it makes the client send goes up its circuits.
+/// A datagram that came from this address is taken by a client: what it makes the client send
+/// goes up its circuits.
 ///
 /// Refused as OutOfMemory.
 pub fn hear_datagram(

@@ -2,7 +2,8 @@ use ca_dbr::{Meta, Outcome, Value};
 use ca_text::Refusal;
 use ca_wire::Message;
 
-/// A request: a read, a put with notification, or a plain write. Reads and puts are numbered together, and plain writes apart.
+/// A request: a read, a put with notification, or a plain write. Reads and puts are numbered
+/// together, and plain writes apart.
 #[derive(Clone, Copy, Debug, PartialEq, Eq)]
 pub enum Kind {
     Read,
@@ -57,7 +58,8 @@ pub struct Told {
     pub cause: Cause,
 }
 
-/// A step of an end: how many messages it had sent and how long its log was before, and how long its log was after.
+/// A step of an end: how many messages it had sent and how long its log was before, and how
+/// long its log was after.
 #[derive(Clone, Copy, Debug, PartialEq, Eq)]
 pub struct Step {
     pub sent: usize,
@@ -95,7 +97,8 @@ pub enum Line {
     Updated(Intent, Outcome),
     /// A call was refused.
     Refused(Refusal),
-    /// The request of this number was collected, with the place of the line that tells what became of it.
+    /// The request of this number was collected, with the place of the line that
+    /// says what became of it.
     Collected(usize, Option<usize>),
     /// The request of this number was given up, with that place.
     GaveUp(usize, Option<usize>),

@@ -3,7 +3,8 @@ use ca_arena::Handle;
 use ca_queue::{ListQueue, SubKey};
 use ca_wire::Pipe;
 
-/// A circuit as what happened on it: the lives that it joins, what each end sent, the steps of each, and which ends are open.
+/// A circuit as what happened on it: the lives that it joins, what each end sent, the steps of
+/// each, and which ends are open.
 #[derive(Drop)]
 pub struct Circuit {
     pub client_open: bool,
@@ -18,14 +19,16 @@ pub struct Circuit {
     pub server: usize,
 }
 
-/// Where a channel that is open at a server's end was created: its SID, and the place of its CREATE_CHAN.
+/// Where a channel that is open at a server's end was created: its SID, and the
+/// place of its CREATE_CHAN.
 #[derive(Clone, Copy)]
 pub struct Creation {
     pub sid: u32,
     pub place: usize,
 }
 
-/// A subscription that stands at a server's end: its key, the place of its EVENT_ADD, and how many posts matched so far.
+/// A subscription that is at a server's end: its key, the place of its EVENT_ADD, and how many
+/// posts matched so far.
 #[derive(Clone, Copy)]
 pub struct Standing {
     pub key: SubKey,
@@ -33,8 +36,9 @@ pub struct Standing {
     pub posts: usize,
 }
 
-/// A circuit: its client and its server, and the handles by which their cores know it; its lists; the bytes that ends which have
-/// ended left; and of the server's end its channels, its subscriptions, and its queues as the numbers of what waits there.
+/// A circuit: its client and its server, and the handles by which their cores know it; its lists;
+/// the bytes that ends which have ended left; and of the server's end its channels, its
+/// subscriptions, and its queues as the numbers of what waits there.
 #[derive(Drop)]
 pub struct Joined {
     pub client: usize,

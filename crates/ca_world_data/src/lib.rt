@@ -1,5 +1,6 @@
-//! What a world of clients, servers and circuits is made of, each part as the statement has it, and the steps of which its
-//! events are made: logs and histories with room made first, lookups by handle, ends that end, puts that are withdrawn.
+//! What a world of clients, servers and circuits is made of, each part as the statement has it, and
+//! the steps of which its events are made: logs and histories with room made first, lookups by
+//! handle, ends that end, puts that are withdrawn.
 #![tactic(auto)]
 
 pub mod accepting;

@@ -8,7 +8,7 @@ use crate::history::Line;
 use ca_text::Refusal;
 use std::alloc::AllocError;
 
-/// Makes room for so many more lines in the log of a life.
+/// Makes room for n more lines in the log of a life.
 pub fn reserve_lines(logs: &mut Vec<Vec<Line>>, life: usize, lines: usize) -> Result<(), AllocError>
     ensures same { lines_in logs.new.items ≡ lines_in logs.old.items }
     ensures room { OnOk result (HasRoom lines life logs.new.items) }
@@ -19,7 +19,7 @@ pub fn reserve_lines(logs: &mut Vec<Vec<Line>>, life: usize, lines: usize) -> Re
     Ok(())
 }
 
-/// Puts a line behind those of a life's log, in which there is room.
+/// Puts a line after those of a life's log, in which there is room.
 pub fn push_line(logs: &mut Vec<Vec<Line>>, life: usize, line: Line)
     requires { HasRoom 1 life logs.old.items }
     ensures { lines_in logs.new.items ≡ grown life (line_of line ∷ []) (lines_in logs.old.items) }
@@ -29,7 +29,7 @@ pub fn push_line(logs: &mut Vec<Vec<Line>>, life: usize, line: Line)
     }
 }
 
-/// Puts the refusal of a call into the log. Want of memory is no refusal of the call.
+/// Puts the refusal of a call into the log. Being out of memory is no refusal of the call.
 pub fn note(logs: &mut Vec<Vec<Line>>, life: usize, refusal: Refusal) -> Result<(), Refusal>
     requires { HasRoom 1 life logs.old.items }
     ensures { Notes life refusal (lines_in logs.old.items) result (lines_in logs.new.items) }

@@ -45,7 +45,8 @@ pub fn meant_by(named: &[(Handle, Intent)], handle: Handle) -> Intent
     Intent::OfCircuit
 }
 
-// The same, by the place at which the handle may be named. Where it is not, all places are looked at.
+// What is meant by a request or a subscription of this handle, which may be named at this place. If
+// it is not, all places are looked at.
 fn meant_near(named: &[(Handle, Intent)], place: usize, handle: Handle) -> Intent
     requires { MeanTheirs (map named_of named.now) }
     ensures { intent_of result ≡ world.meant_by (map named_of named.now) handle }
@@ -118,7 +119,7 @@ pub fn line_heard(names: &Names, about: Intent, notice: Notice) -> Line
     }
 }
 
-/// The line for a notice, where the message that the client read was about one that was meant so.
+/// The line for a notice, if the message that the client read was about one that was meant so.
 pub fn line_for(names: &Names, about: Intent, notice: Notice) -> Line
     ensures { line_of result
         ≡ world.line_of (intent_of about) (names_of names.now) (notice_of notice) }

@@ -1,4 +1,5 @@
-//! Posts to a record, and writes to it, reach the circuits that they concern: the number of each post waits there.
+//! Posts to a record, and writes to it, reach the circuits that they concern: the number of
+//! each post waits there.
 ghost use Rattle.std.specs.Prelude.{ℕ, ◌≡◌, ◌<◌, true, OnOk, map, slice_set};
 ghost use Rattle.std.specs.List.{fold};
 ghost use Rattle.ca_ids.specs.Table.{under};
@@ -41,8 +42,8 @@ fn check_standing(standing: &[Standing]) -> Result<(), AllocError>
     Ok(())
 }
 
-/// A post to the record of this name, with this mask, reached the circuits of a server whose core this is: those that it concerns have its
-/// numbers waiting.
+/// A post to the record of this name, with this mask, reached the circuits of a server whose core
+/// this is: those that it concerns have its numbers waiting.
 pub fn post_numbers(
     server: usize,
     core: &ServerCore,
@@ -60,7 +61,8 @@ pub fn post_numbers(
     }
 }
 
-// The same on one circuit.
+// A post to the record of this name reached this circuit: those that it concerns have
+// their numbers waiting.
 fn number_on(server: usize, core: &ServerCore, joined: &mut Joined, name: &[u8], mask: u16)
     requires alike { joined.old.server ≡ server → joined.old.lists.server_open ≡ true
         → IsAlike (under core.now.circuits joined.old.at_server) (joined_of joined.old) }
@@ -73,7 +75,7 @@ fn number_on(server: usize, core: &ServerCore, joined: &mut Joined, name: &[u8],
     }
 }
 
-// The same on a circuit that is open at this server.
+// A post to the record of this name reached this circuit, which is open at this server.
 fn number_all(core: &ServerCore, joined: &mut Joined, name: &[u8], mask: u16)
     requires alike { IsAlike (under core.now.circuits joined.old.at_server) (joined_of joined.old) }
     requires counts { MayCount joined.old.standing.items }
@@ -88,7 +90,7 @@ fn number_all(core: &ServerCore, joined: &mut Joined, name: &[u8], mask: u16)
     }
 }
 
-// The same for the subscription at this place.
+// A post to the record of this name reached the subscription at this place.
 fn number_next(core: &ServerCore, joined: &mut Joined, place: usize, name: &[u8], mask: u16)
     requires alike { IsAlike (under core.now.circuits joined.old.at_server) (joined_of joined.old) }
     requires counts { (s : kept.Standing) → At joined.old.standing.items place s
@@ -107,7 +109,8 @@ fn number_next(core: &ServerCore, joined: &mut Joined, place: usize, name: &[u8]
     number_at(joined, place, queue);
 }
 
-// Counts one more post of the subscription at this place, whose number waits in this queue, which has it.
+// Counts one more post of the subscription at this place, whose number waits in this
+// queue, which has it.
 fn number_at(joined: &mut Joined, place: usize, queue: usize)
     requires { IsPlaced place queue (joined_of joined.old) }
     ensures numbers { (h : IsPlaced place queue (joined_of joined.old))

@@ -25,7 +25,7 @@ pub fn mask_payload(alloc: Global, mask: Mask) -> Result<Vec<u8>, AllocError>
     Vec::from_slice(alloc, message.payload())
 }
 
-/// The same value again.
+/// A copy of the value.
 pub fn value_again(alloc: Global, value: &Value) -> Result<Value, AllocError>
     ensures { IfOk result (λ v. elements v ≡ elements value.now) }
 {
@@ -67,7 +67,7 @@ fn pad(bytes: &mut Vec<u8>) -> Result<(), AllocError>
     bytes.extend_from_slice(&[0u8; 8][over..])
 }
 
-/// How many elements a value has, if there are at most so many.
+/// How many elements a value has, if there are at most n.
 pub fn count_within(value: &Value, most: u32) -> u32
     ensures { count_of (elements value.now) ≤ most → result ≡ count_of (elements value.now) }
 {

@@ -1,4 +1,5 @@
-//! Ends of circuits at a server that ended in a call of its core, which did not report them: they are reported at once.
+//! Ends of circuits at a server that ended in a call of its core, which did not report them: they
+//! are reported at once.
 ghost use Rattle.std.specs.Prelude.{◌≡◌, ◌++◌, ◌+◌, ◌<◌, ◌≤◌, IfOk, MatchOption, OnOk, Some, filter, is_some, length, map, not, vec_capacity, vec_len};
 ghost use Rattle.ca_ids.specs.Table.{under, with_freed};
 ghost use Rattle.ca_model.specs.ServerEvents as world;
@@ -19,7 +20,8 @@ use ca_server_core::{ServerCore, Step};
 use ca_wire::Pipe;
 use std::alloc::{AllocError, Global};
 
-/// Makes room in the log of a life for the withdrawal of all puts that wait for these records, and for so many more entries.
+/// Makes room in the log of a life for the withdrawal of all puts that wait for these records,
+/// and for n more entries.
 pub fn reserve_reports(
     logs: &mut Vec<Vec<Entry>>,
     life: usize,
@@ -50,8 +52,9 @@ fn count_waits(records: &[RecordSide]) -> Result<usize, AllocError>
     Ok(puts)
 }
 
-/// A call of this server's core is over. Each end of a circuit that ended in it, and was not reported, is reported: its circuit ends, with the
-/// bytes that it left, and its puts that wait are withdrawn. There is room in the log.
+/// A call of this server's core is over. Each end of a circuit that ended in it, and was not
+/// reported, is reported: its circuit ends, with the bytes that it left, and its puts that wait are
+/// withdrawn. There is room in the log.
 pub fn report_ends(
     alloc: Global,
     server: usize,
@@ -85,7 +88,7 @@ fn is_gone(server: usize, core: &ServerCore, circuits: &[Joined], circuit: usize
     ends_now(server, core, &circuits[circuit])
 }
 
-// The same of a circuit itself.
+// Whether this circuit's end at this server has ended.
 fn ends_now(server: usize, core: &ServerCore, joined: &Joined) -> bool
     ensures { result ≡ is_some (world.ends_by server core.now (joined_of joined.now)) }
 {
@@ -238,7 +241,8 @@ fn left_of(alloc: Global, core: &mut ServerCore, circuit: Handle) -> Pipe
     }
 }
 
-/// The number of the circuit that is open at this server under this handle, by the server's numbers.
+/// The number of the circuit that is open at this server under this handle, by
+/// the server's numbers.
 pub fn served_on(
     numbers: &[usize],
     circuits: &[Joined],

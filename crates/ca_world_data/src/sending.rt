@@ -1,4 +1,5 @@
-//! What a client sends without being called for it: each message goes up the circuit that is open at the client under its handle.
+//! What a client sends without being called for it: each message goes up the circuit that is open
+//! at the client under its handle.
 ghost use Rattle.std.specs.Prelude.{◌≡◌, ◌+◌, ◌≤◌, OnOk, map, vec_capacity, vec_len};
 ghost use Rattle.ca_client_core.specs.ForHistories.{aim_of, sending_of};
 ghost use Rattle.ca_ids.specs.Table.{same_handle};
@@ -47,7 +48,7 @@ pub fn reserve_sendings(
     Ok(())
 }
 
-/// Makes room for so many more messages on each of the circuits of these numbers.
+/// Makes room for n more messages on each of the circuits of these numbers.
 pub fn reserve_on_each(
     numbers: &[usize],
     circuits: &mut Vec<Joined>,
@@ -88,7 +89,8 @@ fn is_same(a: Handle, b: Handle) -> bool
     a.index == b.index && a.generation == b.generation
 }
 
-// Makes room for so many more messages of the client on a circuit, if there is one. No circuit has less room than before.
+// Makes room for n more messages of the client on a circuit, if there is one. No circuit has
+// less room than before.
 fn reserve_on(
     circuits: &mut Vec<Joined>,
     circuit: Option<usize>,
@@ -107,7 +109,7 @@ fn reserve_on(
     Ok(())
 }
 
-// Makes room for so many more messages of the client.
+// Makes room for n more messages of the client.
 fn reserve_in(joined: &mut Joined, messages: usize) -> Result<(), AllocError>
     ensures same { joined_of joined.new ≡ joined_of joined.old }
     ensures room { OnOk result (vec_len joined.new.lists.up + messages
@@ -118,7 +120,8 @@ fn reserve_in(joined: &mut Joined, messages: usize) -> Result<(), AllocError>
     reserve_list(&mut joined.lists.up, messages)
 }
 
-/// Puts these messages behind those of the client on its circuits, which it has by these numbers. There is room for them.
+/// Puts these messages after those of the client on its circuits, which it has by these numbers.
+/// There is room for them.
 pub fn push_sendings(
     client: usize,
     numbers: &[usize],
@@ -157,7 +160,7 @@ pub fn intent_for(names: &Names, aim: Aim) -> Intent
     }
 }
 
-// Puts a message behind those of the client on a circuit, if there is one. There is room for it.
+// Puts a message after those of the client on a circuit, if there is one. There is room for it.
 fn push_on(circuits: &mut Vec<Joined>, circuit: Option<usize>, sent: Sent)
     requires { HasRoomUp 1 circuit circuits.old.items }
     ensures goes { GoesUp
@@ -175,7 +178,7 @@ fn push_on(circuits: &mut Vec<Joined>, circuit: Option<usize>, sent: Sent)
     }
 }
 
-// Puts a message behind those of the client. There is room for it.
+// Puts a message after those of the client. There is room for it.
 fn push_in(joined: &mut Joined, sent: Sent)
     requires { vec_len joined.old.lists.up + 1 ≤ vec_capacity joined.old.lists.up }
     ensures up { joined_of joined.new ≡ with_up (sent_of sent) (joined_of joined.old) }

@@ -8,7 +8,8 @@ pub struct PutPlace {
     pub place: usize,
 }
 
-/// A record of a server: its name, its number among all records that this life had, and where its busy and its waiting puts came.
+/// A record of a server: its name, its number among all records that this life had, and where its
+/// busy and its waiting puts came.
 #[derive(Drop)]
 pub struct RecordSide {
     pub name: Vec<u8>,
@@ -17,7 +18,8 @@ pub struct RecordSide {
     pub waiting: Vec<PutPlace>,
 }
 
-/// A server: as it was given, its core, which life of all this is, its records, and how many its life had.
+/// A server: as it was given, its core, which life of all this is, its records, and
+/// how many its life had.
 ///
 /// By the index of the handle under which its core knows a circuit, it has that circuit's number.
 #[derive(Drop)]

@@ -8,8 +8,8 @@ use ca_records::Records;
 use ca_text::{ARENA_SLOTS, PAYLOAD_LIMIT, Refusal};
 use std::marker::Model;
 
-/// A client as it is given: its names, and the name servers that it is to use. Its names have room in a message, and the name
-/// servers in a table.
+/// A client as it is given: its names, and the name servers that it is to use. Its names have room
+/// in a message, and the name servers in a table.
 #[derive(Drop)]
 pub struct ClientSetting {
     pub user: Vec<u8>,
@@ -35,7 +35,8 @@ impl Model for ClientSetting {
     }) };
 }
 
-/// A rule of access: whom and which record it meets, where none stands for all, and what it lets them do.
+/// A rule of access: whom and which record it meets, where none stands for all, and
+/// what it lets them do.
 #[derive(Debug, Drop)]
 pub struct RuleSetting {
     pub user: Option<Vec<u8>>,
@@ -69,8 +70,8 @@ impl Model for ServerSetting {
 impl ClientSetting {
     /// A client of this user at this host, which is to use these name servers.
     ///
-    /// Refused as NameLength if the user's or the host's name has no room in a message, then as ArenaFull for more name servers
-    /// than circuits may be.
+    /// Refused as NameLength if the user's or the host's name has no room in a message, then as
+    /// ArenaFull for more name servers than circuits may be.
     pub fn new(
         user: Vec<u8>,
         host: Vec<u8>,

@@ -1,4 +1,5 @@
-//! Ends at a client that fell silent: what they told goes into its log, and each leaves its bytes at its circuit.
+//! Ends at a client that fell silent: what they told goes into its log, and each leaves its
+//! bytes at its circuit.
 ghost use Rattle.std.specs.Prelude.{◌≡◌, ◌+◌, ℕ, length, map};
 ghost use Rattle.ca_client_core.specs.Ticked.{left_of, lefts_of, notices_of};
 ghost use Rattle.ca_model.specs.History.{OfCircuit};

@@ -38,8 +38,9 @@ fn about_next(joined: &Joined) -> Intent
     joined.lists.up[place].intent
 }
 
-/// The end of this circuit at this client takes a step: what it read is in the history, what it told is in the log, and what it sent
-/// went up; or it has ended. It tells no more than its requests and channels have names, or one thing more.
+/// The end of this circuit at this client takes a step: what it read is in the history, what it
+/// told is in the log, and what it sent went up; or it has ended. It tells no more than its
+/// requests and channels have names, or one thing more.
 ///
 /// Refused as OutOfMemory.
 pub fn step_client(
@@ -156,8 +157,8 @@ fn end(
     close_client(&mut circuits[circuit], closing.left);
 }
 
-// What the next message of a circuit will make its client send, with room for that on all circuits, for the step in the history of this
-// one, and for so many lines in the log.
+// What the next message of a circuit will make its client send, with room for that on all circuits,
+// for the step in the history of this one, and for n lines in the log.
 fn prepare_step(
     client: usize,
     circuit: usize,
@@ -189,7 +190,8 @@ fn prepare_step(
     Ok(sent)
 }
 
-// Makes room for one more step of the client's end of this circuit. The client has as much room for its messages.
+// Makes room for one more step of the client's end of this circuit. The client has as much
+// room for its messages.
 fn reserve_heard(circuits: &mut Vec<Joined>, circuit: usize) -> Result<(), AllocError>
     requires { circuit < length circuits.old.items }
     ensures same { map joined_of circuits.new.items ≡ map joined_of circuits.old.items }
@@ -209,7 +211,8 @@ fn reserve_heard_in(joined: &mut Joined) -> Result<(), AllocError>
     reserve_list(&mut joined.lists.heard, 1)
 }
 
-// The client's end of this circuit made this step. There is room for it; the client has as much room for its messages.
+// The client's end of this circuit made this step. There is room for it; the client has as much
+// room for its messages.
 fn note_heard(circuits: &mut Vec<Joined>, circuit: usize, logged: usize, after: usize)
     requires there { circuit < length circuits.old.items }
     requires room { HasRoomHeard circuit circuits.old.items }

@@ -12,7 +12,8 @@ use crate::history::{Intent, Line};
 use crate::naming::{line_for, line_heard};
 use ca_client_core::Notices;
 
-/// Puts these notices into the log, where the message that the client read was about one that was meant so.
+/// Puts these notices into the log, if the message that the client read was about
+/// one that was meant so.
 pub fn tell_all(
     logs: &mut Vec<Vec<Line>>,
     life: usize,
@@ -34,7 +35,8 @@ pub fn tell_all(
     }
 }
 
-/// The same of a client whose handles mean what stands beside them: what the message was about is looked at first.
+/// Puts these notices into the log of a client whose handles mean what is beside them: what the
+/// message was about is looked at first.
 pub fn tell_heard(
     logs: &mut Vec<Vec<Line>>,
     life: usize,
@@ -55,7 +57,7 @@ pub fn tell_heard(
     }
 }
 
-// The same in the log itself.
+// Puts the notices of a message that was heard into the log itself.
 fn heard_in(log: &mut Vec<Line>, about: Intent, names: &Names, notices: Notices)
     requires meant { IsMeant (names_of names.now) }
     requires lines { vec_len log.old + length notices ≤ vec_capacity log.old }
@@ -89,7 +91,7 @@ pub fn tell_call(
     }
 }
 
-// The same in the log itself.
+// Puts the line of a call, and then what the call told, into the log itself.
 fn call_in(log: &mut Vec<Line>, line: Line, names: &Names, notices: Notices)
     requires { vec_len log.old + (length notices + 1) ≤ vec_capacity log.old }
     ensures { map line_of log.new.items

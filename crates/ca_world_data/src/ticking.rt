@@ -23,9 +23,10 @@ use ca_client_core::for_histories::Sending;
 use ca_client_core::for_moments::{Foretold, foretell};
 use std::alloc::AllocError;
 
-/// The moment is handed to a client: what it sends goes up its circuits, and its ends that were silent too long have ended.
+/// The moment is handed to a client: what it sends goes up its circuits, and its ends that were
+/// silent too long have ended.
 ///
-/// Refused, with nothing changed, only where the client itself may refuse it.
+/// Refused, with nothing changed, only if the client itself may refuse it.
 pub fn tick_client(
     moment: u64,
     client: usize,

@@ -34,7 +34,7 @@ fn payload_size(bytes: &[u8]) -> usize
     }
 }
 
-// Takes the number in front of the first queue that gives one, and tells the place of the queue.
+// Takes the number in front of the first queue that gives one, and reports the place of the queue.
 fn take_number(
     queues: &mut Vec<ListQueue<(usize, Cause)>>,
 ) -> Option<(usize, SubKey, (usize, Cause))>
@@ -48,8 +48,8 @@ fn take_number(
     None
 }
 
-// Puts the update that begins these bytes behind what the server sent, with the number that its queue gives, and returns how many of
-// the bytes it is. Without memory for it nothing changes.
+// Puts the update that begins these bytes after what the server sent, with the number that its
+// queue gives, and returns how many of the bytes it is. Without memory for it nothing changes.
 fn tell_update(alloc: Global, bytes: &[u8], joined: &mut Joined) -> Result<usize, AllocError>
     requires { BeginsSpelled bytes.now }
     ensures { TellsNext bytes.now (joined_of joined.old) result (joined_of joined.new) }
@@ -68,8 +68,8 @@ fn tell_update(alloc: Global, bytes: &[u8], joined: &mut Joined) -> Result<usize
     Ok(size)
 }
 
-/// Puts the updates that these bytes are behind what the server sent, each with the number that its queue gives, and returns how many
-/// of the bytes they are: all, unless memory lacked for the next.
+/// Puts the updates that these bytes are after what the server sent, each with the number that its
+/// queue gives, and returns how many of the bytes they are: all, unless memory lacked for the next.
 pub fn tell_updates(alloc: Global, bytes: &[u8], joined: &mut Joined) -> usize
     requires { AreSpelled bytes.now }
     ensures tells { TellsUpdates bytes.now (joined_of joined.old) result (joined_of joined.new) }

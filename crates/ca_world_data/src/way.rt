@@ -19,7 +19,8 @@ use ca_text::Refusal;
 use ca_wire::{Ioid, Sid, Wanted};
 use std::alloc::AllocError;
 
-/// Where messages on a channel go: on which circuit of the world, under which SID, and with how many elements at most.
+/// Where messages on a channel go: on which circuit of the world, under which SID, and with how
+/// many elements at most.
 #[derive(Clone, Copy)]
 pub struct Way {
     pub circuit: Option<usize>,
@@ -59,7 +60,7 @@ pub fn wanted_on(sid: u32, id: Handle, data_type: u16, count: u32) -> Wanted
     }
 }
 
-/// Makes room for so many more messages of the client on a circuit, if there is one.
+/// Makes room for n more messages of the client on a circuit, if there is one.
 pub fn reserve_sent(
     circuits: &mut Vec<Joined>,
     circuit: Option<usize>,
@@ -77,7 +78,7 @@ pub fn reserve_sent(
     Ok(())
 }
 
-// Makes room for so many more messages of the client.
+// Makes room for n more messages of the client.
 fn reserve_up(joined: &mut Joined, messages: usize) -> Result<(), AllocError>
     ensures same { joined_of joined.new ≡ joined_of joined.old }
     ensures room { OnOk result (vec_len joined.new.lists.up + messages
@@ -86,7 +87,7 @@ fn reserve_up(joined: &mut Joined, messages: usize) -> Result<(), AllocError>
     reserve_list(&mut joined.lists.up, messages)
 }
 
-/// Puts a message behind those of the client on a circuit, if there is one. There is room for it.
+/// Puts a message after those of the client on a circuit, if there is one. There is room for it.
 pub fn push_sent(circuits: &mut Vec<Joined>, circuit: Option<usize>, sent: Sent)
     requires { HasRoomUp 1 circuit circuits.old.items }
     ensures { GoesUp
@@ -103,7 +104,7 @@ pub fn push_sent(circuits: &mut Vec<Joined>, circuit: Option<usize>, sent: Sent)
     }
 }
 
-// Puts a message behind those of the client. There is room for it.
+// Puts a message after those of the client. There is room for it.
 fn push_up(joined: &mut Joined, sent: Sent)
     requires { vec_len joined.old.lists.up + 1 ≤ vec_capacity joined.old.lists.up }
     ensures { joined_of joined.new ≡ with_up (sent_of sent) (joined_of joined.old) }

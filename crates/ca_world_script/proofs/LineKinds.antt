@@ -1,4 +1,4 @@
--- The first word of a line tells its kind.
+-- The first word of a line says its kind.
 use Rattle.std.proofs.Common.{◌≡◌, ◌<◌, ℕ, ◌⊎◌, inl, inr, List, [], ◌∷◌, length, get_or, refl, sym, ap, ◌∙◌, subst, arith}
 use Rattle.std.specs.Prelude.{Result, IfErr, if◌then◌else◌, codes}
 use Rattle.std.specs.Str.{bytes_eq}

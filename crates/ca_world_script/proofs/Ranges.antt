@@ -16,7 +16,7 @@ range-more n =
     let z : 0 + n ≡ n = omega arith in
     ap (λ (k : ℕ). range_with_len 0 k) e ∙ range-next 0 n ∙ ap (λ (k : ℕ). range_with_len 0 n ++ k ∷ []) z
 
--- what is put behind the texts of the first n is the text of the next
+-- what is put after the texts of the first n is the text of the next
 pub texts-more : (f : ℕ → List ℕ) (n : ℕ) (a b : List ℕ) → a ≡ flat_map f (range_with_len 0 n) → b ≡ a ++ f n → b ≡ flat_map f (range_with_len 0 (n + 1))
 texts-more f n a b first next =
     next ∙ ap (λ (x : List ℕ). x ++ f n) first ∙ ap (λ (x : List ℕ). flat_map f (range_with_len 0 n) ++ x) (sym (append-nil (f n))) ∙ sym (flat_map-append f (range_with_len 0 n) (n ∷ [])) ∙ ap (λ (l : List ℕ). flat_map f l) (sym (range-more n))

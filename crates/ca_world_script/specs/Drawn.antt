@@ -24,7 +24,8 @@ circuit_drawn drawn circuits = if circuits == 0 then None else Some ((drawn / 8)
 abbrev pub bytes_drawn : (drawn waiting : ℕ) → ℕ
 bytes_drawn drawn waiting = min (1 + (drawn / 256) % 64) waiting
 
--- the event that a number is on a circuit, where so many bytes wait for the server and for the client
+-- the event that a number is on a circuit, if these numbers of bytes wait for the
+-- server and for the client
 abbrev pub event_drawn : (drawn circuit up down : ℕ) → Event
 event_drawn drawn circuit up down =
     if drawn % 8 == 0 || drawn % 8 == 5 then event.Up circuit (bytes_drawn drawn up)

@@ -80,7 +80,8 @@ pub record SaysNamed (words : List (List ℕ)) (r : ℕ × List ℕ) : Type 0 wh
   pub of : IsNumber first r.0
   pub some : 0 < length r.1
 
--- `write C CH TYPE V..`, `write_notify C CH TYPE V..`: the numbers of a client and a channel, and values of the type of this number
+-- `write C CH TYPE V..`, `write_notify C CH TYPE V..`: the numbers of a client and a channel, and
+-- values of the type of this number
 pub record SaysWritten (words : List (List ℕ)) (r : ℕ × ℕ × Elements) : Type 0 where
   pub first : List ℕ
   pub second : List ℕ

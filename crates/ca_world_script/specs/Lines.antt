@@ -11,7 +11,8 @@ use Rattle.ca_script.specs.Lines.{AreEach, SaysServer}
 abbrev pub IsAddress : List ℕ → Address → Type 0
 IsAddress word a = SaysServer (parted 32 word) a.host a.port
 
--- `client USER HOST A.B.C.D:PORT ..`: messages can carry the names, and there are no more different name servers than circuits may be
+-- `client USER HOST A.B.C.D:PORT ..`: messages can carry the names, and there are no more different
+-- name servers than circuits may be
 pub record SaysClient (words : List (List ℕ)) (c : ClientSetting) : Type 0 where
   pub names : List (List ℕ)
   pub are : words ≡ c.peer.user ∷ c.peer.host ∷ names

@@ -8,12 +8,12 @@ use Rattle.ca_model.specs.History.{Intent, Line}
 use Rattle.ca_model.specs.History as history
 use Rattle.ca_script.specs.Report.{counted, outcome_text}
 
--- the outcome that a line tells, if it tells one
+-- the outcome that a line says, if it tells one
 abbrev pub told_text : Option Line → List ℕ
 told_text (Some (history.Noticed intent o)) = outcome_text o
 told_text _ = codes " nothing"
 
--- the outcome that the line at a place of a log tells, or none
+-- the outcome that the line at a place of a log says, or none
 abbrev pub found_text : List Line → Option ℕ → List ℕ
 found_text log None = codes " nothing"
 found_text log (Some place) = told_text (slice_get log place)
@@ -28,7 +28,8 @@ abbrev pub live_text : Outcome → List ℕ
 live_text outcome.Done = codes " live "
 live_text o = codes " lost "
 
--- the outcome of an intent: of a channel's creation, of a plain write, of another request, and of a subscription
+-- the outcome of an intent: of a channel's creation, of a plain write, of another request,
+-- and of a subscription
 abbrev pub noticed_text : Intent → Outcome → List ℕ
 noticed_text (history.On channel history.Create) o = counted (live_text o) channel
 noticed_text (history.On channel (history.Request history.Write n)) o = counted (codes " write_refused ") channel ++ status_text o

@@ -26,7 +26,8 @@ pub record IsRecorded (servers : List ServerSetting) (server : ℕ) (name : List
   pub is : Names line.records name place
   pub typed : base_of is.state.value ≡ b
 
--- the last line above that defines the record at the server is of this type: the last `add` line, or else the `record` line
+-- the last line above that defines the record at the server is of this type: the last `add` line,
+-- or else the `record` line
 abbrev pub HasType : List ServerSetting → Added → (server : ℕ) → (name : List ℕ) → BaseType → Type 0
 HasType servers added server name b =
     (added server name ≡ Some b) ⊎ ((added server name ≡ None) × IsRecorded servers server name b)

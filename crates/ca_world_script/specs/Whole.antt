@@ -21,8 +21,8 @@ abbrev pub begun : (i next : ℕ) → List ℕ → List ℕ
 begun i next [] = []
 begun i next (c ∷ cs) = if c == i then next ∷ begun i (next + 1) cs else begun i (next + 1) cs
 
--- The lives of client i, one of so many, once these clients were restarted: its first, and one for each time that it was restarted. Lives
--- are numbered as they begin.
+-- The lives of client i, one of n, once these clients were restarted: its first, and one for each
+-- time that it was restarted. Lives are numbered as they begin.
 abbrev pub lives_of : (clients i : ℕ) → List ℕ → List ℕ
 lives_of clients i restarted = i ∷ begun i clients restarted
 
@@ -30,6 +30,7 @@ lives_of clients i restarted = i ∷ begun i clients restarted
 abbrev pub client_text : (clients : ℕ) → List ℕ → List (List Line) → (i : ℕ) → List ℕ
 client_text clients restarted logs i = lives_text i logs (lives_of clients i restarted)
 
--- The report of a run of so many clients: the lines of each, of all its lives, and how many events were done.
+-- The report of a run of n clients: the lines of each, of all its lives, and how
+-- many events were done.
 abbrev pub report_text : (clients : ℕ) → List Event → List (List Line) → List ℕ
 report_text clients done logs = flat_map (client_text clients (restarts done) logs) (range_with_len 0 clients) ++ end_text (length done)

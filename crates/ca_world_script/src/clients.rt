@@ -33,7 +33,8 @@ fn read_addresses(alloc: Global, mut words: Words<'_>) -> Result<Vec<Address>, R
     Ok(items)
 }
 
-// `USER HOST A.B.C.D:PORT ..`, after the line's first word. Refused as BadText, then as OutOfMemory.
+// `USER HOST A.B.C.D:PORT ..`, after the line's first word. Refused as BadText,
+// then as OutOfMemory.
 pub(crate) fn read_client(alloc: Global, mut words: Words<'_>) -> Result<ClientSetting, Refusal>
     ensures ok { IfOk result (λ c. SaysClient words.entry c) }
     ensures err { IfErr result (λ e. Refuses (SaysClient words.entry) e) }

@@ -13,7 +13,8 @@ use ca_text::Refusal;
 use hex::FromHexError;
 use std::alloc::Global;
 
-// `client C FROM HEX`, `server S FROM HEX`, after the verb. Refused as BadText, then as OutOfMemory.
+// `client C FROM HEX`, `server S FROM HEX`, after the verb. Refused as BadText,
+// then as OutOfMemory.
 pub(crate) fn read_datagram(alloc: Global, mut words: Words<'_>) -> Result<Event, Refusal>
     ensures ok { IfOk result (λ e. SaysDatagram words.entry (event_of e)) }
     ensures err { IfErr result (λ e. Refuses (SaysDatagram words.entry) e) }

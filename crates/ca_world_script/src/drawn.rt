@@ -4,7 +4,7 @@ ghost use Rattle.ca_world_script.specs.Drawn.{bytes_drawn, circuit_drawn, event_
 
 use ca_events::Event;
 
-/// The circuit on which a number that was drawn acts, of so many: none if there is none.
+/// The circuit on which a number that was drawn acts, of n: none if there is none.
 pub fn circuit_drawn(drawn: u32, circuits: u64) -> Option<u64>
     ensures { result ≡ circuit_drawn drawn circuits }
 {
@@ -14,7 +14,8 @@ pub fn circuit_drawn(drawn: u32, circuits: u64) -> Option<u64>
     Some(u64::from(drawn / 8) % circuits)
 }
 
-/// The event that a number is on this circuit, where so many bytes wait for the server and for the client.
+/// The event that a number is on this circuit, if these numbers of bytes wait for the
+/// server and for the client.
 pub fn event_drawn(drawn: u32, circuit: u64, up: u64, down: u64) -> Event
     ensures { event_of result ≡ event_drawn drawn circuit up down }
 {
@@ -43,7 +44,7 @@ pub fn event_drawn(drawn: u32, circuit: u64, up: u64, down: u64) -> Event
     Event::ClientStep { circuit }
 }
 
-// How many bytes move, where so many wait.
+// How many bytes move, if n wait.
 fn bytes_drawn(drawn: u32, waiting: u64) -> u64
     ensures { result ≡ bytes_drawn drawn waiting }
 {

@@ -1,5 +1,6 @@
-//! The text of whole worlds. Scripts are read: their clients, their servers, and what is to happen. What a seed adds to a script is drawn: numbers, and
-//! the events that they are. And the report of a run is written, by the logs of its clients. There is no IO here.
+//! The text of whole worlds. Scripts are read: their clients, their servers, and what is to happen.
+//! What a seed adds to a script is drawn: numbers, and the events that they are. And the report of
+//! a run is written, by the logs of its clients. There is no IO here.
 #![tactic(auto)]
 
 mod clients;

@@ -5,7 +5,7 @@ ghost use Rattle.ca_world_script.specs.Whole.{lives_of, restarted, restarts};
 use ca_events::Event;
 use std::alloc::{AllocError, Global};
 
-// The lives of a client, one of so many, once these clients were restarted.
+// The lives of a client, one of n, once these clients were restarted.
 pub(crate) fn lives_of(
     alloc: Global,
     clients: usize,
@@ -25,7 +25,8 @@ pub(crate) fn lives_of(
     Ok(lives)
 }
 
-// The restart of this client begins this life: it is put at the end, if it is that of the one that is asked for.
+// The restart of this client begins this life: it is put at the end, if it is that of the
+// one that is asked for.
 fn push_life(
     lives: &mut Vec<usize>,
     client: usize,

@@ -10,7 +10,8 @@ use ca_script::{put, put_count, put_outcome};
 use ca_text::Refusal;
 use ca_world_data::history::{Ask, Intent, Kind, Line};
 
-/// Writes the lines of the log of a client's life. Refused as OutOfMemory only if it has an entry; the text is then as before.
+/// Writes the lines of the log of a client's life. Refused as OutOfMemory only if it has an entry;
+/// the text is then as before.
 pub fn write_log(client: u64, log: &[Line], out: &mut Vec<u8>) -> Result<(), Refusal>
     ensures ok { OnOk result (out.new.items
         ≡ out.old.items ++ log_text client (map line_of log.now)) }
@@ -165,7 +166,7 @@ fn put_found(log: &[Line], place: Option<usize>, text: &mut Vec<u8>) -> Result<(
     }
 }
 
-// Puts the outcome that a line tells.
+// Puts the outcome that a line says.
 fn put_told(line: &Line, text: &mut Vec<u8>) -> Result<(), Refusal>
     ensures ok { OnOk result (text.new.items
         ≡ text.old.items ++ told_text (Some (line_of line.now))) }
@@ -182,7 +183,8 @@ fn put_told(line: &Line, text: &mut Vec<u8>) -> Result<(), Refusal>
     }
 }
 
-/// Writes the lines of a client: those of its lives, in order, by the logs of all lives. Refused as OutOfMemory.
+/// Writes the lines of a client: those of its lives, in order, by the logs of all lives.
+/// Refused as OutOfMemory.
 pub fn write_lives(
     client: u64,
     lives: &[usize],

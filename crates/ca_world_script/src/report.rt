@@ -11,8 +11,9 @@ use ca_script::write_end;
 use ca_text::Refusal;
 use ca_world_data::history::Line;
 
-/// Writes the report of a run of so many clients, in which these events were done, by the logs of all lives: the lines of each client, and
-/// last how many events they were. Refused as OutOfMemory; the text is then as before.
+/// Writes the report of a run of n clients, in which these events were done, by the logs of all
+/// lives: the lines of each client, and last how many events they were. Refused as OutOfMemory; the
+/// text is then as before.
 pub fn write_report(
     clients: usize,
     done: &[Event],

@@ -28,8 +28,9 @@ pub struct Script {
     pub events: Vec<Event>,
 }
 
-/// Reads a script: lines of clients, then of servers, each with its records and rules, then of events. Refused as BadText if a line is not
-/// understood, and as OutOfMemory; an empty text is never refused.
+/// Reads a script: lines of clients, then of servers, each with its records and rules, then
+/// of events. Refused as BadText if a line is not understood, and as OutOfMemory; an empty
+/// text is never refused.
 pub fn read_script(alloc: Global, text: &[u8]) -> Result<Script, Refusal>
     ensures says { IfOk result (λ s. SaysScript text.now s) }
     ensures err { IfErr result (λ e. RefusesScript text.now e) }

@@ -9,7 +9,8 @@ use ca_text::Refusal;
 use ca_world_data::settings::{RuleSetting, ServerSetting};
 use std::alloc::Global;
 
-// A server with what one line more says: a record or a rule. Refused as BadText, then as OutOfMemory.
+// A server with what one line more says: a record or a rule. Refused as BadText,
+// then as OutOfMemory.
 pub(crate) fn with_line(
     alloc: Global,
     line: &[u8],
@@ -67,7 +68,8 @@ fn with_rule(
     Ok(ServerSetting::new(address, rules, records))
 }
 
-// `USER HOST RECORD rw|r|w|-`, after the line's first word: `*` stands for everything. Refused as BadText, then as OutOfMemory.
+// `USER HOST RECORD rw|r|w|-`, after the line's first word: `*` stands for everything. Refused as
+// BadText, then as OutOfMemory.
 fn read_rule(alloc: Global, mut words: Words<'_>) -> Result<RuleSetting, Refusal>
     ensures ok { IfOk result (λ r. SaysRule words.entry (rule_of r)) }
     ensures err { IfErr result (λ e. Refuses (SaysRule words.entry) e) }

@@ -26,7 +26,8 @@ pub(crate) fn base_at(number: u64) -> Result<BaseType, Refusal>
     }
 }
 
-// The mask of these bits. Refused as BadText if none of the four is among them, or they are more than 16.
+// The mask of these bits. Refused as BadText if none of the four is among them, or
+// they are more than 16.
 pub(crate) fn mask_of(number: u64) -> Result<Mask, Refusal>
     ensures ok { IfOk result (λ m. (m ≡ number) × IsMask number) }
     ensures err { IfErr result (λ e. (e ≡ BadText) × (IsMask number → ⊥)) }

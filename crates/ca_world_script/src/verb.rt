@@ -32,12 +32,12 @@ pub(crate) enum Verb {
 }
 
 impl Verb {
-    // The verb that this word is, where it is one.
+    // The verb that this word is, if it is one.
     pub(crate) fn of(word: &[u8]) -> Option<Verb>
         ensures { MatchOption result ((v : Verb) → verb_word v ≡ word.now → ⊥)
             (λ v. verb_word v ≡ word.now) }
     {
-        // Those that a script has most stand first.
+        // Those that a script has most are first.
         if is_word(word, "up") {
             return Some(Verb::Up);
         }

@@ -1,4 +1,5 @@
--- The end that a step closed and those that ended beside it: what is told, withdrawn and closed before the others are reported, with that, is all.
+-- The end that a step closed and those that ended beside it: what is told, withdrawn and closed
+-- before the others are reported, with that, is all.
 use Rattle.std.proofs.Common.{◌≡◌, ℕ, zero, suc, ◌+◌, ◌≤◌, ◌==◌, ◌&&◌, ◌||◌, Bool, true, false, not, List, [], ◌∷◌, ◌++◌, length, Option, Some, None, refl, sym, ap, subst, ◌∙◌, arith}
 use Rattle.std.specs.Prelude.{filter, if◌then◌else◌, is_some, map, option_map, slice_get, slice_set, unwrap_or, Vec, vec_len}
 use Rattle.std.specs.List.{flat_map}

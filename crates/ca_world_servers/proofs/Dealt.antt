@@ -1,4 +1,5 @@
--- What a message did, by its effect; and whether it wrote, if its step closed its end, by what is read of the server before and after it.
+-- What a message did, by its effect; and whether it wrote, if its step closed its end, by what is
+-- read of the server before and after it.
 use Rattle.std.proofs.Common.{◌≡◌, ℕ, zero, suc, ◌+◌, ◌<◌, ◌⊎◌, inl, inr, Bool, true, false, cond, not, ◌&&◌, ◌||◌, eqb, eq-eqb, eqb-true, List, [], ◌∷◌, length, Option, Some, None, refl, sym, ap, subst, ◌∙◌, arith, rules}
 use Rattle.std.specs.Prelude.{◌%◌, ◌*◌, ◌==◌, if◌then◌else◌, is_some, min, nat_lt, option_map, unwrap_or}
 use Rattle.std.specs.List.{list_any}
@@ -421,7 +422,8 @@ news-key k m replies s due = due-cases k m replies (Adds s) (is_among (key_of s)
     put true c v is = absurd cc
     put false c v is = absurd cc
 
--- A subscription that begins has a key that no queue of its circuit has, where the same subscriptions stand.
+-- A subscription that begins has a key that no queue of its circuit has, where the same
+-- subscriptions stand.
 pub news-new : (y : Server) (e : ServerEnd) (m : Fields) (replies : List Fields) (s : Subscription) (j : Joined) → Due (knows y e) m replies (Adds s) → AreAlike e j → AreSeated j → HasNone j.queues (key_of s)
 news-new y e m replies s j due alike seated i q at = go (is_among (key_of s) q.subscriptions) refl
   where

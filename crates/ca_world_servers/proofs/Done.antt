@@ -54,7 +54,7 @@ Came k m (Waits name value) = Takes k m name value
 Came k m (Clears sid) = (m.command ≡ command_number command.ClearChannel) × (sid ≡ m.p1)
 Came k m action = Unit {0}
 
--- What is done tells what came.
+-- What is done says what came.
 pub came : (k : Knows) (m : Fields) (replies : List Fields) (did : Action) → Due k m replies did → Came k m did
 came k m replies did due = due-cases k m replies did (Came k m did) due (record {
   nothing = λ is. by Nothing is tt;
@@ -90,8 +90,9 @@ comes-as : (k : Knows) (m : Fields) (c : Serves k m.p1) (name : List ℕ) (value
 comes-as k m c name value (Some w) named_so comes = record { w = w; is = refl; named_it = sym named_so ∙ comes.0; valued = comes.1 }
 comes-as k m c name value None named_so comes = absurd comes
 
--- What is known of a message that a server handled whose core was this, on the circuit of this handle: what was due for it and done, and what was seen
--- before. The records stand beside the core's, and no stamp was handed to it.
+-- What is known of a message that a server handled whose core was this, on the circuit of this
+-- handle: what was due for it and done, and what was seen before. The records are beside the
+-- core's, and no stamp was handed to it.
 pub record WasDone (before : Server) (h : Handle) (records : List RecordSide) (a : Ahead) (m : Fields) (action : Action) : Type 0 where
   pub e : ServerEnd
   pub has : HasEnd before h e

@@ -99,7 +99,7 @@ value-failed m base g r gives fails b e v based reads is =
     let there = sym fails ∙ both in
     absurd cc
 
--- what is refused for another reason than want of memory gives nothing
+-- what is refused for another reason than being out of memory gives nothing
 pub value-refused : (m : Fields) (base : BaseType) (g : Elements) (r : Refusal) → GivesElements m (Some g) → (r ≡ refusal.OutOfMemory → ⊥) → Fails (converted g base) r → GivesValue m base None
 value-refused m base g r gives other (inl fails) = value-failed m base g r gives fails
 value-refused m base g r gives other (inr short) = absurd (other short.0)

@@ -26,7 +26,7 @@ use Rattle.ca_world_servers.specs.Handling.{has_room}
 abbrev Q : Type 0
 Q = Queue (ℕ × history.Cause)
 
--- with one element changed as it is to be, those behind it are left
+-- with one element changed as it is to be, those after it are left
 pub change-next : {A B : Type 0} (see : A → B) (f : B → B) (i : ℕ) (xs : List A) (x got new : A) → At xs i x → x ≡ got → see new ≡ f (see got) → map_from (i + 1) f (map see (slice_set xs i new)) ≡ map_from i f (map see xs)
 change-next see f i xs x got new at is changed =
     ap (map_from (i + 1) f) (set-map see xs i new ∙ ap (slice_set (map see xs) i) (changed ∙ ap (λ (z : _). f (see z)) (sym is)))

@@ -69,7 +69,7 @@ ready-next R ks ls more i new x each long is one k j l there at = elim (At-set k
   ]
 ]
 
--- so many messages of 16 bytes
+-- n messages of 16 bytes
 pub sixteenths : (waited n all : ℕ) → waited + 16 * n ≡ all → (all - waited) / 16 ≡ n
 sixteenths waited n all is =
     let left : all - waited ≡ n * 16 = omega (arith, is) in
@@ -141,7 +141,7 @@ among-at (x ∷ keys) (suc i) k at = ap (λ (b : Bool). same k x || b) (among-at
     last true = refl
     last false = refl
 
--- the subscriptions of a row, all of which a queue has that stand in it, and no others wait there
+-- the subscriptions of a row, all of which a queue has that are in it, and no others wait there
 pub drops-without : {E : Type 0} (gone : SubKey → Bool) (keys : List SubKey) (q : Queue E) → ((k : SubKey) → is_among k q.subscriptions ≡ true → is_among k keys ≡ true)
     → ((w : SubKey × E) → In q.waiting w → is_among w.0 q.subscriptions ≡ true) → dropped gone keys q ≡ queue_without gone q
 drops-without {E} gone keys q stand known =

@@ -76,7 +76,7 @@ aside-next test o ps i b p is at =
     pick true = refl
     pick false = refl
 
--- the same behind those that were kept or told before
+-- the same after those that were kept or told before
 pub aside-kept : (test : Put → Bool) (o : Option Record) (ps : List PutPlace) (i : ℕ) (b : Put) (p : PutPlace) (keep : Bool) (old new all : List PutPlace) → Some b ≡ put_in o i → At ps i p → keep ≡ test b
     → new ≡ old ++ put_if keep p → old ++ places_where test (drop i (puts_of o)) (drop i ps) ≡ all → new ++ places_where test (drop (i + 1) (puts_of o)) (drop (i + 1) ps) ≡ all
 aside-kept test o ps i b p keep old new all is at so made before =
@@ -115,7 +115,7 @@ aside-over test o ps i le = ap (places_where test (drop i (puts_of o))) (drop-ov
     none [] = refl
     none (p ∷ puts) = refl
 
--- nothing is left behind those that were kept or told
+-- nothing is left after those that were kept or told
 pub ends-kept : (kept rest all : List PutPlace) → rest ≡ [] → kept ++ rest ≡ all → kept ≡ all
 ends-kept kept rest all none is = sym (append-nil kept) ∙ ap (λ (l : List PutPlace). kept ++ l) (sym none) ∙ is
 

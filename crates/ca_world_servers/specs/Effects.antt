@@ -1,4 +1,5 @@
--- Working: what a message did beside its replies, by the effect that its step tells, and what of it is known before that step.
+-- Working: what a message did beside its replies, by the effect that its step reports, and what of
+-- it is known before that step.
 use Rattle.std.specs.Prelude.{ℕ, ◌≡◌, ◌⊎◌, ◌==◌, ◌&&◌, Bool, true, false, List, [], ◌∷◌, Option, Some, None, if◌then◌else◌, is_some, map, nat_lt, option_map, unwrap_or}
 use Rattle.ca_arena.specs.declared.handle.Handle.{Handle}
 use Rattle.ca_dbr.specs.Elements.{elements}
@@ -39,7 +40,8 @@ wrote_by (Wrote sid) = Some false
 wrote_by (Busied sid) = Some true
 wrote_by did = None
 
--- the channels, the subscriptions and the numbers of the circuit, whose message at this place did it: `numbers_after` of the statement
+-- the channels, the subscriptions and the numbers of the circuit, whose message at this place did
+-- it: `numbers_after` of the statement
 abbrev pub numbers_by : Effect → (place : ℕ) → Joined → Joined
 numbers_by (Created sid) place j = with_creation sid place j
 numbers_by (Cleared sid) place j = without_sid sid j
@@ -53,7 +55,8 @@ abbrev pub BeginsNew : Effect → List (Queue (ℕ × Cause)) → Type 0
 BeginsNew (Subscribed sid sub) qs = HasNone qs (record { sid = sid; sub = sub })
 BeginsNew did qs = Unit {0}
 
--- memory lacks for what a world has of a message only where a channel was created or a subscription began
+-- memory can be too little for what a world has of a message only if a channel was created or
+-- a subscription began
 abbrev pub MayLackFor : Effect → Type 0
 MayLackFor (Created sid) = Unit {0}
 MayLackFor (Subscribed sid sub) = Unit {0}
@@ -75,7 +78,8 @@ abbrev pub IsPartingOf : Option Parting → List RecordSide → Type 0
 IsPartingOf (Some p) records = (core : Server) × (h : Handle) × (sid : ℕ) × IsParting core h sid records p
 IsPartingOf None records = Unit {0}
 
--- What is known of a message before its step: its command, its write, if it is one, and what becomes of the puts that wait on the channel that it clears.
+-- What is known of a message before its step: its command, its write, if it is one, and what
+-- becomes of the puts that wait on the channel that it clears.
 pub record IsAhead (core : Server) (h : Handle) (records : List RecordSide) (m : Fields) (a : Ahead) : Type 0 where
   pub writes : IsWrite m → Foresees core h m a.write
   pub clears : m.command ≡ command_number command.ClearChannel → (p : Parting) × (a.parting ≡ Some p) × IsParting core h m.p1 records p
@@ -98,15 +102,17 @@ abbrev pub is_busy_in : Server → Option Coming → Bool
 is_busy_in core (Some w) = unwrap_or (option_map (λ (r : Record). is_some r.busy) (record_named core.records w.name.items)) false
 is_busy_in core None = false
 
--- A core that had applied so many writes before a message of this command wrote by it, and made the record busy or not; or it did not write.
+-- A core that had applied n writes before a message of this command wrote by it, and made the
+-- record busy or not; or it did not write.
 abbrev pub wrote_in : Server → (applied command : ℕ) → Option Coming → Option Bool
 wrote_in core applied number write =
     if nat_lt applied core.applied then Some (number == command_number command.WriteNotify && is_busy_in core write) else None
 
 -- ---- how it is told
 
--- What the message at this place of circuit k did, at server i, is told of its records, in its log and in the numbers that wait. The core
--- before the step was this; y has the one after it, which stays.
+-- What the message at this place of circuit k did, at server i, is told of its records, in
+-- its log and in the numbers that wait. The core before the step was this; y has the one
+-- after it, which stays.
 pub record TellsAction (i : ℕ) (p : PutPlace) (before : Server) (h : Handle) (action : Action) (y : ServerSide) (ks : List Joined) (logs : List (List Entry)) (y' : ServerSide) (ks' : List Joined) (logs' : List (List Entry)) : Type 0 where
   pub side : server_of y' ≡ record (server_of y) { records = records_after before h p action (map record_of y.records.items) }
   pub numbers : y'.circuits.items ≡ y.circuits.items

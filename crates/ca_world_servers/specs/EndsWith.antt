@@ -1,4 +1,5 @@
--- Working: the end of a circuit that a step of a server's core closed is reported, together with those that ended beside it.
+-- Working: the end of a circuit that a step of a server's core closed is reported, together with
+-- those that ended beside it.
 use Rattle.std.specs.Prelude.{ℕ, ◌≡◌, ◌==◌, ◌&&◌, Bool, List, [], Option, Some, if◌then◌else◌, map}
 use Rattle.ca_arena.specs.declared.handle.Handle.{Handle}
 use Rattle.ca_ids.specs.Table.{same_handle}
@@ -9,8 +10,8 @@ use Rattle.ca_model.specs.World.{Joined, grown}
 use Rattle.ca_world_data.specs.declared.server.ServerSide.{ServerSide}
 use Rattle.ca_world_data.specs.Seen.{record_of, server_of}
 
--- The circuit that is open at server i under this handle ends with these bytes left, and others as the core says: `ends_here` of the statement,
--- for the circuit of which the core knows the handle.
+-- The circuit that is open at server i under this handle ends with these bytes left, and others as
+-- the core says: `ends_here` of the statement, for the circuit of which the core knows the handle.
 abbrev pub ends_under : Handle → List ℕ → (i : ℕ) → Server → Joined → Option (List ℕ)
 ends_under h left i core c = if same_handle c.at_server h && (c.server == i && c.lists.server_open) then Some left else ends_by i core c
 
@@ -22,8 +23,9 @@ gone_with h i core ks = ends_at (ends_under h [] i core) ks
 abbrev pub closed_under : Handle → List ℕ → (i : ℕ) → Joined → Joined
 closed_under h left i c = if same_handle c.at_server h && (c.server == i && c.lists.server_open) then server_closed left c else c
 
--- A step of server i closed the end under this handle, with these bytes left: it ends, and each that ended in the step; these are reported,
--- and the puts that wait on all of them are withdrawn. It is `server_after` of the statement, for `ends_here`.
+-- A step of server i closed the end under this handle, with these bytes left: it ends, and each
+-- that ended in the step; these are reported, and the puts that wait on all of them are withdrawn.
+-- It is `server_after` of the statement, for `ends_here`.
 pub record ReportsWith (h : Handle) (left : List ℕ) (i : ℕ) (y : ServerSide) (ks : List Joined) (logs : List (List Entry)) (y' : ServerSide) (ks' : List Joined) (logs' : List (List Entry)) : Type 0 where
   pub side :
       server_of y'

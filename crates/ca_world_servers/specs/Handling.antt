@@ -1,4 +1,5 @@
--- Working: what a message that a server handled leaves on its circuit and in the records, as the statement's functions of its action.
+-- Working: what a message that a server handled leaves on its circuit and in the records, as the
+-- statement's functions of its action.
 use Rattle.std.specs.Prelude.{ℕ, ◌≡◌, ◌+◌, ◌≤◌, ◌++◌, ◌==◌, Bool, true, List, [], ◌∷◌, Some, filter, length, map, nat_le, not, vec_capacity, vec_len}
 use Rattle.std.specs.Str.{bytes_eq}
 use Rattle.ca_queue.specs.declared.entry.SubKey.{SubKey}
@@ -14,7 +15,7 @@ use Rattle.ca_world_data.specs.declared.server.RecordSide.{RecordSide as Kept}
 
 -- ---- a circuit
 
--- The circuit has room for so many replies, and for the step of a message that is handled.
+-- The circuit has room for n replies, and for the step of a message that is handled.
 pub record HasRoomToNote (replies : ℕ) (j : Opened) : Type 0 where
   pub down : vec_len j.lists.down + replies ≤ vec_capacity j.lists.down
   pub handled : vec_len j.lists.handled + 1 ≤ vec_capacity j.lists.handled

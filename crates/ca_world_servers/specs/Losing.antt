@@ -1,4 +1,5 @@
--- Working: circuits lose a record that is removed: its SERVER_DISCONNs, and the subscriptions that are over.
+-- Working: circuits lose a record that is removed: its SERVER_DISCONNs, and the
+-- subscriptions that are over.
 use Rattle.std.specs.Prelude.{ℕ, ◌≡◌, ◌≤◌, ◌+◌, ◌*◌, ◌==◌, ◌&&◌, ◌++◌, Bool, true, List, [], ◌∷◌, if◌then◌else◌, length, map, take, vec_capacity, vec_len}
 use Rattle.std.specs.List.{fold, list_any}
 use Rattle.std.specs.Str.{bytes_eq}
@@ -46,7 +47,8 @@ pub record AreSeated (j : Joined) : Type 0 where
 
 -- ---- what a circuit has to lose
 
--- the channels to the record of this name at a circuit's open end at server i, and how many bytes wait there
+-- the channels to the record of this name at a circuit's open end at server i, and how
+-- many bytes wait there
 abbrev pub lead_at : (i : ℕ) → Server → (name : List ℕ) → Joined → List (ℕ × ℕ) × ℕ
 lead_at i core name j =
     if j.server == i && j.lists.server_open then (channels_under name (under core.circuits j.at_server), length (bytes_under (under core.circuits j.at_server))) else ([], 0)
@@ -63,11 +65,13 @@ pub record AllReady (i : ℕ) (core : Server) (name : List ℕ) (ks : List Opene
 
 -- ---- what was lost
 
--- the core of server i says that the SERVER_DISCONNs of so many channels were sent: they are behind what waited
+-- the core of server i says that the SERVER_DISCONNs of n channels were sent: they
+-- are after what waited
 abbrev pub Disconnects : (core : Server) → Joined → Leading → ℕ → Type 0
 Disconnects core j l n = (l.waited + 16 * n ≡ length (bytes_under (under core.circuits j.at_server))) × (n ≤ length l.channels.items)
 
--- a circuit that is open at server i may lose channels: there is room, and its queues have the subscriptions that stand
+-- a circuit that is open at server i may lose channels: there is room, and its queues have the
+-- subscriptions that stand
 pub record MayLose (i : ℕ) (core : Server) (j : Opened) (l : Leading) : Type 0 where
   pub sent : (n : ℕ) × (j.server ≡ i → j.lists.server_open ≡ true → Disconnects core (joined_of j) l n)
   pub room : vec_len j.lists.down + length l.channels.items ≤ vec_capacity j.lists.down
@@ -77,7 +81,7 @@ pub record AllMayLose (i : ℕ) (core : Server) (ks : List Opened) (ls : List Le
   pub each : (k : ℕ) (j : Opened) (l : Leading) → At ks k j → At ls k l → MayLose i core j l
   pub long : length ls ≡ length ks
 
--- the circuit after it, if so many SERVER_DISCONNs were sent
+-- the circuit after it, if n SERVER_DISCONNs were sent
 abbrev pub lost_by : (i : ℕ) → Leading → ℕ → Joined → Joined
 lost_by i l n j = if j.server == i && j.lists.server_open then without_lost (take n l.channels.items) j else j
 

@@ -51,7 +51,7 @@ abbrev pub with_kept : List (List PutPlace) → List RecordSide → List RecordS
 with_kept (ps ∷ kept) (r ∷ rs) = record r { waiting = ps } ∷ with_kept kept rs
 with_kept kept rs = rs
 
--- The records stand beside the core's: the core has by the name of each the one at its place.
+-- The records are beside the core's: the core has by the name of each the one at its place.
 pub record AreBeside (cs : List Record) (rs : List RecordSide) : Type 0 where
   pub each : (i : ℕ) (c : Record) (r : RecordSide) → At cs i c → At rs i r → record_named cs r.name ≡ Some c
   pub long : length cs ≡ length rs

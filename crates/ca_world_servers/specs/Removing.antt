@@ -30,7 +30,8 @@ pub record Becomes (i : ℕ) (core : Server) (own : List ℕ) (ks : List Opened)
   pub lost : AreLost i core ks ls f
   pub served : AreServed own (map f js) i
 
--- The core of server i has no such record now: that is in the log, and f became of the circuits; ends that ended by it are reported.
+-- The core of server i has no such record now: that is in the log, and f became of the circuits;
+-- ends that ended by it are reported.
 pub record TellsRemoval (i : ℕ) (name : List ℕ) (told : List Entry) (f : Joined → Joined) (y : ServerSide) (ks : List Joined) (logs : List (List Entry)) (y' : ServerSide) (ks' : List Joined) (logs' : List (List Entry)) : Type 0 where
   pub rest : Vec RecordSide Global
   pub records : map record_of rest.items ≡ filter (λ (r : model.RecordSide). not (bytes_eq r.name name)) (map record_of y.records.items)

@@ -1,4 +1,5 @@
-//! What is known of the next message on a circuit before the step that handles it, with room for what it leaves.
+//! What is known of the next message on a circuit before the step that handles it, with
+//! room for what it leaves.
 ghost use Rattle.std.specs.Prelude.{◌≡◌, IfOk, OnOk, Some, map, true};
 ghost use Rattle.ca_text.specs.Command.{command_number};
 ghost use Rattle.ca_text.specs.declared.command.Command.TheVariants as command;
@@ -17,7 +18,8 @@ use ca_wire::Message;
 use ca_world_data::server::RecordSide;
 use std::alloc::{AllocError, Global};
 
-/// The next message: its command, the write that it may be, and the puts of the channel that it clears.
+/// The next message: its command, the write that it may be, and the puts of the
+/// channel that it clears.
 #[derive(Drop)]
 pub struct Ahead {
     pub command: u16,
@@ -25,7 +27,8 @@ pub struct Ahead {
     pub parting: Option<Parting>,
 }
 
-/// That of this message, the next one on this circuit; the record of its write has room for one more put that waits.
+/// That of this message, the next one on this circuit; the record of its write has room for one
+/// more put that waits.
 pub fn look_at(
     alloc: Global,
     core: &ServerCore,

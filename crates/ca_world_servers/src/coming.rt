@@ -1,5 +1,5 @@
-//! The write that the next message on a circuit may be, known before the step that handles it: its record, and its value in that record's
-//! type.
+//! The write that the next message on a circuit may be, known before the step that handles it: its
+//! record, and its value in that record's type.
 ghost use Rattle.std.specs.Prelude.{IfOk, option_map};
 ghost use Rattle.ca_dbr.specs.Elements.{elements};
 ghost use Rattle.ca_world_servers.specs.Coming.{Foresees, GivesElements, GivesValue};
@@ -19,7 +19,8 @@ pub struct Coming {
     pub value: Value,
 }
 
-/// The write that this message is, if it is one that the server's end of a circuit takes. None if it cannot be one.
+/// The write that this message is, if it is one that the server's end of a circuit takes. None
+/// if it cannot be one.
 pub fn coming_write(
     alloc: Global,
     core: &ServerCore,
@@ -41,7 +42,8 @@ pub fn coming_write(
     Ok(Some(Coming { name, value }))
 }
 
-// The value that a put of this message writes to a record of this type. None if it is not read, or not converted.
+// The value that a put of this message writes to a record of this type. None if it is not
+// read, or not converted.
 fn value_in(alloc: Global, message: &Message, base: BaseType) -> Result<Option<Value>, AllocError>
     ensures { IfOk result (λ found. GivesValue message.now base (option_map elements found)) }
 {

@@ -1,4 +1,5 @@
-//! What a message did is told of the records of its server, in the log of its life and in the numbers that wait on its circuits.
+//! What a message did is told of the records of its server, in the log of its life and in the
+//! numbers that wait on its circuits.
 ghost use Rattle.std.specs.Prelude.{◌≡◌, ◌+◌, Bool, Some, map};
 ghost use Rattle.ca_world_data.specs.Numbering.{AllAlike, AllMayCount};
 ghost use Rattle.ca_world_data.specs.Opening.{entries_in};
@@ -22,8 +23,8 @@ use ca_world_data::server::{RecordSide, ServerSide};
 // The mask of an applied write: VALUE and LOG.
 const WRITE_MASK: u16 = 3;
 
-/// What the message at this place of this circuit did is told of the records of its server, whose core has it, in the log of its life and in
-/// the numbers that wait. There is room for all of it.
+/// What the message at this place of this circuit did is told of the records of its server, whose
+/// core has it, in the log of its life and in the numbers that wait. There is room for all of it.
 pub fn tell_effect(
     circuit: usize,
     place: usize,
@@ -94,7 +95,8 @@ pub fn tell_effect(
     }
 }
 
-/// The write of the message at this place of this circuit, if it wrote, is in the log; it makes its record busy or not, and its numbers wait.
+/// The write of the message at this place of this circuit, if it wrote, is in the log; it makes its
+/// record busy or not, and its numbers wait.
 pub fn tell_write(
     circuit: usize,
     place: usize,

@@ -1,5 +1,6 @@
-//! What a message did beside its replies, by the effect that its step tells, is told of its circuit. A step that closed its end tells no effect:
-//! whether its message wrote is read off the core.
+//! What a message did beside its replies, by the effect that its step reports, is told
+//! of its circuit. A step that closed its end tells no effect: whether its message wrote
+//! is read off the core.
 ghost use Rattle.std.specs.Prelude.{◌≡◌, OnErr, OnOk, map};
 ghost use Rattle.ca_world_data.specs.Seen.{joined_of, queue_of};
 ghost use Rattle.ca_world_servers.specs.Effects.{BeginsNew, MayLackFor, is_busy_in, numbers_by, wrote_by, wrote_in};
@@ -13,7 +14,8 @@ use ca_text::Command;
 use ca_world_data::joined::Joined;
 use std::alloc::AllocError;
 
-/// What the message at this place did, on the channels and subscriptions of its circuit. Without memory nothing changes.
+/// What the message at this place did, on the channels and subscriptions of its circuit. Without
+/// memory nothing changes.
 pub fn tell_on(joined: &mut Joined, effect: Effect, place: usize) -> Result<(), AllocError>
     requires seated { AreSeated (joined_of joined.old) }
     requires new { BeginsNew effect (map (λ q. queue_of q.0) joined.old.queues.items) }
@@ -65,7 +67,8 @@ pub fn wrote_by(effect: Effect) -> Option<bool>
     }
 }
 
-/// The same of a message of this command whose step closed its end, by the count of applied writes before it.
+/// Whether a write was applied, and then whether it made its record busy, by a message of this
+/// command whose step closed its end. It goes by the count of applied writes before it.
 pub fn wrote_of(
     core: &ServerCore,
     applied: u64,

@@ -1,4 +1,5 @@
-//! A step of a server's core closed the end of its circuit, and other ends may have ended in the same step: all of them are reported at once.
+//! A step of a server's core closed the end of its circuit, and other ends may have ended in the
+//! same step: all of them are reported at once.
 ghost use Rattle.std.specs.Prelude.{ℕ, ◌≡◌, ◌++◌, ◌+◌, ◌≤◌, ◌==◌, ◌&&◌, [], filter, is_some, length, map, not, vec_capacity, vec_len};
 ghost use Rattle.ca_ids.specs.Table.{same_handle};
 ghost use Rattle.ca_model.specs.ServerEvents as world;
@@ -20,8 +21,9 @@ use ca_world_data::reporting::{report_ends, served_on};
 use ca_world_data::server::{PutPlace, RecordSide, ServerSide};
 use std::alloc::Global;
 
-/// A step of this server's core closed the end under this handle, with these bytes left. Its circuit ends, and so does each whose end ended in
-/// the same step, which is reported: the puts that wait on them are withdrawn, record by record. There is room in the log.
+/// A step of this server's core closed the end under this handle, with these bytes left. Its
+/// circuit ends, and so does each whose end ended in the same step, which is reported: the puts
+/// that wait on them are withdrawn, record by record. There is room in the log.
 pub fn report_ends_with(
     alloc: Global,
     server: usize,
@@ -60,7 +62,8 @@ pub fn report_ends_with(
     report_ends(alloc, server, side, circuits, logs);
 }
 
-// The puts that wait on circuits that end are withdrawn, and the log of a life has that. The room for the others is there still.
+// The puts that wait on circuits that end are withdrawn, and the log of a life has that. The room
+// for the others is there still.
 fn withdraw_all(
     server: usize,
     handle: Handle,
@@ -104,7 +107,7 @@ fn is_gone(
     ends_now(server, handle, core, &circuits[circuit])
 }
 
-// The same of a circuit itself.
+// Whether this circuit's end at this server is the one under the handle, or has ended.
 fn ends_now(server: usize, handle: Handle, core: &ServerCore, joined: &Joined) -> bool
     ensures { result ≡ is_some (ends_under handle [] server core.now (joined_of joined.now)) }
 {
@@ -133,7 +136,8 @@ fn has_quit(server: usize, core: &ServerCore, joined: &Joined) -> bool
     joined.server == server && joined.lists.server_open && has_ended(core, joined.at_server)
 }
 
-// Tells the log of a life that the puts which wait on these circuits are withdrawn. The room for those on others is there still.
+// Tells the log of a life that the puts which wait on these circuits are withdrawn. The room for
+// those on others is there still.
 fn tell_gone(
     server: usize,
     handle: Handle,

@@ -1,5 +1,6 @@
-//! What a message that a server handled leaves: its replies and its step on the circuit, the channels and subscriptions there, and the
-//! puts of the records. Where memory is needed, a call that lacks it changes nothing.
+//! What a message that a server handled leaves: its replies and its step on the circuit, the
+//! channels and subscriptions there, and the puts of the records. If memory is needed, a call
+//! without it changes nothing.
 ghost use Rattle.std.specs.Prelude.{◌≡◌, ◌+◌, ◌++◌, ◌≤◌, OnErr, OnOk, false, true, if◌then◌else◌, length, map, vec_capacity, vec_len};
 ghost use Rattle.std.specs.Str.{bytes_eq};
 ghost use Rattle.ca_queue.specs.Circuit.{HasNone};
@@ -21,7 +22,7 @@ use ca_world_data::room::reserve_list;
 use ca_world_data::server::{PutPlace, RecordSide};
 use std::alloc::AllocError;
 
-/// Makes room for so many replies to a message that is handled, and for its step.
+/// Makes room for n replies to a message that is handled, and for its step.
 pub fn reserve_handled(joined: &mut Joined, replies: usize) -> Result<(), AllocError>
     ensures same { joined_of joined.new ≡ joined_of joined.old }
     ensures creations { joined.new.creations ≡ joined.old.creations }
@@ -43,7 +44,7 @@ pub fn note_handled(joined: &mut Joined, step: Step, replies: Vec<Told>)
     joined.lists.handled.push_reserved(step);
 }
 
-// Puts replies behind what was sent. There is room for them.
+// Puts replies after what was sent. There is room for them.
 fn push_all(down: &mut Vec<Told>, replies: Vec<Told>)
     requires { vec_len down.old + length replies.items ≤ vec_capacity down.old }
     ensures { down.new.items ≡ down.old.items ++ replies.items }
@@ -80,8 +81,8 @@ fn switch_all(queues: &mut [ListQueue<(usize, Cause)>], on: bool)
     }
 }
 
-/// A subscription, which no queue has, began by the message at this place: it stands, and its first number waits in the first queue with
-/// room.
+/// A subscription, which no queue has, began by the message at this place: it stands, and its first
+/// number waits in the first queue with room.
 pub fn begin_standing(joined: &mut Joined, key: SubKey, place: usize) -> Result<(), AllocError>
     requires { HasNone (map (λ q. queue_of q.0) joined.old.queues.items) key }
     ensures ok { OnOk result (joined_of joined.new ≡ with_standing key place
@@ -98,7 +99,7 @@ pub fn begin_standing(joined: &mut Joined, key: SubKey, place: usize) -> Result<
     Ok(())
 }
 
-/// A subscription is over: it stands no more, and its numbers wait no more.
+/// A subscription is over: its numbers no longer wait.
 pub fn end_standing(joined: &mut Joined, key: SubKey)
     requires { AreSeated (joined_of joined.old) }
     ensures { joined_of joined.new ≡ world.without_standing (same key) (joined_of joined.old) }

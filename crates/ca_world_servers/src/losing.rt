@@ -1,4 +1,5 @@
-//! A record of a server is removed: the circuits with channels to it lose them, and it is served no more.
+//! A record of a server is removed: the circuits with channels to it lose them, and it
+//! is no longer served.
 ghost use Rattle.std.specs.Prelude.{ℕ, ◌≡◌, ◌≤◌, ◌+◌, ◌++◌, ◌<◌, IfOk, true, OnOk, filter, if◌then◌else◌, length, map, not, take, vec_capacity, vec_len};
 ghost use Rattle.std.specs.Str.{bytes_eq};
 ghost use Rattle.ca_queue.specs.Queue.{cancelled};
@@ -17,14 +18,16 @@ use ca_world_data::room::reserve_list;
 use ca_world_data::server::{PutPlace, RecordSide};
 use std::alloc::{AllocError, Global};
 
-/// The channels to a record at a circuit's open end at its server, each as its SID and its CID, and how many bytes wait to be sent there.
+/// The channels to a record at a circuit's open end at its server, each as its SID and its CID, and
+/// how many bytes wait to be sent there.
 #[derive(Drop)]
 pub struct Leading {
     pub channels: Vec<(u32, u32)>,
     pub waited: usize,
 }
 
-/// What each circuit has to lose if the record of this name is removed at this server, with room for its SERVER_DISCONNs.
+/// What each circuit has to lose if the record of this name is removed at this server, with room
+/// for its SERVER_DISCONNs.
 pub fn prepare_losses(
     alloc: Global,
     server: usize,
@@ -43,7 +46,7 @@ pub fn prepare_losses(
     Ok(all)
 }
 
-// The same for one circuit.
+// What this circuit has to lose, with room for its SERVER_DISCONNs.
 fn prepare_loss(
     alloc: Global,
     server: usize,
@@ -83,7 +86,8 @@ fn leading_on(
     })
 }
 
-/// The record was removed at this server, whose core this is: each circuit loses the channels whose SERVER_DISCONNs were sent.
+/// The record was removed at this server, whose core this is: each circuit loses the channels whose
+/// SERVER_DISCONNs were sent.
 pub fn lose_all(
     alloc: Global,
     server: usize,
@@ -103,7 +107,7 @@ pub fn lose_all(
     }
 }
 
-// The same for one circuit.
+// This circuit loses the channels whose SERVER_DISCONNs were sent.
 fn lose_on(alloc: Global, server: usize, core: &ServerCore, joined: &mut Joined, leading: &Leading)
     requires may { MayLose server core.now joined.old leading.now }
     ensures { (n : ℕ)
@@ -116,7 +120,7 @@ fn lose_on(alloc: Global, server: usize, core: &ServerCore, joined: &mut Joined,
     }
 }
 
-// The same for a circuit that is open at this server.
+// This circuit, which is open at this server, loses the channels whose SERVER_DISCONNs were sent.
 fn lose_open(alloc: Global, core: &ServerCore, joined: &mut Joined, leading: &Leading)
     requires sent { (n : ℕ) × Disconnects core.now (joined_of joined.old) leading.now n }
     requires room { vec_len joined.old.lists.down + length leading.now.channels.items
@@ -161,7 +165,7 @@ fn created_at(sid: u32, creations: &[Creation]) -> usize
     0
 }
 
-// Subscriptions on these channels are over, and their numbers wait no more.
+// Subscriptions on these channels are over, and their numbers no longer wait.
 pub(crate) fn drop_lost(
     standing: &mut Vec<Standing>,
     queues: &mut [ListQueue<(usize, Cause)>],
@@ -240,7 +244,7 @@ fn tell_withdrawn(all: &mut Vec<Entry>, waiting: &[PutPlace]) -> Result<(), Allo
     Ok(())
 }
 
-/// The record of this name is served no more.
+/// The record of this name is no longer served.
 pub fn forget_record(records: &mut Vec<RecordSide>, name: &[u8])
     ensures { map record_of records.new.items
         ≡ filter (λ r. not (bytes_eq r.name name.now)) (map record_of records.old.items) }

@@ -1,4 +1,5 @@
-//! The puts that wait on a channel which a message clears leave their records, and the log has them as withdrawn.
+//! The puts that wait on a channel which a message clears leave their records, and the log
+//! has them as withdrawn.
 ghost use Rattle.std.specs.Prelude.{◌≡◌, ◌++◌, IfOk, OnOk, map, not};
 ghost use Rattle.ca_ids.specs.Table.{same_handle};
 ghost use Rattle.ca_model.specs.ServerEvents as world;
@@ -14,7 +15,8 @@ use ca_world_data::history::Entry;
 use ca_world_data::server::{PutPlace, RecordSide};
 use std::alloc::{AllocError, Global};
 
-/// What becomes of the puts that wait if a channel is cleared: those that each record keeps, and what the log tells of the others.
+/// What becomes of the puts that wait if a channel is cleared: those that each record keeps, and
+/// what the log tells of the others.
 #[derive(Drop)]
 pub struct Parting {
     pub kept: Vec<Vec<PutPlace>>,
@@ -68,7 +70,7 @@ fn part_waiting(
     Ok(kept)
 }
 
-// The put at this place is kept, or the log tells that it is withdrawn.
+// The put at this place is kept, or the log says that it is withdrawn.
 fn put_aside(
     kept: &mut Vec<PutPlace>,
     told: &mut Vec<Entry>,

@@ -9,13 +9,14 @@ use clap::error::ErrorKind;
 use clap::{Arg, Command};
 use std::alloc::{AllocError, Global};
 
-/// `answer [--records FILE]`: the file of the records that are served, if they are not the standing ones.
+/// `answer [--records FILE]`: the file of the records that are served, if they are
+/// not the standing ones.
 #[derive(Clone, Copy, Debug, PartialEq, Eq)]
 pub struct AnswerLine<'a> {
     pub records: Option<&'a str>,
 }
 
-/// Reads the words after `answer`: none where they are not understood.
+/// Reads the words after `answer`: none if they are not understood.
 pub(crate) fn read_answer<'a>(
     alloc: Global,
     words: &'a [String],

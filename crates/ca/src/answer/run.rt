@@ -13,8 +13,9 @@ use ca_text::Refusal;
 use std::alloc::Global;
 use std::io::{self, Read, Write};
 
-/// Serves one circuit over the records and rules that a text says, or over the standing records, under no rules. A text that is
-/// not understood is refused as BadText before anything is read of the circuit.
+/// Serves one circuit over the records and rules that a text says, or over the standing
+/// records, under no rules. A text that is not understood is refused as BadText before anything
+/// is read of the circuit.
 pub fn serve<S: Source, K: Sink>(
     alloc: Global,
     records: Option<&[u8]>,
@@ -54,7 +55,8 @@ fn served(alloc: Global, records: Option<&[u8]>) -> Result<RecordFile, Refusal>
     }
 }
 
-/// Serves one circuit over the records that a text says, or the standing ones, tells a refusal on `err`, and returns the exit status.
+/// Serves one circuit over the records that a text says, or the standing ones, reports a refusal on
+/// `err`, and returns the exit status.
 pub fn answer_run<S: Source, K: Sink, W: Write>(
     alloc: Global,
     records: Option<&[u8]>,
@@ -75,8 +77,9 @@ pub fn answer_run<S: Source, K: Sink, W: Write>(
     report(outcome, err)
 }
 
-/// Serves one circuit over the records that a file says, tells a refusal on `err`, and returns the exit status. A file that could not be
-/// opened, or cannot be read, is refused as Device before anything is read of the circuit.
+/// Serves one circuit over the records that a file says, reports a refusal on `err`, and returns
+/// the exit status. A file that could not be opened, or cannot be read, is refused as Device before
+/// anything is read of the circuit.
 pub fn answer_file<F: Read + Drop, S: Source, K: Sink, W: Write>(
     alloc: Global,
     file: io::Result<F>,

@@ -14,8 +14,8 @@ const ONE: u64 = 0x3FF0_0000_0000_0000;
 const OK: [u8; 40] =
     *b"OK\0\0\0\0\0\0\0\0\0\0\0\0\0\0\0\0\0\0\0\0\0\0\0\0\0\0\0\0\0\0\0\0\0\0\0\0\0\0";
 
-/// The records that are served where no file names others: TEMP, SETP, WAVE and SLOW of LONG elements, GAIN of a DOUBLE and
-/// NOTE of a STRING.
+/// The records that are served if no file names others: TEMP, SETP, WAVE and SLOW of LONG elements,
+/// GAIN of a DOUBLE and NOTE of a STRING.
 pub fn standing_records(alloc: Global) -> Result<Records, Refusal>
     ensures ok { IfOk result (λ r. r ≡ standing) }
     ensures err { IfErr result (λ e. e ≡ OutOfMemory) }

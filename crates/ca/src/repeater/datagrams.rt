@@ -6,7 +6,8 @@ use ca_repeat::Address;
 
 /// Where datagrams come from and go to.
 pub trait Datagrams {
-    // A datagram with these bytes may have come from this address between the first state and the second.
+    // A datagram with these bytes may have come from this address between the first
+    // state and the second.
     ghost came: { Self → Address → List ℕ → Self → Type 0 };
 
     // One with these bytes may have gone to this address.
@@ -21,7 +22,8 @@ pub trait Datagrams {
     /// The address at which datagrams are received.
     fn address(&self) -> Result<Address, Fault>;
 
-    /// Waits for a datagram, puts it at the front of the buffer, and returns how many bytes it has and where it came from.
+    /// Waits for a datagram, puts it at the front of the buffer, and returns how many bytes it has
+    /// and where it came from.
     fn receive(&mut self, buffer: &mut [u8]) -> Result<(usize, Address), Fault>
         ensures within { IfOk result (λ r. r.0 ≤ length buffer.new) }
         ensures came { IfOk result (λ r. came self.old r.1 (take r.0 buffer.new) self.new) }

@@ -10,15 +10,15 @@ use clap::error::ErrorKind;
 use clap::{Arg, Command};
 use std::alloc::{AllocError, Global};
 
-/// `repeater [--port P] [--datagrams N]`: the port of the host's repeater, and how many datagrams it takes, where it
-/// ends at all.
+/// `repeater [--port P] [--datagrams N]`: the port of the host's repeater, and how many datagrams
+/// it takes, if it ends at all.
 #[derive(Clone, Copy, Debug, PartialEq, Eq)]
 pub struct RepeaterLine {
     pub port: u16,
     pub datagrams: Option<u64>,
 }
 
-/// Reads the words after `repeater`: none where they are not understood.
+/// Reads the words after `repeater`: none if they are not understood.
 pub(crate) fn read_repeater<'a>(
     alloc: Global,
     words: &'a [String],
@@ -51,7 +51,7 @@ fn grammar<'a>(alloc: Global) -> Result<Command<'a>, AllocError>
         .arg(datagrams)
 }
 
-/// What the options' values mean: nothing where one is no number, or too great.
+/// What the options' values mean: nothing if one is no number, or too great.
 fn meant(port: Option<&str>, datagrams: Option<&str>) -> Option<RepeaterLine>
     ensures { IsMeant (option_map (λ t. t.now) port.entry) (option_map (λ t. t.now) datagrams.entry)
         result }

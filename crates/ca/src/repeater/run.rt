@@ -12,8 +12,9 @@ use std::net::Ipv4Addr;
 /// Bytes of the greatest datagram.
 const DATAGRAM: usize = 65_535;
 
-/// Runs the host's repeater on what was bound, tells a refusal on `err`, and returns the exit status. Where nothing could
-/// be bound it is refused as Device. Port 0 is the system's choice, and a line to the sink says which it is.
+/// Runs the host's repeater on what was bound, reports a refusal on `err`, and returns the exit
+/// status. If nothing could be bound it is refused as Device. Port 0 is the system's choice, and a
+/// line to the sink says which it is.
 pub fn repeater_bound<D: Datagrams + Drop, K: Sink, W: Write>(
     alloc: Global,
     bound: Result<D, Fault>,
@@ -35,7 +36,8 @@ pub fn repeater_bound<D: Datagrams + Drop, K: Sink, W: Write>(
     }
 }
 
-/// Writes where datagrams are received, if the system chose the port. Refused as Device if it cannot, and as OutOfMemory.
+/// Writes where datagrams are received, if the system chose the port. Refused as Device if it
+/// cannot, and as OutOfMemory.
 fn told_port<D: Datagrams, K: Sink>(
     alloc: Global,
     datagrams: &D,
@@ -66,10 +68,11 @@ fn told_port<D: Datagrams, K: Sink>(
     }
 }
 
-/// Runs the host's repeater until it took n datagrams, or without end; tells a refusal on `err`, and returns the
-/// exit status.
+/// Runs the host's repeater until it took n datagrams, or without end; reports a refusal on `err`,
+/// and returns the exit status.
 ///
-/// A send that is refused drops that member. A receive that fails ends the run with refusal 23, no memory with 1.
+/// A send that is refused drops that member. A receive that fails ends the run with refusal
+/// 23, no memory with 1.
 pub fn repeater_run<D: Datagrams, W: Write>(
     alloc: Global,
     datagrams: &mut D,
@@ -78,7 +81,7 @@ pub fn repeater_run<D: Datagrams, W: Write>(
 ) -> u8
     ensures { RepeatsTo D.went D.refuses D.came D.fails limit datagrams.old datagrams.new result }
 {
-    // So many that they never come stand for no end.
+    // More than can ever come: the repeater has no end.
     let count = match limit {
         None => u64::MAX,
         Some(count) => count,
@@ -86,8 +89,8 @@ pub fn repeater_run<D: Datagrams, W: Write>(
     report(repeat(alloc, datagrams, count), err)
 }
 
-/// Runs the host's repeater until n datagrams came. Refused as Device if a receive fails, and as OutOfMemory; a send that fails
-/// drops that member.
+/// Runs the host's repeater until n datagrams came. Refused as Device if a receive fails, and as
+/// OutOfMemory; a send that fails drops that member.
 pub fn repeat<D: Datagrams>(alloc: Global, datagrams: &mut D, count: u64) -> Result<(), Refusal>
     ensures { Repeats D.went D.refuses D.came D.fails count datagrams.old result datagrams.new }
 {

@@ -5,7 +5,8 @@ use std::net::{IpAddr, Ipv4Addr, Net, SocketAddr, UdpSocket};
 
 /// The system's socket, of which nothing is known.
 ///
-/// It is connected to nobody, so the system tells it nothing of a port that nobody has: it looks whether it could have that port itself.
+/// It is connected to nobody, so the system tells it nothing of a port that nobody has: it looks
+/// whether it could have that port itself.
 #[derive(Drop)]
 pub struct Socket<'a, R> {
     net: &'a R,

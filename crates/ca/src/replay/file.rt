@@ -8,8 +8,9 @@ use ca_text::Refusal;
 use std::alloc::Global;
 use std::io::{self, Read, Write};
 
-/// Replays the script that a file holds, with the events that the seed draws if there is one, tells a refusal on `err`, and returns the exit
-/// status. A file that could not be opened, or cannot be read, is refused as Device.
+/// Replays the script that a file holds, with the events that the seed draws if there is one,
+/// reports a refusal on `err`, and returns the exit status. A file that could not be opened, or
+/// cannot be read, is refused as Device.
 pub fn replay_file<F: Read + Drop, K: Sink, W: Write>(
     alloc: Global,
     file: io::Result<F>,

@@ -10,14 +10,15 @@ use clap::error::ErrorKind;
 use clap::{Arg, Command};
 use std::alloc::{AllocError, Global};
 
-/// `replay FILE [--seed N]`: the file of a script, and the seed that draws further events, if there is one.
+/// `replay FILE [--seed N]`: the file of a script, and the seed that draws further
+/// events, if there is one.
 #[derive(Clone, Copy, Debug, PartialEq, Eq)]
 pub struct ReplayLine<'a> {
     pub file: &'a str,
     pub seed: Option<u64>,
 }
 
-/// Reads the words after `replay`: none where they are not understood.
+/// Reads the words after `replay`: none if they are not understood.
 pub(crate) fn read_replay<'a>(
     alloc: Global,
     words: &'a [String],
@@ -50,7 +51,7 @@ fn grammar<'a>(alloc: Global) -> Result<Command<'a>, AllocError>
         .arg(seed)
 }
 
-/// What these values mean: nothing without a file, or where the seed is no number.
+/// What these values mean: nothing without a file, or if the seed is no number.
 fn meant<'a>(file: Option<&'a str>, seed: Option<&str>) -> Option<ReplayLine<'a>>
     ensures { IsMeant (option_map (λ t. t.now) file.entry) (option_map (λ t. t.now) seed.entry)
         result }

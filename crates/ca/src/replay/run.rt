@@ -7,11 +7,13 @@ use ca_text::Refusal;
 use std::alloc::Global;
 use std::io::Write;
 
-/// Runs the events of a script in its world, with those that the seed draws if there is one, writes the report, tells a refusal on `err`, and
-/// returns the exit status. A long run tells on `err` how far it is, if that is a terminal.
+/// Runs the events of a script in its world, with those that the seed draws if there is one, writes
+/// the report, reports a refusal on `err`, and returns the exit status. A long run tells on `err`
+/// how far it is, if that is a terminal.
 ///
-/// A line that is not understood is refused as BadText before any event; an event that cannot be done as BadEvent, after the report
-/// of those before it; an output that cannot be written as Device.
+/// A line that is not understood is refused as BadText before any event; an event that
+/// cannot be done as BadEvent, after the report of those before it; an output that cannot
+/// be written as Device.
 pub fn replay_run<K: Sink, W: Write>(
     alloc: Global,
     script: &[u8],

@@ -19,7 +19,8 @@ impl<S: Source> Source for Fused<S> {
         self.faults
     }
 
-    /// Reads the source, while calls are passed on: a fault of its own touches neither the source nor the buffer.
+    /// Reads the source, while calls are passed on: a fault of its own touches neither the
+    /// source nor the buffer.
     fn read(&mut self, buffer: &mut [u8]) -> Result<usize, Fault>
         requires room { 0 < length buffer.old }
         requires calls { self.old.calls + 1 < 2 ^ 64 }

@@ -1,3 +1,4 @@
+//! The short way of a WRITE_NOTIFY of one element.
 ghost use Rattle.std.specs.Prelude.{◌≡◌, MatchOption, Some, [], ◌∷◌, false, true};
 ghost use Rattle.ca_text.specs.declared.command.Command.{Command};
 ghost use Rattle.ca_text.specs.declared.command.Command.TheVariants as command;
@@ -21,8 +22,9 @@ use ca_records::{Put, ServedRecords};
 use ca_wire::{Done, Wanted};
 
 impl End {
-    /// WRITE_NOTIFY of eight bytes, if it is such a one. On a slow record its reply comes as it is finished. On a quick one it goes
-    /// first, so that none is applied for whose reply there is no memory; it is taken back if the put is another.
+    /// WRITE_NOTIFY of eight bytes, if the message is one. On a slow record its reply comes when
+    /// the put is finished. On a quick one the reply goes first, so that no put is applied without
+    /// memory for its reply; it is taken back if the put needs the plain path.
     #[inline(never)]
     pub(crate) fn put_short(
         &mut self,
@@ -60,7 +62,8 @@ impl End {
         Some(FollowUp::Wrote(seat.place, false, wanted.sid.number()))
     }
 
-    /// The same on a slow record, whose put stays busy: its reply comes as it is finished.
+    /// WRITE_NOTIFY of eight bytes on a slow record, whose put stays busy: its reply comes
+    /// when it is finished.
     #[inline(never)]
     fn put_slow(
         &mut self,
@@ -92,7 +95,7 @@ impl End {
     }
 }
 
-/// The same of a put that makes its record busy.
+/// Writes one element by a put that makes its record busy, if the client may write.
 #[inline(always)]
 fn put_one(
     records: &mut ServedRecords,
@@ -114,7 +117,8 @@ fn put_one(
     records.put_one(place, put, wanted.data_type, payload)
 }
 
-/// Puts the reply to a put of one element after what waits on an open link. False, and the link is as it was, without memory.
+/// Puts the reply to a put of one element after what waits on an open link. False, and the link is
+/// as it was, without memory.
 #[inline(always)]
 fn send_done(link: &mut Link, wanted: &Wanted) -> bool
     requires { IsOpen link.old }

@@ -1,3 +1,4 @@
+//! The short way of a READ_NOTIFY of one element.
 ghost use Rattle.std.specs.Prelude.{◌≡◌, ◌<◌, IfSome, OnErr, OnOk, [], ◌∷◌, length};
 ghost use Rattle.ca_arena.specs.declared.handle.Handle.{Handle};
 ghost use Rattle.ca_text.specs.Limits.{output_limit};
@@ -42,7 +43,8 @@ impl End {
     }
 }
 
-/// What shows the record to this read in eight bytes, if it has one element, of the type that is asked for.
+/// What shows the record to this read in eight bytes, if it has one element, of the
+/// type that is asked for.
 #[inline(always)]
 pub(crate) fn shown_alone(of: &Record, rights: u32, wanted: &Wanted) -> Option<u64>
     ensures { IfSome result (λ n.

@@ -1,3 +1,4 @@
+//! The short way of a WRITE of one element.
 ghost use Rattle.std.specs.Prelude.{◌≡◌, MatchOption, Option, false, is_some, true};
 ghost use Rattle.ca_arena.specs.declared.handle.Handle.{Handle};
 ghost use Rattle.ca_text.specs.declared.command.Command.{Command};
@@ -18,7 +19,7 @@ use ca_records::ServedRecords;
 use ca_wire::Wanted;
 
 impl End {
-    /// WRITE of eight bytes, if it is such a one.
+    /// WRITE of eight bytes, if the message is one.
     #[inline(never)]
     pub(crate) fn write_short(
         &mut self,
@@ -46,8 +47,9 @@ impl End {
     }
 }
 
-/// Writes the one element of this payload to the record at this place under these rights, as a put with notification or as none, if it is
-/// applied at once and takes no memory, as most are. False, and nothing changes, if `begin` has to judge it.
+/// Writes the one element of this payload to the record at this place under these rights, as a put
+/// with notification or as none, if it is applied at once and does not allocate, as most are.
+/// False, and nothing changes, if `begin` has to judge it.
 #[inline(always)]
 pub(crate) fn write_one(
     records: &mut ServedRecords,

@@ -1,4 +1,5 @@
-//! Channels that are opened, and cleared, one after another; and waits of another caller, each of which a clear ends.
+//! Channels that are opened, and cleared, one after another; and waits of another caller, each
+//! of which a clear ends.
 
 use crate::at_once::{Both, LEFT, ROWS, long};
 use crate::moments::{began, is_within};
@@ -23,7 +24,8 @@ const CLEAR: u16 = 12;
 
 const CREATE: u16 = 18;
 
-/// The channels of a row: each other is opened by either call, which takes 1,000 ms if the channels of one are left to a turn.
+/// The channels of a row: each other is opened by either call, which takes 1,000 ms if the channels
+/// of one are left to a turn.
 const CHANNELS: u8 = 200;
 
 /// The channels that are cleared while another waits for a request of each.
@@ -56,7 +58,8 @@ impl Work for Waiter {
 }
 
 impl Both {
-    /// Channels that are opened, each once the one before is searched for; and, once they are live, cleared.
+    /// Channels that are opened, each once the one before is searched for; and, once
+    /// they are live, cleared.
     pub(crate) fn show_channels<R: Wait + Clock, W: Write>(
         &mut self,
         rt: &R,
@@ -80,7 +83,7 @@ impl Both {
         say_yes(out, "and cleared at once:", is_cleared)
     }
 
-    /// So many channels, each opened once the one before is searched for, with the searches.
+    /// This many channels, each opened once the one before is searched for, with the searches.
     fn opened<R: Wait + Clock>(
         &mut self,
         rt: &R,
@@ -96,7 +99,8 @@ impl Both {
         Ok((channels, searches))
     }
 
-    /// A channel that is opened by one of the two calls, and the search for it. No other had its name, since its searches may come late.
+    /// A channel that is opened by one of the two calls, and the search for it. No other had its
+    /// name, since its searches may come late.
     fn searched<R: Wait + Clock>(
         &mut self,
         rt: &R,
@@ -137,7 +141,8 @@ impl Both {
         Ok(())
     }
 
-    /// Whether these channels are soon cleared, each other after a read. That is confirmed at the end, so that nothing else has the client take turns.
+    /// Whether these channels are soon cleared, each other after a read. That is confirmed at the
+    /// end, so that nothing else has the client take turns.
     fn are_cleared_soon<R: Wait + Clock>(
         &mut self,
         rt: &R,
@@ -163,7 +168,8 @@ impl Both {
         Ok(is_soon && right)
     }
 
-    /// Whether another's waits for requests soon end, each as its channel is cleared, in one of some rows.
+    /// Whether another's waits for requests soon end, each as its channel is cleared,
+    /// in one of some rows.
     pub(crate) fn are_waits_soon_over<R: Threads + Wait + Clock + Copy + Send + 'static>(
         &mut self,
         rt: R,
@@ -187,7 +193,8 @@ impl Both {
         Ok(false)
     }
 
-    /// Clears channels while another waits for a request of each in turn: it has a millisecond to begin.
+    /// Clears channels while another waits for a request of each in turn: it has a
+    /// millisecond to begin.
     fn are_ended_soon<R: Threads + Wait + Clock + Copy + Send + 'static>(
         &self,
         rt: R,

@@ -1,5 +1,6 @@
-//! Writes larger than a socket takes, each after a read, so that the thread of input and output has left the sockets to callers: what is left of a write goes on as
-//! soon as its server takes some, and not with the next turn. `tools/faults` runs this, with small buffers of sockets.
+//! Writes larger than a socket takes, each after a read, so that the thread of input and output has
+//! left the sockets to callers: what is left of a write goes on as soon as its server takes some,
+//! and not with the next turn. `tools/faults` runs this, with small buffers of sockets.
 
 use crate::at_once::{Both, begun, long};
 use crate::moments::{began, is_within};
@@ -18,12 +19,14 @@ use std::time::{Clock, Duration};
 
 const WRITE: u8 = 4;
 
-/// The LONGs of a write, of which the buffers hold a third, and how many of them the server takes at once.
+/// The LONGs of a write, of which the buffers hold a third, and how many of them the
+/// server takes at once.
 const LONGS: u16 = 30_000;
 
 const AT_ONCE: usize = 1_000;
 
-/// The writes of a row. A busy machine holds up some of them: one in four comes within half a turn, in one of some rows.
+/// The writes of a row. A busy machine holds up some of them: one in four comes within half a turn,
+/// in one of some rows.
 const WRITES: u64 = 100;
 
 const PROMPT: u64 = 25;
@@ -73,7 +76,8 @@ impl Both {
         )
     }
 
-    /// How many of a row come within half a turn, from when the server begins to take them: by then the client has sent what the buffers hold.
+    /// How many of a row come within half a turn, from when the server begins to take them: by then
+    /// the client has sent what the buffers hold.
     fn prompt<R: Wait + Clock>(
         &mut self,
         rt: &R,

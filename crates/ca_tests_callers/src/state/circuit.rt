@@ -14,7 +14,8 @@ pub(crate) const SERVER: Address = Address {
 /// VERSION, of which 256 are what one read takes.
 pub(crate) const VERSION: [u8; 16] = [0, 0, 0, 0, 0, 0, 0, 13, 0, 0, 0, 0, 0, 0, 0, 0];
 
-/// VERSION, and a reply to the search for CID 00010000 by a server at port 5064 of the host that it comes from.
+/// VERSION, and a reply to the search for CID 00010000 by a server at port 5064 of the
+/// host that it comes from.
 pub(crate) const FOUND: [u8; 40] = [
     0, 0, 0, 0, 0, 0, 0, 13, 0, 0, 0, 0, 0, 0, 0, 0, 0, 6, 0, 8, 0x13, 0xc8, 0, 0, 0xff, 0xff,
     0xff, 0xff, 0, 1, 0, 0, 0, 13, 0, 0, 0, 0, 0, 0,

@@ -8,8 +8,8 @@ use ca_dbr::Outcome;
 use ca_text::Refusal;
 use std::alloc::Global;
 
-/// The channel is live on a circuit whose socket has so many VERSIONs to give, and fails after so many calls. How many requests complete with Disconnected
-/// then.
+/// The channel is live on a circuit whose socket has n VERSIONs to give, and fails after some
+/// calls. How many requests complete with Disconnected then.
 pub(crate) fn lost_at(
     alloc: Global,
     state: &mut ClientState,
@@ -28,7 +28,7 @@ pub(crate) fn lost_at(
     Ok(lost(caller, &tickets))
 }
 
-/// A read and a put before each turn, until the circuit is cut, for so many turns at most.
+/// A read and a put before each turn, until the circuit is cut, for n turns at most.
 fn made_until_cut(
     alloc: Global,
     state: &mut ClientState,

@@ -1,5 +1,6 @@
-//! The calls under a client's lock where a growth is refused: one that is refused changes nothing, and is made again; or a circuit ends, which takes its requests
-//! with it, and is made again. `tools/hostile` refuses each growth in turn.
+//! The calls under a client's lock where a growth is refused: one that is refused changes nothing,
+//! and is made again; or a circuit ends, which takes its requests with it, and is made again.
+//! `tools/hostile` refuses each growth in turn.
 use crate::state::circuit::{FOUND, SERVER, memory};
 use crate::state::faults::is_lost;
 use crate::state::new_state;
@@ -30,7 +31,8 @@ struct Course {
     updates: u64,
 }
 
-/// Says how many calls were refused and how many circuits ended. A call or an outcome that is not as it should be is refused.
+/// Says how many calls were refused and how many circuits ended. A call or an outcome that is not
+/// as it should be is refused.
 pub(crate) fn show<W: Write>(alloc: Global, out: &mut W) -> Result<(), Refusal> {
     // A circuit is made again once. What a socket keeps is room of the test's own.
     let mut tapes = [memory(alloc)?, memory(alloc)?];
@@ -96,8 +98,8 @@ fn is_due(holds: bool) -> Result<(), Refusal> {
 }
 
 impl Course {
-    /// The channel becomes live on a circuit over this socket, and is read, put to, written to and watched; then all cells are in use, and the circuit is cut. Whether
-    /// it went on until then.
+    /// The channel becomes live on a circuit over this socket, and is read, put to, written to and
+    /// watched; then all cells are in use, and the circuit is cut. Whether it went on until then.
     fn round(&mut self, tape: &mut Tape) -> Result<bool, Refusal> {
         twice(
             &mut self.state,

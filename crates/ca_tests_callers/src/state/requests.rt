@@ -10,7 +10,8 @@ use std::alloc::Global;
 /// More than the board has cells.
 pub(crate) const MANY: usize = 1_100;
 
-/// The requests that are made: one for a channel that there is not, which the core refuses as 10, and two that it accepts.
+/// The requests that are made: one for a channel that there is not, which the core refuses as 10,
+/// and two that it accepts.
 #[derive(Drop)]
 pub(crate) struct Requests {
     pub(crate) stale: Request,
@@ -31,7 +32,7 @@ pub(crate) fn make_requests(alloc: Global, channel: Handle) -> Result<Requests, 
     })
 }
 
-/// How many of so many puts, one after the other, are done, once.
+/// How many of n puts, one after the other, are done, once.
 pub(crate) fn answered(
     state: &mut ClientState,
     caller: &mut Caller,
@@ -63,7 +64,8 @@ fn answered_put(
     Ok(ticket)
 }
 
-/// The reply to a put of one LONG: status 1, and the request's id, which is its generation and its index.
+/// The reply to a put of one LONG: status 1, and the request's id, which is its
+/// generation and its index.
 pub(crate) fn done_reply(request: Handle) -> [u8; 16] {
     let [_, _, g, h] = request.generation.to_be_bytes();
     let [i, j] = request.index.to_be_bytes();
@@ -77,7 +79,7 @@ pub(crate) fn is_done(outcome: &Option<Outcome>) -> bool {
     }
 }
 
-/// How many of so many requests are refused with this number.
+/// How many of n requests are refused with this number.
 pub(crate) fn refused_as(state: &mut ClientState, request: &Request, number: u8) -> usize {
     let mut count = 0usize;
     for _ in 0..MANY {
@@ -95,7 +97,7 @@ fn is_refused_as(state: &mut ClientState, request: &Request, number: u8) -> bool
     }
 }
 
-/// The tickets of those of so many requests that are accepted.
+/// The tickets of those of n requests that are accepted.
 pub(crate) fn accepted(
     alloc: Global,
     state: &mut ClientState,

@@ -8,8 +8,9 @@ use ca_client_core::{Notice, Notices};
 use ca_text::Refusal;
 use std::alloc::Global;
 
-/// The channel is live, with a read and a put, on a circuit that is silent from then on: an ECHO goes out after 30 seconds, and the end has ended 5 seconds later.
-/// How many requests complete with Disconnected, and how many channels are told as lost.
+/// The channel is live, with a read and a put, on a circuit that is silent from then on: an ECHO
+/// goes out after 30 seconds, and the end has ended 5 seconds later. How many requests complete
+/// with Disconnected, and how many channels are told as lost.
 pub(crate) fn silenced(
     alloc: Global,
     state: &mut ClientState,

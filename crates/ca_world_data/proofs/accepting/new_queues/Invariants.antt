@@ -4,7 +4,7 @@ use Rattle.ca_queue.specs.Queue.{no_queue}
 use Rattle.ca_world_data.specs.Seen.{queue_of}
 use Rattle.ca_world_data.proofs.accepting.new_queues.Given as goal
 
--- so many were made, and there is room for all
+-- n were made, and there is room for all
 abbrev pub invariant-loop : goal.invariant-loop
 invariant-loop l = record {
   are : map (λ q. queue_of q.0) l.queues.items ≡ replicate l.counter no_queue;

@@ -11,7 +11,7 @@ use Rattle.ca_world_data.specs.Seen.{intent_of, named_of}
 use Rattle.ca_world_data.proofs.Worlds.{found}
 use Rattle.ca_world_data.proofs.naming.meant_near.Goals as goal
 
--- what stands beside the handle at this place is what that means
+-- what is beside the handle at this place is what that means
 near : (named : List (Handle × Intent)) (place : ℕ) (d : Handle × Intent) (h : Handle) → MeanTheirs (map named_of named) → place < length named
     → same_handle (get_or named place d).0 h ≡ true → intent_of (get_or named place d).1 ≡ meant_by (map named_of named) h
 near named place d h meant within same =

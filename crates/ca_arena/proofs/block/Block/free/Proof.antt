@@ -58,7 +58,8 @@ free_spec 𝓤 𝓛 𝓜 𝓡 wired X U L LU g d dd met _ =
     use2 𝓛 (‵ (froom (ty_array (elτ E) block_slots) b o)) (all_room E 𝓛 b o (length block.items) block_slots block.items few) $ as_raw ! (ty_array (elτ E) block_slots) b o $
     rewrite ! 1 (λ handle. ‵ (token Z handle τ (block_ptr b o))) asked.1 refl $ move ! (2 ∷ []) $ fsplit ! $ fsplit ! $ keep ! (3 ∷ 4 ∷ 1 ∷ 5 ∷ 6 ∷ []) $
     enter ! 𝓣.C 𝓣.Λ fn (value_of block.first ∷ vptr at_handle.0 at_handle.1 ∷ []) post $ alloc_all ! (λ l. pass_all ! refl (value_good E block.first b o at, ((tt, tt), tt)) $ let locals = env fn.locals l in
-    -- [the memory; the right to give it back; the `&` to the allocator; the token; the other tokens]
+    -- [the memory; the right to give it back; the `&` to the allocator; the
+    -- token; the other tokens]
     sets ! (is ! (of_opd ! (get_in ! (fld ! refl (stop !)) (sub ! 0 refl (whole !)))) (ap ptr_val at)) refl (tt, tt) $ first ! $ blocks ! $ sets ! (of_opd ! (get ! refl)) refl (tt, tt) $
     sets ! (is ! (bin ! (lit ! tt) (size_word !) (record { fits = subst (λ k. k < 2 ^ 64) (sym (uncapped block_slots s bytes)) bytes })) (ap (vint w64) (uncapped block_slots s bytes))) refl (tt, record { fits = bytes }) $
     group ! 4 $ use1 𝓛 (raw ((Gives Z 𝓛 𝓜.mem 𝓡.returns).pre call))

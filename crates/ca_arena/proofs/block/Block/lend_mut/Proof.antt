@@ -81,7 +81,8 @@ lend_mut_spec 𝓤 𝓛 𝓜 𝓡 wired X U L LU g d dd met _ =
     let tiny : s < 2 ^ 64 = omega (arith, one_below block_slots s (2 ^ 63) (omega arith) fit) in
     let far : i * s < 2 ^ 64 = omega (arith, times_below i block_slots s (2 ^ 63) (omega arith) fit) in
     let place = i * s + o in let new = changed E block i in let rest = Rest E block i rb ro b o in
-    -- [the items; the room after them; the right to free; the cell; the open borrow; obs; auth; the other tokens]
+    -- [the items; the room after them; the right to free; the cell; the open borrow; obs;
+    -- auth; the other tokens]
     first ! $ blocks ! $ sets ! (of_opd ! (load ! (through ! refl (fld ! refl (stop !))) (look_in ! 3 (sub ! 0 refl (whole !))))) refl (tt, tt) $
     sets ! (bin ! (get ! refl) (size_lit ! (record { fits = tiny })) (record { fits = far })) refl (tt, record { fits = far }) $
     sets ! (bin ! (get ! refl) (get ! refl) tt) refl (tt, tt) $ sets_last ! (addr ! (through ! refl (stop !))) refl (tt, tt) $

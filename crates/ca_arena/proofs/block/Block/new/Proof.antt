@@ -1,4 +1,5 @@
--- `new` asks the allocator for room for 64 items, and keeps the right to give it back. Assumes `Logic`.
+-- `new` asks the allocator for room for 64 items, and keeps the right to give it
+-- back. Assumes `Logic`.
 use Rattle.std.proofs.Common.{◌≡◌, ◌+◌, ◌*◌, ◌<◌, ◌^◌, true, false, [], ◌∷◌, refl, sym, ap, subst, arith, lit<, IfOk, Ok, Err, w64}
 use native.Mathlib.Nat.{zero-mul}
 use base.Fml.{Fml, ftrue, froom, fsep, flft, Incl-trans}

@@ -65,7 +65,8 @@ take_out_spec 𝓤 𝓛 𝓜 𝓡 wired X U L LU g d dd met _ =
     rewrite ! 0 (λ l. ‵ (part_at (Array (R E) n) full_share l b o)) last.2 refl $
     use1 𝓛 (‵ (part_at (Array (R E) i) full_share front b o) ⊛ ‵ (part_at (R E) full_share x b place)) (unsnoc E 𝓛 b o n i front x last.3) $ split ! $ move ! (1 ∷ []) $
     use1 𝓛 (some (λ (v : Val). given (Good E v) (‵ (fat full_share (elτ E) b place v) ⊛ ‵ (el_own E x (v ∷ []))))) (el_out E 𝓛 full_share x b place) $ pick ! (λ v. learn ! (λ good. split ! $
-    -- [the slot; what is owned of the item; the other items; the room after them; the right to free; the cell; the open borrow; obs; auth; the other tokens]
+    -- [the slot; what is owned of the item; the other items; the room after them; the right to
+    -- free; the cell; the open borrow; obs; auth; the other tokens]
     first ! $ blocks ! $ sets ! (of_opd ! (load ! (through ! refl (fld ! refl (stop !))) (look_in ! 5 (sub ! 0 refl (whole !))))) refl (tt, tt) $
     sets ! (bin ! (get ! refl) (size_lit ! (record { fits = tiny })) (record { fits = far })) refl (tt, record { fits = far }) $
     sets ! (bin ! (get ! refl) (get ! refl) tt) refl (tt, tt) $ sets_last ! (of_opd ! (load ! (through ! refl (stop !)) (look ! 0 refl))) refl good $

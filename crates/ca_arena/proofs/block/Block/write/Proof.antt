@@ -61,7 +61,8 @@ write_spec 𝓤 𝓛 𝓜 𝓡 wired X U L LU g d dd met _ =
     let far : i * s < 2 ^ 64 = omega (arith, times_below i block_slots s (2 ^ 63) (omega arith) fit) in
     move ! (1 ∷ []) $ use1 𝓛 (‵ (froom (elτ E) b (n * s + o)) ⊛ ‵ (froom (ty_array (elτ E) (block_slots - (n + 1))) b (o + (n + 1) * s))) (spare E 𝓛 b o n block_slots less) $ split ! $
     rewrite ! 0 (λ k. ‵ (froom (elτ E) b (k * s + o))) (sym asked.0) refl $
-    -- [the slot; the room after it; the items; the right to free; the cell; the open borrow; obs; auth; what is owned of the item; the other tokens]
+    -- [the slot; the room after it; the items; the right to free; the cell; the open borrow; obs;
+    -- auth; what is owned of the item; the other tokens]
     first ! $ blocks ! $ sets ! (of_opd ! (load ! (through ! refl (fld ! refl (stop !))) (look_in ! 4 (sub ! 0 refl (whole !))))) refl (tt, tt) $
     sets ! (bin ! (get ! refl) (size_lit ! (record { fits = tiny })) (record { fits = far })) refl (tt, record { fits = far }) $
     sets ! (bin ! (get ! refl) (get ! refl) tt) refl (tt, tt) $ sets ! (of_opd ! (get ! refl)) refl good $ assigns_last ! (of_opd ! (get ! refl)) (through ! refl (stop !)) (init ! 0 refl good) $

@@ -20,7 +20,7 @@ invariant_of-self g c = (
   subst (λ (qs : _). AreIdleBehind c.loop-place.self-inside.last qs) (sym c.loop-place.invariant.0) c.loop-place.invariant.2,
 )
 
--- this queue is behind the last in which something waited
+-- this queue is after the last in which something waited
 pub invariant_of-self-then-place-self : goal.invariant_of-self-then-place-self
 invariant_of-self-then-place-self g c = (
   subst AreInOne (c.self.view_is ∙ sym c.loop-place.invariant.0) c.self.invariant.0,
