@@ -8,7 +8,7 @@ use Rattle.ca_text.specs.Place.{At}
 use Rattle.ca_text.specs.Status.{normal}
 use Rattle.ca_text.specs.declared.status.Status.{Status}
 use Rattle.ca_text.specs.declared.command.Command.TheVariants as command
-use Rattle.ca_text.proofs.Places.{At-one, some_is}
+use Rattle.ca_text.proofs.Places.{At-one, At-or, At-within, some_is}
 use Rattle.ca_dbr.specs.declared.value.Outcome.{Outcome}
 use Rattle.ca_dbr.specs.declared.value.Outcome.TheVariants as outcome
 use Rattle.ca_wire.specs.Fields.{Fields}
@@ -17,7 +17,7 @@ use Rattle.ca_model.specs.History.{Ask, Create, Clear, Request, Subscribe, Cance
 use Rattle.ca_model.specs.History as history
 use Rattle.ca_records.specs.Record.{RecordState}
 use Rattle.ca_model.specs.Channels.{Has, IsRequest, IsUse, Joins, OfCircuits, OfClients, Stands, Suits, Asks}
-use Rattle.ca_model.specs.Headline.{Safe}
+use Rattle.ca_model.specs.Headline.{Answered, Safe}
 use Rattle.ca_model.specs.Updates.{Shows}
 use Rattle.ca_requests.specs.Meaning.{Means}
 use Rattle.ca_model_examples.specs.Worlds.{world}
@@ -589,3 +589,54 @@ module _
       λ life x at. record { own = (each part.SeesOwn).1 life x at; in_order = (each part.SeesInOrder).1 life x at },
     );
   }
+
+  -- And the whole has each part. The logs of each circuit are there.
+  pub parts : (w : World) → Safe Due Shows Means w → (p : Part) → Holds Due p w
+  parts w s part.Acts = (λ n c at. (let h = s.acts n c at in (h.0, h.1, h.2, h.3.acts)), (λ life x at. tt), tt)
+  parts w s part.Retired = (λ n c at. (let h = s.acts n c at in (h.0, h.1, h.2, h.3.retired)), (λ life x at. tt), tt)
+  parts w s part.Refused = (λ n c at. (let h = s.acts n c at in (h.0, h.1, h.2, h.3.refused)), (λ life x at. tt), tt)
+  parts w s part.Live = (λ n c at. (let h = s.acts n c at in (h.0, h.1, h.2, h.3.live)), (λ life x at. tt), tt)
+  parts w s part.OneName = (λ n c at. (let h = s.acts n c at in (h.0, h.1, h.2, h.3.names.one_name)), (λ life x at. tt), tt)
+  parts w s part.OneRecord = (λ n c at. (let h = s.acts n c at in (h.0, h.1, h.2, h.3.names.one_record)), (λ life x at. tt), tt)
+  parts w s part.OneAtOnce = (λ n c at. (let h = s.acts n c at in (h.0, h.1, h.2, h.3.names.one_at_once)), (λ life x at. tt), tt)
+  parts w s part.WasThere = (λ n c at. (let h = s.acts n c at in (h.0, h.1, h.2, h.3.names.was_there)), (λ life x at. tt), tt)
+  parts w s part.Asked = (λ n c at. (let h = s.own.0 n c at in (h.0, h.1, h.2, h.3.asked)), (λ life x at. tt), tt)
+  parts w s part.Caused = (λ n c at. (let h = s.own.0 n c at in (h.0, h.1, h.2, h.3.caused)), (λ life x at. tt), tt)
+  parts w s part.DisconnectedOnce = (λ n c at. (let h = s.own.0 n c at in (h.0, h.1, h.2, h.3.removed)), (λ life x at. tt), tt)
+  parts w s part.Own = (λ n c at. (let h = s.own.0 n c at in (h.0, h.1, h.2, h.3.own)), (λ life x at. tt), tt)
+  parts w s part.Answered = (λ n c at. (let h = s.own.0 n c at in (h.0, h.1, h.2, h.3.answered)), (λ life x at. tt), tt)
+  parts w s part.HandledEach = (λ n c at. (let h = s.own.0 n c at in (h.0, h.1, h.2, h.3.in_order.0.one_each)), (λ life x at. tt), tt)
+  parts w s part.HandledWithin = (λ n c at. (let h = s.own.0 n c at in (h.0, h.1, h.2, h.3.in_order.0.within)), (λ life x at. tt), tt)
+  parts w s part.HandledRise = (λ n c at. (let h = s.own.0 n c at in (h.0, h.1, h.2, h.3.in_order.0.rise)), (λ life x at. tt), tt)
+  parts w s part.HeardEach = (λ n c at. (let h = s.own.0 n c at in (h.0, h.1, h.2, h.3.in_order.1.one_each)), (λ life x at. tt), tt)
+  parts w s part.HeardWithin = (λ n c at. (let h = s.own.0 n c at in (h.0, h.1, h.2, h.3.in_order.1.within)), (λ life x at. tt), tt)
+  parts w s part.HeardRise = (λ n c at. (let h = s.own.0 n c at in (h.0, h.1, h.2, h.3.in_order.1.rise)), (λ life x at. tt), tt)
+  parts w s part.Rising = (λ n c at. (let h = s.sees.0 n c at in (h.0, h.1, h.2, λ k r z g a. (h.3 k r z g a).rising)), (λ life x at. tt), tt)
+  parts w s part.Matches = (λ n c at. (let h = s.sees.0 n c at in (h.0, h.1, h.2, λ k r z g a. (h.3 k r z g a).matches)), (λ life x at. tt), tt)
+  parts w s part.ShowsPost = (λ n c at. (let h = s.sees.0 n c at in (h.0, h.1, h.2, λ k r z g a. (h.3 k r z g a).shows)), (λ life x at. tt), tt)
+  parts w s part.Newest = (λ n c at. (let h = s.sees.0 n c at in (h.0, h.1, h.2, λ k r z g a. (h.3 k r z g a).newest)), (λ life x at. tt), tt)
+  parts w s part.Told = (λ n c at. (let h = s.acts n c at in (h.0, h.1, h.2, tt)), (λ life x at. (s.own.1 life x at).told), tt)
+  parts w s part.Lost = (λ n c at. (let h = s.acts n c at in (h.0, h.1, h.2, tt)), (λ life x at. (s.own.1 life x at).lost), tt)
+  parts w s part.CompletedOnce = (λ n c at. (let h = s.acts n c at in (h.0, h.1, h.2, tt)), (λ life x at. (s.own.1 life x at).once), tt)
+  parts w s part.OneCall = (λ n c at. (let h = s.acts n c at in (h.0, h.1, h.2, tt)), (λ life x at. (s.own.1 life x at).one_call), tt)
+  parts w s part.SentOnce = (λ n c at. (let h = s.acts n c at in (h.0, h.1, h.2, tt)), (λ life x at. (s.own.1 life x at).sent), tt)
+  parts w s part.AtOne = (λ n c at. (let h = s.acts n c at in (h.0, h.1, h.2, tt)), (λ life x at. (s.own.1 life x at).at_one), tt)
+  parts w s part.SeesOwn = (λ n c at. (let h = s.acts n c at in (h.0, h.1, h.2, tt)), (λ life x at. (s.sees.1 life x at).own), tt)
+  parts w s part.SeesInOrder = (λ n c at. (let h = s.acts n c at in (h.0, h.1, h.2, tt)), (λ life x at. (s.sees.1 life x at).in_order), tt)
+  parts w s part.AppliedOnce = (λ n c at. (let h = s.acts n c at in (h.0, h.1, h.2, tt)), (λ life x at. tt), s.applied.once)
+  parts w s part.OwnWrite = (λ n c at. (let h = s.acts n c at in (h.0, h.1, h.2, tt)), (λ life x at. tt), s.applied.own)
+  parts w s part.Dropped = (λ n c at. (let h = s.acts n c at in (h.0, h.1, h.2, tt)), (λ life x at. tt), s.applied.dropped)
+  parts w s part.Finished = (λ n c at. (let h = s.acts n c at in (h.0, h.1, h.2, tt)), (λ life x at. tt), s.applied.finished)
+  parts w s part.Done = (λ n c at. (let h = s.acts n c at in (h.0, h.1, h.2, tt)), (λ life x at. tt), s.applied.done)
+  parts w s part.Failed = (λ n c at. (let h = s.acts n c at in (h.0, h.1, h.2, tt)), (λ life x at. tt), s.applied.failed)
+
+  -- A step of the server is for a message that came, if each is answered.
+  steps-came : (n : ℕ) (c : Circuit) (y : List Entry) → ((k : ℕ) (h : Step) → At c.handled k h → Answered Due Shows Means n c y k h) → length c.handled ≤ length c.up
+  steps-came n c y answered =
+      elim (At-or c.handled (length c.up)) [
+        | inl more ↦ absurd (let a = answered (length c.up) more.0 more.1 in let w = At-within c.up (length c.up) a.s a.at in omega (arith, w))
+        | inr fits ↦ fits
+      ]
+
+  pub steps-implied : (w : World) → Holds Due part.Answered w → Holds Due part.HandledEach w
+  steps-implied w h = (λ n c at. (let g = h.0 n c at in (g.0, g.1, g.2, steps-came n c g.1 g.3)), (λ life x at. tt), tt)

@@ -117,4 +117,5 @@ pub use unsafe_worlds::a_subscriber_sees_each_update;
 pub use unsafe_worlds::an_echo_is_answered_in_its_step;
 pub use unsafe_worlds::names_are_of_one_record;
 pub use unsafe_worlds::steps_are_in_order;
+pub use unsafe_worlds::the_parts_are_the_whole;
 pub use unsafe_worlds::updates_follow_their_record;

@@ -3,11 +3,19 @@ ghost use Rattle.ca_text.specs.Status.{normal};
 ghost use Rattle.ca_dbr.specs.declared.value.Outcome.{Outcome};
 ghost use Rattle.ca_dbr.specs.declared.value.Outcome.TheVariants as outcome;
 ghost use Rattle.ca_requests.specs.Meaning.{Means};
-ghost use Rattle.ca_model.specs.History.{GaveUp, Opened, Update};
+ghost use Rattle.ca_model.specs.History.{GaveUp, Opened, Update, World};
 ghost use Rattle.ca_model.specs.History as history;
-ghost use Rattle.ca_model_examples.specs.Worlds.{reading, reply, step, temp_name, world};
-ghost use Rattle.ca_model_examples.specs.Parts.{BreaksOnly, IsSafeNow, Acts, Answered, AppliedOnce, Asked, AtOne, Caused, CompletedOnce, DisconnectedOnce, Done, Dropped, Failed, Finished, HandledRise, HandledWithin, HeardEach, HeardRise, HeardWithin, Live, Lost, Matches, Newest, OneAtOnce, OneCall, OneName, OneRecord, Own, OwnWrite, Refused, Retired, Rising, SeesInOrder, SeesOwn, SentOnce, ShowsPost, Told, WasThere};
+ghost use Rattle.ca_model_examples.specs.Worlds.{AnyDue, reading, reply, step, temp_name, world};
+ghost use Rattle.ca_model_examples.specs.Parts.{BreaksOnly, Holds, IsSafeNow, Part, Acts, Answered, AppliedOnce, Asked, AtOne, Caused, CompletedOnce, DisconnectedOnce, Done, Dropped, Failed, Finished, HandledEach, HandledRise, HandledWithin, HeardEach, HeardRise, HeardWithin, Live, Lost, Matches, Newest, OneAtOnce, OneCall, OneName, OneRecord, Own, OwnWrite, Refused, Retired, Rising, SeesInOrder, SeesOwn, SentOnce, ShowsPost, Told, WasThere};
 ghost use Rattle.ca_model_examples.specs.Unsafe.{added_again, both_updated, called_again, closing, created, created_closed, disconnected, dropped, echo, echoed, echoes, fails, finished, gone, live, lost, made_23, made_gone, made_once, made_twice, misasked, no_channel, of_created, opened, other_name, posted, put_called, put_closing, put_made, put_read, put_told, read_at, read_called, read_lost, removed_again, rights_for, saw, silent, status_of, subscribed, subscriber, temp_removed, temp_there, two_of_a_name, unhandled, unread, updated, value_21};
+
+/// The parts are those of what is safe, and no more. That the server takes a step for a message that
+/// came alone is in `Answered` already, so no history breaks it alone.
+pub fn the_parts_are_the_whole()
+    ensures whole { (w : World) → ((p : Part) → Holds AnyDue p w) → IsSafeNow w }
+    ensures parts { (w : World) → IsSafeNow w → (p : Part) → Holds AnyDue p w }
+    ensures implied { (w : World) → Holds AnyDue Answered w → Holds AnyDue HandledEach w }
+{}
 
 /// A channel is opened once; a record is added once, while no other has its name, and removed
 /// while it is there.
