@@ -1,30 +1,25 @@
 -- Histories that break a part of what is said of a channel that is created.
-use Rattle.std.proofs.Common.{◌≡◌, ℕ, zero, suc, ◌<◌, ◌≤◌, ◌⊎◌, inl, inr, List, [], ◌∷◌, length, refl, sym, ap, subst, ◌∙◌, arith}
-use Rattle.ca_text.proofs.Places.{some_is}
-use Rattle.std.specs.Prelude.{Bool, not, true, false, Option, None, Some, take, pos, Ok, Err, Result}
+use Rattle.std.proofs.Common.{◌≡◌, ℕ, ◌<◌, ◌≤◌, ◌⊎◌, inl, inr, List, [], ◌∷◌, refl, sym, ap, subst, ◌∙◌, arith}
+use Rattle.ca_text.proofs.Places.{At-within}
+use Rattle.std.specs.Prelude.{not, true, None, take}
 use Rattle.ca_text.specs.Place.{At}
-use Rattle.ca_dbr.specs.Elements.{Elements, longs, base_of}
-use Rattle.ca_dbr.specs.Conversion.{converted}
-use Rattle.ca_text.specs.declared.refusal.Refusal.{Refusal}
 use Rattle.ca_dbr.specs.declared.value.Outcome.{Outcome}
 use Rattle.ca_dbr.specs.declared.value.Outcome.TheVariants as outcome
 use Rattle.ca_wire.specs.Messages.{create_request, rights_reply}
-use Rattle.ca_records.specs.Record.{RecordState}
-use Rattle.ca_wire.specs.Fields.{Fields}
-use Rattle.ca_model.specs.Speech.{Cid, Gives, In, Stored, Speaks, Id}
-use Rattle.ca_model.specs.History.{Create, Clear, Request, Read, Put, On, Intent, Sent, Told, Step, Circuit, Entry, Line, World, Added, Removed, Waits, Applied, Finished, Withdrawn, Opened, Called, Noticed, Reply, Removal}
-use Rattle.ca_model.specs.Channels.{Created, Has, IsLive, IsNamed, IsOpen, IsUncleared, IsUnread, OfCircuits, IsDropped, IsLost, IsOwnWrite, Stands}
-use Rattle.ca_model_examples.specs.Worlds.{created_told, disconnected, rights_told, AnyDue, circuit, creating, long, putting, reading, step, temp, temp_name, world}
+use Rattle.ca_model.specs.Speech.{Cid, Gives, In, Id}
+use Rattle.ca_model.specs.History.{Create, Clear, On, Intent, Sent, Told, Circuit, Entry, Line, Added, Removed, Opened, Called, Noticed, Reply, Removal}
+use Rattle.ca_model.specs.Channels.{IsLive, IsNamed, IsOpen, IsUncleared, IsUnread, IsLost}
+use Rattle.ca_model_examples.specs.Worlds.{created_told, disconnected, rights_told, AnyDue, creating, step, temp, temp_name, world}
 use Rattle.ca_model_examples.specs.Parts.{Part, Holds, BreaksOnly, IsSafeNow, InCircuit}
 use Rattle.ca_model_examples.specs.Parts as part
-use Rattle.ca_model_examples.specs.Unsafe.{created, created_closed, live, lost, of_created, rights_for, temp_removed, temp_there}
+use Rattle.ca_model_examples.specs.Unsafe.{created, created_closed, live, lost, rights_for, temp_removed, temp_there}
 use Rattle.ca_model_examples.proofs.Lists.{each-at, none-at, one-at}
-use Rattle.ca_model_examples.proofs.Quiet.{any, none, quiet, holds, its, whole, is_removed, is_called}
+use Rattle.ca_model_examples.proofs.Quiet.{any, none, quiet, holds, whole, is_removed, is_called}
 use Rattle.ca_model_examples.proofs.Shown.{ToldAt, answered-by, answered-each, caused-each, taken-each, told-each}
-use Rattle.ca_model.specs.Headline.{Answered, HasCause, LosesLive, Reads, TakesOwn}
+use Rattle.ca_model.specs.Headline.{HasCause, LosesLive, Reads, TakesOwn}
 use Rattle.ca_model.specs.Updates.{Shows}
 use Rattle.ca_requests.specs.Meaning.{Means}
-use Rattle.ca_model_examples.proofs.Names.{its-part, was-there, zero-one}
+use Rattle.ca_model_examples.proofs.Names.{its-part, was-there}
 use Rattle.ca_model_examples.proofs.Opened.{created-here, created-own, disconnect-own, open-here, takes-cid}
 use Rattle.ca_model_examples.proofs.Speaks.{heads, of-channel}
 
@@ -105,7 +100,7 @@ live-on-nothing = (live-on-nothing-rest, λ h. not-live (its-part part.Live (cre
 
 -- ---- a SERVER_DISCONN
 
-uncleared : (c : Circuit) (e : ℕ) → c.up ≡ creating ∷ [] → IsUncleared c 0 5 e
+pub uncleared : (c : Circuit) (e : ℕ) → c.up ≡ creating ∷ [] → IsUncleared c 0 5 e
 uncleared c e is h = (let o = (one-at creating h.0 h.1 (subst (λ (up : List Sent). At up h.0 h.1) is h.4)).0 in let a = h.3 in omega (arith, o, a))
 
 gone-cause : (c : Circuit) → At c.down 0 created_told → c.up ≡ creating ∷ [] → At c.up 0 creating → At c.handled 0 (step 0 1 1) → HasCause c temp_removed disconnected Removal
@@ -120,6 +115,29 @@ gone-safe-each p = quiet AnyDue p (created (disconnected ∷ []) []) (Opened 0 t
 
 pub gone-safe : IsSafeNow (world (created (disconnected ∷ []) [] ∷ []) (Opened 0 temp_name ∷ []) (temp_removed))
 gone-safe = whole AnyDue _ gone-safe-each
+
+is-live-yet : IsLive (created (disconnected ∷ []) (step 1 1 1 ∷ step 1 1 1 ∷ [])) 0 0 0 5
+is-live-yet = (created_told, (creating, refl, refl), refl, refl, refl, (refl, refl), omega arith, (λ l after m. (let e = (one-at creating l m.0 m.1).0 in omega (arith, e, after))), refl)
+
+not-live-yet : (r : ℕ) × IsOpen (created (disconnected ∷ []) (step 1 1 1 ∷ step 1 1 1 ∷ [])) temp_removed 0 0 5 r × IsNamed (Opened 0 temp_name ∷ []) temp_removed 0 r × (true ≡ true → (In temp_removed (Removed r) → ⊥) ⊎ IsUnread (created (disconnected ∷ []) (step 1 1 1 ∷ step 1 1 1 ∷ [])) 0) → ⊥
+not-live-yet h =
+    let named = h.2 in
+    let zero-is : 0 ≡ h.0 = each-at (λ (i : ℕ) (e : Entry). e ≡ Added h.0 named.0 → 0 ≡ h.0) temp_removed ((λ e. ap number-of e), ((λ e. absurd cc), tt)) named.2.0 _ named.2.1 refl in
+    elim (h.3 refl) [
+      | inl there ↦ there (1, subst (λ (n : ℕ). At temp_removed 1 (Removed n)) zero-is refl)
+      | inr u ↦ (let w = At-within (created (disconnected ∷ []) (step 1 1 1 ∷ step 1 1 1 ∷ [])).down u.0 u.1 u.2 in let late = u.5 in omega (arith, w, late))
+    ]
+
+live-after-gone-rest : (p : Part) → (p ≡ part.Live → ⊥) → Holds AnyDue p (world (created (disconnected ∷ []) (step 1 1 1 ∷ step 1 1 1 ∷ []) ∷ []) (Opened 0 temp_name ∷ []) (temp_removed))
+live-after-gone-rest part.Live ne = absurd (ne refl)
+live-after-gone-rest part.WasThere ne = holds AnyDue part.WasThere (created (disconnected ∷ []) (step 1 1 1 ∷ step 1 1 1 ∷ [])) (Opened 0 temp_name ∷ []) (temp_removed) refl refl (was-there [] refl) tt tt
+live-after-gone-rest part.Caused ne = caused-each (created (disconnected ∷ []) (step 1 1 1 ∷ step 1 1 1 ∷ [])) (Opened 0 temp_name ∷ []) (temp_removed) refl refl ((tt, (step 0 1 1, refl, omega arith)), ((gone-cause (created (disconnected ∷ []) (step 1 1 1 ∷ step 1 1 1 ∷ [])) refl refl refl refl, (step 0 1 1, refl, omega arith)), tt))
+live-after-gone-rest part.Own ne = taken-each (created (disconnected ∷ []) (step 1 1 1 ∷ step 1 1 1 ∷ [])) (Opened 0 temp_name ∷ []) (temp_removed) refl refl ((created-own (created (disconnected ∷ []) (step 1 1 1 ∷ step 1 1 1 ∷ [])) 0 (takes-cid (created (disconnected ∷ []) (step 1 1 1 ∷ step 1 1 1 ∷ [])) 0 0 creating refl refl refl (omega arith) refl)), ((disconnect-own (created (disconnected ∷ []) (step 1 1 1 ∷ step 1 1 1 ∷ [])) 1 (takes-cid (created (disconnected ∷ []) (step 1 1 1 ∷ step 1 1 1 ∷ [])) 1 0 creating refl refl refl (omega arith) refl)), tt))
+live-after-gone-rest part.Answered ne = answered-each (created (disconnected ∷ []) (step 1 1 1 ∷ step 1 1 1 ∷ [])) (Opened 0 temp_name ∷ []) (temp_removed) refl refl ((answered-by (created (disconnected ∷ []) (step 1 1 1 ∷ step 1 1 1 ∷ [])) (temp_removed) 0 (step 0 1 1) creating (created_told.message ∷ []) [] refl (refl, tt) tt refl ((λ p e. omega arith), ((λ p e. absurd cc), tt)) ((λ l. absurd (omega (arith, l))), tt)), tt)
+live-after-gone-rest p ne = quiet AnyDue p (created (disconnected ∷ []) (step 1 1 1 ∷ step 1 1 1 ∷ [])) (Opened 0 temp_name ∷ []) (temp_removed) refl refl refl refl refl
+
+pub live-after-gone : BreaksOnly part.Live (world (created (disconnected ∷ []) (step 1 1 1 ∷ step 1 1 1 ∷ []) ∷ []) (Opened 0 temp_name ∷ []) (temp_removed))
+live-after-gone = (live-after-gone-rest, λ h. not-live-yet (its-part part.Live (created (disconnected ∷ []) (step 1 1 1 ∷ step 1 1 1 ∷ [])) (Opened 0 temp_name ∷ []) (temp_removed) refl refl h.0 0 0 0 5 is-live-yet))
 
 gone-for-nothing-rest : (p : Part) → (p ≡ part.Caused → ⊥) → Holds AnyDue p (world (created (disconnected ∷ []) [] ∷ []) (Opened 0 temp_name ∷ []) (temp_there))
 gone-for-nothing-rest part.Caused ne = absurd (ne refl)

@@ -1,24 +1,14 @@
 -- Histories that break a part of what is said of answers and steps: ECHOs on one circuit.
-use Rattle.std.proofs.Common.{◌≡◌, ℕ, zero, suc, ◌<◌, ◌≤◌, ◌⊎◌, inl, inr, List, [], ◌∷◌, length, refl, sym, ap, subst, ◌∙◌, arith}
-use Rattle.ca_text.proofs.Places.{some_is}
-use Rattle.std.specs.Prelude.{Bool, not, true, false, Option, None, Some, take, pos, Ok, Err, Result}
-use Rattle.ca_text.specs.Place.{At}
-use Rattle.ca_dbr.specs.Elements.{Elements, longs, base_of}
-use Rattle.ca_dbr.specs.Conversion.{converted}
-use Rattle.ca_text.specs.declared.refusal.Refusal.{Refusal}
-use Rattle.ca_records.specs.Record.{RecordState}
-use Rattle.ca_wire.specs.Fields.{Fields}
-use Rattle.ca_model.specs.Speech.{In, Stored}
-use Rattle.ca_model.specs.History.{Create, Clear, Request, Read, Put, On, Intent, Sent, Told, Step, Circuit, Entry, Line, World, Added, Removed, Waits, Applied, Finished, Withdrawn, Opened, Called, Noticed}
-use Rattle.ca_model.specs.Channels.{Has, OfCircuits, IsDropped, IsLost, IsOwnWrite, Stands}
-use Rattle.ca_model_examples.specs.Worlds.{AnyDue, circuit, creating, long, putting, reading, step, temp, temp_name, world}
+use Rattle.std.proofs.Common.{◌≡◌, inl, inr, List, [], ◌∷◌, refl, arith}
+use Rattle.ca_model.specs.History.{Sent, Told, Step, Circuit, Added}
+use Rattle.ca_model_examples.specs.Worlds.{AnyDue, circuit, step, temp}
 use Rattle.ca_model_examples.specs.Parts.{Part, Holds, BreaksOnly, IsSafeNow, InCircuit}
 use Rattle.ca_model_examples.specs.Parts as part
 use Rattle.ca_model_examples.specs.Unsafe.{echo, echoed, echoes, temp_there}
-use Rattle.ca_model_examples.proofs.Lists.{each-at, none-at, one-at}
-use Rattle.ca_model_examples.proofs.Quiet.{none, quiet, holds, whole, is_finished}
+use Rattle.ca_model_examples.proofs.Lists.{none-at}
+use Rattle.ca_model_examples.proofs.Quiet.{none, quiet, whole, is_finished}
 use Rattle.ca_model_examples.proofs.Shown.{answered-by, answered-each, caused-each}
-use Rattle.ca_model_examples.proofs.Names.{its-part, zero-one}
+use Rattle.ca_model_examples.proofs.Names.{its-part}
 
 abbrev at : List Sent → List Told → List Step → List Step → Circuit
 at up down handled heard = circuit up down handled heard

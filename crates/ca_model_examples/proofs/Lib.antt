@@ -11,7 +11,8 @@ pub mod Creations
 pub mod Uses
 pub mod Subscribed
 pub mod Owed
-pub mod Broken
+pub mod Sent
+pub mod Illegal
 pub mod UsedActs
 pub mod Unread
 pub mod UsedOwn

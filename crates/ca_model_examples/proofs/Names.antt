@@ -1,23 +1,17 @@
 -- Histories that break a part of what is said of names, of requests that are sent, and of writes.
-use Rattle.std.proofs.Common.{◌≡◌, ℕ, zero, suc, ◌<◌, ◌≤◌, ◌⊎◌, inl, inr, List, [], ◌∷◌, length, refl, sym, ap, subst, ◌∙◌, arith}
+use Rattle.std.proofs.Common.{◌≡◌, ℕ, zero, suc, List, [], ◌∷◌, refl, sym, ap, subst, ◌∙◌, arith}
 use Rattle.ca_text.proofs.Places.{some_is}
-use Rattle.std.specs.Prelude.{Bool, not, true, false, Option, None, Some, take, pos, Ok, Err, Result}
+use Rattle.std.specs.Prelude.{not, true, take}
 use Rattle.ca_text.specs.Place.{At}
-use Rattle.ca_dbr.specs.Elements.{Elements, longs, base_of}
-use Rattle.ca_dbr.specs.Conversion.{converted}
-use Rattle.ca_text.specs.declared.refusal.Refusal.{Refusal}
 use Rattle.ca_records.specs.Record.{RecordState}
-use Rattle.ca_wire.specs.Fields.{Fields}
-use Rattle.ca_model.specs.Speech.{In, Stored}
-use Rattle.ca_model.specs.History.{Create, Clear, Request, Read, Put, On, Intent, Sent, Told, Step, Circuit, Entry, Line, World, Added, Removed, Waits, Applied, Finished, Withdrawn, Opened, Called, Noticed}
-use Rattle.ca_model.specs.Channels.{Has, OfCircuits, IsDropped, IsLost, IsOwnWrite, Stands}
-use Rattle.ca_model_examples.specs.Worlds.{AnyDue, circuit, creating, long, putting, reading, step, temp, temp_name, world}
+use Rattle.ca_model.specs.History.{Circuit, Entry, Line, Added, Removed, Opened}
+use Rattle.ca_model.specs.Channels.{Has, OfCircuits}
+use Rattle.ca_model_examples.specs.Worlds.{AnyDue, circuit, temp, temp_name, world}
 use Rattle.ca_model_examples.specs.Parts.{Part, Holds, BreaksOnly, IsSafeNow, InCircuit}
 use Rattle.ca_model_examples.specs.Parts as part
-use Rattle.ca_model_examples.specs.Unsafe.{removed_again, added_again, closing, disconnected, made, made_busy, misasked, opened, put_called, put_closing, read_called, read_lost, silent, temp_removed, temp_there, unhandled, unread}
-use Rattle.ca_model_examples.proofs.Lists.{each-at, none-at, one-at}
-use Rattle.ca_model_examples.proofs.Quiet.{any, none, few, quiet, holds, its, whole, is_removed}
-use Rattle.ca_model_examples.proofs.Shown.{dropped-each, finished-each, own-each, sent-each, told-each}
+use Rattle.ca_model_examples.specs.Unsafe.{removed_again, added_again, opened, silent, temp_removed, temp_there}
+use Rattle.ca_model_examples.proofs.Lists.{each-at, none-at}
+use Rattle.ca_model_examples.proofs.Quiet.{any, none, quiet, holds, its, whole, is_removed}
 
 pub zero-one : ◌≡◌ {A = ℕ} 0 1 → ⊥
 zero-one e = omega (arith, e)

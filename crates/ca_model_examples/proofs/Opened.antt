@@ -1,27 +1,17 @@
 -- The channel of the examples: what its creation's reply is about, and which record it is for.
-use Rattle.std.proofs.Common.{◌≡◌, ℕ, zero, suc, ◌<◌, ◌≤◌, ◌⊎◌, inl, inr, List, [], ◌∷◌, length, refl, sym, ap, subst, ◌∙◌, arith}
-use Rattle.ca_text.proofs.Places.{some_is}
-use Rattle.std.specs.Prelude.{◌==◌, drop, Bool, not, true, false, Option, None, Some, take, pos, Ok, Err, Result}
+use Rattle.std.proofs.Common.{◌≡◌, ℕ, zero, suc, ◌<◌, inl, inr, List, [], ◌∷◌, refl, sym, ap, subst, arith}
+use Rattle.std.specs.Prelude.{◌==◌, drop, not, true, Some, take}
 use Rattle.ca_text.specs.Place.{At}
-use Rattle.ca_dbr.specs.Elements.{Elements, longs, base_of}
-use Rattle.ca_dbr.specs.Conversion.{converted}
-use Rattle.ca_text.specs.declared.refusal.Refusal.{Refusal}
-use Rattle.ca_dbr.specs.declared.value.Outcome.TheVariants as outcome
-use Rattle.ca_records.specs.Record.{RecordState}
 use Rattle.ca_wire.specs.Fields.{Fields}
-use Rattle.ca_model.specs.Speech.{Cid, Clears, Creates, Disconnects, Gives, Heads, Id, In, Ioid, Is, Speaks, Stored, SubId, sid_in}
-use Rattle.ca_model.specs.History.{Create, Clear, Request, Read, Put, On, Intent, Sent, Told, Step, Circuit, Entry, Line, World, Added, Removed, Waits, Applied, Finished, Withdrawn, Opened, Called, Noticed, Ask, Reply, Removal, Cause, Update, Subscribe}
-use Rattle.ca_model.specs.Channels.{Created, Has, IsNamed, IsOpen, OfCircuits, IsDropped, before, named, until, IsLost, IsOwnWrite, Stands}
-use Rattle.ca_model_examples.specs.Worlds.{AnyDue, circuit, creating, long, putting, reading, step, temp, temp_name, world}
-use Rattle.ca_model_examples.specs.Parts.{Part, Holds, BreaksOnly, IsSafeNow, InCircuit}
-use Rattle.ca_model_examples.specs.Parts as part
-use Rattle.ca_model_examples.specs.Unsafe.{temp_there}
-use Rattle.ca_model_examples.proofs.Lists.{each-at, none-at, one-at}
-use Rattle.ca_model_examples.proofs.Quiet.{any, none, is_removed}
-use Rattle.ca_model_examples.proofs.Shown.{told-each}
-use Rattle.ca_model.specs.Headline.{Acted, TakesOwn}
+use Rattle.ca_model.specs.Speech.{Cid, Creates, Heads, Id, In, Ioid, Is, Speaks, SubId}
+use Rattle.ca_model.specs.History.{Sent, Told, Circuit, Entry, Added, Removed}
+use Rattle.ca_model.specs.Channels.{Created, IsOpen, named, until}
+use Rattle.ca_model_examples.specs.Worlds.{creating, step, temp}
+use Rattle.ca_model_examples.proofs.Lists.{none-at}
+use Rattle.ca_model_examples.proofs.Quiet.{any, none}
+use Rattle.ca_model.specs.Headline.{TakesOwn}
 use Rattle.ca_model_examples.specs.Worlds.{created_told, disconnected}
-use Rattle.ca_model_examples.proofs.Speaks.{heads, of-channel, of-request, of-update}
+use Rattle.ca_model_examples.proofs.Speaks.{heads, of-channel}
 use Rattle.std.proofs.lemmas.Bool.{eq-eqb}
 use Rattle.ca_text.specs.declared.command.Command.TheVariants as command
 

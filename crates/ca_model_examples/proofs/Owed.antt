@@ -1,29 +1,23 @@
 -- These histories are unsafe, since what is owed is not done.
 use Rattle.std.proofs.Common.{◌≡◌, ℕ, ◌<◌, ◌≤◌, inl, inr, List, [], ◌∷◌, length, refl, sym, ap, subst, ◌∙◌, arith}
-use Rattle.std.specs.Prelude.{true, false, None, slice_index_or, take}
+use Rattle.std.specs.Prelude.{false, None, take}
 use Rattle.ca_text.specs.Place.{At}
 use Rattle.ca_text.specs.Status.{normal}
 use Rattle.ca_text.proofs.Places.{some_is}
-use Rattle.ca_text.specs.declared.status.Status.{Status}
 use Rattle.ca_text.specs.declared.command.Command.TheVariants as command
 use Rattle.ca_dbr.specs.declared.value.Outcome.TheVariants as outcome
-use Rattle.ca_dbr.specs.declared.data_type.BaseType.TheVariants as base
-use Rattle.ca_dbr.specs.declared.data_type.DataType.{DataType}
-use Rattle.ca_dbr.specs.declared.data_type.Form.TheVariants as form
-use Rattle.ca_dbr.specs.Elements as E
-use Rattle.ca_dbr.specs.Shown.{shown}
 use Rattle.ca_wire.specs.Fields.{Fields}
-use Rattle.ca_wire.specs.Messages.{bare}
-use Rattle.ca_model.specs.Speech.{In, Is, Stored}
-use Rattle.ca_model.specs.History.{Cause, Reply, Removal, Circuit, Entry, Line, Sent, Told, Step, Added, Removed, Applied, Waits, Finished, Clear, Intent, On, Request, Read, Subscribe, Called, Update}
-use Rattle.ca_model.specs.Channels.{IsFinished, IsReply, Lasts, OfCircuits}
-use Rattle.ca_model.specs.Headline.{Acted, ActsOnRecord, Answered, AnswersOwn, IsBadChannel}
+use Rattle.ca_wire.specs.Messages.{bare, status_reply}
+use Rattle.ca_model.specs.Speech.{Is}
+use Rattle.ca_model.specs.History.{Circuit, Entry, Line, Sent, Told, Step, Added, Finished, Clear, Intent, On, Subscribe, Called}
+use Rattle.ca_model.specs.Channels.{IsFinished, IsReply, OfCircuits}
+use Rattle.ca_model.specs.Headline.{Answered, AnswersOwn}
 use Rattle.ca_requests.specs.Meaning.{Means}
-use Rattle.ca_model.specs.Updates.{Shows, update_in}
-use Rattle.ca_model_examples.specs.Worlds.{Unsafe, adding, clearing, created_told, creating, disconnected, long, put_told, putting, reading, step, temp, world}
+use Rattle.ca_model.specs.Updates.{Shows}
+use Rattle.ca_model_examples.specs.Worlds.{Unsafe, clearing, created_told, creating, long, put_told, putting, step, temp, world}
 use Rattle.ca_model_examples.specs.Unsafe.{temp_there}
-use Rattle.ca_model_examples.specs.Owed.{EchoDue, EntryDue, NoneDue, SlowDue, UnsafeBesides, UnsafeSlow, UnsafeUnlogged, UnsafeUnsent, answered, answered_cleared, answered_unfinished, answered_withdrawn, cleared, cleared_lines, finished_entries, foreign_refusal, live_circuit, live_lines, lost_for_nothing, lost_lines, put_lines, refused_write, unanswered, unanswered_put, unanswered_read, unfinished_entries, withdrawn_entries, writing}
-use Rattle.ca_model_examples.proofs.Lists.{Each, each-at, none-at, one-at, two-at}
+use Rattle.ca_model_examples.specs.Owed.{EchoDue, EntryDue, NoneDue, SlowDue, UnsafeBesides, UnsafeSlow, UnsafeUnlogged, UnsafeUnsent, answered, answered_cleared, answered_otherwise, otherwise, answered_unfinished, answered_withdrawn, cleared, cleared_lines, finished_entries, foreign_refusal, live_circuit, live_lines, lost_for_nothing, lost_lines, put_lines, refused_write, unanswered, unanswered_put, unanswered_read, unfinished_entries, withdrawn_entries, writing}
+use Rattle.ca_model_examples.proofs.Lists.{Each, each-at, none-at, one-at}
 
 pub zero-one : ◌≡◌ {A = ℕ} 0 1 → ⊥
 zero-one e = omega (arith, e)
@@ -97,6 +91,17 @@ late-alone n c y h at a j m later here =
       | inr late ↦ late.2
     ]
 
+-- and it is the one that is due
+late-due : (n : ℕ) (c : Circuit) (y : List Entry) (h : Step) → At c.up 1 (putting 0 8 22) → (a : Answered SlowDue Shows Means n c y 1 h) → (j : ℕ) (m : Fields) → h.sent ≤ j → IsReply c 1 j m → status_reply (putting 0 8 22).message normal ≡ m
+late-due n c y h at a j m later here =
+    let is : a.s ≡ putting 0 8 22 = some_is a.s (putting 0 8 22) (sym a.at ∙ at) in
+    let put : Is command.WriteNotify a.s.message = subst (λ (s : Sent). Is command.WriteNotify s.message) (sym is) refl in
+    let many : length a.replies ≡ 0 = ap (λ (l : List Fields). length l) (a.due put).0 in
+    elim (a.only j m here) [
+      | inl early ↦ (let e = early in absurd (omega (arith, e, many, later)))
+      | inr late ↦ ap (λ (s : Sent). status_reply s.message normal) (sym is) ∙ some_is _ m (sym (a.due put).1 ∙ late.1)
+    ]
+
 no-finish : (y : List Entry) → Each (λ (i : ℕ) (z : Entry). z ≡ Finished 0 1 → ⊥) y → (e : ℕ) → At y e (Finished 0 1) → ⊥
 no-finish y none e at = each-at (λ (i : ℕ) (z : Entry). z ≡ Finished 0 1 → ⊥) y none e _ at refl
 
@@ -127,6 +132,13 @@ never-cleared s =
     let is : putting 0 8 22 ≡ a.s = some_is (putting 0 8 22) a.s a.at in
     let e = at-two f.0 f.1 in
     f.3 (2, clearing, step 1 2 2, omega arith, refl, refl, omega (arith, e), (refl, ap (λ (r : Sent). r.message.p1) is))
+
+pub never-otherwise : UnsafeSlow answered_otherwise
+never-otherwise s =
+    let o = its-own (AnswersOwn SlowDue Shows Means) (otherwise ∷ []) put_lines finished_entries s.own.0 0 otherwise refl refl refl in
+    let a = o.answered 1 (step 1 1 2) refl in
+    let e = ap (λ (m : Fields). m.p1) (late-due 0 otherwise finished_entries (step 1 1 2) refl a 1 (status_reply (putting 0 8 22).message 160) (omega arith) refl) in
+    omega (arith, e)
 
 -- the put was finished, and no clear was handled
 was-finished : (r : Sent) → IsFinished 0 unanswered finished_entries 1 r

@@ -1,18 +1,14 @@
 -- Histories in which little happens: a part is true where what it is about is not there, as a test computes.
 use Rattle.std.proofs.Common.{◌≡◌, ℕ, zero, suc, ◌<◌, ◌≤◌, ◌⊎◌, inl, inr, List, [], ◌∷◌, length, refl, sym, ap, subst, ◌∙◌, arith}
-use Rattle.std.specs.Prelude.{Bool, true, false, not, ◌&&◌, ◌||◌, ◌==◌, Option, None, take, drop}
+use Rattle.std.specs.Prelude.{Bool, true, false, not, ◌&&◌, ◌||◌, ◌==◌, Option, take, drop}
 use Rattle.std.proofs.Math.Dec.{leb}
 use Rattle.std.proofs.lemmas.Bool.{and_parts, eq-eqb, eqb-true, leb-true, not-false, not-true, or_cases}
-use Rattle.ca_text.specs.Command.{command_number}
 use Rattle.ca_text.specs.Place.{At}
-use Rattle.ca_text.specs.Status.{normal}
 use Rattle.ca_text.specs.declared.status.Status.{Status}
-use Rattle.ca_text.specs.declared.command.Command.TheVariants as command
 use Rattle.ca_text.proofs.Places.{At-one, At-or, At-within, some_is}
-use Rattle.ca_dbr.specs.declared.value.Outcome.{Outcome}
 use Rattle.ca_dbr.specs.declared.value.Outcome.TheVariants as outcome
 use Rattle.ca_wire.specs.Fields.{Fields}
-use Rattle.ca_model.specs.Speech.{Id, Cid, Ioid, SubId, Creates, In, Is, Speaks}
+use Rattle.ca_model.specs.Speech.{Id, Cid, Ioid, SubId, Speaks}
 use Rattle.ca_model.specs.History.{Ask, Create, Clear, Request, Subscribe, Cancel, Read, Put, Write, Intent, On, OfCircuit, Reply, Removal, Update, Cause, Sent, Told, Step, Circuit, Entry, Line, Applied, Withdrawn, Finished, Called, Noticed, Updated, Opened, World}
 use Rattle.ca_model.specs.History as history
 use Rattle.ca_records.specs.Record.{RecordState}
@@ -482,7 +478,7 @@ module _
 
   -- ---- a world of one circuit between the first lives
 
-  of-circuit : (P : ℕ → Circuit → List Line → List Entry → Type 0) (c : Circuit) (x : List Line) (y : List Entry) → c.client ≡ 0 → c.server ≡ 0 → P 0 c x y → OfCircuits (world (c ∷ []) x y) P
+  pub of-circuit : (P : ℕ → Circuit → List Line → List Entry → Type 0) (c : Circuit) (x : List Line) (y : List Entry) → c.client ≡ 0 → c.server ≡ 0 → P 0 c x y → OfCircuits (world (c ∷ []) x y) P
   of-circuit P c x y e f h n d at =
       let o = one-at c n d at in
       subst (λ (z : Circuit). (a : List Line) × (b : List Entry) × Joins (world (c ∷ []) x y) n z a b × P n z a b) (sym o.1) (
@@ -493,7 +489,7 @@ module _
         h,
       ))
 
-  of-life : (P : ℕ → List Line → Type 0) (c : Circuit) (x : List Line) (y : List Entry) → P 0 x → OfClients (world (c ∷ []) x y) P
+  pub of-life : (P : ℕ → List Line → Type 0) (c : Circuit) (x : List Line) (y : List Entry) → P 0 x → OfClients (world (c ∷ []) x y) P
   of-life P c x y h life z at =
       let o = one-at x life z at in
       subst (λ (v : List Line). P life v) (sym o.1) (subst (λ (m : ℕ). P m x) (sym o.0) h)

@@ -1,34 +1,29 @@
 -- Histories that break a part of what is said of a subscription.
-use Rattle.std.proofs.Common.{◌≡◌, ℕ, zero, suc, ◌<◌, ◌≤◌, ◌⊎◌, inl, inr, List, [], ◌∷◌, length, refl, sym, ap, subst, ◌∙◌, arith}
+use Rattle.std.proofs.Common.{◌≡◌, ℕ, suc, ◌<◌, ◌≤◌, ◌⊎◌, inl, inr, List, [], ◌∷◌, length, refl, sym, ap, subst, ◌∙◌, arith}
 use Rattle.ca_text.proofs.Places.{At-within, some_is}
-use Rattle.std.specs.Prelude.{Bool, not, true, false, Option, None, Some, take, pos, Ok, Err, Result}
+use Rattle.std.specs.Prelude.{None, take}
 use Rattle.ca_text.specs.Place.{At}
 use Rattle.ca_dbr.specs.Elements.{Elements, longs, base_of}
-use Rattle.ca_dbr.specs.Conversion.{converted}
-use Rattle.ca_text.specs.declared.refusal.Refusal.{Refusal}
 use Rattle.ca_dbr.specs.declared.value.Outcome.{Outcome}
-use Rattle.ca_dbr.specs.declared.value.Outcome.TheVariants as outcome
-use Rattle.ca_wire.specs.Messages.{create_request, rights_reply}
 use Rattle.ca_records.specs.Record.{RecordState}
 use Rattle.ca_wire.specs.Fields.{Fields}
-use Rattle.ca_model.specs.Speech.{SubId, Cid, Gives, In, Stored, Speaks, Id}
-use Rattle.ca_model.specs.History.{Create, Clear, Request, Read, Put, On, Intent, Sent, Told, Step, Circuit, Entry, Line, World, Added, Removed, Waits, Applied, Finished, Withdrawn, Opened, Called, Noticed, Subscribe, Update, Updated, Cause, GaveUp, Posted, Ask, Reply, Removal}
-use Rattle.ca_model.specs.Channels.{Created, Has, IsLive, IsNamed, IsOpen, IsUncleared, IsUnread, OfCircuits, IsDropped, IsLost, IsOwnWrite, Stands, IsApplied, IsReply, IsUse, Meant, before, until}
-use Rattle.ca_model_examples.specs.Worlds.{adding, reply, created_told, disconnected, rights_told, AnyDue, circuit, creating, long, putting, reading, step, temp, temp_name, world}
+use Rattle.ca_model.specs.Speech.{Stored, Id}
+use Rattle.ca_model.specs.History.{Create, On, Intent, Sent, Told, Step, Circuit, Entry, Line, World, Added, Opened, Subscribe, Update, Updated, Cause, GaveUp, Reply, Removal}
+use Rattle.ca_model.specs.Channels.{before}
+use Rattle.ca_model_examples.specs.Worlds.{adding, reply, created_told, AnyDue, creating, long, step, temp, temp_name, world}
 use Rattle.ca_model_examples.specs.Parts.{FieldOf, Part, Holds, BreaksOnly, IsSafeNow, InCircuit}
 use Rattle.ca_model_examples.specs.Parts as part
-use Rattle.ca_model_examples.specs.Unsafe.{posted, saw, subscribed, subscriber, temp_there, updated, used}
-use Rattle.ca_model_examples.proofs.Lists.{Each, at-take, each-at, none-at, one-at, two-at}
-use Rattle.ca_model_examples.proofs.Quiet.{any, fine, is_fine, none, quiet, holds, its, whole, is_removed, is_called}
-use Rattle.ca_model_examples.proofs.Shown.{SentAt, ToldAt, OwnAt, own-each, sent-each, answered-by, answered-each, caused-each, taken-each, told-each}
-use Rattle.ca_model.specs.Headline.{Follows, Acted, Answered, IsBadChannel, HasCause, LosesLive, Reads, TakesOwn}
+use Rattle.ca_model_examples.specs.Unsafe.{posted, saw, subscribed, subscriber, temp_there, updated}
+use Rattle.ca_model_examples.proofs.Lists.{Each, each-at, one-at, two-at}
+use Rattle.ca_model_examples.proofs.Quiet.{none, quiet, holds, whole, is_called}
+use Rattle.ca_model_examples.proofs.Shown.{answered-by, answered-each, caused-each, taken-each}
+use Rattle.ca_model.specs.Headline.{Follows, Reads, TakesOwn}
 use Rattle.ca_model.specs.Updates.{Shows}
 use Rattle.ca_requests.specs.Meaning.{Means}
-use Rattle.ca_model_examples.proofs.Names.{its-part, was-there, zero-one}
-use Rattle.ca_model_examples.proofs.Opened.{created-here, created-own, disconnect-own, open-here, takes-cid}
-use Rattle.ca_model_examples.proofs.Speaks.{heads, of-channel, of-update}
-use Rattle.ca_model_examples.proofs.Creations.{channel-of, number-of, only-added}
-use Rattle.ca_text.specs.Status.{bad_channel}
+use Rattle.ca_model_examples.proofs.Names.{its-part}
+use Rattle.ca_model_examples.proofs.Opened.{created-here, created-own, open-here, takes-cid}
+use Rattle.ca_model_examples.proofs.Speaks.{heads, of-update}
+use Rattle.ca_model_examples.proofs.Creations.{number-of, only-added}
 use Rattle.ca_model_examples.proofs.Uses.{acted-record, acts-by, two-only}
 use Rattle.ca_model.specs.Headline.{Accepted}
 use Rattle.ca_model.specs.Channels.{Lasts, updates}
@@ -42,7 +37,6 @@ use Rattle.ca_dbr.specs.declared.data_type.DataType.{DataType}
 use Rattle.ca_dbr.specs.declared.data_type.Form.TheVariants as form
 use Rattle.ca_dbr.specs.Elements as E
 use Rattle.ca_dbr.specs.Shown.{shown}
-use Rattle.ca_model_examples.proofs.Quiet.{idle-at, is_updated}
 
 abbrev state-of : Entry → ℕ
 state-of (Added r s) = r

@@ -1,32 +1,29 @@
 -- Histories that break a part of what is said of a read and a put on a channel.
-use Rattle.std.proofs.Common.{◌≡◌, ℕ, zero, suc, ◌<◌, ◌≤◌, ◌⊎◌, inl, inr, List, [], ◌∷◌, length, refl, sym, ap, subst, ◌∙◌, arith}
+use Rattle.std.proofs.Common.{◌≡◌, ℕ, ◌<◌, inl, inr, List, [], ◌∷◌, length, refl, sym, ap, subst, ◌∙◌, arith}
 use Rattle.ca_text.proofs.Places.{some_is}
-use Rattle.std.specs.Prelude.{Bool, not, true, false, Option, None, Some, take, pos, Ok, Err, Result}
+use Rattle.std.specs.Prelude.{false, None, take, pos}
 use Rattle.ca_text.specs.Place.{At}
-use Rattle.ca_dbr.specs.Elements.{Elements, longs, base_of}
-use Rattle.ca_dbr.specs.Conversion.{converted}
-use Rattle.ca_text.specs.declared.refusal.Refusal.{Refusal}
+use Rattle.ca_dbr.specs.Elements.{longs}
 use Rattle.ca_dbr.specs.declared.value.Outcome.{Outcome}
 use Rattle.ca_dbr.specs.declared.value.Outcome.TheVariants as outcome
-use Rattle.ca_wire.specs.Messages.{create_request, rights_reply}
 use Rattle.ca_records.specs.Record.{RecordState}
 use Rattle.ca_wire.specs.Fields.{Fields}
-use Rattle.ca_model.specs.Speech.{Ioid, Cid, Gives, In, Stored, Speaks, Id}
-use Rattle.ca_model.specs.History.{Create, Clear, Request, Read, Put, On, Intent, Sent, Told, Step, Circuit, Entry, Line, World, Added, Removed, Waits, Applied, Finished, Withdrawn, Opened, Called, Noticed, Ask, Reply, Removal}
-use Rattle.ca_model.specs.Channels.{Created, Has, IsLive, IsNamed, IsOpen, IsUncleared, IsUnread, OfCircuits, IsDropped, IsLost, IsOwnWrite, Stands, IsApplied, IsReply, IsUse, Meant, before, until}
-use Rattle.ca_model_examples.specs.Worlds.{reply, created_told, disconnected, rights_told, AnyDue, circuit, creating, long, putting, reading, step, temp, temp_name, world}
+use Rattle.ca_model.specs.Speech.{In, Stored, Id}
+use Rattle.ca_model.specs.History.{Create, Clear, Request, Read, Put, On, Intent, Sent, Told, Step, Circuit, Entry, Line, Added, Removed, Applied, Opened, Called, Noticed, Ask}
+use Rattle.ca_model.specs.Channels.{IsNamed, IsOwnWrite, Stands, IsApplied, IsReply, IsUse, Meant, before}
+use Rattle.ca_model_examples.specs.Worlds.{reply, created_told, AnyDue, circuit, creating, long, putting, reading, step, temp, temp_name, world}
 use Rattle.ca_model_examples.specs.Parts.{Part, Holds, BreaksOnly, IsSafeNow, InCircuit}
 use Rattle.ca_model_examples.specs.Parts as part
-use Rattle.ca_model_examples.specs.Unsafe.{fails, no_channel, put_made, put_read, put_told, read_at, status_of, temp_removed, temp_there, used, value_21}
+use Rattle.ca_model_examples.specs.Unsafe.{fails, no_channel, put_made, put_read, put_told, read_at, status_of, temp_removed, temp_there, value_21}
 use Rattle.ca_model_examples.proofs.Lists.{at-take, each-at, none-at, one-at, two-at}
-use Rattle.ca_model_examples.proofs.Quiet.{any, fine, is_applied, is_fine, none, quiet, holds, its, whole, is_removed, is_called}
-use Rattle.ca_model_examples.proofs.Shown.{SentAt, ToldAt, OwnAt, own-each, sent-each, answered-by, answered-each, caused-each, taken-each, told-each}
-use Rattle.ca_model.specs.Headline.{Acted, Answered, IsBadChannel, HasCause, LosesLive, Reads, TakesOwn}
+use Rattle.ca_model_examples.proofs.Quiet.{fine, is_applied, is_fine, none, quiet, holds, whole}
+use Rattle.ca_model_examples.proofs.Shown.{ToldAt, own-each, sent-each, answered-by, answered-each, caused-each, taken-each, told-each}
+use Rattle.ca_model.specs.Headline.{Acted, IsBadChannel, TakesOwn}
 use Rattle.ca_model.specs.Updates.{Shows}
 use Rattle.ca_requests.specs.Meaning.{Means}
-use Rattle.ca_model_examples.proofs.Names.{its-part, was-there, zero-one}
-use Rattle.ca_model_examples.proofs.Opened.{created-here, created-own, disconnect-own, open-here, takes-cid}
-use Rattle.ca_model_examples.proofs.Speaks.{heads, of-channel, of-request}
+use Rattle.ca_model_examples.proofs.Names.{its-part, was-there}
+use Rattle.ca_model_examples.proofs.Opened.{created-here, created-own, open-here, takes-cid}
+use Rattle.ca_model_examples.proofs.Speaks.{heads, of-request}
 use Rattle.ca_model_examples.proofs.Creations.{channel-of, number-of, only-added}
 use Rattle.ca_text.specs.Status.{bad_channel}
 
@@ -132,6 +129,14 @@ read-of-another-rest p ne = quiet AnyDue p (read_at 1 value_21) (Opened 0 (69 �
 
 pub read-of-another : BreaksOnly part.Acts (world (read_at 1 value_21 ∷ []) (Opened 0 (69 ∷ []) ∷ []) (temp_removed))
 read-of-another = (read-of-another-rest, λ h. (let a = its-part part.Acts (read_at 1 value_21) (Opened 0 (69 ∷ []) ∷ []) (temp_removed) refl refl h.0 1 0 (Request Read 0) (omega arith) (reading 0 7, refl, refl) (λ e. cc) in not-named a.0 a.2))
+
+read-uncreated-rest : (p : Part) → (p ≡ part.Acts → ⊥) → Holds AnyDue p (world (circuit (creating ∷ reading 0 7 ∷ []) [] (step 0 1 1 ∷ step 0 1 1 ∷ []) [] ∷ []) (Opened 0 temp_name ∷ []) (temp_there))
+read-uncreated-rest part.Acts ne = absurd (ne refl)
+read-uncreated-rest part.Answered ne = answered-each (circuit (creating ∷ reading 0 7 ∷ []) [] (step 0 1 1 ∷ step 0 1 1 ∷ []) []) (Opened 0 temp_name ∷ []) (temp_there) refl refl ((answered-by (circuit (creating ∷ reading 0 7 ∷ []) [] (step 0 1 1 ∷ step 0 1 1 ∷ []) []) (temp_there) 0 (step 0 1 1) (creating) [] [] refl tt tt refl tt ((λ l. absurd (omega (arith, l))), ((λ l. omega arith), tt))), ((answered-by (circuit (creating ∷ reading 0 7 ∷ []) [] (step 0 1 1 ∷ step 0 1 1 ∷ []) []) (temp_there) 1 (step 0 1 1) (reading 0 7) [] [] refl tt tt refl tt ((λ l. absurd (omega (arith, l))), ((λ l. omega arith), tt))), tt))
+read-uncreated-rest p ne = quiet AnyDue p (circuit (creating ∷ reading 0 7 ∷ []) [] (step 0 1 1 ∷ step 0 1 1 ∷ []) []) (Opened 0 temp_name ∷ []) (temp_there) refl refl refl refl refl
+
+pub read-uncreated : BreaksOnly part.Acts (world (circuit (creating ∷ reading 0 7 ∷ []) [] (step 0 1 1 ∷ step 0 1 1 ∷ []) [] ∷ []) (Opened 0 temp_name ∷ []) (temp_there))
+read-uncreated = (read-uncreated-rest, λ h. (let a = its-part part.Acts (circuit (creating ∷ reading 0 7 ∷ []) [] (step 0 1 1 ∷ step 0 1 1 ∷ []) []) (Opened 0 temp_name ∷ []) (temp_there) refl refl h.0 1 0 (Request Read 0) (omega arith) (reading 0 7, refl, refl) (λ e. cc) in none-at a.1.2 a.1.6.0.0 (at-take a.1.1.sent [] a.1.2 a.1.6.0.0 a.1.6.0.3)))
 
 refused-safe-each : (p : Part) → Holds AnyDue p (world (read_at 2 no_channel ∷ []) (Opened 0 temp_name ∷ []) (temp_removed))
 refused-safe-each part.WasThere = holds AnyDue part.WasThere (read_at 2 no_channel) (Opened 0 temp_name ∷ []) (temp_removed) refl refl (was-there [] refl) tt tt

@@ -1,24 +1,22 @@
 -- Histories that break a part of what is said of writes.
-use Rattle.std.proofs.Common.{◌≡◌, ℕ, zero, suc, ◌<◌, ◌≤◌, ◌⊎◌, inl, inr, List, [], ◌∷◌, length, refl, sym, ap, subst, ◌∙◌, arith}
+use Rattle.std.proofs.Common.{◌≡◌, ℕ, ◌⊎◌, inl, inr, List, [], ◌∷◌, refl, sym, ap, subst, ◌∙◌, arith}
 use Rattle.ca_text.proofs.Places.{some_is}
-use Rattle.std.specs.Prelude.{Bool, not, true, false, Option, None, Some, take, pos, Ok, Err, Result}
+use Rattle.std.specs.Prelude.{Bool, true, false, Some, take, pos, Ok}
 use Rattle.ca_text.specs.Place.{At}
 use Rattle.ca_dbr.specs.Elements.{Elements, longs, base_of}
 use Rattle.ca_dbr.specs.Conversion.{converted}
-use Rattle.ca_text.specs.declared.refusal.Refusal.{Refusal}
 use Rattle.ca_records.specs.Record.{RecordState}
-use Rattle.ca_wire.specs.Fields.{Fields}
 use Rattle.ca_model.specs.Speech.{In, Stored}
-use Rattle.ca_model.specs.History.{Create, Clear, Request, Read, Put, On, Intent, Sent, Told, Step, Circuit, Entry, Line, World, Added, Removed, Waits, Applied, Finished, Withdrawn, Opened, Called, Noticed}
-use Rattle.ca_model.specs.Channels.{Has, OfCircuits, IsBusyUntil, IsDropped, IsLost, HasWaited, IsOwnWrite, IsTaken, Stands}
-use Rattle.ca_model_examples.specs.Worlds.{AnyDue, circuit, creating, long, putting, reading, step, temp, temp_name, world}
+use Rattle.ca_model.specs.History.{Request, Put, On, Circuit, Entry, Line, Added, Removed, Waits, Applied, Finished, Withdrawn, Opened, Called}
+use Rattle.ca_model.specs.Channels.{IsBusyUntil, IsDropped, HasWaited, IsOwnWrite, IsTaken}
+use Rattle.ca_model_examples.specs.Worlds.{AnyDue, long, putting, temp, temp_name, world}
 use Rattle.ca_model_examples.specs.Parts.{Part, Holds, BreaksOnly, IsSafeNow, InCircuit, InLife, InWorld}
 use Rattle.ca_model_examples.specs.Parts as part
-use Rattle.ca_model_examples.specs.Unsafe.{finished, dropped, made_gone, made_23, made_twice, made_once, closing, disconnected, made, made_busy, misasked, opened, put_called, put_closing, read_called, read_lost, silent, temp_removed, temp_there, unhandled, unread}
+use Rattle.ca_model_examples.specs.Unsafe.{finished, dropped, made_gone, made_23, made_twice, made_once, closing, made, opened, put_called, put_closing, unhandled}
 use Rattle.ca_model_examples.proofs.Lists.{each-at, none-at, one-at}
-use Rattle.ca_model_examples.proofs.Quiet.{any, none, few, few-same, quiet, holds, its, whole, is_called, is_finished, is_removed}
-use Rattle.ca_model_examples.proofs.Shown.{DroppedAt, FinishedAt, OwnAt, SentAt, ToldAt, dropped-each, finished-each, own-each, sent-each, told-each}
-use Rattle.ca_model_examples.proofs.Names.{its-part, was-there, zero-one}
+use Rattle.ca_model_examples.proofs.Quiet.{none, few-same, quiet, holds, whole, is_called, is_finished, is_removed}
+use Rattle.ca_model_examples.proofs.Shown.{DroppedAt, OwnAt, SentAt, dropped-each, finished-each, own-each, sent-each}
+use Rattle.ca_model_examples.proofs.Names.{was-there}
 
 put-sent : (c : Circuit) (x : List Line) (y : List Entry) → c.client ≡ 0 → At c.up 0 (putting 0 8 22) → SentAt (world (c ∷ []) x y) 1 (Called (On 0 (Request Put 0)) (Some (longs (pos 22 ∷ []))))
 put-sent c x y e at asks = (0, 0, (c, refl, e, (putting 0 8 22, at, refl)))

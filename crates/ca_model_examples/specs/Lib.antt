@@ -3,7 +3,7 @@ pub mod Waited
 pub mod Parts
 pub mod Unsafe
 pub mod Owed
-pub mod Broken
+pub mod Illegal
 pub mod Safe
 pub mod ServerRows
 pub mod DueReplies

@@ -1,5 +1,5 @@
 -- Vocabulary: small histories in which what is owed is not done, or what is done is not what is owed.
-use Rattle.std.specs.Prelude.{ℕ, ◌≡◌, List, [], ◌∷◌, Option, Some, None, pos, true}
+use Rattle.std.specs.Prelude.{ℕ, ◌≡◌, List, [], ◌∷◌, Option, Some, None, pos, true, false}
 use Rattle.ca_text.specs.declared.command.Command.TheVariants as command
 use Rattle.ca_text.specs.Status.{normal}
 use Rattle.ca_dbr.specs.declared.value.Outcome.TheVariants as outcome
@@ -95,6 +95,13 @@ cleared_lines =
 
 abbrev pub answered_cleared : World
 answered_cleared = world (cleared ∷ []) cleared_lines finished_entries
+
+-- It was finished, and the reply has another status; the server's end closed then.
+abbrev pub otherwise : Circuit
+otherwise = record (live_circuit (putting 0 8 22 ∷ []) (reply 1 (status_reply (putting 0 8 22).message 160) ∷ []) (step 1 1 2 ∷ [])) { server_open = false }
+
+abbrev pub answered_otherwise : World
+answered_otherwise = world (otherwise ∷ []) put_lines finished_entries
 
 -- It was finished, and the reply did not come.
 abbrev pub unanswered : Circuit

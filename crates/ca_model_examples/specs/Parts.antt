@@ -102,3 +102,36 @@ BreaksOnly part w = ((p : Part) → (p ≡ part → ⊥) → Holds AnyDue p w) �
 -- And one that differs in one place is safe.
 abbrev pub IsSafeNow : World → Type 0
 IsSafeNow w = Safe AnyDue Shows Means w
+
+-- ---- what is legal
+
+-- The fields of `Legal`, down to those of `LegalClient` and `LegalServer`.
+pub data Sending : Type 0 where
+  OnChannel Cancels Ids Sids Updates Confirmations Disconnects : Sending
+  ToldRemoved Apart Anew Ended HasAdd : Sending
+
+-- What a part says of each circuit, and of the log of each life of a client.
+abbrev pub SentSo : Sending → ℕ → Circuit → List Line → List Entry → Type 0
+SentSo OnChannel n c x y = FieldOf (λ (p : LegalCircuit n c x y). p.client.on_channel)
+SentSo Cancels n c x y = FieldOf (λ (p : LegalCircuit n c x y). p.client.cancels)
+SentSo Ids n c x y = FieldOf (λ (p : LegalCircuit n c x y). p.client.ids)
+SentSo Sids n c x y = FieldOf (λ (p : LegalCircuit n c x y). p.server.sids)
+SentSo Updates n c x y = FieldOf (λ (p : LegalCircuit n c x y). p.server.updates)
+SentSo Confirmations n c x y = FieldOf (λ (p : LegalCircuit n c x y). p.server.confirmations)
+SentSo Disconnects n c x y = FieldOf (λ (p : LegalCircuit n c x y). p.server.disconnects)
+SentSo ToldRemoved n c x y = FieldOf (λ (p : LegalCircuit n c x y). p.told)
+SentSo Apart n c x y = FieldOf (λ (p : LegalCircuit n c x y). p.apart)
+SentSo Anew n c x y = FieldOf (λ (p : LegalCircuit n c x y). p.anew)
+SentSo Ended n c x y = FieldOf (λ (p : LegalCircuit n c x y). p.ended)
+SentSo HasAdd n c x y = Unit {0}
+
+abbrev pub CalledSo : Sending → World → ℕ → List Line → Type 0
+CalledSo HasAdd w life x = IsSent w life x
+CalledSo p w life x = Unit {0}
+
+abbrev pub MaySend : Sending → World → Type 0
+MaySend part w = OfCircuits w (SentSo part) × OfClients w (CalledSo part w)
+
+-- In a history this part of what is legal is broken, and no other.
+abbrev pub SendsWrong : Sending → World → Type 0
+SendsWrong part w = ((p : Sending) → (p ≡ part → ⊥) → MaySend p w) × (MaySend part w → ⊥)

@@ -7,7 +7,7 @@ use Rattle.ca_dbr.specs.declared.value.Outcome.TheVariants as outcome
 use Rattle.ca_wire.specs.Fields.{Fields}
 use Rattle.ca_dbr.specs.Elements.{longs}
 use Rattle.ca_wire.specs.Messages.{bare, create_request, disconnect, put_request, rights_reply, status_reply, update, value_reply}
-use Rattle.ca_model.specs.History.{Cause, Removal, Create, Posted, Request, Subscribe, Update, Updated, Read, Put, Write, On, OfCircuit, Sent, Told, Step, Circuit, Entry, Added, Removed, Waits, Applied, Finished, Withdrawn, Line, Opened, Called, Noticed, World}
+use Rattle.ca_model.specs.History.{Cause, Removal, Create, Posted, Request, Subscribe, Update, Updated, Read, Put, On, OfCircuit, Sent, Told, Step, Circuit, Entry, Added, Removed, Waits, Applied, Finished, Withdrawn, Line, Opened, Called, Noticed, World}
 use Rattle.ca_model_examples.specs.Worlds.{adding, circuit, created_told, creating, long, putting, reading, reply, step, temp, temp_name, wanted, world}
 
 -- TEMP is there, or was removed.
@@ -160,6 +160,10 @@ value_21 = value_reply (reading 0 7).message 1 (0 ∷ 0 ∷ 0 ∷ 21 ∷ [])
 
 abbrev pub no_channel : Fields
 no_channel = status_reply (reading 0 7).message bad_channel
+
+-- A read is handled, and its channel's creation was not answered.
+abbrev pub uncreated_read : Circuit
+uncreated_read = circuit (creating ∷ reading 0 7 ∷ []) [] (step 0 1 1 ∷ step 0 1 1 ∷ []) []
 
 -- A put is called and handled; its reply is read, and its caller is told this.
 abbrev pub put_read : Fields → ℕ → Circuit

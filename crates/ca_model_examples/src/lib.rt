@@ -2,12 +2,12 @@
 //! events leave on worked rows.
 #![tactic(auto)]
 
-mod broken_worlds;
 mod call_limits;
 mod client_events;
 mod client_hears;
 mod client_rows;
 mod due_replies;
+mod illegal_worlds;
 mod owed_worlds;
 mod safe_worlds;
 mod server_calls;
@@ -15,7 +15,6 @@ mod server_events;
 mod server_rows;
 mod unsafe_worlds;
 
-pub use broken_worlds::what_may_not_be_sent_is_not_legal;
 pub use call_limits::a_clients_calls_have_their_limits;
 pub use call_limits::a_servers_calls_have_their_limits;
 pub use call_limits::events_have_their_limits;
@@ -71,6 +70,11 @@ pub use due_replies::reads_are_due;
 pub use due_replies::searches_are_due;
 pub use due_replies::subscriptions_are_due;
 pub use due_replies::writes_are_due;
+pub use illegal_worlds::a_subscription_has_one_event_add;
+pub use illegal_worlds::the_parts_are_all_that_is_legal;
+pub use illegal_worlds::what_a_client_may_send;
+pub use illegal_worlds::what_a_server_may_send;
+pub use illegal_worlds::what_must_be_sent;
 pub use owed_worlds::a_creation_refused_for_nothing_is_unsafe;
 pub use owed_worlds::an_early_or_lost_late_reply_is_unsafe;
 pub use owed_worlds::an_unsaid_notice_is_unsafe;

@@ -1,5 +1,5 @@
 ghost use Rattle.ca_model_examples.specs.Worlds.{Unsafe};
-ghost use Rattle.ca_model_examples.specs.Owed.{UnsafeAsDue, UnsafeBesides, UnsafeSlow, UnsafeUnlogged, UnsafeUnsent, answered_cleared, answered_unfinished, answered_withdrawn, foreign_refusal, lost_for_nothing, refused_creation, unanswered_put};
+ghost use Rattle.ca_model_examples.specs.Owed.{UnsafeAsDue, UnsafeBesides, UnsafeSlow, UnsafeUnlogged, UnsafeUnsent, answered_cleared, answered_otherwise, answered_unfinished, answered_withdrawn, foreign_refusal, lost_for_nothing, refused_creation, unanswered_put};
 
 /// The reply that is due for a message is sent and its entry logged, and its step logs no other.
 pub fn what_is_not_as_due_is_unsafe()
@@ -9,11 +9,13 @@ pub fn what_is_not_as_due_is_unsafe()
 {}
 
 /// A put on a slow record is not answered as is due if its reply comes before it is finished, after
-/// it was withdrawn, or after its channel was cleared; nor if it does not come once it is finished.
+/// it was withdrawn, after its channel was cleared, or with another status; nor if it does not come
+/// once it is finished.
 pub fn an_early_or_lost_late_reply_is_unsafe()
     ensures unfinished { UnsafeSlow answered_unfinished }
     ensures withdrawn { UnsafeSlow answered_withdrawn }
     ensures cleared { UnsafeSlow answered_cleared }
+    ensures otherwise { UnsafeSlow answered_otherwise }
     ensures lost { UnsafeSlow unanswered_put }
 {}
 
