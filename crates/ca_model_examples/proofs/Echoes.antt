@@ -15,20 +15,20 @@ at up down handled heard = circuit up down handled heard
 
 -- ---- one ECHO
 
-echo-safe-each : (p : Part) → Holds AnyDue p (echoes (echo ∷ []) (echoed 0 ∷ []) (step 0 0 0 ∷ []) ([]))
-echo-safe-each part.Caused = caused-each (at (echo ∷ []) (echoed 0 ∷ []) (step 0 0 0 ∷ []) ([])) [] temp_there refl refl ((tt, (step 0 0 0, refl, omega arith)), tt)
-echo-safe-each part.Answered = answered-each (at (echo ∷ []) (echoed 0 ∷ []) (step 0 0 0 ∷ []) ([])) [] temp_there refl refl ((answered-by _ temp_there 0 (step 0 0 0) echo ((echoed 0).message ∷ []) [] refl (refl, tt) tt refl ((λ p e. omega arith), tt) ((λ l. absurd (omega (arith, l))), tt)), tt)
-echo-safe-each p = quiet AnyDue p (at (echo ∷ []) (echoed 0 ∷ []) (step 0 0 0 ∷ []) ([])) [] temp_there refl refl refl refl refl
+echo-safe-each : (p : Part) → Holds AnyDue p (echoes (echo ∷ []) (echoed 0 ∷ []) (step 0 0 0 ∷ []) [])
+echo-safe-each part.Caused = caused-each (at (echo ∷ []) (echoed 0 ∷ []) (step 0 0 0 ∷ []) []) [] temp_there refl refl ((tt, (step 0 0 0, refl, omega arith)), tt)
+echo-safe-each part.Answered = answered-each (at (echo ∷ []) (echoed 0 ∷ []) (step 0 0 0 ∷ []) []) [] temp_there refl refl ((answered-by _ temp_there 0 (step 0 0 0) echo ((echoed 0).message ∷ []) [] refl (refl, tt) tt refl ((λ p e. omega arith), tt) ((λ l. absurd (omega (arith, l))), tt)), tt)
+echo-safe-each p = quiet AnyDue p (at (echo ∷ []) (echoed 0 ∷ []) (step 0 0 0 ∷ []) []) [] temp_there refl refl refl refl refl
 
-pub echo-safe : IsSafeNow (echoes (echo ∷ []) (echoed 0 ∷ []) (step 0 0 0 ∷ []) ([]))
+pub echo-safe : IsSafeNow (echoes (echo ∷ []) (echoed 0 ∷ []) (step 0 0 0 ∷ []) [])
 echo-safe = whole AnyDue _ echo-safe-each
 
-invented-rest : (p : Part) → (p ≡ part.Caused → ⊥) → Holds AnyDue p (echoes (echo ∷ []) (echoed 0 ∷ []) ([]) ([]))
+invented-rest : (p : Part) → (p ≡ part.Caused → ⊥) → Holds AnyDue p (echoes (echo ∷ []) (echoed 0 ∷ []) [] [])
 invented-rest part.Caused ne = absurd (ne refl)
-invented-rest p ne = quiet AnyDue p (at (echo ∷ []) (echoed 0 ∷ []) ([]) ([])) [] temp_there refl refl refl refl refl
+invented-rest p ne = quiet AnyDue p (at (echo ∷ []) (echoed 0 ∷ []) [] []) [] temp_there refl refl refl refl refl
 
-pub invented : BreaksOnly part.Caused (echoes (echo ∷ []) (echoed 0 ∷ []) ([]) ([]))
-invented = (invented-rest, λ h. (let a = its-part part.Caused (at (echo ∷ []) (echoed 0 ∷ []) ([]) ([])) [] temp_there refl refl h.0 0 (echoed 0) refl in none-at 0 a.1.0 a.1.1))
+pub invented : BreaksOnly part.Caused (echoes (echo ∷ []) (echoed 0 ∷ []) [] [])
+invented = (invented-rest, λ h. (let a = its-part part.Caused (at (echo ∷ []) (echoed 0 ∷ []) [] []) [] temp_there refl refl h.0 0 (echoed 0) refl in none-at 0 a.1.0 a.1.1))
 
 heard-safe-each : (p : Part) → Holds AnyDue p (echoes (echo ∷ []) (echoed 0 ∷ []) (step 0 0 0 ∷ []) (step 1 0 0 ∷ []))
 heard-safe-each part.Caused = caused-each (at (echo ∷ []) (echoed 0 ∷ []) (step 0 0 0 ∷ []) (step 1 0 0 ∷ [])) [] temp_there refl refl ((tt, (step 0 0 0, refl, omega arith)), tt)
@@ -56,40 +56,40 @@ heard-after-unsent-rest p ne = quiet AnyDue p (at (echo ∷ []) (echoed 0 ∷ []
 pub heard-after-unsent : BreaksOnly part.HeardWithin (echoes (echo ∷ []) (echoed 0 ∷ []) (step 0 0 0 ∷ []) (step 2 0 0 ∷ []))
 heard-after-unsent = (heard-after-unsent-rest, λ h. (let a = (its-part part.HeardWithin (at (echo ∷ []) (echoed 0 ∷ []) (step 0 0 0 ∷ []) (step 2 0 0 ∷ [])) [] temp_there refl refl h.0 0 (step 2 0 0) refl).0 in omega (arith, a)))
 
-unanswered-safe-each : (p : Part) → Holds AnyDue p (echoes (echo ∷ []) ([]) (step 0 0 0 ∷ []) ([]))
-unanswered-safe-each part.Answered = answered-each (at (echo ∷ []) ([]) (step 0 0 0 ∷ []) ([])) [] temp_there refl refl ((answered-by _ temp_there 0 (step 0 0 0) echo [] [] refl tt tt refl tt ((λ l. absurd (omega (arith, l))), tt)), tt)
-unanswered-safe-each p = quiet AnyDue p (at (echo ∷ []) ([]) (step 0 0 0 ∷ []) ([])) [] temp_there refl refl refl refl refl
+unanswered-safe-each : (p : Part) → Holds AnyDue p (echoes (echo ∷ []) [] (step 0 0 0 ∷ []) [])
+unanswered-safe-each part.Answered = answered-each (at (echo ∷ []) [] (step 0 0 0 ∷ []) []) [] temp_there refl refl ((answered-by _ temp_there 0 (step 0 0 0) echo [] [] refl tt tt refl tt ((λ l. absurd (omega (arith, l))), tt)), tt)
+unanswered-safe-each p = quiet AnyDue p (at (echo ∷ []) [] (step 0 0 0 ∷ []) []) [] temp_there refl refl refl refl refl
 
-pub unanswered-safe : IsSafeNow (echoes (echo ∷ []) ([]) (step 0 0 0 ∷ []) ([]))
+pub unanswered-safe : IsSafeNow (echoes (echo ∷ []) [] (step 0 0 0 ∷ []) [])
 unanswered-safe = whole AnyDue _ unanswered-safe-each
 
-handled-after-unsent-rest : (p : Part) → (p ≡ part.HandledWithin → ⊥) → Holds AnyDue p (echoes (echo ∷ []) ([]) (step 1 0 0 ∷ []) ([]))
+handled-after-unsent-rest : (p : Part) → (p ≡ part.HandledWithin → ⊥) → Holds AnyDue p (echoes (echo ∷ []) [] (step 1 0 0 ∷ []) [])
 handled-after-unsent-rest part.HandledWithin ne = absurd (ne refl)
-handled-after-unsent-rest part.Answered ne = answered-each (at (echo ∷ []) ([]) (step 1 0 0 ∷ []) ([])) [] temp_there refl refl ((answered-by _ temp_there 0 (step 1 0 0) echo [] [] refl tt tt refl tt ((λ l. absurd (omega (arith, l))), tt)), tt)
-handled-after-unsent-rest p ne = quiet AnyDue p (at (echo ∷ []) ([]) (step 1 0 0 ∷ []) ([])) [] temp_there refl refl refl refl refl
+handled-after-unsent-rest part.Answered ne = answered-each (at (echo ∷ []) [] (step 1 0 0 ∷ []) []) [] temp_there refl refl ((answered-by _ temp_there 0 (step 1 0 0) echo [] [] refl tt tt refl tt ((λ l. absurd (omega (arith, l))), tt)), tt)
+handled-after-unsent-rest p ne = quiet AnyDue p (at (echo ∷ []) [] (step 1 0 0 ∷ []) []) [] temp_there refl refl refl refl refl
 
-pub handled-after-unsent : BreaksOnly part.HandledWithin (echoes (echo ∷ []) ([]) (step 1 0 0 ∷ []) ([]))
-handled-after-unsent = (handled-after-unsent-rest, λ h. (let a = (its-part part.HandledWithin (at (echo ∷ []) ([]) (step 1 0 0 ∷ []) ([])) [] temp_there refl refl h.0 0 (step 1 0 0) refl).0 in omega (arith, a)))
+pub handled-after-unsent : BreaksOnly part.HandledWithin (echoes (echo ∷ []) [] (step 1 0 0 ∷ []) [])
+handled-after-unsent = (handled-after-unsent-rest, λ h. (let a = (its-part part.HandledWithin (at (echo ∷ []) [] (step 1 0 0 ∷ []) []) [] temp_there refl refl h.0 0 (step 1 0 0) refl).0 in omega (arith, a)))
 
 -- ---- two ECHOs
 
-echoes-safe-each : (p : Part) → Holds AnyDue p (echoes (echo ∷ echo ∷ []) (echoed 0 ∷ echoed 1 ∷ []) (step 0 0 0 ∷ step 1 0 0 ∷ []) ([]))
-echoes-safe-each part.Caused = caused-each (at (echo ∷ echo ∷ []) (echoed 0 ∷ echoed 1 ∷ []) (step 0 0 0 ∷ step 1 0 0 ∷ []) ([])) [] temp_there refl refl ((tt, (step 0 0 0, refl, omega arith)), ((tt, (step 1 0 0, refl, omega arith)), tt))
-echoes-safe-each part.Answered = answered-each (at (echo ∷ echo ∷ []) (echoed 0 ∷ echoed 1 ∷ []) (step 0 0 0 ∷ step 1 0 0 ∷ []) ([])) [] temp_there refl refl ((answered-by _ temp_there 0 (step 0 0 0) echo ((echoed 0).message ∷ []) [] refl (refl, tt) tt refl ((λ p e. omega arith), ((λ p e. absurd (omega (arith, p))), tt)) ((λ l. absurd (omega (arith, l))), ((λ l. omega arith), tt))), ((answered-by _ temp_there 1 (step 1 0 0) echo ((echoed 1).message ∷ []) [] refl (refl, tt) tt refl ((λ p e. omega arith), ((λ p e. omega arith), tt)) ((λ l. absurd (omega (arith, l))), ((λ l. absurd (omega (arith, l))), tt))), tt))
-echoes-safe-each p = quiet AnyDue p (at (echo ∷ echo ∷ []) (echoed 0 ∷ echoed 1 ∷ []) (step 0 0 0 ∷ step 1 0 0 ∷ []) ([])) [] temp_there refl refl refl refl refl
+echoes-safe-each : (p : Part) → Holds AnyDue p (echoes (echo ∷ echo ∷ []) (echoed 0 ∷ echoed 1 ∷ []) (step 0 0 0 ∷ step 1 0 0 ∷ []) [])
+echoes-safe-each part.Caused = caused-each (at (echo ∷ echo ∷ []) (echoed 0 ∷ echoed 1 ∷ []) (step 0 0 0 ∷ step 1 0 0 ∷ []) []) [] temp_there refl refl ((tt, (step 0 0 0, refl, omega arith)), ((tt, (step 1 0 0, refl, omega arith)), tt))
+echoes-safe-each part.Answered = answered-each (at (echo ∷ echo ∷ []) (echoed 0 ∷ echoed 1 ∷ []) (step 0 0 0 ∷ step 1 0 0 ∷ []) []) [] temp_there refl refl ((answered-by _ temp_there 0 (step 0 0 0) echo ((echoed 0).message ∷ []) [] refl (refl, tt) tt refl ((λ p e. omega arith), ((λ p e. absurd (omega (arith, p))), tt)) ((λ l. absurd (omega (arith, l))), ((λ l. omega arith), tt))), ((answered-by _ temp_there 1 (step 1 0 0) echo ((echoed 1).message ∷ []) [] refl (refl, tt) tt refl ((λ p e. omega arith), ((λ p e. omega arith), tt)) ((λ l. absurd (omega (arith, l))), ((λ l. absurd (omega (arith, l))), tt))), tt))
+echoes-safe-each p = quiet AnyDue p (at (echo ∷ echo ∷ []) (echoed 0 ∷ echoed 1 ∷ []) (step 0 0 0 ∷ step 1 0 0 ∷ []) []) [] temp_there refl refl refl refl refl
 
-pub echoes-safe : IsSafeNow (echoes (echo ∷ echo ∷ []) (echoed 0 ∷ echoed 1 ∷ []) (step 0 0 0 ∷ step 1 0 0 ∷ []) ([]))
+pub echoes-safe : IsSafeNow (echoes (echo ∷ echo ∷ []) (echoed 0 ∷ echoed 1 ∷ []) (step 0 0 0 ∷ step 1 0 0 ∷ []) [])
 echoes-safe = whole AnyDue _ echoes-safe-each
 
-out-of-step-rest : (p : Part) → (p ≡ part.Answered → ⊥) → Holds AnyDue p (echoes (echo ∷ echo ∷ []) (echoed 0 ∷ echoed 1 ∷ []) (step 0 0 0 ∷ step 0 0 0 ∷ []) ([]))
+out-of-step-rest : (p : Part) → (p ≡ part.Answered → ⊥) → Holds AnyDue p (echoes (echo ∷ echo ∷ []) (echoed 0 ∷ echoed 1 ∷ []) (step 0 0 0 ∷ step 0 0 0 ∷ []) [])
 out-of-step-rest part.Answered ne = absurd (ne refl)
-out-of-step-rest part.Caused ne = caused-each (at (echo ∷ echo ∷ []) (echoed 0 ∷ echoed 1 ∷ []) (step 0 0 0 ∷ step 0 0 0 ∷ []) ([])) [] temp_there refl refl ((tt, (step 0 0 0, refl, omega arith)), ((tt, (step 0 0 0, refl, omega arith)), tt))
-out-of-step-rest p ne = quiet AnyDue p (at (echo ∷ echo ∷ []) (echoed 0 ∷ echoed 1 ∷ []) (step 0 0 0 ∷ step 0 0 0 ∷ []) ([])) [] temp_there refl refl refl refl refl
+out-of-step-rest part.Caused ne = caused-each (at (echo ∷ echo ∷ []) (echoed 0 ∷ echoed 1 ∷ []) (step 0 0 0 ∷ step 0 0 0 ∷ []) []) [] temp_there refl refl ((tt, (step 0 0 0, refl, omega arith)), ((tt, (step 0 0 0, refl, omega arith)), tt))
+out-of-step-rest p ne = quiet AnyDue p (at (echo ∷ echo ∷ []) (echoed 0 ∷ echoed 1 ∷ []) (step 0 0 0 ∷ step 0 0 0 ∷ []) []) [] temp_there refl refl refl refl refl
 
-pub out-of-step : BreaksOnly part.Answered (echoes (echo ∷ echo ∷ []) (echoed 0 ∷ echoed 1 ∷ []) (step 0 0 0 ∷ step 0 0 0 ∷ []) ([]))
+pub out-of-step : BreaksOnly part.Answered (echoes (echo ∷ echo ∷ []) (echoed 0 ∷ echoed 1 ∷ []) (step 0 0 0 ∷ step 0 0 0 ∷ []) [])
 out-of-step = (
   out-of-step-rest,
-  λ h. (let a = its-part part.Answered (at (echo ∷ echo ∷ []) (echoed 0 ∷ echoed 1 ∷ []) (step 0 0 0 ∷ step 0 0 0 ∷ []) ([])) [] temp_there refl refl h.0 0 (step 0 0 0) refl in let n = a.next 1 (step 0 0 0) (omega arith) refl in elim (a.only 0 (echoed 0).message refl) [
+  λ h. (let a = its-part part.Answered (at (echo ∷ echo ∷ []) (echoed 0 ∷ echoed 1 ∷ []) (step 0 0 0 ∷ step 0 0 0 ∷ []) []) [] temp_there refl refl h.0 0 (step 0 0 0) refl in let n = a.next 1 (step 0 0 0) (omega arith) refl in elim (a.only 0 (echoed 0).message refl) [
     | inl first ↦ omega (arith, n, first)
     | inr late ↦ (let f = late.2 in none is_finished temp_there refl f.0 _ f.1 refl)
   ]),
@@ -112,17 +112,17 @@ heard-back-rest p ne = quiet AnyDue p (at (echo ∷ echo ∷ []) (echoed 0 ∷ e
 pub heard-back : BreaksOnly part.HeardRise (echoes (echo ∷ echo ∷ []) (echoed 0 ∷ echoed 1 ∷ []) (step 0 0 0 ∷ step 1 0 0 ∷ []) (step 2 0 0 ∷ step 1 0 0 ∷ []))
 heard-back = (heard-back-rest, λ h. (let a = (its-part part.HeardRise (at (echo ∷ echo ∷ []) (echoed 0 ∷ echoed 1 ∷ []) (step 0 0 0 ∷ step 1 0 0 ∷ []) (step 2 0 0 ∷ step 1 0 0 ∷ [])) [] temp_there refl refl h.0 0 1 (step 2 0 0) (step 1 0 0) (omega arith) refl refl).0 in omega (arith, a)))
 
-logged-safe-each : (p : Part) → Holds AnyDue p (echoes (echo ∷ echo ∷ []) ([]) (step 0 0 1 ∷ step 0 1 1 ∷ []) ([]))
-logged-safe-each part.Answered = answered-each (at (echo ∷ echo ∷ []) ([]) (step 0 0 1 ∷ step 0 1 1 ∷ []) ([])) [] temp_there refl refl ((answered-by _ temp_there 0 (step 0 0 1) echo [] (Added 0 temp ∷ []) refl tt (refl, tt) refl tt ((λ l. absurd (omega (arith, l))), ((λ l. omega arith), tt))), ((answered-by _ temp_there 1 (step 0 1 1) echo [] [] refl tt tt refl tt ((λ l. absurd (omega (arith, l))), ((λ l. absurd (omega (arith, l))), tt))), tt))
-logged-safe-each p = quiet AnyDue p (at (echo ∷ echo ∷ []) ([]) (step 0 0 1 ∷ step 0 1 1 ∷ []) ([])) [] temp_there refl refl refl refl refl
+logged-safe-each : (p : Part) → Holds AnyDue p (echoes (echo ∷ echo ∷ []) [] (step 0 0 1 ∷ step 0 1 1 ∷ []) [])
+logged-safe-each part.Answered = answered-each (at (echo ∷ echo ∷ []) [] (step 0 0 1 ∷ step 0 1 1 ∷ []) []) [] temp_there refl refl ((answered-by _ temp_there 0 (step 0 0 1) echo [] (Added 0 temp ∷ []) refl tt (refl, tt) refl tt ((λ l. absurd (omega (arith, l))), ((λ l. omega arith), tt))), ((answered-by _ temp_there 1 (step 0 1 1) echo [] [] refl tt tt refl tt ((λ l. absurd (omega (arith, l))), ((λ l. absurd (omega (arith, l))), tt))), tt))
+logged-safe-each p = quiet AnyDue p (at (echo ∷ echo ∷ []) [] (step 0 0 1 ∷ step 0 1 1 ∷ []) []) [] temp_there refl refl refl refl refl
 
-pub logged-safe : IsSafeNow (echoes (echo ∷ echo ∷ []) ([]) (step 0 0 1 ∷ step 0 1 1 ∷ []) ([]))
+pub logged-safe : IsSafeNow (echoes (echo ∷ echo ∷ []) [] (step 0 0 1 ∷ step 0 1 1 ∷ []) [])
 logged-safe = whole AnyDue _ logged-safe-each
 
-logged-by-two-rest : (p : Part) → (p ≡ part.HandledRise → ⊥) → Holds AnyDue p (echoes (echo ∷ echo ∷ []) ([]) (step 0 0 1 ∷ step 0 0 1 ∷ []) ([]))
+logged-by-two-rest : (p : Part) → (p ≡ part.HandledRise → ⊥) → Holds AnyDue p (echoes (echo ∷ echo ∷ []) [] (step 0 0 1 ∷ step 0 0 1 ∷ []) [])
 logged-by-two-rest part.HandledRise ne = absurd (ne refl)
-logged-by-two-rest part.Answered ne = answered-each (at (echo ∷ echo ∷ []) ([]) (step 0 0 1 ∷ step 0 0 1 ∷ []) ([])) [] temp_there refl refl ((answered-by _ temp_there 0 (step 0 0 1) echo [] (Added 0 temp ∷ []) refl tt (refl, tt) refl tt ((λ l. absurd (omega (arith, l))), ((λ l. omega arith), tt))), ((answered-by _ temp_there 1 (step 0 0 1) echo [] (Added 0 temp ∷ []) refl tt (refl, tt) refl tt ((λ l. absurd (omega (arith, l))), ((λ l. absurd (omega (arith, l))), tt))), tt))
-logged-by-two-rest p ne = quiet AnyDue p (at (echo ∷ echo ∷ []) ([]) (step 0 0 1 ∷ step 0 0 1 ∷ []) ([])) [] temp_there refl refl refl refl refl
+logged-by-two-rest part.Answered ne = answered-each (at (echo ∷ echo ∷ []) [] (step 0 0 1 ∷ step 0 0 1 ∷ []) []) [] temp_there refl refl ((answered-by _ temp_there 0 (step 0 0 1) echo [] (Added 0 temp ∷ []) refl tt (refl, tt) refl tt ((λ l. absurd (omega (arith, l))), ((λ l. omega arith), tt))), ((answered-by _ temp_there 1 (step 0 0 1) echo [] (Added 0 temp ∷ []) refl tt (refl, tt) refl tt ((λ l. absurd (omega (arith, l))), ((λ l. absurd (omega (arith, l))), tt))), tt))
+logged-by-two-rest p ne = quiet AnyDue p (at (echo ∷ echo ∷ []) [] (step 0 0 1 ∷ step 0 0 1 ∷ []) []) [] temp_there refl refl refl refl refl
 
-pub logged-by-two : BreaksOnly part.HandledRise (echoes (echo ∷ echo ∷ []) ([]) (step 0 0 1 ∷ step 0 0 1 ∷ []) ([]))
-logged-by-two = (logged-by-two-rest, λ h. (let a = (its-part part.HandledRise (at (echo ∷ echo ∷ []) ([]) (step 0 0 1 ∷ step 0 0 1 ∷ []) ([])) [] temp_there refl refl h.0 0 1 (step 0 0 1) (step 0 0 1) (omega arith) refl refl).1 in omega (arith, a)))
+pub logged-by-two : BreaksOnly part.HandledRise (echoes (echo ∷ echo ∷ []) [] (step 0 0 1 ∷ step 0 0 1 ∷ []) [])
+logged-by-two = (logged-by-two-rest, λ h. (let a = (its-part part.HandledRise (at (echo ∷ echo ∷ []) [] (step 0 0 1 ∷ step 0 0 1 ∷ []) []) [] temp_there refl refl h.0 0 1 (step 0 0 1) (step 0 0 1) (omega arith) refl refl).1 in omega (arith, a)))
