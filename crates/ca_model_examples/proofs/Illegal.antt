@@ -11,9 +11,9 @@ use Rattle.ca_model.specs.History.{Cancel, Clear, Create, Subscribe, Intent, On,
 use Rattle.ca_model.specs.Channels.{IsHeld, Meant}
 use Rattle.ca_model.specs.Sends.{Conduct, Frees, HasChannel, IsConnected, IsDisconnect, IsOnChannel, IsOpenAt, IsUncancelled, ReadsBetween}
 use Rattle.ca_model.specs.Legal.{BecomesLive, IsStanding, Legal, client_conduct, server_conduct}
-use Rattle.ca_model_examples.specs.Worlds.{temp, adding, created_told, creating, disconnected, reading, step, temp_name, world}
-use Rattle.ca_model_examples.specs.Unsafe.{opened, temp_removed, temp_there, updated}
-use Rattle.ca_model_examples.specs.Illegal.{added_again, asked_again, asked_with, both_asked, both_created, called_at, cancel_called, cancelling, confirm_out, created_again, goes_out, live_again, read_out, reads_out, subscribe_called, told_closed, told_so, update_out}
+use Rattle.ca_model_examples.specs.Worlds.{putting, clearing, temp, adding, created_told, creating, disconnected, reading, step, temp_name, world}
+use Rattle.ca_model_examples.specs.Unsafe.{cancelling, opened, temp_removed, temp_there, updated}
+use Rattle.ca_model_examples.specs.Illegal.{added_again, asked_again, asked_with, both_asked, both_created, called_at, cancel_called, confirm_out, created_again, goes_out, live_again, read_out, reads_out, alone, writing, unasked, subscribe_called, told_closed, told_so, update_out}
 use Rattle.ca_model_examples.specs.Parts.{MaySend, Sending, SendsWrong, SentSo}
 use Rattle.ca_model_examples.specs.Parts as part
 use Rattle.ca_model_examples.proofs.Lists.{each-at, none-at, one-at}
@@ -37,6 +37,67 @@ read-too-soon-rest p ne = quiet-sends p (read_out []) opened temp_there refl ref
 
 pub read-too-soon : SendsWrong part.OnChannel (world (read_out [] ∷ []) opened temp_there)
 read-too-soon = (read-too-soon-rest, λ h. (let o = its-sent part.OnChannel (read_out []) opened temp_there refl refl h.0 1 (reading 0 7).message refl (inl refl) in none-at o.1 o.3.4.0 o.3.4.2))
+
+unasked-rest : (p : Sending) → (p ≡ part.OnChannel → ⊥) → MaySend p (world (unasked ∷ []) opened temp_there)
+unasked-rest part.OnChannel ne = absurd (ne refl)
+unasked-rest p ne = quiet-sends p unasked opened temp_there refl refl refl
+
+pub read-unasked : SendsWrong part.OnChannel (world (unasked ∷ []) opened temp_there)
+read-unasked = (
+  unasked-rest,
+  λ h.
+      (let o = its-sent part.OnChannel unasked opened temp_there refl refl h.0 1 (reading 0 7).message refl (inl refl) in
+      let c = o.3 in
+      each-at (λ (i : ℕ) (m : Fields). Gives m (Cid o.2) → ⊥) (client_conduct unasked).sent ((λ g. (let e = g.0 in omega (arith, e))), ((λ g. (let e = g.0 in omega (arith, e))), tt)) o.0 c.0 c.2 c.3),
+)
+
+-- A message on a channel goes out, and none was read.
+alone-fails : (m : Sent) → IsOnChannel m.message → MaySend part.OnChannel (world (alone m ∷ []) opened temp_there) → ⊥
+alone-fails m on h = (let o = its-sent part.OnChannel (alone m) opened temp_there refl refl h.0 0 m.message refl on in none-at o.1 o.3.4.0 o.3.4.2)
+
+put-alone-rest : (p : Sending) → (p ≡ part.OnChannel → ⊥) → MaySend p (world (alone (putting 0 8 22) ∷ []) opened temp_there)
+put-alone-rest part.OnChannel ne = absurd (ne refl)
+put-alone-rest p ne = quiet-sends p (alone (putting 0 8 22)) opened temp_there refl refl refl
+
+pub put-alone : SendsWrong part.OnChannel (world (alone (putting 0 8 22) ∷ []) opened temp_there)
+put-alone = (put-alone-rest, alone-fails (putting 0 8 22) (inr (inl refl)))
+
+write-alone-rest : (p : Sending) → (p ≡ part.OnChannel → ⊥) → MaySend p (world (alone (writing) ∷ []) opened temp_there)
+write-alone-rest part.OnChannel ne = absurd (ne refl)
+write-alone-rest p ne = quiet-sends p (alone (writing)) opened temp_there refl refl refl
+
+pub write-alone : SendsWrong part.OnChannel (world (alone (writing) ∷ []) opened temp_there)
+write-alone = (write-alone-rest, alone-fails (writing) (inr (inr (inl refl))))
+
+add-alone-rest : (p : Sending) → (p ≡ part.OnChannel → ⊥) → MaySend p (world (alone (adding 0 9) ∷ []) opened temp_there)
+add-alone-rest part.OnChannel ne = absurd (ne refl)
+add-alone-rest p ne = quiet-sends p (alone (adding 0 9)) opened temp_there refl refl refl
+
+pub add-alone : SendsWrong part.OnChannel (world (alone (adding 0 9) ∷ []) opened temp_there)
+add-alone = (add-alone-rest, alone-fails (adding 0 9) (inr (inr (inr (inl refl)))))
+
+clear-alone-rest : (p : Sending) → (p ≡ part.OnChannel → ⊥) → MaySend p (world (alone (clearing) ∷ []) opened temp_there)
+clear-alone-rest part.OnChannel ne = absurd (ne refl)
+clear-alone-rest p ne = quiet-sends p (alone (clearing)) opened temp_there refl refl refl
+
+pub clear-alone : SendsWrong part.OnChannel (world (alone (clearing) ∷ []) opened temp_there)
+clear-alone = (clear-alone-rest, alone-fails (clearing) (inr (inr (inr (inr (inr refl))))))
+
+shared-rest : (p : Sending) → (p ≡ part.Ids → ⊥) → MaySend p (world (goes_out (adding 0 9 ∷ adding 1 9 ∷ []) ∷ []) opened temp_there)
+shared-rest part.Ids ne = absurd (ne refl)
+shared-rest part.OnChannel ne = sends part.OnChannel (goes_out (adding 0 9 ∷ adding 1 9 ∷ [])) opened temp_there refl refl (all-on-sid (goes_out (adding 0 9 ∷ adding 1 9 ∷ [])) opened temp_there ((adding 0 9).message) ((adding 1 9).message ∷ []) 1 refl refl refl refl refl refl refl) tt
+shared-rest p ne = quiet-sends p (goes_out (adding 0 9 ∷ adding 1 9 ∷ [])) opened temp_there refl refl refl
+
+pub sub-shared : SendsWrong part.Ids (world (goes_out (adding 0 9 ∷ adding 1 9 ∷ []) ∷ []) opened temp_there)
+sub-shared = (
+  shared-rest,
+  λ h.
+      (let c = goes_out (adding 0 9 ∷ adding 1 9 ∷ []) in
+      let f = its-sent part.Ids (goes_out (adding 0 9 ∷ adding 1 9 ∷ [])) opened temp_there refl refl h.0 1 2 (adding 0 9).message (adding 1 9).message (SubId 9) (SubId 9) (omega arith) refl refl (refl, refl) (refl, refl) refl in
+      let b = (one-at 1 f.0 f.1 f.6).1 in
+      let late = f.7 in
+      omega (arith, b, late)),
+)
 
 -- the cancel is for the EVENT_ADD before it
 cancel-for : (c : Circuit) → (client_conduct c).sent ≡ creating.message ∷ (adding 0 9).message ∷ cancelling.message ∷ [] → (k : ℕ) (m : Fields) → At (client_conduct c).sent k m → Is command.EventCancel m
@@ -239,18 +300,18 @@ intent-of (Called i e) = i
 intent-of l = On 0 Create
 
 -- the subscription that was called
-called-is : (channel number i : ℕ) → At subscribe_called i (Called (On channel (Subscribe number)) None) → On 0 (Subscribe 0) ≡ On channel (Subscribe number)
-called-is channel number i at = each-at (λ (k : ℕ) (l : Line). l ≡ Called (On channel (Subscribe number)) None → On 0 (Subscribe 0) ≡ On channel (Subscribe number)) subscribe_called ((λ e. absurd cc), ((λ e. ap intent-of e), tt)) i _ at refl
+called-is : (channel number i : ℕ) → At subscribe_called i (Called (On channel (Subscribe number)) None) → On 0 (Subscribe 1) ≡ On channel (Subscribe number)
+called-is channel number i at = each-at (λ (k : ℕ) (l : Line). l ≡ Called (On channel (Subscribe number)) None → On 0 (Subscribe 1) ≡ On channel (Subscribe number)) subscribe_called ((λ e. absurd cc), ((λ e. ap intent-of e), tt)) i _ at refl
 
-cancelled-is : (channel number i : ℕ) → At cancel_called i (Called (On channel (Subscribe number)) None) → On 0 (Subscribe 0) ≡ On channel (Subscribe number)
-cancelled-is channel number i at = each-at (λ (k : ℕ) (l : Line). l ≡ Called (On channel (Subscribe number)) None → On 0 (Subscribe 0) ≡ On channel (Subscribe number)) cancel_called ((λ e. absurd cc), ((λ e. ap intent-of e), ((λ e. absurd (let f : On 0 (Cancel 0) ≡ On channel (Subscribe number) = ap intent-of e in cc)), tt))) i _ at refl
+cancelled-is : (channel number i : ℕ) → At cancel_called i (Called (On channel (Subscribe number)) None) → On 0 (Subscribe 1) ≡ On channel (Subscribe number)
+cancelled-is channel number i at = each-at (λ (k : ℕ) (l : Line). l ≡ Called (On channel (Subscribe number)) None → On 0 (Subscribe 1) ≡ On channel (Subscribe number)) cancel_called ((λ e. absurd cc), ((λ e. ap intent-of e), ((λ e. absurd (let f : On 0 (Cancel 1) ≡ On channel (Subscribe number) = ap intent-of e in cc)), tt))) i _ at refl
 
-called-legal-each : (p : Sending) → MaySend p (world (called_at 1 (adding 0 9 ∷ []) ∷ []) subscribe_called temp_there)
-called-legal-each part.OnChannel = sends part.OnChannel (called_at 1 (adding 0 9 ∷ [])) subscribe_called temp_there refl refl (all-on-sid (called_at 1 (adding 0 9 ∷ [])) subscribe_called temp_there ((adding 0 9).message) [] 1 refl refl refl refl refl refl refl) tt
-called-legal-each part.HasAdd = sends part.HasAdd (called_at 1 (adding 0 9 ∷ [])) subscribe_called temp_there refl refl tt (λ channel number h. (0, 1, (called_at 1 (adding 0 9 ∷ []), refl, refl, (adding 0 9, refl, called-is channel number h.0 h.1))))
-called-legal-each p = quiet-sends p (called_at 1 (adding 0 9 ∷ [])) subscribe_called temp_there refl refl refl
+called-legal-each : (p : Sending) → MaySend p (world (called_at 1 (adding 1 9 ∷ []) ∷ []) subscribe_called temp_there)
+called-legal-each part.OnChannel = sends part.OnChannel (called_at 1 (adding 1 9 ∷ [])) subscribe_called temp_there refl refl (all-on-sid (called_at 1 (adding 1 9 ∷ [])) subscribe_called temp_there ((adding 1 9).message) [] 1 refl refl refl refl refl refl refl) tt
+called-legal-each part.HasAdd = sends part.HasAdd (called_at 1 (adding 1 9 ∷ [])) subscribe_called temp_there refl refl tt (λ channel number h. (0, 1, (called_at 1 (adding 1 9 ∷ []), refl, refl, (adding 1 9, refl, called-is channel number h.0 h.1))))
+called-legal-each p = quiet-sends p (called_at 1 (adding 1 9 ∷ [])) subscribe_called temp_there refl refl refl
 
-pub called-legal : Legal (world (called_at 1 (adding 0 9 ∷ []) ∷ []) subscribe_called temp_there)
+pub called-legal : Legal (world (called_at 1 (adding 1 9 ∷ []) ∷ []) subscribe_called temp_there)
 called-legal = all-legal _ called-legal-each
 
 called-unsent-rest : (p : Sending) → (p ≡ part.HasAdd → ⊥) → MaySend p (world (called_at 1 [] ∷ []) subscribe_called temp_there)
@@ -258,26 +319,26 @@ called-unsent-rest part.HasAdd ne = absurd (ne refl)
 called-unsent-rest p ne = quiet-sends p (called_at 1 []) subscribe_called temp_there refl refl refl
 
 pub called-unsent : SendsWrong part.HasAdd (world (called_at 1 [] ∷ []) subscribe_called temp_there)
-called-unsent = (called-unsent-rest, λ h. (let a = h.1 0 subscribe_called refl 0 0 (1, refl) in let c = one-at (called_at 1 []) a.0 a.2.0 a.2.1 in let s = one-at creating a.1 a.2.3.0 (subst (λ (d : Circuit). At d.up a.1 a.2.3.0) c.1 a.2.3.1) in (let e : On 0 Create ≡ On 0 (Subscribe 0) = sym (ap (λ (z : Sent). z.intent) s.1) ∙ a.2.3.2 in cc)))
+called-unsent = (called-unsent-rest, λ h. (let a = h.1 0 subscribe_called refl 0 1 (1, refl) in let c = one-at (called_at 1 []) a.0 a.2.0 a.2.1 in let s = one-at creating a.1 a.2.3.0 (subst (λ (d : Circuit). At d.up a.1 a.2.3.0) c.1 a.2.3.1) in (let e : On 0 Create ≡ On 0 (Subscribe 1) = sym (ap (λ (z : Sent). z.intent) s.1) ∙ a.2.3.2 in cc)))
 
 -- The subscription was called, and neither ended nor told of, in the first two lines.
 held-yet : (channel number : ℕ) → IsHeld subscribe_called (On channel (Subscribe number)) × ((o : Outcome) → In subscribe_called (Noticed (On channel (Subscribe number)) o) → ⊥)
 held-yet channel number = (
   (
-    (λ g. each-at (λ (k : ℕ) (l : Line). l ≡ Called (On channel Clear) None → ⊥) subscribe_called ((λ e. cc), ((λ e. (let f : On 0 (Subscribe 0) ≡ On channel Clear = ap intent-of e in cc)), tt)) g.0 _ g.1 refl),
-    (λ g. each-at (λ (k : ℕ) (l : Line). l ≡ Called (On channel (Cancel number)) None → ⊥) subscribe_called ((λ e. cc), ((λ e. (let f : On 0 (Subscribe 0) ≡ On channel (Cancel number) = ap intent-of e in cc)), tt)) g.0 _ g.1 refl),
+    (λ g. each-at (λ (k : ℕ) (l : Line). l ≡ Called (On channel Clear) None → ⊥) subscribe_called ((λ e. cc), ((λ e. (let f : On 0 (Subscribe 1) ≡ On channel Clear = ap intent-of e in cc)), tt)) g.0 _ g.1 refl),
+    (λ g. each-at (λ (k : ℕ) (l : Line). l ≡ Called (On channel (Cancel number)) None → ⊥) subscribe_called ((λ e. cc), ((λ e. (let f : On 0 (Subscribe 1) ≡ On channel (Cancel number) = ap intent-of e in cc)), tt)) g.0 _ g.1 refl),
   ),
   λ o g. each-at (λ (k : ℕ) (l : Line). l ≡ Noticed (On channel (Subscribe number)) o → ⊥) subscribe_called ((λ e. cc), ((λ e. cc), tt)) g.0 _ g.1 refl,
 )
 
-cancelled-later-legal-each : (p : Sending) → MaySend p (world (called_at 2 (adding 0 9 ∷ []) ∷ []) cancel_called temp_there)
-cancelled-later-legal-each part.OnChannel = sends part.OnChannel (called_at 2 (adding 0 9 ∷ [])) cancel_called temp_there refl refl (all-on-sid (called_at 2 (adding 0 9 ∷ [])) cancel_called temp_there ((adding 0 9).message) [] 1 refl refl refl refl refl refl refl) tt
-cancelled-later-legal-each part.HasAdd = sends part.HasAdd (called_at 2 (adding 0 9 ∷ [])) cancel_called temp_there refl refl tt (λ channel number h. (0, 1, ((called_at 2 (adding 0 9 ∷ [])), refl, refl, (adding 0 9, refl, cancelled-is channel number h.0 h.1))))
-cancelled-later-legal-each part.Anew = sends part.Anew (called_at 2 (adding 0 9 ∷ [])) cancel_called temp_there refl refl (λ channel k number h live standing. (let g : step 1 2 2 ≡ h = sym (one-at (step 1 2 2) live.0 h live.8).1 in let j = (one-at created_told live.0 live.2 live.4) in let k0 : 0 ≡ k = sym (ap (λ (t : Told). t.place) j.1) ∙ live.5 in subst (λ (n : ℕ). (l : ℕ) × (h.sent ≤ l) × Meant (called_at 2 (adding 0 9 ∷ [])) l (On channel (Subscribe number)) × ((p : ℕ) → n < p → p < l → Meant (called_at 2 (adding 0 9 ∷ [])) p (On channel Create) → ⊥)) k0 (1, subst (λ (z : Step). z.sent ≤ 1) g (omega arith), (adding 0 9, refl, called-is channel number standing.0.0 (subst (λ (z : Step). At (take z.logged cancel_called) standing.0.0 (Called (On channel (Subscribe number)) None)) (sym g) standing.0.1)), λ p a b. absurd (omega (arith, a, b))))) tt
-cancelled-later-legal-each part.Ended = sends part.Ended (called_at 2 (adding 0 9 ∷ [])) cancel_called temp_there refl refl (λ channel k l number h live lt meant. (let g : step 1 2 2 ≡ h = sym (one-at (step 1 2 2) live.0 h live.8).1 in subst (λ (z : Step). IsHeld (take z.logged cancel_called) (On channel (Subscribe number)) × ((o : Outcome) → In (take z.logged cancel_called) (Noticed (On channel (Subscribe number)) o) → ⊥)) g (held-yet channel number))) tt
-cancelled-later-legal-each p = quiet-sends p (called_at 2 (adding 0 9 ∷ [])) cancel_called temp_there refl refl refl
+cancelled-later-legal-each : (p : Sending) → MaySend p (world (called_at 2 (adding 1 9 ∷ []) ∷ []) cancel_called temp_there)
+cancelled-later-legal-each part.OnChannel = sends part.OnChannel (called_at 2 (adding 1 9 ∷ [])) cancel_called temp_there refl refl (all-on-sid (called_at 2 (adding 1 9 ∷ [])) cancel_called temp_there ((adding 1 9).message) [] 1 refl refl refl refl refl refl refl) tt
+cancelled-later-legal-each part.HasAdd = sends part.HasAdd (called_at 2 (adding 1 9 ∷ [])) cancel_called temp_there refl refl tt (λ channel number h. (0, 1, ((called_at 2 (adding 1 9 ∷ [])), refl, refl, (adding 1 9, refl, cancelled-is channel number h.0 h.1))))
+cancelled-later-legal-each part.Anew = sends part.Anew (called_at 2 (adding 1 9 ∷ [])) cancel_called temp_there refl refl (λ channel k number h live standing. (let g : step 1 2 2 ≡ h = sym (one-at (step 1 2 2) live.0 h live.8).1 in let j = (one-at created_told live.0 live.2 live.4) in let k0 : 0 ≡ k = sym (ap (λ (t : Told). t.place) j.1) ∙ live.5 in subst (λ (n : ℕ). (l : ℕ) × (h.sent ≤ l) × Meant (called_at 2 (adding 1 9 ∷ [])) l (On channel (Subscribe number)) × ((p : ℕ) → n < p → p < l → Meant (called_at 2 (adding 1 9 ∷ [])) p (On channel Create) → ⊥)) k0 (1, subst (λ (z : Step). z.sent ≤ 1) g (omega arith), (adding 1 9, refl, called-is channel number standing.0.0 (subst (λ (z : Step). At (take z.logged cancel_called) standing.0.0 (Called (On channel (Subscribe number)) None)) (sym g) standing.0.1)), λ p a b. absurd (omega (arith, a, b))))) tt
+cancelled-later-legal-each part.Ended = sends part.Ended (called_at 2 (adding 1 9 ∷ [])) cancel_called temp_there refl refl (λ channel k l number h live lt meant. (let g : step 1 2 2 ≡ h = sym (one-at (step 1 2 2) live.0 h live.8).1 in subst (λ (z : Step). IsHeld (take z.logged cancel_called) (On channel (Subscribe number)) × ((o : Outcome) → In (take z.logged cancel_called) (Noticed (On channel (Subscribe number)) o) → ⊥)) g (held-yet channel number))) tt
+cancelled-later-legal-each p = quiet-sends p (called_at 2 (adding 1 9 ∷ [])) cancel_called temp_there refl refl refl
 
-pub cancelled-later-legal : Legal (world (called_at 2 (adding 0 9 ∷ []) ∷ []) cancel_called temp_there)
+pub cancelled-later-legal : Legal (world (called_at 2 (adding 1 9 ∷ []) ∷ []) cancel_called temp_there)
 cancelled-later-legal = all-legal _ cancelled-later-legal-each
 
 abbrev cancel-of : Intent → Intent
@@ -287,18 +348,18 @@ cancel-of i = i
 not-standing : (channel number : ℕ) (h : Step) → step 1 3 3 ≡ h → IsStanding (take h.logged cancel_called) (On channel (Subscribe number)) → ⊥
 not-standing channel number h g standing =
     let s : IsStanding cancel_called (On channel (Subscribe number)) = subst (λ (z : Step). IsStanding (take z.logged cancel_called) (On channel (Subscribe number))) (sym g) standing in
-    let i : On 0 (Cancel 0) ≡ On channel (Cancel number) = ap cancel-of (cancelled-is channel number s.0.0 s.0.1) in
-    s.1.1 (2, subst (λ (d : Intent). At (Opened 0 temp_name ∷ Called (On 0 (Subscribe 0)) None ∷ Called (On 0 (Cancel 0)) None ∷ []) 2 (Called d None)) i refl)
+    let i : On 0 (Cancel 1) ≡ On channel (Cancel number) = ap cancel-of (cancelled-is channel number s.0.0 s.0.1) in
+    s.1.1 (2, subst (λ (d : Intent). At (Opened 0 temp_name ∷ Called (On 0 (Subscribe 1)) None ∷ Called (On 0 (Cancel 1)) None ∷ []) 2 (Called d None)) i refl)
 
-added-cancelled-rest : (p : Sending) → (p ≡ part.Ended → ⊥) → MaySend p (world (called_at 3 (adding 0 9 ∷ []) ∷ []) cancel_called temp_there)
+added-cancelled-rest : (p : Sending) → (p ≡ part.Ended → ⊥) → MaySend p (world (called_at 3 (adding 1 9 ∷ []) ∷ []) cancel_called temp_there)
 added-cancelled-rest part.Ended ne = absurd (ne refl)
-added-cancelled-rest part.OnChannel ne = sends part.OnChannel (called_at 3 (adding 0 9 ∷ [])) cancel_called temp_there refl refl (all-on-sid (called_at 3 (adding 0 9 ∷ [])) cancel_called temp_there ((adding 0 9).message) [] 1 refl refl refl refl refl refl refl) tt
-added-cancelled-rest part.HasAdd ne = sends part.HasAdd (called_at 3 (adding 0 9 ∷ [])) cancel_called temp_there refl refl tt (λ channel number h. (0, 1, ((called_at 3 (adding 0 9 ∷ [])), refl, refl, (adding 0 9, refl, cancelled-is channel number h.0 h.1))))
-added-cancelled-rest part.Anew ne = sends part.Anew (called_at 3 (adding 0 9 ∷ [])) cancel_called temp_there refl refl (λ channel k number h live standing. absurd (not-standing channel number h (sym (one-at (step 1 3 3) live.0 h live.8).1) standing)) tt
-added-cancelled-rest p ne = quiet-sends p (called_at 3 (adding 0 9 ∷ [])) cancel_called temp_there refl refl refl
+added-cancelled-rest part.OnChannel ne = sends part.OnChannel (called_at 3 (adding 1 9 ∷ [])) cancel_called temp_there refl refl (all-on-sid (called_at 3 (adding 1 9 ∷ [])) cancel_called temp_there ((adding 1 9).message) [] 1 refl refl refl refl refl refl refl) tt
+added-cancelled-rest part.HasAdd ne = sends part.HasAdd (called_at 3 (adding 1 9 ∷ [])) cancel_called temp_there refl refl tt (λ channel number h. (0, 1, ((called_at 3 (adding 1 9 ∷ [])), refl, refl, (adding 1 9, refl, cancelled-is channel number h.0 h.1))))
+added-cancelled-rest part.Anew ne = sends part.Anew (called_at 3 (adding 1 9 ∷ [])) cancel_called temp_there refl refl (λ channel k number h live standing. absurd (not-standing channel number h (sym (one-at (step 1 3 3) live.0 h live.8).1) standing)) tt
+added-cancelled-rest p ne = quiet-sends p (called_at 3 (adding 1 9 ∷ [])) cancel_called temp_there refl refl refl
 
-pub added-cancelled : SendsWrong part.Ended (world (called_at 3 (adding 0 9 ∷ []) ∷ []) cancel_called temp_there)
-added-cancelled = (added-cancelled-rest, λ h. (let e = its-sent part.Ended (called_at 3 (adding 0 9 ∷ [])) cancel_called temp_there refl refl h.0 0 0 1 0 (step 1 3 3) (0, 5, created_told, (creating, refl, refl), refl, refl, refl, (refl, refl), refl) (omega arith) (adding 0 9, refl, refl) in e.0.1 (2, refl)))
+pub added-cancelled : SendsWrong part.Ended (world (called_at 3 (adding 1 9 ∷ []) ∷ []) cancel_called temp_there)
+added-cancelled = (added-cancelled-rest, λ h. (let e = its-sent part.Ended (called_at 3 (adding 1 9 ∷ [])) cancel_called temp_there refl refl h.0 0 0 1 1 (step 1 3 3) (0, 5, created_told, (creating, refl, refl), refl, refl, refl, (refl, refl), refl) (omega arith) (adding 1 9, refl, refl) in e.0.1 (2, refl)))
 
 -- what a message on a channel has
 abbrev SentOn : Circuit → ℕ → Fields → Type 0
@@ -311,10 +372,10 @@ abbrev AddedAfter : Circuit → (k channel number : ℕ) → Step → Type 0
 AddedAfter c k channel number h =
     (l : ℕ) × (h.sent ≤ l) × Meant c l (On channel (Subscribe number)) × ((p : ℕ) → k < p → p < l → Meant c p (On channel Create) → ⊥)
 
-added-after : (k channel number : ℕ) (h : Step) → BecomesLive (live_again (added_again ∷ [])) channel k h → On 0 (Subscribe 0) ≡ On channel (Subscribe number) → AddedAfter (live_again (added_again ∷ [])) k channel number h
+added-after : (k channel number : ℕ) (h : Step) → BecomesLive (live_again (added_again ∷ [])) channel k h → On 0 (Subscribe 1) ≡ On channel (Subscribe number) → AddedAfter (live_again (added_again ∷ [])) k channel number h
 added-after k channel number h live is =
     each-at (λ (j : ℕ) (t : Told). (g : Step) → t.place ≡ k → At (step 1 2 2 ∷ step 3 2 2 ∷ []) j g → AddedAfter (live_again (added_again ∷ [])) k channel number g) (created_told ∷ created_again ∷ []) (
-      (λ g place at. subst (λ (z : Step). AddedAfter (live_again (added_again ∷ [])) k channel number z) (some_is (step 1 2 2) g at) (subst (λ (n : ℕ). AddedAfter (live_again (added_again ∷ [])) n channel number (step 1 2 2)) place (1, omega arith, (adding 0 9, refl, is), λ p a b. absurd (omega (arith, a, b))))),
+      (λ g place at. subst (λ (z : Step). AddedAfter (live_again (added_again ∷ [])) k channel number z) (some_is (step 1 2 2) g at) (subst (λ (n : ℕ). AddedAfter (live_again (added_again ∷ [])) n channel number (step 1 2 2)) place (1, omega arith, (adding 1 9, refl, is), λ p a b. absurd (omega (arith, a, b))))),
       ((λ g place at. subst (λ (z : Step). AddedAfter (live_again (added_again ∷ [])) k channel number z) (some_is (step 3 2 2) g at) (subst (λ (n : ℕ). AddedAfter (live_again (added_again ∷ [])) n channel number (step 3 2 2)) place (3, omega arith, (added_again, refl, is), λ p a b. absurd (omega (arith, a, b))))), tt),
     ) live.0 live.2 live.4 h live.5 live.8
 
@@ -343,11 +404,11 @@ between k l channel number lt a b =
     ]
 
 again-legal-each : (p : Sending) → MaySend p (world (live_again (added_again ∷ []) ∷ []) subscribe_called temp_there)
-again-legal-each part.OnChannel = sends part.OnChannel (live_again (added_again ∷ [])) subscribe_called temp_there refl refl (λ k m at o. each-at (λ (i : ℕ) (z : Fields). IsOnChannel z → SentOn (live_again (added_again ∷ [])) i z) (client_conduct (live_again (added_again ∷ []))).sent ((λ f. absurd (let e : false ≡ true = on-channel-so creating.message f in cc)), ((λ f. on-sid (client_conduct (live_again (added_again ∷ []))) 1 refl refl refl (omega arith) refl refl 1 (adding 0 9).message refl (omega arith) refl), ((λ f. absurd (let e : false ≡ true = on-channel-so asked_again.message f in cc)), ((λ f. (2, 1, 2, (asked_again.message, created_again.message, refl, (refl, refl), (3, refl, refl, omega arith, omega arith), (refl, refl), refl, λ l r after before here clears same. none (is 12) (client_conduct (live_again (added_again ∷ []))).sent refl l r here (is-so 12 r clears.0)), inr ((λ e. omega (arith, e)), (λ l r after reads d. none (is 27) (client_conduct (live_again (added_again ∷ []))).came refl l r reads.1 (is-so 27 r d.0))))), tt)))) k m at o) tt
-again-legal-each part.HasAdd = sends part.HasAdd (live_again (added_again ∷ [])) subscribe_called temp_there refl refl tt (λ channel number h. (0, 1, ((live_again (added_again ∷ [])), refl, refl, (adding 0 9, refl, called-is channel number h.0 h.1))))
+again-legal-each part.OnChannel = sends part.OnChannel (live_again (added_again ∷ [])) subscribe_called temp_there refl refl (λ k m at o. each-at (λ (i : ℕ) (z : Fields). IsOnChannel z → SentOn (live_again (added_again ∷ [])) i z) (client_conduct (live_again (added_again ∷ []))).sent ((λ f. absurd (let e : false ≡ true = on-channel-so creating.message f in cc)), ((λ f. on-sid (client_conduct (live_again (added_again ∷ []))) 1 refl refl refl (omega arith) refl refl 1 (adding 1 9).message refl (omega arith) refl), ((λ f. absurd (let e : false ≡ true = on-channel-so asked_again.message f in cc)), ((λ f. (2, 1, 2, (asked_again.message, created_again.message, refl, (refl, refl), (3, refl, refl, omega arith, omega arith), (refl, refl), refl, λ l r after before here clears same. none (is 12) (client_conduct (live_again (added_again ∷ []))).sent refl l r here (is-so 12 r clears.0)), inr ((λ e. omega (arith, e)), (λ l r after reads d. none (is 27) (client_conduct (live_again (added_again ∷ []))).came refl l r reads.1 (is-so 27 r d.0))))), tt)))) k m at o) tt
+again-legal-each part.HasAdd = sends part.HasAdd (live_again (added_again ∷ [])) subscribe_called temp_there refl refl tt (λ channel number h. (0, 1, ((live_again (added_again ∷ [])), refl, refl, (adding 1 9, refl, called-is channel number h.0 h.1))))
 again-legal-each part.Ended = sends part.Ended (live_again (added_again ∷ [])) subscribe_called temp_there refl refl (λ channel k l number h live lt meant. each-at (λ (i : ℕ) (z : Step). IsHeld (take z.logged subscribe_called) (On channel (Subscribe number)) × ((o : Outcome) → In (take z.logged subscribe_called) (Noticed (On channel (Subscribe number)) o) → ⊥)) (step 1 2 2 ∷ step 3 2 2 ∷ []) (held-yet channel number, (held-yet channel number, tt)) live.0 h live.8) tt
 again-legal-each part.Apart = sends part.Apart (live_again (added_again ∷ [])) subscribe_called temp_there refl refl between tt
-again-legal-each part.Anew = sends part.Anew (live_again (added_again ∷ [])) subscribe_called temp_there refl refl (λ channel k number h live standing. added-after k channel number h live (each-at (λ (j : ℕ) (g : Step). At (take g.logged subscribe_called) standing.0.0 (Called (On channel (Subscribe number)) None) → On 0 (Subscribe 0) ≡ On channel (Subscribe number)) (step 1 2 2 ∷ step 3 2 2 ∷ []) ((λ e. called-is channel number standing.0.0 e), ((λ e. called-is channel number standing.0.0 e), tt)) live.0 h live.8 standing.0.1)) tt
+again-legal-each part.Anew = sends part.Anew (live_again (added_again ∷ [])) subscribe_called temp_there refl refl (λ channel k number h live standing. added-after k channel number h live (each-at (λ (j : ℕ) (g : Step). At (take g.logged subscribe_called) standing.0.0 (Called (On channel (Subscribe number)) None) → On 0 (Subscribe 1) ≡ On channel (Subscribe number)) (step 1 2 2 ∷ step 3 2 2 ∷ []) ((λ e. called-is channel number standing.0.0 e), ((λ e. called-is channel number standing.0.0 e), tt)) live.0 h live.8 standing.0.1)) tt
 again-legal-each p = quiet-sends p (live_again (added_again ∷ [])) subscribe_called temp_there refl refl refl
 
 pub again-legal : Legal (world (live_again (added_again ∷ []) ∷ []) subscribe_called temp_there)
@@ -355,10 +416,10 @@ again-legal = all-legal _ again-legal-each
 
 not-added-again-rest : (p : Sending) → (p ≡ part.Anew → ⊥) → MaySend p (world (live_again [] ∷ []) subscribe_called temp_there)
 not-added-again-rest part.Anew ne = absurd (ne refl)
-not-added-again-rest part.OnChannel ne = sends part.OnChannel (live_again []) subscribe_called temp_there refl refl (λ k m at o. each-at (λ (i : ℕ) (z : Fields). IsOnChannel z → SentOn (live_again []) i z) (client_conduct (live_again [])).sent ((λ f. absurd (let e : false ≡ true = on-channel-so creating.message f in cc)), ((λ f. on-sid (client_conduct (live_again [])) 1 refl refl refl (omega arith) refl refl 1 (adding 0 9).message refl (omega arith) refl), ((λ f. absurd (let e : false ≡ true = on-channel-so asked_again.message f in cc)), tt))) k m at o) tt
-not-added-again-rest part.HasAdd ne = sends part.HasAdd (live_again []) subscribe_called temp_there refl refl tt (λ channel number h. (0, 1, ((live_again []), refl, refl, (adding 0 9, refl, called-is channel number h.0 h.1))))
+not-added-again-rest part.OnChannel ne = sends part.OnChannel (live_again []) subscribe_called temp_there refl refl (λ k m at o. each-at (λ (i : ℕ) (z : Fields). IsOnChannel z → SentOn (live_again []) i z) (client_conduct (live_again [])).sent ((λ f. absurd (let e : false ≡ true = on-channel-so creating.message f in cc)), ((λ f. on-sid (client_conduct (live_again [])) 1 refl refl refl (omega arith) refl refl 1 (adding 1 9).message refl (omega arith) refl), ((λ f. absurd (let e : false ≡ true = on-channel-so asked_again.message f in cc)), tt))) k m at o) tt
+not-added-again-rest part.HasAdd ne = sends part.HasAdd (live_again []) subscribe_called temp_there refl refl tt (λ channel number h. (0, 1, ((live_again []), refl, refl, (adding 1 9, refl, called-is channel number h.0 h.1))))
 not-added-again-rest part.Ended ne = sends part.Ended (live_again []) subscribe_called temp_there refl refl (λ channel k l number h live lt meant. each-at (λ (i : ℕ) (z : Step). IsHeld (take z.logged subscribe_called) (On channel (Subscribe number)) × ((o : Outcome) → In (take z.logged subscribe_called) (Noticed (On channel (Subscribe number)) o) → ⊥)) (step 1 2 2 ∷ step 3 2 2 ∷ []) (held-yet channel number, (held-yet channel number, tt)) live.0 h live.8) tt
 not-added-again-rest p ne = quiet-sends p (live_again []) subscribe_called temp_there refl refl refl
 
 pub not-added-again : SendsWrong part.Anew (world (live_again [] ∷ []) subscribe_called temp_there)
-not-added-again = (not-added-again-rest, λ h. (let a = its-sent part.Anew (live_again []) subscribe_called temp_there refl refl h.0 0 2 0 (step 3 2 2) (1, 6, created_again, (asked_again, refl, refl), refl, refl, refl, (refl, refl), refl) ((1, refl), (held-yet 0 0).0, (held-yet 0 0).1) in let m = a.2 in let w = At-within (live_again []).up a.0 m.0 m.1 in let late = a.1 in omega (arith, w, late)))
+not-added-again = (not-added-again-rest, λ h. (let a = its-sent part.Anew (live_again []) subscribe_called temp_there refl refl h.0 0 2 1 (step 3 2 2) (1, 6, created_again, (asked_again, refl, refl), refl, refl, refl, (refl, refl), refl) ((1, refl), (held-yet 0 1).0, (held-yet 0 1).1) in let m = a.2 in let w = At-within (live_again []).up a.0 m.0 m.1 in let late = a.1 in omega (arith, w, late)))

@@ -10,6 +10,7 @@ pub mod Opened
 pub mod Creations
 pub mod Uses
 pub mod Subscribed
+pub mod Cancelled
 pub mod Owed
 pub mod Sent
 pub mod Illegal

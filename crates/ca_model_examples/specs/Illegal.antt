@@ -1,9 +1,10 @@
 -- Vocabulary: small histories in which one part of what is legal is broken, and no other, beside legal ones that differ in one place.
 use Rattle.std.specs.Prelude.{ℕ, false, List, [], ◌∷◌, None}
-use Rattle.ca_wire.specs.Messages.{cancel_reply, create_request, created_reply, event_add_request, event_cancel_request, rights_reply}
-use Rattle.ca_model.specs.History.{Cancel, Create, Subscribe, On, Sent, Told, Step, Circuit, Line, Called, Opened, World}
+use Rattle.ca_text.specs.declared.command.Command.TheVariants as command
+use Rattle.ca_wire.specs.Messages.{cancel_reply, create_request, created_reply, event_add_request, put_request, rights_reply}
+use Rattle.ca_model.specs.History.{Cancel, Request, Write, Create, Subscribe, On, Sent, Told, Step, Circuit, Line, Called, Opened, World}
 use Rattle.ca_model_examples.specs.Worlds.{adding, circuit, created_told, creating, reading, reply, step, temp_name, wanted, world}
-use Rattle.ca_model_examples.specs.Unsafe.{opened, temp_there, updated}
+use Rattle.ca_model_examples.specs.Unsafe.{cancelling, echo, opened, temp_there, updated}
 
 -- the client read the creation's reply after it had sent its CREATE_CHAN
 abbrev pub created_read : Step
@@ -17,9 +18,17 @@ goes_out up = circuit (creating ∷ up) (created_told ∷ []) [] (created_read �
 abbrev pub read_out : List Step → Circuit
 read_out heard = circuit (creating ∷ reading 0 7 ∷ []) (created_told ∷ []) [] heard
 
--- the EVENT_CANCEL of the EVENT_ADD with the id 9
-abbrev pub cancelling : Sent
-cancelling = record { message = event_cancel_request (wanted 9); intent = On 0 (Cancel 0) }
+-- A read goes out on a channel that nobody asked for.
+abbrev pub unasked : Circuit
+unasked = circuit (echo ∷ reading 0 7 ∷ []) (created_told ∷ []) [] (created_read ∷ [])
+
+-- This message alone goes out, on a SID that no reply gave.
+abbrev pub alone : Sent → Circuit
+alone m = circuit (m ∷ []) [] [] []
+
+-- a WRITE of 22
+abbrev pub writing : Sent
+writing = record { message = put_request command.Write (wanted 0) (0 ∷ 0 ∷ 0 ∷ 22 ∷ []); intent = On 0 (Request Write 0) }
 
 -- Another channel is asked for with this CID.
 abbrev pub asked_with : ℕ → Sent
@@ -54,12 +63,12 @@ told_so down = circuit (creating ∷ []) down (step 0 1 1 ∷ []) []
 abbrev pub told_closed : List Told → Circuit
 told_closed down = record (told_so down) { server_open = false }
 
--- A subscription was called, and also cancelled.
+-- Subscription 1 was called, and also cancelled.
 abbrev pub subscribe_called : List Line
-subscribe_called = Opened 0 temp_name ∷ Called (On 0 (Subscribe 0)) None ∷ []
+subscribe_called = Opened 0 temp_name ∷ Called (On 0 (Subscribe 1)) None ∷ []
 
 abbrev pub cancel_called : List Line
-cancel_called = Opened 0 temp_name ∷ Called (On 0 (Subscribe 0)) None ∷ Called (On 0 (Cancel 0)) None ∷ []
+cancel_called = Opened 0 temp_name ∷ Called (On 0 (Subscribe 1)) None ∷ Called (On 0 (Cancel 1)) None ∷ []
 
 -- The channel becomes live when the client's log has so many lines, and these messages go out.
 abbrev pub called_at : ℕ → List Sent → Circuit
@@ -73,11 +82,11 @@ abbrev pub created_again : Told
 created_again = reply 2 (created_reply (create_request 2 temp_name) 5 1 6)
 
 abbrev pub live_again : List Sent → Circuit
-live_again more = circuit (creating ∷ adding 0 9 ∷ asked_again ∷ more) (created_told ∷ created_again ∷ []) [] (step 1 2 2 ∷ step 3 2 2 ∷ [])
+live_again more = circuit (creating ∷ adding 1 9 ∷ asked_again ∷ more) (created_told ∷ created_again ∷ []) [] (step 1 2 2 ∷ step 3 2 2 ∷ [])
 
 -- its EVENT_ADD on that SID
 abbrev pub added_again : Sent
-added_again = record { message = event_add_request (record (wanted 10) { sid = 6 }) 1; intent = On 0 (Subscribe 0) }
+added_again = record { message = event_add_request (record (wanted 10) { sid = 6 }) 1; intent = On 0 (Subscribe 1) }
 
 -- TEMP is there, and its channel was opened, or subscribed too.
 abbrev pub sent_in : Circuit → World

@@ -6,8 +6,8 @@ use Rattle.ca_dbr.specs.declared.value.Outcome.{Outcome}
 use Rattle.ca_dbr.specs.declared.value.Outcome.TheVariants as outcome
 use Rattle.ca_wire.specs.Fields.{Fields}
 use Rattle.ca_dbr.specs.Elements.{longs}
-use Rattle.ca_wire.specs.Messages.{bare, create_request, disconnect, put_request, rights_reply, status_reply, update, value_reply}
-use Rattle.ca_model.specs.History.{Cause, Removal, Create, Posted, Request, Subscribe, Update, Updated, Read, Put, On, OfCircuit, Sent, Told, Step, Circuit, Entry, Added, Removed, Waits, Applied, Finished, Withdrawn, Line, Opened, Called, Noticed, World}
+use Rattle.ca_wire.specs.Messages.{bare, cancel_reply, create_request, disconnect, event_cancel_request, put_request, rights_reply, status_reply, update, value_reply}
+use Rattle.ca_model.specs.History.{Cancel, Cause, Removal, Create, Posted, Request, Subscribe, Update, Updated, Read, Put, On, OfCircuit, Sent, Told, Step, Circuit, Entry, Added, Removed, Waits, Applied, Finished, Withdrawn, Line, Opened, Called, Noticed, World}
 use Rattle.ca_model_examples.specs.Worlds.{adding, circuit, created_told, creating, long, putting, reading, reply, step, temp, temp_name, wanted, world}
 
 -- TEMP is there, or was removed.
@@ -208,3 +208,14 @@ posted = Added 0 temp ∷ Posted 0 1 (long 22) ∷ []
 -- Both updates of it are read.
 abbrev pub both_updated : Circuit
 both_updated = subscriber (updated 0 21 ∷ updated 1 22 ∷ []) (step 1 1 1 ∷ step 2 1 2 ∷ step 2 2 3 ∷ [])
+
+-- An EVENT_ADD is cancelled, and the confirmation has this id.
+abbrev pub cancelling : Sent
+cancelling = record { message = event_cancel_request (wanted 9); intent = On 0 (Cancel 0) }
+
+abbrev pub confirmed : ℕ → Told
+confirmed id = reply 2 (record (cancel_reply cancelling.message) { p2 = id })
+
+abbrev pub cancelled : ℕ → Circuit
+cancelled id =
+    circuit (creating ∷ adding 0 9 ∷ cancelling ∷ []) (created_told ∷ confirmed id ∷ []) (step 0 1 1 ∷ step 1 1 1 ∷ step 1 1 1 ∷ []) []

@@ -7,7 +7,7 @@ ghost use Rattle.ca_model.specs.History.{GaveUp, Opened, Update, World};
 ghost use Rattle.ca_model.specs.History as history;
 ghost use Rattle.ca_model_examples.specs.Worlds.{AnyDue, reading, reply, step, temp_name, world};
 ghost use Rattle.ca_model_examples.specs.Parts.{BreaksOnly, Holds, IsSafeNow, Part, Acts, Answered, AppliedOnce, Asked, AtOne, Caused, CompletedOnce, DisconnectedOnce, Done, Dropped, Failed, Finished, HandledEach, HandledRise, HandledWithin, HeardEach, HeardRise, HeardWithin, Live, Lost, Matches, Newest, OneAtOnce, OneCall, OneName, OneRecord, Own, OwnWrite, Refused, Retired, Rising, SeesInOrder, SeesOwn, SentOnce, ShowsPost, Told, WasThere};
-ghost use Rattle.ca_model_examples.specs.Unsafe.{added_again, both_updated, called_again, closing, created, created_closed, disconnected, dropped, echo, echoed, echoes, fails, finished, gone, live, lost, made_23, made_gone, made_once, made_twice, misasked, no_channel, of_created, opened, other_name, posted, put_called, put_closing, put_made, put_read, put_told, read_at, read_called, read_lost, removed_again, rights_for, saw, silent, status_of, subscribed, subscriber, temp_removed, temp_there, two_of_a_name, unhandled, unread, uncreated_read, updated, value_21};
+ghost use Rattle.ca_model_examples.specs.Unsafe.{cancelled, added_again, both_updated, called_again, closing, created, created_closed, disconnected, dropped, echo, echoed, echoes, fails, finished, gone, live, lost, made_23, made_gone, made_once, made_twice, misasked, no_channel, of_created, opened, other_name, posted, put_called, put_closing, put_made, put_read, put_told, read_at, read_called, read_lost, removed_again, rights_for, saw, silent, status_of, subscribed, subscriber, temp_removed, temp_there, two_of_a_name, unhandled, unread, uncreated_read, updated, value_21};
 
 /// The parts are those of what is safe, and no more. That the server takes a step for a message that
 /// came alone is in `Answered` already, so no history breaks it alone.
@@ -137,6 +137,8 @@ pub fn updates_follow_their_record()
     ensures another_value { BreaksOnly ShowsPost (of_created (subscribed (updated 0 22 ∷ []) []) [] temp_there) }
     ensures none { BreaksOnly Newest (of_created (subscribed [] []) [] temp_there) }
     ensures refused { BreaksOnly Caused (of_created (subscribed (reply 1 (updated 0 21).message ∷ updated 0 21 ∷ []) []) [] temp_there) }
+    ensures cancelled { IsSafeNow (of_created (cancelled 9) [] temp_there) }
+    ensures confirmed_another { BreaksOnly Own (of_created (cancelled 8) [] temp_there) }
 {}
 
 /// An update that is told was read, and the one before it was told. The outcomes are those of the
