@@ -18,6 +18,15 @@ use Rattle.ca_model_examples.specs.Worlds.{Unsafe, clearing, created_told, creat
 use Rattle.ca_model_examples.specs.Unsafe.{temp_there}
 use Rattle.ca_model_examples.specs.Owed.{EchoDue, EntryDue, NoneDue, SlowDue, UnsafeBesides, UnsafeSlow, UnsafeUnlogged, UnsafeUnsent, answered, answered_cleared, answered_otherwise, otherwise, answered_unfinished, answered_withdrawn, cleared, cleared_lines, finished_entries, foreign_refusal, live_circuit, live_lines, lost_for_nothing, lost_lines, put_lines, refused_write, unanswered, unanswered_put, unanswered_read, unfinished_entries, withdrawn_entries, writing}
 use Rattle.ca_model_examples.proofs.Lists.{Each, each-at, none-at, one-at}
+use Rattle.ca_dbr.specs.declared.value.Meta.{Meta}
+use Rattle.ca_model.specs.Due.{Action}
+use Rattle.ca_model.specs.Due as action
+use Rattle.ca_model.specs.Known.{IsDue, Logs}
+use Rattle.ca_model.specs.Channels.{before}
+use Rattle.ca_model.specs.History.{Applied, Waits, Withdrawn}
+use Rattle.ca_model_examples.specs.Owed.{UnsafeAsDue, alarmed, logged_put, logs_put}
+use Rattle.ca_model_examples.specs.Worlds.{ports, rules}
+use Rattle.ca_text.proofs.Places.{At-or}
 
 pub zero-one : ◌≡◌ {A = ℕ} 0 1 → ⊥
 zero-one e = omega (arith, e)
@@ -199,3 +208,49 @@ never-besides s =
     let many : length a.logs ≡ 0 = ap (λ (l : List Entry). length l) a.due in
     let h = a.besides 1 (Finished 0 0) (omega (arith, many)) (omega arith) refl in
     (let e = h.2 in cc)
+
+-- ---- a write with an alarm
+
+-- an entry of a write has no alarm
+abbrev Calm : Entry → Type 0
+Calm (Applied n k r v b) = v.meta.severity ≡ 0
+Calm (Waits n k r v) = v.meta.severity ≡ 0
+Calm e = Unit {0}
+
+withdrawn-calm : (e : Entry) (n k : ℕ) → e ≡ Withdrawn n k → Calm e
+withdrawn-calm e n k is = subst Calm (sym is) tt
+
+-- What is logged for an action is calm.
+logs-calm : (n : ℕ) (c : Circuit) (y : List Entry) (did : Action) (logs : List Entry) → Logs n c y did logs → (i : ℕ) (e : Entry) → At logs i e → Calm e
+logs-calm n c y (action.Applies name value busies) logs h i e at =
+    let is = (one-at (Applied n (length c.handled) h.0 h.1 busies) i e (subst (λ (l : List Entry). At l i e) h.5 at)).1 in
+    subst Calm (sym is) (ap (λ (m : Meta). m.severity) h.4.1)
+logs-calm n c y (action.Waits name value) logs h i e at =
+    let is = (one-at (Waits n (length c.handled) h.0 h.1) i e (subst (λ (l : List Entry). At l i e) h.5 at)).1 in
+    subst Calm (sym is) (ap (λ (m : Meta). m.severity) h.4.1)
+logs-calm n c y (action.Clears sid) logs h i e at = (let w = h.each e (i, at) in withdrawn-calm e n w.0 w.6)
+logs-calm n c y action.Nothing logs h i e at = absurd (none-at i e (subst (λ (l : List Entry). At l i e) h at))
+logs-calm n c y action.Greets logs h i e at = absurd (none-at i e (subst (λ (l : List Entry). At l i e) h at))
+logs-calm n c y (action.Names p) logs h i e at = absurd (none-at i e (subst (λ (l : List Entry). At l i e) h at))
+logs-calm n c y (action.Opens ch) logs h i e at = absurd (none-at i e (subst (λ (l : List Entry). At l i e) h at))
+logs-calm n c y (action.Adds s) logs h i e at = absurd (none-at i e (subst (λ (l : List Entry). At l i e) h at))
+logs-calm n c y (action.Drops k) logs h i e at = absurd (none-at i e (subst (λ (l : List Entry). At l i e) h at))
+logs-calm n c y (action.Switches b) logs h i e at = absurd (none-at i e (subst (λ (l : List Entry). At l i e) h at))
+
+-- A step does not log an entry of a write that is not calm.
+never-logged : (x : Entry) → (Calm x → ⊥) → ((m l : ℕ) → x ≡ Withdrawn m l → ⊥) → UnsafeAsDue (logs_put x)
+never-logged x loud other s =
+    let p = its-own (AnswersOwn (IsDue ports rules) Shows Means) (answered ∷ []) put_lines (logged_put x) s.own.0 0 answered refl refl refl in
+    let a = p.answered 1 (step 1 1 2) refl in
+    elim (At-or a.logs 0) [
+      | inl one ↦
+          let here : At (logged_put x) 1 one.0 = a.logged 0 one.0 one.1 in
+          loud (subst Calm (sym (some_is x one.0 here)) (logs-calm 0 (before answered 1 (step 1 1 2)) (take 1 (logged_put x)) a.due.1 a.logs a.due.5 0 one.0 one.1))
+      | inr none ↦ (let w = a.besides 1 x (omega (arith, none)) (omega arith) refl in other w.0 w.1 w.2)
+    ]
+
+pub never-alarmed : UnsafeAsDue (logs_put (Applied 0 1 0 alarmed false))
+never-alarmed = never-logged (Applied 0 1 0 alarmed false) (λ e. omega (arith, e)) (λ m l e. cc)
+
+pub never-waits-alarmed : UnsafeAsDue (logs_put (Waits 0 1 0 alarmed))
+never-waits-alarmed = never-logged (Waits 0 1 0 alarmed) (λ e. omega (arith, e)) (λ m l e. cc)

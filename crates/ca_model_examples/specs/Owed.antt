@@ -6,7 +6,8 @@ use Rattle.ca_dbr.specs.declared.value.Outcome.TheVariants as outcome
 use Rattle.ca_dbr.specs.Elements.{longs}
 use Rattle.ca_wire.specs.Fields.{Fields}
 use Rattle.ca_wire.specs.Messages.{bare, error_reply, failed_reply, put_request, status_reply}
-use Rattle.ca_model.specs.Speech.{Is}
+use Rattle.ca_model.specs.Speech.{Is, Stored}
+use Rattle.ca_records.specs.Record.{unset}
 use Rattle.ca_model.specs.Updates.{Shows}
 use Rattle.ca_model.specs.History.{Clear, Create, Request, Subscribe, Read, Put, Write, On, Sent, Told, Step, Circuit, Entry, Added, Applied, Finished, Waits, Withdrawn, Line, Called, Noticed, Opened, World}
 use Rattle.ca_model.specs.Headline.{Safe}
@@ -109,6 +110,19 @@ unanswered = live_circuit (putting 0 8 22 ∷ []) [] (step 1 1 2 ∷ [])
 
 abbrev pub unanswered_put : World
 unanswered_put = world (unanswered ∷ []) put_lines finished_entries
+
+-- ---- a write with an alarm
+
+-- 22, as an alarm of severity 3
+abbrev pub alarmed : Stored
+alarmed = record { value = (long 22).value; meta = record unset { severity = 3 } }
+
+-- A put is logged so in its step, at once or to wait.
+abbrev pub logged_put : Entry → List Entry
+logged_put e = Added 0 temp ∷ e ∷ []
+
+abbrev pub logs_put : Entry → World
+logs_put e = world (answered ∷ []) put_lines (logged_put e)
 
 -- ---- a creation that is refused for nothing
 

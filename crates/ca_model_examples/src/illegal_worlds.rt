@@ -39,17 +39,21 @@ pub fn what_a_server_may_send()
     ensures sid_shared { SendsWrong Sids (sent_in (both_created 5)) }
     ensures update { Legal (sent_in (update_out (step 0 0 0 ∷ step 1 0 0 ∷ []))) }
     ensures update_too_soon { SendsWrong Updates (sent_in (update_out (step 0 0 0 ∷ []))) }
-    ensures confirmation { Legal (sent_in (confirm_out (step 0 0 0 ∷ step 1 0 0 ∷ step 1 0 0 ∷ []))) }
-    ensures confirmation_too_soon { SendsWrong Confirmations (sent_in (confirm_out (step 0 0 0 ∷ step 1 0 0 ∷ []))) }
+    ensures confirmation { Legal
+        (sent_in (confirm_out (step 0 0 0 ∷ step 1 0 0 ∷ step 1 0 0 ∷ []))) }
+    ensures confirmation_too_soon { SendsWrong Confirmations
+        (sent_in (confirm_out (step 0 0 0 ∷ step 1 0 0 ∷ []))) }
     ensures gone { Legal (sent_in (told_so (created_told ∷ disconnected ∷ []))) }
     ensures gone_uncreated { SendsWrong Disconnects (sent_in (told_so (disconnected ∷ []))) }
-    ensures gone_twice { SendsWrong Disconnects (sent_in (told_so (created_told ∷ disconnected ∷ disconnected ∷ []))) }
+    ensures gone_twice { SendsWrong Disconnects
+        (sent_in (told_so (created_told ∷ disconnected ∷ disconnected ∷ []))) }
 {}
 
 /// A channel whose record is removed has its SERVER_DISCONN, unless its server's end closed.
 pub fn what_must_be_sent()
     ensures closed { Legal (world (told_closed (created_told ∷ []) ∷ []) opened temp_removed) }
-    ensures untold { SendsWrong ToldRemoved (world (told_so (created_told ∷ []) ∷ []) opened temp_removed) }
+    ensures untold { SendsWrong ToldRemoved
+        (world (told_so (created_told ∷ []) ∷ []) opened temp_removed) }
 {}
 
 /// A subscription that was called has an EVENT_ADD, one for each creation of its channel after
@@ -59,8 +63,10 @@ pub fn a_subscription_has_one_event_add()
     ensures one_twice { SendsWrong Apart (sent_in (goes_out (adding 0 9 ∷ adding 0 10 ∷ []))) }
     ensures called { Legal (subscribed_in (called_at 1 (adding 1 9 ∷ []))) }
     ensures unsent { SendsWrong HasAdd (subscribed_in (called_at 1 [])) }
-    ensures cancelled_later { Legal (world (called_at 2 (adding 1 9 ∷ []) ∷ []) cancel_called temp_there) }
-    ensures cancelled_before { SendsWrong Ended (world (called_at 3 (adding 1 9 ∷ []) ∷ []) cancel_called temp_there) }
+    ensures cancelled_later { Legal
+        (world (called_at 2 (adding 1 9 ∷ []) ∷ []) cancel_called temp_there) }
+    ensures cancelled_before { SendsWrong Ended
+        (world (called_at 3 (adding 1 9 ∷ []) ∷ []) cancel_called temp_there) }
     ensures again { Legal (subscribed_in (live_again (added_again ∷ []))) }
     ensures not_again { SendsWrong Anew (subscribed_in (live_again [])) }
 {}

@@ -1,5 +1,7 @@
+ghost use Rattle.std.specs.Prelude.{false};
+ghost use Rattle.ca_model.specs.History.{Applied, Waits};
 ghost use Rattle.ca_model_examples.specs.Worlds.{Unsafe};
-ghost use Rattle.ca_model_examples.specs.Owed.{UnsafeAsDue, UnsafeBesides, UnsafeSlow, UnsafeUnlogged, UnsafeUnsent, answered_cleared, answered_otherwise, answered_unfinished, answered_withdrawn, foreign_refusal, lost_for_nothing, refused_creation, unanswered_put};
+ghost use Rattle.ca_model_examples.specs.Owed.{alarmed, logs_put, UnsafeAsDue, UnsafeBesides, UnsafeSlow, UnsafeUnlogged, UnsafeUnsent, answered_cleared, answered_otherwise, answered_unfinished, answered_withdrawn, foreign_refusal, lost_for_nothing, refused_creation, unanswered_put};
 
 /// The reply that is due for a message is sent and its entry logged, and its step logs no other.
 pub fn what_is_not_as_due_is_unsafe()
@@ -30,4 +32,10 @@ pub fn an_unsaid_notice_is_unsafe()
 /// given.
 pub fn a_creation_refused_for_nothing_is_unsafe()
     ensures { UnsafeAsDue refused_creation }
+{}
+
+/// No write is logged with an alarm in its own step, at once or to wait.
+pub fn a_write_with_an_alarm_is_unsafe()
+    ensures made { UnsafeAsDue (logs_put (Applied 0 1 0 alarmed false)) }
+    ensures waits { UnsafeAsDue (logs_put (Waits 0 1 0 alarmed)) }
 {}

@@ -9,8 +9,8 @@ ghost use Rattle.ca_model_examples.specs.Worlds.{AnyDue, reading, reply, step, t
 ghost use Rattle.ca_model_examples.specs.Parts.{BreaksOnly, Holds, IsSafeNow, Part, Acts, Answered, AppliedOnce, Asked, AtOne, Caused, CompletedOnce, DisconnectedOnce, Done, Dropped, Failed, Finished, HandledEach, HandledRise, HandledWithin, HeardEach, HeardRise, HeardWithin, Live, Lost, Matches, Newest, OneAtOnce, OneCall, OneName, OneRecord, Own, OwnWrite, Refused, Retired, Rising, SeesInOrder, SeesOwn, SentOnce, ShowsPost, Told, WasThere};
 ghost use Rattle.ca_model_examples.specs.Unsafe.{cancelled, added_again, both_updated, called_again, closing, created, created_closed, disconnected, dropped, echo, echoed, echoes, fails, finished, gone, live, lost, made_23, made_gone, made_once, made_twice, misasked, no_channel, of_created, opened, other_name, posted, put_called, put_closing, put_made, put_read, put_told, read_at, read_called, read_lost, removed_again, rights_for, saw, silent, status_of, subscribed, subscriber, temp_removed, temp_there, two_of_a_name, unhandled, unread, uncreated_read, updated, value_21};
 
-/// The parts are those of what is safe, and no more. That the server takes a step for a message that
-/// came alone is in `Answered` already, so no history breaks it alone.
+/// The parts are those of what is safe, and no more. That the server takes a step only for a
+/// message that came is in `Answered` already, so no history breaks it alone.
 pub fn the_parts_are_the_whole()
     ensures whole { (w : World) → ((p : Part) → Holds AnyDue p w) → IsSafeNow w }
     ensures parts { (w : World) → IsSafeNow w → (p : Part) → Holds AnyDue p w }
@@ -61,7 +61,8 @@ pub fn a_put_ends_once()
     ensures dropped { IsSafeNow (put_closing dropped) }
     ensures dropped_for_nothing { BreaksOnly Dropped (world (unhandled ∷ []) put_called dropped) }
     ensures finished { IsSafeNow (put_closing (finished true [])) }
-    ensures finished_twice { BreaksOnly Finished (put_closing (finished true (history.Finished 0 0 ∷ []))) }
+    ensures finished_twice { BreaksOnly Finished
+        (put_closing (finished true (history.Finished 0 0 ∷ []))) }
     ensures finished_unbusy { BreaksOnly Finished (put_closing (finished false [])) }
 {}
 
@@ -69,42 +70,60 @@ pub fn a_put_ends_once()
 pub fn an_echo_is_answered_in_its_step()
     ensures answered { IsSafeNow (echoes (echo ∷ []) (echoed 0 ∷ []) (step 0 0 0 ∷ []) []) }
     ensures invented { BreaksOnly Caused (echoes (echo ∷ []) (echoed 0 ∷ []) [] []) }
-    ensures both { IsSafeNow (echoes (echo ∷ echo ∷ []) (echoed 0 ∷ echoed 1 ∷ []) (step 0 0 0 ∷ step 1 0 0 ∷ []) []) }
-    ensures out_of_step { BreaksOnly Answered (echoes (echo ∷ echo ∷ []) (echoed 0 ∷ echoed 1 ∷ []) (step 0 0 0 ∷ step 0 0 0 ∷ []) []) }
+    ensures both { IsSafeNow
+        (echoes (echo ∷ echo ∷ []) (echoed 0 ∷ echoed 1 ∷ []) (step 0 0 0 ∷ step 1 0 0 ∷ []) []) }
+    ensures out_of_step { BreaksOnly Answered
+        (echoes (echo ∷ echo ∷ []) (echoed 0 ∷ echoed 1 ∷ []) (step 0 0 0 ∷ step 0 0 0 ∷ []) []) }
 {}
 
 /// An end takes a step for a message that came, after what it sent and logged in the steps
 /// before.
 pub fn steps_are_in_order()
     ensures handled { IsSafeNow (echoes (echo ∷ []) [] (step 0 0 0 ∷ []) []) }
-    ensures handled_after_unsent { BreaksOnly HandledWithin (echoes (echo ∷ []) [] (step 1 0 0 ∷ []) []) }
+    ensures handled_after_unsent { BreaksOnly HandledWithin
+        (echoes (echo ∷ []) [] (step 1 0 0 ∷ []) []) }
     ensures logged { IsSafeNow (echoes (echo ∷ echo ∷ []) [] (step 0 0 1 ∷ step 0 1 1 ∷ []) []) }
-    ensures logged_by_two { BreaksOnly HandledRise (echoes (echo ∷ echo ∷ []) [] (step 0 0 1 ∷ step 0 0 1 ∷ []) []) }
-    ensures heard { IsSafeNow (echoes (echo ∷ []) (echoed 0 ∷ []) (step 0 0 0 ∷ []) (step 1 0 0 ∷ [])) }
-    ensures heard_unsent { BreaksOnly HeardEach (echoes (echo ∷ []) (echoed 0 ∷ []) (step 0 0 0 ∷ []) (step 1 0 0 ∷ step 1 0 0 ∷ [])) }
-    ensures heard_after_unsent { BreaksOnly HeardWithin (echoes (echo ∷ []) (echoed 0 ∷ []) (step 0 0 0 ∷ []) (step 2 0 0 ∷ [])) }
-    ensures both_heard { IsSafeNow (echoes (echo ∷ echo ∷ []) (echoed 0 ∷ echoed 1 ∷ []) (step 0 0 0 ∷ step 1 0 0 ∷ []) (step 2 0 0 ∷ step 2 0 0 ∷ [])) }
-    ensures heard_back { BreaksOnly HeardRise (echoes (echo ∷ echo ∷ []) (echoed 0 ∷ echoed 1 ∷ []) (step 0 0 0 ∷ step 1 0 0 ∷ []) (step 2 0 0 ∷ step 1 0 0 ∷ [])) }
+    ensures logged_by_two { BreaksOnly HandledRise
+        (echoes (echo ∷ echo ∷ []) [] (step 0 0 1 ∷ step 0 0 1 ∷ []) []) }
+    ensures heard { IsSafeNow
+        (echoes (echo ∷ []) (echoed 0 ∷ []) (step 0 0 0 ∷ []) (step 1 0 0 ∷ [])) }
+    ensures heard_unsent { BreaksOnly HeardEach
+        (echoes (echo ∷ []) (echoed 0 ∷ []) (step 0 0 0 ∷ []) (step 1 0 0 ∷ step 1 0 0 ∷ [])) }
+    ensures heard_after_unsent { BreaksOnly HeardWithin
+        (echoes (echo ∷ []) (echoed 0 ∷ []) (step 0 0 0 ∷ []) (step 2 0 0 ∷ [])) }
+    ensures both_heard { IsSafeNow
+        (echoes (echo ∷ echo ∷ []) (echoed 0 ∷ echoed 1 ∷ []) (step 0 0 0 ∷ step 1 0 0 ∷ [])
+        (step 2 0 0 ∷ step 2 0 0 ∷ [])) }
+    ensures heard_back { BreaksOnly HeardRise
+        (echoes (echo ∷ echo ∷ []) (echoed 0 ∷ echoed 1 ∷ []) (step 0 0 0 ∷ step 1 0 0 ∷ [])
+        (step 2 0 0 ∷ step 1 0 0 ∷ [])) }
 {}
 
 /// A live channel's record is there, or its SERVER_DISCONN is unread; that has a cause, and is
 /// sent once.
 pub fn a_live_channel_has_its_record()
     ensures live { IsSafeNow (of_created (created [] (step 1 1 1 ∷ [])) [] temp_there) }
-    ensures live_on_nothing { BreaksOnly Live (of_created (created [] (step 1 1 1 ∷ [])) [] temp_removed) }
-    ensures live_after_gone { BreaksOnly Live (of_created (created (gone ∷ []) (step 1 1 1 ∷ step 1 1 1 ∷ [])) [] temp_removed) }
+    ensures live_on_nothing { BreaksOnly Live
+        (of_created (created [] (step 1 1 1 ∷ [])) [] temp_removed) }
+    ensures live_after_gone { BreaksOnly Live
+        (of_created (created (gone ∷ []) (step 1 1 1 ∷ step 1 1 1 ∷ [])) [] temp_removed) }
     ensures gone { IsSafeNow (of_created (created (gone ∷ []) []) [] temp_removed) }
-    ensures gone_for_nothing { BreaksOnly Caused (of_created (created (gone ∷ []) []) [] temp_there) }
-    ensures gone_twice { BreaksOnly DisconnectedOnce (of_created (created (gone ∷ gone ∷ []) []) [] temp_removed) }
+    ensures gone_for_nothing { BreaksOnly Caused
+        (of_created (created (gone ∷ []) []) [] temp_there) }
+    ensures gone_twice { BreaksOnly DisconnectedOnce
+        (of_created (created (gone ∷ gone ∷ []) []) [] temp_removed) }
 {}
 
 /// A channel is told live once its creation's reply was read, and lost once it was live;
 /// ACCESS_RIGHTS have its own CID.
 pub fn a_notice_is_of_its_own_message()
-    ensures live { IsSafeNow (of_created (created_closed (step 1 1 2 ∷ [])) (live ∷ []) temp_there) }
+    ensures live { IsSafeNow
+        (of_created (created_closed (step 1 1 2 ∷ [])) (live ∷ []) temp_there) }
     ensures unread { BreaksOnly Told (of_created (created_closed []) (live ∷ []) temp_there) }
-    ensures lost { IsSafeNow (of_created (created_closed (step 1 1 2 ∷ [])) (live ∷ lost ∷ []) temp_there) }
-    ensures lost_before_live { BreaksOnly Lost (of_created (created_closed (step 1 1 2 ∷ [])) (lost ∷ []) temp_there) }
+    ensures lost { IsSafeNow
+        (of_created (created_closed (step 1 1 2 ∷ [])) (live ∷ lost ∷ []) temp_there) }
+    ensures lost_before_live { BreaksOnly Lost
+        (of_created (created_closed (step 1 1 2 ∷ [])) (lost ∷ []) temp_there) }
     ensures rights { IsSafeNow (of_created (rights_for 1) [] temp_there) }
     ensures rights_of_another { BreaksOnly Own (of_created (rights_for 2) [] temp_there) }
 {}
@@ -113,30 +132,41 @@ pub fn a_notice_is_of_its_own_message()
 /// removed, and only then.
 pub fn a_read_is_of_the_record_that_its_channel_names()
     ensures answered { IsSafeNow (of_created (read_at 1 value_21) [] temp_removed) }
-    ensures of_another { BreaksOnly Acts (world (read_at 1 value_21 ∷ []) (Opened 0 other_name ∷ []) temp_removed) }
+    ensures of_another { BreaksOnly Acts
+        (world (read_at 1 value_21 ∷ []) (Opened 0 other_name ∷ []) temp_removed) }
     ensures uncreated { BreaksOnly Acts (of_created uncreated_read [] temp_there) }
     ensures refused { IsSafeNow (of_created (read_at 2 no_channel) [] temp_removed) }
-    ensures refused_too_soon { BreaksOnly Retired (of_created (read_at 1 no_channel) [] temp_removed) }
+    ensures refused_too_soon { BreaksOnly Retired
+        (of_created (read_at 1 no_channel) [] temp_removed) }
     ensures not_refused { BreaksOnly Refused (of_created (read_at 2 value_21) [] temp_removed) }
 {}
 
 /// A put that is told Done was made; one that is told Failed was not.
 pub fn a_put_is_told_as_it_went()
-    ensures done { IsSafeNow (world (put_read (status_of normal) 2 ∷ []) (put_told outcome.Done) put_made) }
-    ensures failed { IsSafeNow (world (put_read (status_of 160) 1 ∷ []) (put_told fails) temp_there) }
-    ensures done_unmade { BreaksOnly Done (world (put_read (status_of normal) 1 ∷ []) (put_told outcome.Done) temp_there) }
-    ensures failed_made { BreaksOnly Failed (world (put_read (status_of 160) 2 ∷ []) (put_told fails) put_made) }
+    ensures done { IsSafeNow
+        (world (put_read (status_of normal) 2 ∷ []) (put_told outcome.Done) put_made) }
+    ensures failed { IsSafeNow
+        (world (put_read (status_of 160) 1 ∷ []) (put_told fails) temp_there) }
+    ensures done_unmade { BreaksOnly Done
+        (world (put_read (status_of normal) 1 ∷ []) (put_told outcome.Done) temp_there) }
+    ensures failed_made { BreaksOnly Failed
+        (world (put_read (status_of 160) 2 ∷ []) (put_told fails) put_made) }
 {}
 
 /// The updates of an EVENT_ADD rise, are of posts that there are, show them, and have the newest.
 /// One that a reply refused has none.
 pub fn updates_follow_their_record()
     ensures followed { IsSafeNow (of_created (subscribed (updated 0 21 ∷ []) []) [] temp_there) }
-    ensures repeated { BreaksOnly Rising (of_created (subscribed (updated 0 21 ∷ updated 0 21 ∷ []) []) [] temp_there) }
-    ensures of_no_post { BreaksOnly Matches (of_created (subscribed (updated 0 21 ∷ []) ((1, Update 1) ∷ [])) [] temp_there) }
-    ensures another_value { BreaksOnly ShowsPost (of_created (subscribed (updated 0 22 ∷ []) []) [] temp_there) }
+    ensures repeated { BreaksOnly Rising
+        (of_created (subscribed (updated 0 21 ∷ updated 0 21 ∷ []) []) [] temp_there) }
+    ensures of_no_post { BreaksOnly Matches
+        (of_created (subscribed (updated 0 21 ∷ []) ((1, Update 1) ∷ [])) [] temp_there) }
+    ensures another_value { BreaksOnly ShowsPost
+        (of_created (subscribed (updated 0 22 ∷ []) []) [] temp_there) }
     ensures none { BreaksOnly Newest (of_created (subscribed [] []) [] temp_there) }
-    ensures refused { BreaksOnly Caused (of_created (subscribed (reply 1 (updated 0 21).message ∷ updated 0 21 ∷ []) []) [] temp_there) }
+    ensures refused { BreaksOnly Caused
+        (of_created (subscribed (reply 1 (updated 0 21).message ∷ updated 0 21 ∷ []) []) []
+        temp_there) }
     ensures cancelled { IsSafeNow (of_created (cancelled 9) [] temp_there) }
     ensures confirmed_another { BreaksOnly Own (of_created (cancelled 8) [] temp_there) }
 {}
@@ -144,8 +174,14 @@ pub fn updates_follow_their_record()
 /// An update that is told was read, and the one before it was told. The outcomes are those of the
 /// updates.
 pub fn a_subscriber_sees_each_update()
-    ensures seen { (o : Outcome) → Means (updated 0 21).message o → IsSafeNow (of_created (subscriber (updated 0 21 ∷ []) (step 1 1 1 ∷ step 2 1 2 ∷ [])) (saw o ∷ []) temp_there) }
-    ensures unread { (o : Outcome) → BreaksOnly SeesOwn (of_created (subscriber (updated 0 21 ∷ []) (step 1 1 1 ∷ [])) (saw o ∷ []) temp_there) }
-    ensures all_seen { (o p : Outcome) → Means (updated 0 21).message o → Means (updated 1 22).message p → IsSafeNow (of_created both_updated (saw o ∷ saw p ∷ []) posted) }
-    ensures passed_over { (p : Outcome) → Means (updated 1 22).message p → BreaksOnly SeesInOrder (of_created both_updated (GaveUp 0 None ∷ saw p ∷ []) posted) }
+    ensures seen { (o : Outcome) → Means (updated 0 21).message o → IsSafeNow
+        (of_created (subscriber (updated 0 21 ∷ []) (step 1 1 1 ∷ step 2 1 2 ∷ [])) (saw o ∷ [])
+        temp_there) }
+    ensures unread { (o : Outcome) → BreaksOnly SeesOwn
+        (of_created (subscriber (updated 0 21 ∷ []) (step 1 1 1 ∷ [])) (saw o ∷ []) temp_there) }
+    ensures all_seen { (o p : Outcome) → Means (updated 0 21).message o
+        → Means (updated 1 22).message p → IsSafeNow
+        (of_created both_updated (saw o ∷ saw p ∷ []) posted) }
+    ensures passed_over { (p : Outcome) → Means (updated 1 22).message p → BreaksOnly SeesInOrder
+        (of_created both_updated (GaveUp 0 None ∷ saw p ∷ []) posted) }
 {}
