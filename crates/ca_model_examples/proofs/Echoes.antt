@@ -56,6 +56,15 @@ heard-after-unsent-rest p ne = quiet AnyDue p (at (echo ∷ []) (echoed 0 ∷ []
 pub heard-after-unsent : BreaksOnly part.HeardWithin (echoes (echo ∷ []) (echoed 0 ∷ []) (step 0 0 0 ∷ []) (step 2 0 0 ∷ []))
 heard-after-unsent = (heard-after-unsent-rest, λ h. (let a = (its-part part.HeardWithin (at (echo ∷ []) (echoed 0 ∷ []) (step 0 0 0 ∷ []) (step 2 0 0 ∷ [])) [] temp_there refl refl h.0 0 (step 2 0 0) refl).0 in omega (arith, a)))
 
+heard-backwards-rest : (p : Part) → (p ≡ part.HeardWithin → ⊥) → Holds AnyDue p (echoes (echo ∷ []) (echoed 0 ∷ []) (step 0 0 0 ∷ []) (step 1 1 0 ∷ []))
+heard-backwards-rest part.HeardWithin ne = absurd (ne refl)
+heard-backwards-rest part.Caused ne = caused-each (at (echo ∷ []) (echoed 0 ∷ []) (step 0 0 0 ∷ []) (step 1 1 0 ∷ [])) [] temp_there refl refl ((tt, (step 0 0 0, refl, omega arith)), tt)
+heard-backwards-rest part.Answered ne = answered-each (at (echo ∷ []) (echoed 0 ∷ []) (step 0 0 0 ∷ []) (step 1 1 0 ∷ [])) [] temp_there refl refl ((answered-by _ temp_there 0 (step 0 0 0) echo ((echoed 0).message ∷ []) [] refl (refl, tt) tt refl ((λ p e. omega arith), tt) ((λ l. absurd (omega (arith, l))), tt)), tt)
+heard-backwards-rest p ne = quiet AnyDue p (at (echo ∷ []) (echoed 0 ∷ []) (step 0 0 0 ∷ []) (step 1 1 0 ∷ [])) [] temp_there refl refl refl refl refl
+
+pub heard-backwards : BreaksOnly part.HeardWithin (echoes (echo ∷ []) (echoed 0 ∷ []) (step 0 0 0 ∷ []) (step 1 1 0 ∷ []))
+heard-backwards = (heard-backwards-rest, λ h. (let a = (its-part part.HeardWithin (at (echo ∷ []) (echoed 0 ∷ []) (step 0 0 0 ∷ []) (step 1 1 0 ∷ [])) [] temp_there refl refl h.0 0 (step 1 1 0) refl).1 in omega (arith, a)))
+
 unanswered-safe-each : (p : Part) → Holds AnyDue p (echoes (echo ∷ []) [] (step 0 0 0 ∷ []) [])
 unanswered-safe-each part.Answered = answered-each (at (echo ∷ []) [] (step 0 0 0 ∷ []) []) [] temp_there refl refl ((answered-by _ temp_there 0 (step 0 0 0) echo [] [] refl tt tt refl tt ((λ l. absurd (omega (arith, l))), tt)), tt)
 unanswered-safe-each p = quiet AnyDue p (at (echo ∷ []) [] (step 0 0 0 ∷ []) []) [] temp_there refl refl refl refl refl

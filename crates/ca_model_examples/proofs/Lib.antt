@@ -9,6 +9,7 @@ pub mod Echoes
 pub mod Opened
 pub mod Creations
 pub mod Uses
+pub mod Again
 pub mod Subscribed
 pub mod Cancelled
 pub mod Owed

@@ -6,7 +6,7 @@ use Rattle.ca_dbr.specs.declared.value.Outcome.{Outcome}
 use Rattle.ca_dbr.specs.declared.value.Outcome.TheVariants as outcome
 use Rattle.ca_wire.specs.Fields.{Fields}
 use Rattle.ca_dbr.specs.Elements.{longs}
-use Rattle.ca_wire.specs.Messages.{bare, cancel_reply, create_request, disconnect, event_cancel_request, put_request, rights_reply, status_reply, update, value_reply}
+use Rattle.ca_wire.specs.Messages.{bare, cancel_reply, create_request, created_reply, disconnect, event_cancel_request, put_request, rights_reply, status_reply, update, value_reply}
 use Rattle.ca_model.specs.History.{Cancel, Cause, Removal, Create, Posted, Request, Subscribe, Update, Updated, Read, Put, On, OfCircuit, Sent, Told, Step, Circuit, Entry, Added, Removed, Waits, Applied, Finished, Withdrawn, Line, Opened, Called, Noticed, World}
 use Rattle.ca_model_examples.specs.Worlds.{adding, circuit, created_told, creating, long, putting, reading, reply, step, temp, temp_name, wanted, world}
 
@@ -164,6 +164,22 @@ no_channel = status_reply (reading 0 7).message bad_channel
 -- A read is handled, and its channel's creation was not answered.
 abbrev pub uncreated_read : Circuit
 uncreated_read = circuit (creating ∷ reading 0 7 ∷ []) [] (step 0 1 1 ∷ step 0 1 1 ∷ []) []
+
+-- A SID is given to another channel, and a read of the first is handled.
+abbrev pub taken_over : Circuit
+taken_over =
+    circuit (creating ∷ record { message = create_request 2 other_name; intent = On 1 Create } ∷ reading 0 7 ∷ []) (created_told ∷ reply 1 (created_reply (create_request 2 other_name) 5 1 5) ∷ []) (
+    step 0 2 2 ∷ step 1 2 2 ∷ step 2 2 2 ∷ []
+    ) []
+
+abbrev pub both_opened : List Line
+both_opened = Opened 0 temp_name ∷ Opened 1 other_name ∷ []
+
+abbrev pub both_there : List Entry
+both_there = Added 0 temp ∷ Added 1 (record temp { name = other_name }) ∷ []
+
+abbrev pub sid_given_again : World
+sid_given_again = world (taken_over ∷ []) both_opened both_there
 
 -- A put is called and handled; its reply is read, and its caller is told this.
 abbrev pub put_read : Fields → ℕ → Circuit

@@ -7,7 +7,7 @@ ghost use Rattle.ca_model.specs.History.{GaveUp, Opened, Update, World};
 ghost use Rattle.ca_model.specs.History as history;
 ghost use Rattle.ca_model_examples.specs.Worlds.{AnyDue, reading, reply, step, temp_name, world};
 ghost use Rattle.ca_model_examples.specs.Parts.{BreaksOnly, Holds, IsSafeNow, Part, Acts, Answered, AppliedOnce, Asked, AtOne, Caused, CompletedOnce, DisconnectedOnce, Done, Dropped, Failed, Finished, HandledEach, HandledRise, HandledWithin, HeardEach, HeardRise, HeardWithin, Live, Lost, Matches, Newest, OneAtOnce, OneCall, OneName, OneRecord, Own, OwnWrite, Refused, Retired, Rising, SeesInOrder, SeesOwn, SentOnce, ShowsPost, Told, WasThere};
-ghost use Rattle.ca_model_examples.specs.Unsafe.{cancelled, added_again, both_updated, called_again, closing, created, created_closed, disconnected, dropped, echo, echoed, echoes, fails, finished, gone, live, lost, made_23, made_gone, made_once, made_twice, misasked, no_channel, of_created, opened, other_name, posted, put_called, put_closing, put_made, put_read, put_told, read_at, read_called, read_lost, removed_again, rights_for, saw, silent, status_of, subscribed, subscriber, temp_removed, temp_there, two_of_a_name, unhandled, unread, uncreated_read, updated, value_21};
+ghost use Rattle.ca_model_examples.specs.Unsafe.{sid_given_again, cancelled, added_again, both_updated, called_again, closing, created, created_closed, disconnected, dropped, echo, echoed, echoes, fails, finished, gone, live, lost, made_23, made_gone, made_once, made_twice, misasked, no_channel, of_created, opened, other_name, posted, put_called, put_closing, put_made, put_read, put_told, read_at, read_called, read_lost, removed_again, rights_for, saw, silent, status_of, subscribed, subscriber, temp_removed, temp_there, two_of_a_name, unhandled, unread, uncreated_read, updated, value_21};
 
 /// The parts are those of what is safe, and no more. That the server takes a step only for a
 /// message that came is in `Answered` already, so no history breaks it alone.
@@ -91,6 +91,8 @@ pub fn steps_are_in_order()
         (echoes (echo ∷ []) (echoed 0 ∷ []) (step 0 0 0 ∷ []) (step 1 0 0 ∷ step 1 0 0 ∷ [])) }
     ensures heard_after_unsent { BreaksOnly HeardWithin
         (echoes (echo ∷ []) (echoed 0 ∷ []) (step 0 0 0 ∷ []) (step 2 0 0 ∷ [])) }
+    ensures heard_backwards { BreaksOnly HeardWithin
+        (echoes (echo ∷ []) (echoed 0 ∷ []) (step 0 0 0 ∷ []) (step 1 1 0 ∷ [])) }
     ensures both_heard { IsSafeNow
         (echoes (echo ∷ echo ∷ []) (echoed 0 ∷ echoed 1 ∷ []) (step 0 0 0 ∷ step 1 0 0 ∷ [])
         (step 2 0 0 ∷ step 2 0 0 ∷ [])) }
@@ -135,6 +137,7 @@ pub fn a_read_is_of_the_record_that_its_channel_names()
     ensures of_another { BreaksOnly Acts
         (world (read_at 1 value_21 ∷ []) (Opened 0 other_name ∷ []) temp_removed) }
     ensures uncreated { BreaksOnly Acts (of_created uncreated_read [] temp_there) }
+    ensures sid_given_again { Holds AnyDue Acts sid_given_again → ⊥ }
     ensures refused { IsSafeNow (of_created (read_at 2 no_channel) [] temp_removed) }
     ensures refused_too_soon { BreaksOnly Retired
         (of_created (read_at 1 no_channel) [] temp_removed) }
