@@ -9,7 +9,6 @@ use Rattle.ca_model.specs.Client.{On}
 use Rattle.ca_model.specs.Client as phase
 use Rattle.ca_dbr.specs.declared.value.Outcome.{Outcome}
 use Rattle.ca_model_examples.proofs.Lists.{one-at}
-use Rattle.ca_dbr.specs.declared.value.Outcome.TheVariants as outcome
 use Rattle.ca_dbr.specs.Elements.{signed_bytes_4}
 use Rattle.ca_ids.specs.Table.{MayGive}
 use Rattle.ca_text.specs.Name.{IsName}

@@ -13,10 +13,11 @@ use Rattle.ca_model.specs.Channels.{Has, IsReply, before}
 use Rattle.ca_model.specs.Headline.{AnswersOwn}
 use Rattle.ca_model.specs.Known.{IsChannel, IsDue, IsRecordOf, Knew}
 use Rattle.ca_requests.specs.Meaning.{Means}
-use Rattle.ca_model_examples.specs.Unsafe.{UnsafeAsDue, creation_refused, refused_creation, temp_there}
+use Rattle.ca_model_examples.specs.Unsafe.{temp_there}
+use Rattle.ca_model_examples.specs.Owed.{UnsafeAsDue, creation_refused, refused_creation}
 use Rattle.ca_model_examples.specs.Worlds.{creating, ports, reply, rules, step, temp, temp_name}
 use Rattle.ca_model_examples.proofs.Lists.{none-at, one-at}
-use Rattle.ca_model_examples.proofs.Unsafe.{its-own}
+use Rattle.ca_model_examples.proofs.Owed.{its-own}
 
 -- the circuit as its server knew it
 abbrev known : Circuit

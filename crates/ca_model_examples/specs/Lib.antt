@@ -1,9 +1,10 @@
 pub mod Worlds
 pub mod Waited
+pub mod Parts
 pub mod Unsafe
-pub mod Broken
-pub mod Safe
 pub mod Owed
+pub mod Illegal
+pub mod Safe
 pub mod ServerRows
 pub mod DueReplies
 pub mod ServerWorld

@@ -1,16 +1,141 @@
 -- Vocabulary: small histories in which what is owed is not done, or what is done is not what is owed.
-use Rattle.std.specs.Prelude.{ℕ, ◌≡◌, false, List, [], ◌∷◌, Option}
-use Rattle.ca_dbr.specs.declared.value.Outcome.{Outcome}
+use Rattle.std.specs.Prelude.{ℕ, ◌≡◌, List, [], ◌∷◌, Option, Some, None, pos, true, false}
 use Rattle.ca_text.specs.declared.command.Command.TheVariants as command
+use Rattle.ca_text.specs.Status.{normal}
+use Rattle.ca_dbr.specs.declared.value.Outcome.TheVariants as outcome
+use Rattle.ca_dbr.specs.Elements.{longs}
 use Rattle.ca_wire.specs.Fields.{Fields}
-use Rattle.ca_wire.specs.Messages.{bare}
+use Rattle.ca_wire.specs.Messages.{bare, error_reply, failed_reply, put_request, status_reply}
+use Rattle.ca_model.specs.Speech.{Is, Stored}
+use Rattle.ca_records.specs.Record.{unset}
 use Rattle.ca_model.specs.Updates.{Shows}
-use Rattle.ca_model.specs.History.{Subscribe, On, Update, Circuit, Entry, Added, Applied, Finished, Removed, Line, Updated, World}
-use Rattle.ca_model.specs.Headline.{Safe, Sees}
+use Rattle.ca_model.specs.History.{Clear, Create, Request, Subscribe, Read, Put, Write, On, Sent, Told, Step, Circuit, Entry, Added, Applied, Finished, Waits, Withdrawn, Line, Called, Noticed, Opened, World}
+use Rattle.ca_model.specs.Headline.{Safe}
+use Rattle.ca_model.specs.Known.{IsSafe}
 use Rattle.ca_requests.specs.Meaning.{Means}
-use Rattle.ca_model_examples.specs.Safe.{AnyMeans}
-use Rattle.ca_model_examples.specs.Unsafe.{live_circuit, live_lines, put_lines, temp_there, unanswered}
-use Rattle.ca_model_examples.specs.Worlds.{AnyDue, adding, circuit, long, step, temp, world}
+use Rattle.ca_model_examples.specs.Unsafe.{temp_there}
+use Rattle.ca_model_examples.specs.Worlds.{circuit, clearing, created_told, creating, long, ports, put_told, putting, reading, reply, rules, step, temp, temp_name, wanted, world}
+
+-- A channel to TEMP was opened and became live.
+abbrev pub live_lines : List Line → List Line
+live_lines more = Opened 0 temp_name ∷ Noticed (On 0 Create) outcome.Done ∷ more
+
+-- the client sent this after its CREATE_CHAN, and the server this after its reply, which is read
+abbrev pub live_circuit : List Sent → List Told → List Step → Circuit
+live_circuit up down handled = circuit (creating ∷ up) (created_told ∷ down) (step 0 1 1 ∷ handled) (step 1 1 2 ∷ [])
+
+-- ---- notices
+
+-- A subscription was reported as ended, by the ERROR that refused a write.
+abbrev pub writing : Sent
+writing = record { message = put_request command.Write (wanted 0) (0 ∷ 0 ∷ 0 ∷ 22 ∷ []); intent = On 0 (Request Write 0) }
+
+abbrev pub refused_write : Circuit
+refused_write =
+    record (live_circuit (writing ∷ []) (reply 1 (error_reply 1 160 writing.message) ∷ []) (step 1 1 1 ∷ [])) { heard = step 1 1 2 ∷ step 2 2 3 ∷ [] }
+
+abbrev pub foreign_refusal : World
+foreign_refusal =
+    world (refused_write ∷ []) (live_lines (Noticed (On 0 (Subscribe 0)) (outcome.Failed (record { number = 160 })) ∷ [])) temp_there
+
+-- A read was reported as disconnected; its circuit and its channel are there, and no SERVER_DISCONN came.
+abbrev pub unanswered_read : Circuit
+unanswered_read = live_circuit (reading 0 7 ∷ []) [] []
+
+abbrev pub lost_lines : List Line
+lost_lines = live_lines (Called (On 0 (Request Read 0)) None ∷ Noticed (On 0 (Request Read 0)) outcome.Disconnected ∷ [])
+
+abbrev pub lost_for_nothing : World
+lost_for_nothing = world (unanswered_read ∷ []) lost_lines temp_there
+
+-- ---- replies to puts on a slow record
+
+-- For a put with notification nothing is due at once, and NORMAL once it is finished.
+abbrev pub SlowDue : ℕ → Circuit → List Entry → Fields → List Fields → Option Fields → List Entry → Type 0
+SlowDue n c y m replies late logs = Is command.WriteNotify m → (replies ≡ []) × (late ≡ Some (status_reply m normal))
+
+-- A world is unsafe if no put with notification is done at once.
+abbrev pub UnsafeSlow : World → Type 0
+UnsafeSlow w = Safe SlowDue Shows Means w → ⊥
+
+-- a put of TEMP was accepted
+abbrev pub put_lines : List Line
+put_lines = live_lines (Called (On 0 (Request Put 0)) (Some (longs (pos 22 ∷ []))) ∷ [])
+
+-- The put was handled, and its reply sent.
+abbrev pub answered : Circuit
+answered = live_circuit (putting 0 8 22 ∷ []) (put_told 1 8 22 ∷ []) (step 1 1 2 ∷ [])
+
+-- It was applied, and is not finished.
+abbrev pub unfinished_entries : List Entry
+unfinished_entries = Added 0 temp ∷ Applied 0 1 0 (long 22) true ∷ []
+
+abbrev pub answered_unfinished : World
+answered_unfinished = world (answered ∷ []) put_lines unfinished_entries
+
+-- It waited, and was withdrawn.
+abbrev pub withdrawn_entries : List Entry
+withdrawn_entries = Added 0 temp ∷ Waits 0 1 0 (long 22) ∷ Withdrawn 0 1 ∷ []
+
+abbrev pub answered_withdrawn : World
+answered_withdrawn = world (answered ∷ []) put_lines withdrawn_entries
+
+-- It was finished after its channel's CLEAR_CHANNEL was handled, and yet the reply came.
+abbrev pub finished_entries : List Entry
+finished_entries = Added 0 temp ∷ Applied 0 1 0 (long 22) true ∷ Finished 0 1 ∷ []
+
+abbrev pub cleared : Circuit
+cleared =
+    live_circuit (putting 0 8 22 ∷ clearing ∷ []) (reply 2 clearing.message ∷ put_told 1 8 22 ∷ []) (step 1 1 2 ∷ step 1 2 2 ∷ [])
+
+abbrev pub cleared_lines : List Line
+cleared_lines =
+    live_lines (
+    Called (On 0 (Request Put 0)) (Some (longs (pos 22 ∷ []))) ∷ Called (On 0 Clear) None ∷ Noticed (On 0 (Request Put 0)) outcome.Disconnected ∷ []
+    )
+
+abbrev pub answered_cleared : World
+answered_cleared = world (cleared ∷ []) cleared_lines finished_entries
+
+-- It was finished, and the reply has another status; the server's end closed then.
+abbrev pub otherwise : Circuit
+otherwise = record (live_circuit (putting 0 8 22 ∷ []) (reply 1 (status_reply (putting 0 8 22).message 160) ∷ []) (step 1 1 2 ∷ [])) { server_open = false }
+
+abbrev pub answered_otherwise : World
+answered_otherwise = world (otherwise ∷ []) put_lines finished_entries
+
+-- It was finished, and the reply did not come.
+abbrev pub unanswered : Circuit
+unanswered = live_circuit (putting 0 8 22 ∷ []) [] (step 1 1 2 ∷ [])
+
+abbrev pub unanswered_put : World
+unanswered_put = world (unanswered ∷ []) put_lines finished_entries
+
+-- ---- a write with an alarm
+
+-- 22, as an alarm of severity 3
+abbrev pub alarmed : Stored
+alarmed = record { value = (long 22).value; meta = record unset { severity = 3 } }
+
+-- A put is logged so in its step, at once or to wait.
+abbrev pub logged_put : Entry → List Entry
+logged_put e = Added 0 temp ∷ e ∷ []
+
+abbrev pub logs_put : Entry → World
+logs_put e = world (answered ∷ []) put_lines (logged_put e)
+
+-- ---- a creation that is refused for nothing
+
+-- TEMP was asked for and refused, and nothing else happened: a record has the name, the CID is free, and no SID is given.
+abbrev pub creation_refused : Circuit
+creation_refused = circuit (creating ∷ []) (reply 0 (failed_reply creating.message) ∷ []) (step 0 1 1 ∷ []) []
+
+abbrev pub refused_creation : World
+refused_creation = world (creation_refused ∷ []) (Opened 0 temp_name ∷ []) temp_there
+
+-- A world is unsafe by what was due in it.
+abbrev pub UnsafeAsDue : World → Type 0
+UnsafeAsDue w = IsSafe ports rules w → ⊥
 
 -- ---- what is due for a message
 
@@ -43,34 +168,3 @@ in_long_step =
 
 abbrev pub UnsafeBesides : Type 0
 UnsafeBesides = Safe NoneDue Shows Means in_long_step → ⊥
-
--- ---- writes
-
--- A put of 22 is applied as 23.
-abbrev pub applied_23 : List Entry
-applied_23 = Added 0 temp ∷ Applied 0 1 0 (long 23) false ∷ []
-
-abbrev pub other_value : World
-other_value = world (unanswered ∷ []) put_lines applied_23
-
--- A put is applied to a record that was removed.
-abbrev pub applied_removed : List Entry
-applied_removed = Added 0 temp ∷ Removed 0 ∷ Applied 0 1 0 (long 22) false ∷ []
-
-abbrev pub removed_record : World
-removed_record = world (unanswered ∷ []) put_lines applied_removed
-
--- ---- updates
-
--- Two updates of one EVENT_ADD were read, and the later one was told first.
-abbrev pub turned : Fields → Circuit
-turned m =
-    circuit (adding 0 9 ∷ []) (
-    record { message = m; place = 0; cause = Update 0 } ∷ record { message = m; place = 0; cause = Update 1 } ∷ []
-    ) (step 0 0 0 ∷ []) (step 1 1 2 ∷ step 1 0 1 ∷ [])
-
-abbrev pub turned_lines : Outcome → List Line
-turned_lines o = Updated (On 0 (Subscribe 0)) o ∷ Updated (On 0 (Subscribe 0)) o ∷ []
-
-abbrev pub SeesTurned : Fields → Outcome → Type 0
-SeesTurned m o = Sees AnyDue Shows AnyMeans (world (turned m ∷ []) (turned_lines o) []) 0 (turned_lines o)

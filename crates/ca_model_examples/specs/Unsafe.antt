@@ -1,219 +1,237 @@
--- Vocabulary: small histories that are unsafe, each by one part of the statement.
-use Rattle.std.specs.Prelude.{ℕ, ◌≡◌, List, [], ◌∷◌, Option, Some, None, pos, true, false}
+-- Vocabulary: small histories, of which each breaks one part of what is safe and no other, beside safe ones that differ in one place.
+use Rattle.std.specs.Prelude.{ℕ, Bool, true, false, pos, List, [], ◌∷◌, Some, None}
 use Rattle.ca_text.specs.declared.command.Command.TheVariants as command
-use Rattle.ca_text.specs.Status.{bad_channel, bad_type, normal}
+use Rattle.ca_text.specs.Status.{bad_channel, normal}
+use Rattle.ca_dbr.specs.declared.value.Outcome.{Outcome}
 use Rattle.ca_dbr.specs.declared.value.Outcome.TheVariants as outcome
-use Rattle.ca_dbr.specs.Elements.{longs}
 use Rattle.ca_wire.specs.Fields.{Fields}
-use Rattle.ca_wire.specs.Messages.{error_reply, failed_reply, put_request, status_reply, update, value_reply}
-use Rattle.ca_model.specs.Speech.{Is, Stored}
-use Rattle.ca_model.specs.Updates.{Shows}
-use Rattle.ca_model.specs.History.{Clear, Create, Request, Subscribe, Read, Put, Write, On, Update, Sent, Told, Step, Circuit, Entry, Added, Applied, Finished, Removed, Waits, Withdrawn, Line, Called, Noticed, Opened, World}
-use Rattle.ca_model.specs.Headline.{Follows, Safe}
-use Rattle.ca_model.specs.Known.{IsSafe}
-use Rattle.ca_requests.specs.Meaning.{Means}
-use Rattle.ca_model_examples.specs.Worlds.{AnyDue, adding, circuit, clearing, created_told, creating, disconnected, long, ports, put_told, putting, reading, reply, rules, step, temp, temp_name, wanted, world}
+use Rattle.ca_dbr.specs.Elements.{longs}
+use Rattle.ca_wire.specs.Messages.{bare, cancel_reply, create_request, created_reply, disconnect, event_cancel_request, put_request, rights_reply, status_reply, update, value_reply}
+use Rattle.ca_model.specs.History.{Cancel, Cause, Removal, Create, Posted, Request, Subscribe, Update, Updated, Read, Put, On, OfCircuit, Sent, Told, Step, Circuit, Entry, Added, Removed, Waits, Applied, Finished, Withdrawn, Line, Opened, Called, Noticed, World}
+use Rattle.ca_model_examples.specs.Worlds.{adding, circuit, created_told, creating, long, putting, reading, reply, step, temp, temp_name, wanted, world}
 
--- ---- logs
-
--- TEMP is there.
+-- TEMP is there, or was removed.
 abbrev pub temp_there : List Entry
 temp_there = Added 0 temp ∷ []
 
--- A channel to TEMP was opened and became live.
-abbrev pub live_lines : List Line → List Line
-live_lines more = Opened 0 temp_name ∷ Noticed (On 0 Create) outcome.Done ∷ more
+abbrev pub temp_removed : List Entry
+temp_removed = Added 0 temp ∷ Removed 0 ∷ []
 
--- the client sent this after its CREATE_CHAN, and the server this after its reply, which is read
-abbrev pub live_circuit : List Sent → List Told → List Step → Circuit
-live_circuit up down handled = circuit (creating ∷ up) (created_told ∷ down) (step 0 1 1 ∷ handled) (step 1 1 2 ∷ [])
+-- ---- names
 
--- a read of TEMP was accepted
-abbrev pub read_lines : List Line
-read_lines = live_lines (Called (On 0 (Request Read 0)) None ∷ [])
+-- A channel to TEMP was opened, and nothing was sent.
+abbrev pub silent : List Line → List Entry → World
+silent x y = world (circuit [] [] [] [] ∷ []) x y
 
--- the reply to that read with this value
-abbrev pub read_told : ℕ → Told
-read_told value = reply 1 (value_reply (reading 0 7).message 1 (0 ∷ 0 ∷ 0 ∷ value ∷ []))
+abbrev pub opened : List Line
+opened = Opened 0 temp_name ∷ []
 
--- ---- a message that does not act on the record of its channel
+-- ---- requests that are sent
 
--- A record was removed and another added under its name; a read on the old channel is answered with the new record's value, 22.
-abbrev pub from_new : Circuit
-from_new = live_circuit (reading 0 7 ∷ []) (disconnected ∷ read_told 22 ∷ []) (step 2 3 3 ∷ [])
+-- These messages went out, and none was read.
+abbrev pub unread : List Sent → List Line → World
+unread up x = world (circuit up [] [] [] ∷ []) x temp_there
 
-abbrev pub answered_from_new : World
-answered_from_new = world (from_new ∷ []) read_lines (Added 0 temp ∷ Removed 0 ∷ Added 1 temp ∷ [])
+-- A read was called.
+abbrev pub read_called : List Line
+read_called = Opened 0 temp_name ∷ Called (On 0 (Request Read 0)) None ∷ []
 
--- A read is answered by BADCHID, and nobody removed its record.
-abbrev pub for_nothing : Circuit
-for_nothing = live_circuit (reading 0 7 ∷ []) (reply 1 (status_reply (reading 0 7).message bad_channel) ∷ []) (step 1 1 1 ∷ [])
+-- a WRITE that was meant as that read
+abbrev pub misasked : Sent
+misasked = record { message = put_request command.Write (wanted 7) (0 ∷ 0 ∷ 0 ∷ 22 ∷ []); intent = On 0 (Request Read 0) }
 
-abbrev pub refused_for_nothing : World
-refused_for_nothing = world (for_nothing ∷ []) read_lines temp_there
+-- A read was sent, and the client's end closed; the read was told as disconnected so often.
+abbrev pub disconnected : List Line → World
+disconnected more = world (record (circuit (reading 0 7 ∷ []) [] [] []) { client_open = false } ∷ []) (Opened 0 temp_name ∷ Called (On 0 (Request Read 0)) None ∷ more) temp_there
 
--- ---- answers and notices that are not of their own request
+abbrev pub read_lost : Line
+read_lost = Noticed (On 0 (Request Read 0)) outcome.Disconnected
 
--- The read at place 1 was not handled, and yet a reply to it came.
-abbrev pub invented_answer : World
-invented_answer = world (live_circuit (reading 0 7 ∷ []) (read_told 99 ∷ []) [] ∷ []) read_lines temp_there
+-- ---- writes
 
--- the update of the EVENT_ADD at this place that carries the post of this number
-abbrev pub updated : (place item value : ℕ) → Told
-updated place item value = record { message = update 5 1 normal 9 (0 ∷ 0 ∷ 0 ∷ value ∷ []); place = place; cause = Update item }
+-- A put of 22 was called.
+abbrev pub put_called : List Line
+put_called = Opened 0 temp_name ∷ Called (On 0 (Request Put 0)) (Some (longs (pos 22 ∷ []))) ∷ []
 
--- a subscription to TEMP was accepted
-abbrev pub subscribed_lines : List Line
-subscribed_lines = live_lines (Called (On 0 (Subscribe 0)) None ∷ [])
+-- The server's end closed as it handled the put.
+abbrev pub closing : Circuit
+closing = record (circuit (putting 0 8 22 ∷ []) [] [] []) { server_open = false }
 
--- The EVENT_ADD was refused by an ERROR, and yet an update of it came.
-abbrev pub update_of_refused : World
-update_of_refused =
-    world (
-    live_circuit (adding 0 9 ∷ []) (reply 1 (error_reply 1 bad_type (adding 0 9).message) ∷ updated 1 0 21 ∷ []) (step 1 1 1 ∷ []) ∷ []
-    ) subscribed_lines temp_there
+-- or it is open, and did not handle it
+abbrev pub unhandled : Circuit
+unhandled = circuit (putting 0 8 22 ∷ []) [] [] []
 
--- An update came of an EVENT_ADD that was not handled.
-abbrev pub update_of_unhandled : World
-update_of_unhandled = world (live_circuit (adding 0 9 ∷ []) (updated 1 0 21 ∷ []) [] ∷ []) subscribed_lines temp_there
+-- the entries of the put
+abbrev pub made : Entry
+made = Applied 0 0 0 (long 22) false
 
--- A SERVER_DISCONN came, and nobody removed the record.
-abbrev pub gone_for_nothing : Circuit
-gone_for_nothing = live_circuit [] (disconnected ∷ []) []
+abbrev pub made_busy : Entry
+made_busy = Applied 0 0 0 (long 22) true
 
-abbrev pub disconnected_for_nothing : World
-disconnected_for_nothing = world (gone_for_nothing ∷ []) (live_lines []) temp_there
+abbrev pub put_closing : List Entry → World
+put_closing y = world (closing ∷ []) put_called y
 
--- A write was reported as refused, and no message said so.
-abbrev pub unsaid_refusal : World
-unsaid_refusal = world [] (Noticed (On 0 (Request Write 0)) (outcome.Failed (record { number = 160 })) ∷ []) []
+abbrev pub added_again : List Entry
+added_again = Added 0 temp ∷ Removed 0 ∷ Added 0 temp ∷ []
 
--- A channel was reported live, and it was never created.
-abbrev pub unsaid_creation : World
-unsaid_creation = world [] (live_lines []) []
+abbrev pub removed_again : List Entry
+removed_again = Added 0 temp ∷ Removed 0 ∷ Removed 0 ∷ []
 
--- A subscription was reported as ended, by the ERROR that refused a write.
-abbrev pub writing : Sent
-writing = record { message = put_request command.Write (wanted 0) (0 ∷ 0 ∷ 0 ∷ 22 ∷ []); intent = On 0 (Request Write 0) }
+abbrev pub two_of_a_name : List Entry
+two_of_a_name = Added 0 temp ∷ Added 1 temp ∷ []
 
-abbrev pub refused_write : Circuit
-refused_write =
-    record (live_circuit (writing ∷ []) (reply 1 (error_reply 1 160 writing.message) ∷ []) (step 1 1 1 ∷ [])) { heard = step 1 1 2 ∷ step 2 2 3 ∷ [] }
+abbrev pub called_again : List Line
+called_again = Opened 0 temp_name ∷ Called (On 0 (Request Read 0)) None ∷ Called (On 0 (Request Read 0)) None ∷ []
 
-abbrev pub foreign_refusal : World
-foreign_refusal =
-    world (refused_write ∷ []) (live_lines (Noticed (On 0 (Subscribe 0)) (outcome.Failed (record { number = 160 })) ∷ [])) temp_there
+abbrev pub made_once : List Entry
+made_once = Added 0 temp ∷ made ∷ []
 
--- A read was reported as disconnected; its circuit and its channel are there, and no SERVER_DISCONN came.
-abbrev pub unanswered_read : Circuit
-unanswered_read = live_circuit (reading 0 7 ∷ []) [] []
+abbrev pub made_twice : List Entry
+made_twice = Added 0 temp ∷ made ∷ made ∷ []
 
-abbrev pub lost_lines : List Line
-lost_lines = live_lines (Called (On 0 (Request Read 0)) None ∷ Noticed (On 0 (Request Read 0)) outcome.Disconnected ∷ [])
+abbrev pub made_23 : List Entry
+made_23 = Added 0 temp ∷ Applied 0 0 0 (long 23) false ∷ []
 
-abbrev pub lost_for_nothing : World
-lost_for_nothing = world (unanswered_read ∷ []) lost_lines temp_there
+abbrev pub made_gone : List Entry
+made_gone = Added 0 temp ∷ Removed 0 ∷ made ∷ []
 
--- A read was sent again on another circuit.
-abbrev pub read_twice : World
-read_twice =
-    world (circuit (creating ∷ reading 0 7 ∷ []) [] [] [] ∷ circuit (creating ∷ reading 0 7 ∷ []) [] [] [] ∷ []) (Opened 0 temp_name ∷ []) []
+abbrev pub dropped : List Entry
+dropped = Added 0 temp ∷ Waits 0 0 0 (long 22) ∷ Withdrawn 0 0 ∷ []
 
--- ---- replies to puts on a slow record
+abbrev pub finished : Bool → List Entry → List Entry
+finished busies more = Added 0 temp ∷ Applied 0 0 0 (long 22) busies ∷ Finished 0 0 ∷ more
 
--- For a put with notification nothing is due at once, and NORMAL once it is finished.
-abbrev pub SlowDue : ℕ → Circuit → List Entry → Fields → List Fields → Option Fields → List Entry → Type 0
-SlowDue n c y m replies late logs = Is command.WriteNotify m → (replies ≡ []) × (late ≡ Some (status_reply m normal))
+-- ---- answers
 
--- A world is unsafe if no put with notification is done at once.
-abbrev pub UnsafeSlow : World → Type 0
-UnsafeSlow w = Safe SlowDue Shows Means w → ⊥
+-- an ECHO, and its reply
+abbrev pub echo : Sent
+echo = record { message = bare command.Echo; intent = OfCircuit }
 
--- a put of TEMP was accepted
-abbrev pub put_lines : List Line
-put_lines = live_lines (Called (On 0 (Request Put 0)) (Some (longs (pos 22 ∷ []))) ∷ [])
+abbrev pub echoed : ℕ → Told
+echoed place = reply place (bare command.Echo)
 
--- The put was handled, and its reply sent.
-abbrev pub answered : Circuit
-answered = live_circuit (putting 0 8 22 ∷ []) (put_told 1 8 22 ∷ []) (step 1 1 2 ∷ [])
+abbrev pub echoes : List Sent → List Told → List Step → List Step → World
+echoes up down handled heard = world (circuit up down handled heard ∷ []) [] temp_there
 
--- It was applied, and is not finished.
-abbrev pub unfinished_entries : List Entry
-unfinished_entries = Added 0 temp ∷ Applied 0 1 0 (long 22) true ∷ []
+-- ---- a channel that is created
 
-abbrev pub answered_unfinished : World
-answered_unfinished = world (answered ∷ []) put_lines unfinished_entries
+-- The creation was handled, and these messages followed its reply.
+abbrev pub created : List Told → List Step → Circuit
+created down heard = circuit (creating ∷ []) (created_told ∷ down) (step 0 1 1 ∷ []) heard
 
--- It waited, and was withdrawn.
-abbrev pub withdrawn_entries : List Entry
-withdrawn_entries = Added 0 temp ∷ Waits 0 1 0 (long 22) ∷ Withdrawn 0 1 ∷ []
+-- the same, and the client's end closed
+abbrev pub created_closed : List Step → Circuit
+created_closed heard = record (created [] heard) { client_open = false }
 
-abbrev pub answered_withdrawn : World
-answered_withdrawn = world (answered ∷ []) put_lines withdrawn_entries
+abbrev pub of_created : Circuit → List Line → List Entry → World
+of_created c x y = world (c ∷ []) (Opened 0 temp_name ∷ x) y
 
--- It was finished after its channel's CLEAR_CHANNEL was handled, and yet the reply came.
-abbrev pub finished_entries : List Entry
-finished_entries = Added 0 temp ∷ Applied 0 1 0 (long 22) true ∷ Finished 0 1 ∷ []
+abbrev pub live : Line
+live = Noticed (On 0 Create) outcome.Done
 
-abbrev pub cleared : Circuit
-cleared =
-    live_circuit (putting 0 8 22 ∷ clearing ∷ []) (reply 2 clearing.message ∷ put_told 1 8 22 ∷ []) (step 1 1 2 ∷ step 1 2 2 ∷ [])
+abbrev pub lost : Line
+lost = Noticed (On 0 Create) outcome.Disconnected
 
-abbrev pub cleared_lines : List Line
-cleared_lines =
-    live_lines (
-    Called (On 0 (Request Put 0)) (Some (longs (pos 22 ∷ []))) ∷ Called (On 0 Clear) None ∷ Noticed (On 0 (Request Put 0)) outcome.Disconnected ∷ []
-    )
+-- SERVER_DISCONN for it
+abbrev pub gone : Told
+gone = record { message = disconnect 1; place = 0; cause = Removal }
 
-abbrev pub answered_cleared : World
-answered_cleared = world (cleared ∷ []) cleared_lines finished_entries
+-- Two channels are asked for, and ACCESS_RIGHTS for the first have this CID.
+abbrev pub rights_for : ℕ → Circuit
+rights_for cid =
+    circuit (creating ∷ record { message = create_request 2 temp_name; intent = On 1 Create } ∷ []) (reply 0 (rights_reply (create_request cid temp_name) 3) ∷ []) (step 0 1 1 ∷ []) []
 
--- It was finished, and the reply did not come.
-abbrev pub unanswered : Circuit
-unanswered = live_circuit (putting 0 8 22 ∷ []) [] (step 1 1 2 ∷ [])
+-- ---- a message on the channel
 
-abbrev pub unanswered_put : World
-unanswered_put = world (unanswered ∷ []) put_lines finished_entries
+-- This message is handled on the channel, in this step, and these messages follow the reply to the creation.
+abbrev pub used : Sent → List Told → Step → Circuit
+used m down handled = circuit (creating ∷ m ∷ []) (created_told ∷ down) (step 0 1 1 ∷ handled ∷ []) []
 
--- ---- writes that are applied twice, or elsewhere, or dropped
+-- no record has it
+abbrev pub other_name : List ℕ
+other_name = 69 ∷ []
 
--- The write of one place is applied twice.
-abbrev pub applied_twice : Stored → World
-applied_twice v = world [] [] (Applied 0 2 0 v true ∷ Applied 0 2 0 v true ∷ [])
+-- TEMP is removed, and the read is handled when the server's log has one entry or both.
+abbrev pub read_at : ℕ → Fields → Circuit
+read_at logged m = used (reading 0 7) (reply 1 m ∷ []) (step 1 logged logged)
 
--- A put is applied in the step of another message.
-abbrev pub in_other_step : Circuit
-in_other_step = live_circuit (reading 0 7 ∷ putting 0 8 22 ∷ []) [] (step 1 1 2 ∷ [])
+abbrev pub value_21 : Fields
+value_21 = value_reply (reading 0 7).message 1 (0 ∷ 0 ∷ 0 ∷ 21 ∷ [])
 
-abbrev pub applied_early : World
-applied_early =
-    world (in_other_step ∷ []) (
-    live_lines (Called (On 0 (Request Read 0)) None ∷ Called (On 0 (Request Put 0)) (Some (longs (pos 22 ∷ []))) ∷ [])
-    ) (Added 0 temp ∷ Applied 0 2 0 (long 22) false ∷ [])
+abbrev pub no_channel : Fields
+no_channel = status_reply (reading 0 7).message bad_channel
 
--- A put that waited is dropped, and its record, its channel and its circuit are there.
-abbrev pub dropped_for_nothing : World
-dropped_for_nothing = world (unanswered ∷ []) put_lines withdrawn_entries
+-- A read is handled, and its channel's creation was not answered.
+abbrev pub uncreated_read : Circuit
+uncreated_read = circuit (creating ∷ reading 0 7 ∷ []) [] (step 0 1 1 ∷ step 0 1 1 ∷ []) []
 
--- ---- updates that do not follow their record
+-- A SID is given to another channel, and a read of the first is handled.
+abbrev pub taken_over : Circuit
+taken_over =
+    circuit (creating ∷ record { message = create_request 2 other_name; intent = On 1 Create } ∷ reading 0 7 ∷ []) (created_told ∷ reply 1 (created_reply (create_request 2 other_name) 5 1 5) ∷ []) (
+    step 0 2 2 ∷ step 1 2 2 ∷ step 2 2 2 ∷ []
+    ) []
 
--- the updates of an EVENT_ADD at place 1 that are sent
-abbrev pub updates_sent : List Told → Circuit
-updates_sent ts = live_circuit (adding 0 9 ∷ []) ts (step 1 1 1 ∷ [])
+abbrev pub both_opened : List Line
+both_opened = Opened 0 temp_name ∷ Opened 1 other_name ∷ []
 
--- These updates do not follow these posts, while TEMP is there.
-abbrev pub FollowsNot : List Told → List Stored → Type 0
-FollowsNot ts posts = Follows AnyDue Shows Means (updates_sent ts) temp_there 1 0 (adding 0 9) posts → ⊥
+abbrev pub both_there : List Entry
+both_there = Added 0 temp ∷ Added 1 (record temp { name = other_name }) ∷ []
 
--- ---- a creation that is refused for nothing
+abbrev pub sid_given_again : World
+sid_given_again = world (taken_over ∷ []) both_opened both_there
 
--- TEMP was asked for and refused, and nothing else happened: a record has the name, the CID is free, and no SID is given.
-abbrev pub creation_refused : Circuit
-creation_refused = circuit (creating ∷ []) (reply 0 (failed_reply creating.message) ∷ []) (step 0 1 1 ∷ []) []
+-- A put is called and handled; its reply is read, and its caller is told this.
+abbrev pub put_read : Fields → ℕ → Circuit
+put_read m after =
+    record (used (putting 0 8 22) (reply 1 m ∷ []) (step 1 1 after)) { heard = step 1 1 1 ∷ step 2 2 3 ∷ []; client_open = false }
 
-abbrev pub refused_creation : World
-refused_creation = world (creation_refused ∷ []) (Opened 0 temp_name ∷ []) temp_there
+abbrev pub put_told : Outcome → List Line
+put_told o = Opened 0 temp_name ∷ Called (On 0 (Request Put 0)) (Some (longs (pos 22 ∷ []))) ∷ Noticed (On 0 (Request Put 0)) o ∷ []
 
--- A world is unsafe by what was due in it.
-abbrev pub UnsafeAsDue : World → Type 0
-UnsafeAsDue w = IsSafe ports rules w → ⊥
+abbrev pub put_made : List Entry
+put_made = Added 0 temp ∷ Applied 0 1 0 (long 22) false ∷ []
+
+-- PUTFAIL
+abbrev pub fails : Outcome
+fails = outcome.Failed (record { number = 160 })
+
+abbrev pub status_of : ℕ → Fields
+status_of status = status_reply (putting 0 8 22).message status
+
+-- ---- a subscription
+
+-- the update of the EVENT_ADD at place 1 that carries the post of this number
+abbrev pub updated : (item value : ℕ) → Told
+updated item value = record { message = update 5 1 normal 9 (0 ∷ 0 ∷ 0 ∷ value ∷ []); place = 1; cause = Update item }
+
+-- An EVENT_ADD is handled; these messages follow, and these updates wait.
+abbrev pub subscribed : List Told → List (ℕ × Cause) → Circuit
+subscribed down queued = record (used (adding 0 9) down (step 1 1 1)) { queued = queued }
+
+-- and the client, whose end closed then, took these steps
+abbrev pub subscriber : List Told → List Step → Circuit
+subscriber down heard = record (subscribed down []) { heard = heard; client_open = false }
+
+-- an update was told
+abbrev pub saw : Outcome → Line
+saw o = Updated (On 0 (Subscribe 0)) o
+
+-- TEMP was posted as 22.
+abbrev pub posted : List Entry
+posted = Added 0 temp ∷ Posted 0 1 (long 22) ∷ []
+
+-- Both updates of it are read.
+abbrev pub both_updated : Circuit
+both_updated = subscriber (updated 0 21 ∷ updated 1 22 ∷ []) (step 1 1 1 ∷ step 2 1 2 ∷ step 2 2 3 ∷ [])
+
+-- An EVENT_ADD is cancelled, and the confirmation has this id.
+abbrev pub cancelling : Sent
+cancelling = record { message = event_cancel_request (wanted 9); intent = On 0 (Cancel 0) }
+
+abbrev pub confirmed : ℕ → Told
+confirmed id = reply 2 (record (cancel_reply cancelling.message) { p2 = id })
+
+abbrev pub cancelled : ℕ → Circuit
+cancelled id =
+    circuit (creating ∷ adding 0 9 ∷ cancelling ∷ []) (created_told ∷ confirmed id ∷ []) (step 0 1 1 ∷ step 1 1 1 ∷ step 1 1 1 ∷ []) []

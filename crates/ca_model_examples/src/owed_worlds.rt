@@ -1,7 +1,7 @@
-ghost use Rattle.ca_dbr.specs.declared.value.Outcome.{Outcome};
-ghost use Rattle.ca_wire.specs.Fields.{Fields};
+ghost use Rattle.std.specs.Prelude.{false};
+ghost use Rattle.ca_model.specs.History.{Applied, Waits};
 ghost use Rattle.ca_model_examples.specs.Worlds.{Unsafe};
-ghost use Rattle.ca_model_examples.specs.Owed.{SeesTurned, UnsafeBesides, UnsafeUnlogged, UnsafeUnsent, other_value, removed_record};
+ghost use Rattle.ca_model_examples.specs.Owed.{alarmed, logs_put, UnsafeAsDue, UnsafeBesides, UnsafeSlow, UnsafeUnlogged, UnsafeUnsent, answered_cleared, answered_otherwise, answered_unfinished, answered_withdrawn, foreign_refusal, lost_for_nothing, refused_creation, unanswered_put};
 
 /// The reply that is due for a message is sent and its entry logged, and its step logs no other.
 pub fn what_is_not_as_due_is_unsafe()
@@ -10,13 +10,32 @@ pub fn what_is_not_as_due_is_unsafe()
     ensures besides { UnsafeBesides }
 {}
 
-/// No put is applied with another value, or to a record that was removed.
-pub fn a_put_of_another_value_is_unsafe()
-    ensures value { Unsafe other_value }
-    ensures removed { Unsafe removed_record }
+/// A put on a slow record is not answered as is due if its reply comes before it is finished, after
+/// it was withdrawn, after its channel was cleared, or with another status; nor if it does not come
+/// once it is finished.
+pub fn an_early_or_lost_late_reply_is_unsafe()
+    ensures unfinished { UnsafeSlow answered_unfinished }
+    ensures withdrawn { UnsafeSlow answered_withdrawn }
+    ensures cleared { UnsafeSlow answered_cleared }
+    ensures otherwise { UnsafeSlow answered_otherwise }
+    ensures lost { UnsafeSlow unanswered_put }
 {}
 
-/// Updates of one EVENT_ADD are told in order.
-pub fn updates_told_in_another_order_are_unsafe()
-    ensures { (m : Fields) (o : Outcome) → SeesTurned m o → ⊥ }
+/// A notice is wrong if the message that says it is about something else; and so is a Disconnected
+/// for a read whose circuit and channel are there.
+pub fn an_unsaid_notice_is_unsafe()
+    ensures of_another { Unsafe foreign_refusal }
+    ensures not_lost { Unsafe lost_for_nothing }
+{}
+
+/// No server refuses a CREATE_CHAN while a record has its name, its CID is free, and SIDs may be
+/// given.
+pub fn a_creation_refused_for_nothing_is_unsafe()
+    ensures { UnsafeAsDue refused_creation }
+{}
+
+/// No write is logged with an alarm in its own step, at once or to wait.
+pub fn a_write_with_an_alarm_is_unsafe()
+    ensures made { UnsafeAsDue (logs_put (Applied 0 1 0 alarmed false)) }
+    ensures waits { UnsafeAsDue (logs_put (Waits 0 1 0 alarmed)) }
 {}

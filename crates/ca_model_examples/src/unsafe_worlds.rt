@@ -1,76 +1,190 @@
-ghost use Rattle.std.specs.Prelude.{◌∷◌, []};
-ghost use Rattle.ca_model.specs.Speech.{Stored};
-ghost use Rattle.ca_model_examples.specs.Worlds.{Unsafe, long};
-ghost use Rattle.ca_model_examples.specs.Unsafe.{FollowsNot, UnsafeAsDue, UnsafeSlow, answered_cleared, answered_from_new, answered_unfinished, answered_withdrawn, applied_early, applied_twice, disconnected_for_nothing, dropped_for_nothing, foreign_refusal, invented_answer, lost_for_nothing, read_twice, refused_creation, refused_for_nothing, unanswered_put, unsaid_creation, unsaid_refusal, update_of_refused, update_of_unhandled, updated};
+ghost use Rattle.std.specs.Prelude.{◌∷◌, [], None, false, true};
+ghost use Rattle.ca_text.specs.Status.{normal};
+ghost use Rattle.ca_dbr.specs.declared.value.Outcome.{Outcome};
+ghost use Rattle.ca_dbr.specs.declared.value.Outcome.TheVariants as outcome;
+ghost use Rattle.ca_requests.specs.Meaning.{Means};
+ghost use Rattle.ca_model.specs.History.{GaveUp, Opened, Update, World};
+ghost use Rattle.ca_model.specs.History as history;
+ghost use Rattle.ca_model_examples.specs.Worlds.{AnyDue, reading, reply, step, temp_name, world};
+ghost use Rattle.ca_model_examples.specs.Parts.{BreaksOnly, Holds, IsSafeNow, Part, Acts, Answered, AppliedOnce, Asked, AtOne, Caused, CompletedOnce, DisconnectedOnce, Done, Dropped, Failed, Finished, HandledEach, HandledRise, HandledWithin, HeardEach, HeardRise, HeardWithin, Live, Lost, Matches, Newest, OneAtOnce, OneCall, OneName, OneRecord, Own, OwnWrite, Refused, Retired, Rising, SeesInOrder, SeesOwn, SentOnce, ShowsPost, Told, WasThere};
+ghost use Rattle.ca_model_examples.specs.Unsafe.{sid_given_again, cancelled, added_again, both_updated, called_again, closing, created, created_closed, disconnected, dropped, echo, echoed, echoes, fails, finished, gone, live, lost, made_23, made_gone, made_once, made_twice, misasked, no_channel, of_created, opened, other_name, posted, put_called, put_closing, put_made, put_read, put_told, read_at, read_called, read_lost, removed_again, rights_for, saw, silent, status_of, subscribed, subscriber, temp_removed, temp_there, two_of_a_name, unhandled, unread, uncreated_read, updated, value_21};
 
-/// The server does not act on the record that the channel names if a read on a channel of a removed record is answered from the
-/// record that was added later under its name; nor if BADCHID comes on a channel whose record nobody removed.
-pub fn a_read_of_another_record_is_unsafe()
-    ensures added_later { Unsafe answered_from_new }
-    ensures there { Unsafe refused_for_nothing }
+/// The parts are those of what is safe, and no more. That the server takes a step only for a
+/// message that came is in `Answered` already, so no history breaks it alone.
+pub fn the_parts_are_the_whole()
+    ensures whole { (w : World) → ((p : Part) → Holds AnyDue p w) → IsSafeNow w }
+    ensures parts { (w : World) → IsSafeNow w → (p : Part) → Holds AnyDue p w }
+    ensures implied { (w : World) → Holds AnyDue Answered w → Holds AnyDue HandledEach w }
 {}
 
-/// A reply to a message that was not handled is no answer to a request.
-pub fn an_invented_answer_is_unsafe()
-    ensures { Unsafe invented_answer }
+/// A channel is opened once; a record is added once, while no other has its name, and removed
+/// while it is there.
+pub fn names_are_of_one_record()
+    ensures opened { IsSafeNow (silent opened temp_there) }
+    ensures opened_twice { BreaksOnly OneName (silent (Opened 0 temp_name ∷ opened) temp_there) }
+    ensures two_of_a_name { BreaksOnly OneAtOnce (silent opened two_of_a_name) }
+    ensures removed { IsSafeNow (silent opened temp_removed) }
+    ensures added_again { BreaksOnly OneRecord (silent opened added_again) }
+    ensures removed_again { BreaksOnly WasThere (silent opened removed_again) }
 {}
 
-/// An update of an EVENT_ADD that was refused, or not handled, has no cause.
-pub fn an_update_without_its_subscription_is_unsafe()
-    ensures refused { Unsafe update_of_refused }
-    ensures unhandled { Unsafe update_of_unhandled }
+/// A read that was called is one READ_NOTIFY; it is not a WRITE, called twice, never sent, or
+/// sent twice.
+pub fn a_call_is_sent_once()
+    ensures sent { IsSafeNow (unread (reading 0 7 ∷ []) read_called) }
+    ensures as_a_write { BreaksOnly Asked (unread (misasked ∷ []) read_called) }
+    ensures called_twice { BreaksOnly OneCall (unread (reading 0 7 ∷ []) called_again) }
+    ensures never_sent { BreaksOnly SentOnce (unread [] read_called) }
+    ensures sent_twice { BreaksOnly AtOne (unread (reading 0 7 ∷ reading 0 8 ∷ []) read_called) }
 {}
 
-/// A SERVER_DISCONN of a record that nobody removed has no cause.
-pub fn a_disconnection_for_nothing_is_unsafe()
-    ensures { Unsafe disconnected_for_nothing }
+/// A read is told as disconnected once.
+pub fn a_read_completes_once()
+    ensures once { IsSafeNow (disconnected (read_lost ∷ [])) }
+    ensures twice { BreaksOnly CompletedOnce (disconnected (read_lost ∷ read_lost ∷ [])) }
 {}
 
-/// A put on a slow record is not answered as is due if its reply comes before it is finished, after it was withdrawn, or after its
-/// channel was cleared; nor if it does not come once it is finished.
-pub fn an_early_or_lost_late_reply_is_unsafe()
-    ensures unfinished { UnsafeSlow answered_unfinished }
-    ensures withdrawn { UnsafeSlow answered_withdrawn }
-    ensures cleared { UnsafeSlow answered_cleared }
-    ensures lost { UnsafeSlow unanswered_put }
+/// A put on which its server's end closed is made once, with its caller's value, on a record that
+/// is there; not if nobody called it, nor while the server's end is open and did not handle it.
+pub fn a_put_is_made_once()
+    ensures once { IsSafeNow (put_closing made_once) }
+    ensures twice { BreaksOnly AppliedOnce (put_closing made_twice) }
+    ensures another_value { BreaksOnly OwnWrite (put_closing made_23) }
+    ensures removed_record { BreaksOnly OwnWrite (put_closing made_gone) }
+    ensures not_called { BreaksOnly OwnWrite (world (closing ∷ []) opened made_once) }
+    ensures not_handled { BreaksOnly OwnWrite (world (unhandled ∷ []) put_called made_once) }
 {}
 
-/// A notice is wrong if no message says it, or only one that is about something else; and so is a Disconnected for a read whose
-/// circuit and channel are there.
-pub fn an_unsaid_notice_is_unsafe()
-    ensures refusal { Unsafe unsaid_refusal }
-    ensures creation { Unsafe unsaid_creation }
-    ensures of_another { Unsafe foreign_refusal }
-    ensures not_lost { Unsafe lost_for_nothing }
+/// A put that waits is dropped if its server's end closed, and not while that is open. A put is
+/// finished once, and only if it made its record busy.
+pub fn a_put_ends_once()
+    ensures dropped { IsSafeNow (put_closing dropped) }
+    ensures dropped_for_nothing { BreaksOnly Dropped (world (unhandled ∷ []) put_called dropped) }
+    ensures finished { IsSafeNow (put_closing (finished true [])) }
+    ensures finished_twice { BreaksOnly Finished
+        (put_closing (finished true (history.Finished 0 0 ∷ []))) }
+    ensures finished_unbusy { BreaksOnly Finished (put_closing (finished false [])) }
 {}
 
-/// A read that is sent again on another circuit is at two places.
-pub fn a_read_at_two_places_is_unsafe()
-    ensures { Unsafe read_twice }
+/// An ECHO is answered once it was handled, in its own step.
+pub fn an_echo_is_answered_in_its_step()
+    ensures answered { IsSafeNow (echoes (echo ∷ []) (echoed 0 ∷ []) (step 0 0 0 ∷ []) []) }
+    ensures invented { BreaksOnly Caused (echoes (echo ∷ []) (echoed 0 ∷ []) [] []) }
+    ensures both { IsSafeNow
+        (echoes (echo ∷ echo ∷ []) (echoed 0 ∷ echoed 1 ∷ []) (step 0 0 0 ∷ step 1 0 0 ∷ []) []) }
+    ensures out_of_step { BreaksOnly Answered
+        (echoes (echo ∷ echo ∷ []) (echoed 0 ∷ echoed 1 ∷ []) (step 0 0 0 ∷ step 0 0 0 ∷ []) []) }
 {}
 
-/// No write is applied twice, nor in the step of another message.
-pub fn a_write_applied_twice_or_elsewhere_is_unsafe()
-    ensures twice { (v : Stored) → Unsafe (applied_twice v) }
-    ensures elsewhere { Unsafe applied_early }
+/// An end takes a step for a message that came, after what it sent and logged in the steps
+/// before.
+pub fn steps_are_in_order()
+    ensures handled { IsSafeNow (echoes (echo ∷ []) [] (step 0 0 0 ∷ []) []) }
+    ensures handled_after_unsent { BreaksOnly HandledWithin
+        (echoes (echo ∷ []) [] (step 1 0 0 ∷ []) []) }
+    ensures logged { IsSafeNow (echoes (echo ∷ echo ∷ []) [] (step 0 0 1 ∷ step 0 1 1 ∷ []) []) }
+    ensures logged_by_two { BreaksOnly HandledRise
+        (echoes (echo ∷ echo ∷ []) [] (step 0 0 1 ∷ step 0 0 1 ∷ []) []) }
+    ensures heard { IsSafeNow
+        (echoes (echo ∷ []) (echoed 0 ∷ []) (step 0 0 0 ∷ []) (step 1 0 0 ∷ [])) }
+    ensures heard_unsent { BreaksOnly HeardEach
+        (echoes (echo ∷ []) (echoed 0 ∷ []) (step 0 0 0 ∷ []) (step 1 0 0 ∷ step 1 0 0 ∷ [])) }
+    ensures heard_after_unsent { BreaksOnly HeardWithin
+        (echoes (echo ∷ []) (echoed 0 ∷ []) (step 0 0 0 ∷ []) (step 2 0 0 ∷ [])) }
+    ensures heard_backwards { BreaksOnly HeardWithin
+        (echoes (echo ∷ []) (echoed 0 ∷ []) (step 0 0 0 ∷ []) (step 1 1 0 ∷ [])) }
+    ensures both_heard { IsSafeNow
+        (echoes (echo ∷ echo ∷ []) (echoed 0 ∷ echoed 1 ∷ []) (step 0 0 0 ∷ step 1 0 0 ∷ [])
+        (step 2 0 0 ∷ step 2 0 0 ∷ [])) }
+    ensures heard_back { BreaksOnly HeardRise
+        (echoes (echo ∷ echo ∷ []) (echoed 0 ∷ echoed 1 ∷ []) (step 0 0 0 ∷ step 1 0 0 ∷ [])
+        (step 2 0 0 ∷ step 1 0 0 ∷ [])) }
 {}
 
-/// A put that waits is not dropped while its record, its channel and its circuit are there.
-pub fn a_put_dropped_for_nothing_is_unsafe()
-    ensures { Unsafe dropped_for_nothing }
+/// A live channel's record is there, or its SERVER_DISCONN is unread; that has a cause, and is
+/// sent once.
+pub fn a_live_channel_has_its_record()
+    ensures live { IsSafeNow (of_created (created [] (step 1 1 1 ∷ [])) [] temp_there) }
+    ensures live_on_nothing { BreaksOnly Live
+        (of_created (created [] (step 1 1 1 ∷ [])) [] temp_removed) }
+    ensures live_after_gone { BreaksOnly Live
+        (of_created (created (gone ∷ []) (step 1 1 1 ∷ step 1 1 1 ∷ [])) [] temp_removed) }
+    ensures gone { IsSafeNow (of_created (created (gone ∷ []) []) [] temp_removed) }
+    ensures gone_for_nothing { BreaksOnly Caused
+        (of_created (created (gone ∷ []) []) [] temp_there) }
+    ensures gone_twice { BreaksOnly DisconnectedOnce
+        (of_created (created (gone ∷ gone ∷ []) []) [] temp_removed) }
 {}
 
-/// No server refuses a CREATE_CHAN while a record has its name, its CID is free, and SIDs may be given.
-pub fn a_creation_refused_for_nothing_is_unsafe()
-    ensures { UnsafeAsDue refused_creation }
+/// A channel is told live once its creation's reply was read, and lost once it was live;
+/// ACCESS_RIGHTS have its own CID.
+pub fn a_notice_is_of_its_own_message()
+    ensures live { IsSafeNow
+        (of_created (created_closed (step 1 1 2 ∷ [])) (live ∷ []) temp_there) }
+    ensures unread { BreaksOnly Told (of_created (created_closed []) (live ∷ []) temp_there) }
+    ensures lost { IsSafeNow
+        (of_created (created_closed (step 1 1 2 ∷ [])) (live ∷ lost ∷ []) temp_there) }
+    ensures lost_before_live { BreaksOnly Lost
+        (of_created (created_closed (step 1 1 2 ∷ [])) (lost ∷ []) temp_there) }
+    ensures rights { IsSafeNow (of_created (rights_for 1) [] temp_there) }
+    ensures rights_of_another { BreaksOnly Own (of_created (rights_for 2) [] temp_there) }
 {}
 
-/// Updates do not follow their record if they lack the newest post, also one with the same value; if one comes twice; if they
-/// come in another order; or if one shows another post.
-pub fn a_lost_or_repeated_post_is_unsafe()
-    ensures lost { (v u : Stored) → FollowsNot (updated 1 0 21 ∷ []) (v ∷ u ∷ []) }
-    ensures repeated { (v : Stored) → FollowsNot (updated 1 0 21 ∷ updated 1 0 21 ∷ []) (v ∷ []) }
-    ensures reordered { (v u : Stored)
-        → FollowsNot (updated 1 1 22 ∷ updated 1 0 21 ∷ []) (v ∷ u ∷ []) }
-    ensures of_another { FollowsNot (updated 1 0 22 ∷ []) (long 21 ∷ []) }
+/// A read is handled on the record of its channel's name. BADCHID answers it once that was
+/// removed, and only then.
+pub fn a_read_is_of_the_record_that_its_channel_names()
+    ensures answered { IsSafeNow (of_created (read_at 1 value_21) [] temp_removed) }
+    ensures of_another { BreaksOnly Acts
+        (world (read_at 1 value_21 ∷ []) (Opened 0 other_name ∷ []) temp_removed) }
+    ensures uncreated { BreaksOnly Acts (of_created uncreated_read [] temp_there) }
+    ensures sid_given_again { Holds AnyDue Acts sid_given_again → ⊥ }
+    ensures refused { IsSafeNow (of_created (read_at 2 no_channel) [] temp_removed) }
+    ensures refused_too_soon { BreaksOnly Retired
+        (of_created (read_at 1 no_channel) [] temp_removed) }
+    ensures not_refused { BreaksOnly Refused (of_created (read_at 2 value_21) [] temp_removed) }
+{}
+
+/// A put that is told Done was made; one that is told Failed was not.
+pub fn a_put_is_told_as_it_went()
+    ensures done { IsSafeNow
+        (world (put_read (status_of normal) 2 ∷ []) (put_told outcome.Done) put_made) }
+    ensures failed { IsSafeNow
+        (world (put_read (status_of 160) 1 ∷ []) (put_told fails) temp_there) }
+    ensures done_unmade { BreaksOnly Done
+        (world (put_read (status_of normal) 1 ∷ []) (put_told outcome.Done) temp_there) }
+    ensures failed_made { BreaksOnly Failed
+        (world (put_read (status_of 160) 2 ∷ []) (put_told fails) put_made) }
+{}
+
+/// The updates of an EVENT_ADD rise, are of posts that there are, show them, and have the newest.
+/// One that a reply refused has none.
+pub fn updates_follow_their_record()
+    ensures followed { IsSafeNow (of_created (subscribed (updated 0 21 ∷ []) []) [] temp_there) }
+    ensures repeated { BreaksOnly Rising
+        (of_created (subscribed (updated 0 21 ∷ updated 0 21 ∷ []) []) [] temp_there) }
+    ensures of_no_post { BreaksOnly Matches
+        (of_created (subscribed (updated 0 21 ∷ []) ((1, Update 1) ∷ [])) [] temp_there) }
+    ensures another_value { BreaksOnly ShowsPost
+        (of_created (subscribed (updated 0 22 ∷ []) []) [] temp_there) }
+    ensures none { BreaksOnly Newest (of_created (subscribed [] []) [] temp_there) }
+    ensures refused { BreaksOnly Caused
+        (of_created (subscribed (reply 1 (updated 0 21).message ∷ updated 0 21 ∷ []) []) []
+        temp_there) }
+    ensures cancelled { IsSafeNow (of_created (cancelled 9) [] temp_there) }
+    ensures confirmed_another { BreaksOnly Own (of_created (cancelled 8) [] temp_there) }
+{}
+
+/// An update that is told was read, and the one before it was told. The outcomes are those of the
+/// updates.
+pub fn a_subscriber_sees_each_update()
+    ensures seen { (o : Outcome) → Means (updated 0 21).message o → IsSafeNow
+        (of_created (subscriber (updated 0 21 ∷ []) (step 1 1 1 ∷ step 2 1 2 ∷ [])) (saw o ∷ [])
+        temp_there) }
+    ensures unread { (o : Outcome) → BreaksOnly SeesOwn
+        (of_created (subscriber (updated 0 21 ∷ []) (step 1 1 1 ∷ [])) (saw o ∷ []) temp_there) }
+    ensures all_seen { (o p : Outcome) → Means (updated 0 21).message o
+        → Means (updated 1 22).message p → IsSafeNow
+        (of_created both_updated (saw o ∷ saw p ∷ []) posted) }
+    ensures passed_over { (p : Outcome) → Means (updated 1 22).message p → BreaksOnly SeesInOrder
+        (of_created both_updated (GaveUp 0 None ∷ saw p ∷ []) posted) }
 {}

@@ -1,0 +1,425 @@
+-- Of each of these histories one part of what is legal is broken, or none.
+use Rattle.std.proofs.Common.{◌≡◌, ◌≢◌, ℕ, ◌<◌, ◌≤◌, ◌⊎◌, inl, inr, List, [], ◌∷◌, refl, sym, ap, subst, ◌∙◌, arith}
+use Rattle.std.specs.Prelude.{true, false, None, take}
+use Rattle.ca_text.specs.Place.{At}
+use Rattle.ca_text.proofs.Places.{At-within, some_is}
+use Rattle.ca_text.specs.declared.command.Command.TheVariants as command
+use Rattle.ca_dbr.specs.declared.value.Outcome.{Outcome}
+use Rattle.ca_wire.specs.Fields.{Fields}
+use Rattle.ca_model.specs.Speech.{Cid, Ioid, Creates, Gives, In, Is, SubId, sid_in}
+use Rattle.ca_model.specs.History.{Cancel, Clear, Create, Subscribe, Intent, On, Sent, Told, Step, Circuit, Line, Added, Called, Noticed, Opened}
+use Rattle.ca_model.specs.Channels.{IsHeld, Meant}
+use Rattle.ca_model.specs.Sends.{Conduct, Frees, HasChannel, IsConnected, IsDisconnect, IsOnChannel, IsOpenAt, IsUncancelled, ReadsBetween}
+use Rattle.ca_model.specs.Legal.{BecomesLive, IsStanding, Legal, client_conduct, server_conduct}
+use Rattle.ca_model_examples.specs.Worlds.{putting, clearing, temp, adding, created_told, creating, disconnected, reading, step, temp_name, world}
+use Rattle.ca_model_examples.specs.Unsafe.{cancelling, opened, temp_removed, temp_there, updated}
+use Rattle.ca_model_examples.specs.Illegal.{added_again, asked_again, asked_with, both_asked, both_created, called_at, cancel_called, confirm_out, created_again, goes_out, live_again, read_out, reads_out, alone, writing, unasked, subscribe_called, told_closed, told_so, update_out}
+use Rattle.ca_model_examples.specs.Parts.{MaySend, Sending, SendsWrong, SentSo}
+use Rattle.ca_model_examples.specs.Parts as part
+use Rattle.ca_model_examples.proofs.Lists.{each-at, none-at, one-at}
+use Rattle.ca_model_examples.proofs.Quiet.{none}
+use Rattle.ca_model_examples.proofs.Opened.{created-here}
+use Rattle.ca_model_examples.proofs.Creations.{channel-of, only-added, uncleared}
+use Rattle.ca_model_examples.proofs.Sent.{all-legal, all-on-sid, is, is-so, its-sent, on-channel-so, on-sid, quiet-sends, sends}
+
+-- ---- what a client sends
+
+read-legal-each : (p : Sending) → MaySend p (world (read_out (step 1 0 0 ∷ []) ∷ []) opened temp_there)
+read-legal-each part.OnChannel = sends part.OnChannel (read_out (step 1 0 0 ∷ [])) opened temp_there refl refl (all-on-sid (read_out (step 1 0 0 ∷ [])) opened temp_there ((reading 0 7).message) [] 1 refl refl refl refl refl refl refl) tt
+read-legal-each p = quiet-sends p (read_out (step 1 0 0 ∷ [])) opened temp_there refl refl refl
+
+pub read-legal : Legal (world (read_out (step 1 0 0 ∷ []) ∷ []) opened temp_there)
+read-legal = all-legal _ read-legal-each
+
+read-too-soon-rest : (p : Sending) → (p ≡ part.OnChannel → ⊥) → MaySend p (world (read_out [] ∷ []) opened temp_there)
+read-too-soon-rest part.OnChannel ne = absurd (ne refl)
+read-too-soon-rest p ne = quiet-sends p (read_out []) opened temp_there refl refl refl
+
+pub read-too-soon : SendsWrong part.OnChannel (world (read_out [] ∷ []) opened temp_there)
+read-too-soon = (read-too-soon-rest, λ h. (let o = its-sent part.OnChannel (read_out []) opened temp_there refl refl h.0 1 (reading 0 7).message refl (inl refl) in none-at o.1 o.3.4.0 o.3.4.2))
+
+unasked-rest : (p : Sending) → (p ≡ part.OnChannel → ⊥) → MaySend p (world (unasked ∷ []) opened temp_there)
+unasked-rest part.OnChannel ne = absurd (ne refl)
+unasked-rest p ne = quiet-sends p unasked opened temp_there refl refl refl
+
+pub read-unasked : SendsWrong part.OnChannel (world (unasked ∷ []) opened temp_there)
+read-unasked = (
+  unasked-rest,
+  λ h.
+      (let o = its-sent part.OnChannel unasked opened temp_there refl refl h.0 1 (reading 0 7).message refl (inl refl) in
+      let c = o.3 in
+      each-at (λ (i : ℕ) (m : Fields). Gives m (Cid o.2) → ⊥) (client_conduct unasked).sent ((λ g. (let e = g.0 in omega (arith, e))), ((λ g. (let e = g.0 in omega (arith, e))), tt)) o.0 c.0 c.2 c.3),
+)
+
+-- A message on a channel goes out, and none was read.
+alone-fails : (m : Sent) → IsOnChannel m.message → MaySend part.OnChannel (world (alone m ∷ []) opened temp_there) → ⊥
+alone-fails m on h = (let o = its-sent part.OnChannel (alone m) opened temp_there refl refl h.0 0 m.message refl on in none-at o.1 o.3.4.0 o.3.4.2)
+
+put-alone-rest : (p : Sending) → (p ≡ part.OnChannel → ⊥) → MaySend p (world (alone (putting 0 8 22) ∷ []) opened temp_there)
+put-alone-rest part.OnChannel ne = absurd (ne refl)
+put-alone-rest p ne = quiet-sends p (alone (putting 0 8 22)) opened temp_there refl refl refl
+
+pub put-alone : SendsWrong part.OnChannel (world (alone (putting 0 8 22) ∷ []) opened temp_there)
+put-alone = (put-alone-rest, alone-fails (putting 0 8 22) (inr (inl refl)))
+
+write-alone-rest : (p : Sending) → (p ≡ part.OnChannel → ⊥) → MaySend p (world (alone (writing) ∷ []) opened temp_there)
+write-alone-rest part.OnChannel ne = absurd (ne refl)
+write-alone-rest p ne = quiet-sends p (alone (writing)) opened temp_there refl refl refl
+
+pub write-alone : SendsWrong part.OnChannel (world (alone (writing) ∷ []) opened temp_there)
+write-alone = (write-alone-rest, alone-fails (writing) (inr (inr (inl refl))))
+
+add-alone-rest : (p : Sending) → (p ≡ part.OnChannel → ⊥) → MaySend p (world (alone (adding 0 9) ∷ []) opened temp_there)
+add-alone-rest part.OnChannel ne = absurd (ne refl)
+add-alone-rest p ne = quiet-sends p (alone (adding 0 9)) opened temp_there refl refl refl
+
+pub add-alone : SendsWrong part.OnChannel (world (alone (adding 0 9) ∷ []) opened temp_there)
+add-alone = (add-alone-rest, alone-fails (adding 0 9) (inr (inr (inr (inl refl)))))
+
+clear-alone-rest : (p : Sending) → (p ≡ part.OnChannel → ⊥) → MaySend p (world (alone (clearing) ∷ []) opened temp_there)
+clear-alone-rest part.OnChannel ne = absurd (ne refl)
+clear-alone-rest p ne = quiet-sends p (alone (clearing)) opened temp_there refl refl refl
+
+pub clear-alone : SendsWrong part.OnChannel (world (alone (clearing) ∷ []) opened temp_there)
+clear-alone = (clear-alone-rest, alone-fails (clearing) (inr (inr (inr (inr (inr refl))))))
+
+shared-rest : (p : Sending) → (p ≡ part.Ids → ⊥) → MaySend p (world (goes_out (adding 0 9 ∷ adding 1 9 ∷ []) ∷ []) opened temp_there)
+shared-rest part.Ids ne = absurd (ne refl)
+shared-rest part.OnChannel ne = sends part.OnChannel (goes_out (adding 0 9 ∷ adding 1 9 ∷ [])) opened temp_there refl refl (all-on-sid (goes_out (adding 0 9 ∷ adding 1 9 ∷ [])) opened temp_there ((adding 0 9).message) ((adding 1 9).message ∷ []) 1 refl refl refl refl refl refl refl) tt
+shared-rest p ne = quiet-sends p (goes_out (adding 0 9 ∷ adding 1 9 ∷ [])) opened temp_there refl refl refl
+
+pub sub-shared : SendsWrong part.Ids (world (goes_out (adding 0 9 ∷ adding 1 9 ∷ []) ∷ []) opened temp_there)
+sub-shared = (
+  shared-rest,
+  λ h.
+      (let c = goes_out (adding 0 9 ∷ adding 1 9 ∷ []) in
+      let f = its-sent part.Ids (goes_out (adding 0 9 ∷ adding 1 9 ∷ [])) opened temp_there refl refl h.0 1 2 (adding 0 9).message (adding 1 9).message (SubId 9) (SubId 9) (omega arith) refl refl (refl, refl) (refl, refl) refl in
+      let b = (one-at 1 f.0 f.1 f.6).1 in
+      let late = f.7 in
+      omega (arith, b, late)),
+)
+
+-- the cancel is for the EVENT_ADD before it
+cancel-for : (c : Circuit) → (client_conduct c).sent ≡ creating.message ∷ (adding 0 9).message ∷ cancelling.message ∷ [] → (k : ℕ) (m : Fields) → At (client_conduct c).sent k m → Is command.EventCancel m
+    → (l : ℕ) × (add : Fields) × At (client_conduct c).sent l add × Is command.EventAdd add × (l < k) × (add.p1 ≡ m.p1) × (add.p2 ≡ m.p2) × IsUncancelled (client_conduct c) l k add
+cancel-for c sent k m at e =
+    each-at (λ (i : ℕ) (z : Fields). Is command.EventCancel z → (l : ℕ) × (add : Fields) × At (client_conduct c).sent l add × Is command.EventAdd add × (l < i) × (add.p1 ≡ z.p1) × (add.p2 ≡ z.p2) × IsUncancelled (client_conduct c) l i add) (creating.message ∷ (adding 0 9).message ∷ cancelling.message ∷ []) (
+      (λ f. absurd (omega (arith, f))),
+      (
+        (λ f. absurd (omega (arith, f))),
+        ((λ f. (1, (adding 0 9).message, subst (λ (s : List Fields). At s 1 (adding 0 9).message) (sym sent) refl, refl, omega arith, refl, refl, λ i s after early. absurd (omega (arith, after, early)))), tt),
+      ),
+    ) k m (subst (λ (s : List Fields). At s k m) sent at) e
+
+cancel-legal-each : (p : Sending) → MaySend p (world (goes_out (adding 0 9 ∷ cancelling ∷ []) ∷ []) opened temp_there)
+cancel-legal-each part.OnChannel = sends part.OnChannel (goes_out (adding 0 9 ∷ cancelling ∷ [])) opened temp_there refl refl (all-on-sid (goes_out (adding 0 9 ∷ cancelling ∷ [])) opened temp_there ((adding 0 9).message) (cancelling.message ∷ []) 1 refl refl refl refl refl refl refl) tt
+cancel-legal-each part.Cancels = sends part.Cancels (goes_out (adding 0 9 ∷ cancelling ∷ [])) opened temp_there refl refl (cancel-for (goes_out (adding 0 9 ∷ cancelling ∷ [])) refl) tt
+cancel-legal-each p = quiet-sends p (goes_out (adding 0 9 ∷ cancelling ∷ [])) opened temp_there refl refl refl
+
+pub cancel-legal : Legal (world (goes_out (adding 0 9 ∷ cancelling ∷ []) ∷ []) opened temp_there)
+cancel-legal = all-legal _ cancel-legal-each
+
+cancel-of-nothing-rest : (p : Sending) → (p ≡ part.Cancels → ⊥) → MaySend p (world (goes_out (cancelling ∷ []) ∷ []) opened temp_there)
+cancel-of-nothing-rest part.Cancels ne = absurd (ne refl)
+cancel-of-nothing-rest part.OnChannel ne = sends part.OnChannel (goes_out (cancelling ∷ [])) opened temp_there refl refl (all-on-sid (goes_out (cancelling ∷ [])) opened temp_there (cancelling.message) [] 1 refl refl refl refl refl refl refl) tt
+cancel-of-nothing-rest p ne = quiet-sends p (goes_out (cancelling ∷ [])) opened temp_there refl refl refl
+
+pub cancel-of-nothing : SendsWrong part.Cancels (world (goes_out (cancelling ∷ []) ∷ []) opened temp_there)
+cancel-of-nothing = (cancel-of-nothing-rest, λ h. (let a = its-sent part.Cancels (goes_out (cancelling ∷ [])) opened temp_there refl refl h.0 1 cancelling.message refl refl in each-at (λ (i : ℕ) (z : Fields). Is command.EventAdd z → i < 1 → ⊥) (creating.message ∷ cancelling.message ∷ []) ((λ e l. omega (arith, e)), ((λ e l. omega (arith, l)), tt)) a.0 a.1 a.2 a.3 a.4))
+
+ids-legal-each : (p : Sending) → MaySend p (world (both_asked 2 ∷ []) opened temp_there)
+ids-legal-each part.OnChannel = quiet-sends part.OnChannel (both_asked 2) opened temp_there refl refl refl
+ids-legal-each p = quiet-sends p (both_asked 2) opened temp_there refl refl refl
+
+pub ids-legal : Legal (world (both_asked 2 ∷ []) opened temp_there)
+ids-legal = all-legal _ ids-legal-each
+
+id-shared-rest : (p : Sending) → (p ≡ part.Ids → ⊥) → MaySend p (world (both_asked 1 ∷ []) opened temp_there)
+id-shared-rest part.Ids ne = absurd (ne refl)
+id-shared-rest p ne = quiet-sends p (both_asked 1) opened temp_there refl refl refl
+
+pub id-shared : SendsWrong part.Ids (world (both_asked 1 ∷ []) opened temp_there)
+id-shared = (id-shared-rest, λ h. (let f = its-sent part.Ids (both_asked 1) opened temp_there refl refl h.0 0 1 creating.message (asked_with 1).message (Cid 1) (Cid 1) (omega arith) refl refl (refl, refl) (refl, refl) refl in none-at f.0 f.3 f.5))
+
+reads-each : (p : Sending) → MaySend p (world (reads_out 8 ∷ []) opened temp_there)
+reads-each part.OnChannel = sends part.OnChannel (reads_out 8) opened temp_there refl refl (all-on-sid (reads_out 8) opened temp_there ((reading 0 7).message) ((reading 1 8).message ∷ []) 1 refl refl refl refl refl refl refl) tt
+reads-each p = quiet-sends p (reads_out 8) opened temp_there refl refl refl
+
+pub reads-legal : Legal (world (reads_out 8 ∷ []) opened temp_there)
+reads-legal = all-legal _ reads-each
+
+reused-rest : (p : Sending) → (p ≡ part.Ids → ⊥) → MaySend p (world (reads_out 7 ∷ []) opened temp_there)
+reused-rest part.Ids ne = absurd (ne refl)
+reused-rest part.OnChannel ne = sends part.OnChannel (reads_out 7) opened temp_there refl refl (all-on-sid (reads_out 7) opened temp_there ((reading 0 7).message) ((reading 1 7).message ∷ []) 1 refl refl refl refl refl refl refl) tt
+reused-rest p ne = quiet-sends p (reads_out 7) opened temp_there refl refl refl
+
+-- no ACCESS_RIGHTS frees the id of a read
+not-freed : (e : Conduct) (b : ℕ) (r m : Fields) → r.command ≡ 15 → m.command ≡ 22 → Frees e 1 b r m → ⊥
+not-freed e b r m read rights h =
+    elim h [
+      | inl a ↦ (let f = a.0 in omega (arith, f, read))
+      | inr h1 ↦ elim h1 [
+        | inl a ↦ elim a.1 [
+          | inl d ↦ (let f = d.0 in omega (arith, f, read, rights))
+          | inr d ↦ (let f = d.0 in omega (arith, f, rights))
+        ]
+        | inr h2 ↦ elim h2 [
+          | inl a ↦ (let f = a.0 in omega (arith, f, read))
+          | inr a ↦ (let f = a.4 in omega (arith, f, rights))
+        ]
+      ]
+    ]
+
+pub id-reused : SendsWrong part.Ids (world (reads_out 7 ∷ []) opened temp_there)
+id-reused = (
+  reused-rest,
+  λ h.
+      (let e = client_conduct (reads_out 7) in
+      let f = its-sent part.Ids (reads_out 7) opened temp_there refl refl h.0 1 2 (reading 0 7).message (reading 1 7).message (Ioid 7) (Ioid 7) (omega arith) refl refl (inl refl, refl) (inl refl, refl) refl in
+      let read : f.2.command ≡ 15 = ap (λ (m : Fields). m.command) (sym (some_is (reading 0 7).message f.2 f.4)) in
+      let late = f.7 in
+      let rights : f.3.command ≡ 22 = each-at (λ (j : ℕ) (m : Fields). At (1 ∷ 2 ∷ []) j f.1 → m.command ≡ 22) (client_conduct (reads_out 7)).came ((λ at. absurd (let one = some_is 1 f.1 at in omega (arith, one, late))), ((λ at. refl), tt)) f.0 f.3 f.5 f.6 in
+      not-freed (client_conduct (reads_out 7)) f.1 f.2 f.3 read rights f.9),
+)
+
+-- ---- what a server sends
+
+sids-legal-each : (p : Sending) → MaySend p (world (both_created 6 ∷ []) opened temp_there)
+sids-legal-each part.OnChannel = quiet-sends part.OnChannel (both_created 6) opened temp_there refl refl refl
+sids-legal-each p = quiet-sends p (both_created 6) opened temp_there refl refl refl
+
+pub sids-legal : Legal (world (both_created 6 ∷ []) opened temp_there)
+sids-legal = all-legal _ sids-legal-each
+
+sid-shared-rest : (p : Sending) → (p ≡ part.Sids → ⊥) → MaySend p (world (both_created 5 ∷ []) opened temp_there)
+sid-shared-rest part.Sids ne = absurd (ne refl)
+sid-shared-rest p ne = quiet-sends p (both_created 5) opened temp_there refl refl refl
+
+pub sid-shared : SendsWrong part.Sids (world (both_created 5 ∷ []) opened temp_there)
+sid-shared = (sid-shared-rest, λ h. (let f = its-sent part.Sids (both_created 5) opened temp_there refl refl h.0 0 1 5 5 _ _ (omega arith) refl refl (refl, refl) (refl, refl) refl in none-at f.0 f.2.0 f.2.2))
+
+-- what an update at this place has
+abbrev UpdateFor : Circuit → ℕ → Fields → Type 0
+UpdateFor c k m =
+    (i j cid : ℕ) × (add : Fields) × IsOpenAt (server_conduct c) k i cid (sid_in add) × IsConnected (server_conduct c) i k cid × ReadsBetween (server_conduct c) i k j add × Gives add (SubId m.p2)
+    × ((l : ℕ) (r : Fields) → j < l → ReadsBetween (server_conduct c) i k l r → Is command.EventCancel r → r.p1 ≡ add.p1 → r.p2 ≢ add.p2)
+
+update-legal-each : (p : Sending) → MaySend p (world (update_out (step 0 0 0 ∷ step 1 0 0 ∷ []) ∷ []) opened temp_there)
+update-legal-each part.OnChannel = sends part.OnChannel (update_out (step 0 0 0 ∷ step 1 0 0 ∷ [])) opened temp_there refl refl (all-on-sid (update_out (step 0 0 0 ∷ step 1 0 0 ∷ [])) opened temp_there ((adding 0 9).message) [] 1 refl refl refl refl refl refl refl) tt
+update-legal-each part.Updates = sends part.Updates (update_out (step 0 0 0 ∷ step 1 0 0 ∷ [])) opened temp_there refl refl (λ k m at e full. each-at (λ (i : ℕ) (z : Fields). Is command.EventAdd z → UpdateFor (update_out (step 0 0 0 ∷ step 1 0 0 ∷ [])) i z) (server_conduct (update_out (step 0 0 0 ∷ step 1 0 0 ∷ []))).sent ((λ f. absurd (omega (arith, f))), ((λ f. (0, 1, 1, (adding 0 9).message, (created_told.message, refl, (refl, refl), refl, omega arith, λ j r reads clears. none (is 12) (server_conduct (update_out (step 0 0 0 ∷ step 1 0 0 ∷ []))).came refl j r reads.1 (is-so 12 r clears.0)), (λ l m a b. absurd (omega (arith, a, b))), (1, refl, refl, omega arith, omega arith), (refl, refl), λ l r after reads cancel. absurd (none (is 2) (server_conduct (update_out (step 0 0 0 ∷ step 1 0 0 ∷ []))).came refl l r reads.1 (is-so 2 r cancel)))), tt)) k m at e) tt
+update-legal-each p = quiet-sends p (update_out (step 0 0 0 ∷ step 1 0 0 ∷ [])) opened temp_there refl refl refl
+
+pub update-legal : Legal (world (update_out (step 0 0 0 ∷ step 1 0 0 ∷ []) ∷ []) opened temp_there)
+update-legal = all-legal _ update-legal-each
+
+update-unread-rest : (p : Sending) → (p ≡ part.Updates → ⊥) → MaySend p (world (update_out (step 0 0 0 ∷ []) ∷ []) opened temp_there)
+update-unread-rest part.Updates ne = absurd (ne refl)
+update-unread-rest part.OnChannel ne = sends part.OnChannel (update_out (step 0 0 0 ∷ [])) opened temp_there refl refl (all-on-sid (update_out (step 0 0 0 ∷ [])) opened temp_there ((adding 0 9).message) [] 1 refl refl refl refl refl refl refl) tt
+update-unread-rest p ne = quiet-sends p (update_out (step 0 0 0 ∷ [])) opened temp_there refl refl refl
+
+pub update-unread : SendsWrong part.Updates (world (update_out (step 0 0 0 ∷ []) ∷ []) opened temp_there)
+update-unread = (update-unread-rest, λ h. (let u = its-sent part.Updates (update_out (step 0 0 0 ∷ [])) opened temp_there refl refl h.0 1 (updated 0 21).message refl refl (λ e. cc) in let b = (one-at 0 u.1 u.6.0 u.6.2).1 in let early = u.6.3 in omega (arith, b, early)))
+
+-- what a confirmation at this place has
+abbrev ConfirmFor : Circuit → ℕ → Fields → Type 0
+ConfirmFor c k m =
+    (j : ℕ) × (r : Fields) × At (server_conduct c).came j r × At (server_conduct c).read j k × Is command.EventCancel r × (r.p1 ≡ m.p1) × (r.p2 ≡ m.p2)
+
+confirm-legal-each : (p : Sending) → MaySend p (world (confirm_out (step 0 0 0 ∷ step 1 0 0 ∷ step 1 0 0 ∷ []) ∷ []) opened temp_there)
+confirm-legal-each part.OnChannel = sends part.OnChannel (confirm_out (step 0 0 0 ∷ step 1 0 0 ∷ step 1 0 0 ∷ [])) opened temp_there refl refl (all-on-sid (confirm_out (step 0 0 0 ∷ step 1 0 0 ∷ step 1 0 0 ∷ [])) opened temp_there ((adding 0 9).message) (cancelling.message ∷ []) 1 refl refl refl refl refl refl refl) tt
+confirm-legal-each part.Cancels = sends part.Cancels (confirm_out (step 0 0 0 ∷ step 1 0 0 ∷ step 1 0 0 ∷ [])) opened temp_there refl refl (cancel-for (confirm_out (step 0 0 0 ∷ step 1 0 0 ∷ step 1 0 0 ∷ [])) refl) tt
+confirm-legal-each part.Confirmations = sends part.Confirmations (confirm_out (step 0 0 0 ∷ step 1 0 0 ∷ step 1 0 0 ∷ [])) opened temp_there refl refl (λ k m at e empty. each-at (λ (i : ℕ) (z : Fields). Is command.EventAdd z → ConfirmFor (confirm_out (step 0 0 0 ∷ step 1 0 0 ∷ step 1 0 0 ∷ [])) i z) (server_conduct (confirm_out (step 0 0 0 ∷ step 1 0 0 ∷ step 1 0 0 ∷ []))).sent ((λ f. absurd (omega (arith, f))), ((λ f. (2, cancelling.message, refl, refl, refl, refl, refl)), tt)) k m at e) tt
+confirm-legal-each p = quiet-sends p (confirm_out (step 0 0 0 ∷ step 1 0 0 ∷ step 1 0 0 ∷ [])) opened temp_there refl refl refl
+
+pub confirm-legal : Legal (world (confirm_out (step 0 0 0 ∷ step 1 0 0 ∷ step 1 0 0 ∷ []) ∷ []) opened temp_there)
+confirm-legal = all-legal _ confirm-legal-each
+
+confirm-unread-rest : (p : Sending) → (p ≡ part.Confirmations → ⊥) → MaySend p (world (confirm_out (step 0 0 0 ∷ step 1 0 0 ∷ []) ∷ []) opened temp_there)
+confirm-unread-rest part.Confirmations ne = absurd (ne refl)
+confirm-unread-rest part.OnChannel ne = sends part.OnChannel (confirm_out (step 0 0 0 ∷ step 1 0 0 ∷ [])) opened temp_there refl refl (all-on-sid (confirm_out (step 0 0 0 ∷ step 1 0 0 ∷ [])) opened temp_there ((adding 0 9).message) (cancelling.message ∷ []) 1 refl refl refl refl refl refl refl) tt
+confirm-unread-rest part.Cancels ne = sends part.Cancels (confirm_out (step 0 0 0 ∷ step 1 0 0 ∷ [])) opened temp_there refl refl (cancel-for (confirm_out (step 0 0 0 ∷ step 1 0 0 ∷ [])) refl) tt
+confirm-unread-rest p ne = quiet-sends p (confirm_out (step 0 0 0 ∷ step 1 0 0 ∷ [])) opened temp_there refl refl refl
+
+pub confirm-unread : SendsWrong part.Confirmations (world (confirm_out (step 0 0 0 ∷ step 1 0 0 ∷ []) ∷ []) opened temp_there)
+confirm-unread = (confirm-unread-rest, λ h. (let f = its-sent part.Confirmations (confirm_out (step 0 0 0 ∷ step 1 0 0 ∷ [])) opened temp_there refl refl h.0 1 _ refl refl refl in let two = each-at (λ (i : ℕ) (z : Fields). Is command.EventCancel z → i ≡ 2) (server_conduct (confirm_out (step 0 0 0 ∷ step 1 0 0 ∷ []))).came ((λ e. absurd (omega (arith, e))), ((λ e. absurd (omega (arith, e))), ((λ e. refl), tt))) f.0 f.1 f.2 f.4 in let w = At-within (server_conduct (confirm_out (step 0 0 0 ∷ step 1 0 0 ∷ []))).read f.0 1 f.3 in omega (arith, two, w)))
+
+gone-legal-each : (p : Sending) → MaySend p (world (told_so (created_told ∷ disconnected ∷ []) ∷ []) opened temp_there)
+gone-legal-each part.Disconnects = sends part.Disconnects (told_so (created_told ∷ disconnected ∷ [])) opened temp_there refl refl (λ k m at e. each-at (λ (i : ℕ) (z : Fields). Is command.ServerDisconnect z → (a sid : ℕ) × IsOpenAt (server_conduct (told_so (created_told ∷ disconnected ∷ []))) i a z.p1 sid × IsConnected (server_conduct (told_so (created_told ∷ disconnected ∷ []))) a i z.p1) (server_conduct (told_so (created_told ∷ disconnected ∷ []))).sent ((λ f. absurd (omega (arith, f))), ((λ f. (0, 5, (created_told.message, refl, (refl, refl), refl, omega arith, λ j r reads clears. none (is 12) (server_conduct (told_so (created_told ∷ disconnected ∷ []))).came refl j r reads.1 (is-so 12 r clears.0)), λ l m a b. absurd (omega (arith, a, b)))), tt)) k m at e) tt
+gone-legal-each p = quiet-sends p (told_so (created_told ∷ disconnected ∷ [])) opened temp_there refl refl refl
+
+pub gone-legal : Legal (world (told_so (created_told ∷ disconnected ∷ []) ∷ []) opened temp_there)
+gone-legal = all-legal _ gone-legal-each
+
+gone-uncreated-rest : (p : Sending) → (p ≡ part.Disconnects → ⊥) → MaySend p (world (told_so (disconnected ∷ []) ∷ []) opened temp_there)
+gone-uncreated-rest part.Disconnects ne = absurd (ne refl)
+gone-uncreated-rest p ne = quiet-sends p (told_so (disconnected ∷ [])) opened temp_there refl refl refl
+
+pub gone-uncreated : SendsWrong part.Disconnects (world (told_so (disconnected ∷ []) ∷ []) opened temp_there)
+gone-uncreated = (gone-uncreated-rest, λ h. (let d = its-sent part.Disconnects (told_so (disconnected ∷ [])) opened temp_there refl refl h.0 0 disconnected.message refl refl in let e = d.2.4 in omega (arith, e)))
+
+gone-twice-rest : (p : Sending) → (p ≡ part.Disconnects → ⊥) → MaySend p (world (told_so (created_told ∷ disconnected ∷ disconnected ∷ []) ∷ []) opened temp_there)
+gone-twice-rest part.Disconnects ne = absurd (ne refl)
+gone-twice-rest p ne = quiet-sends p (told_so (created_told ∷ disconnected ∷ disconnected ∷ [])) opened temp_there refl refl refl
+
+pub gone-twice : SendsWrong part.Disconnects (world (told_so (created_told ∷ disconnected ∷ disconnected ∷ []) ∷ []) opened temp_there)
+gone-twice = (gone-twice-rest, λ h. (let d = its-sent part.Disconnects (told_so (created_told ∷ disconnected ∷ disconnected ∷ [])) opened temp_there refl refl h.0 2 disconnected.message refl refl in let first = each-at (λ (i : ℕ) (z : Fields). Creates z d.1 → i < 1) (server_conduct (told_so (created_told ∷ disconnected ∷ disconnected ∷ []))).sent ((λ e. omega arith), ((λ e. (let f = e.0 in absurd (omega (arith, f)))), ((λ e. (let f = e.0 in absurd (omega (arith, f)))), tt))) d.0 d.2.0 d.2.1 d.2.2 in d.3 1 disconnected.message (omega (arith, first)) (omega arith) refl (refl, refl)))
+
+closed-untold-each : (p : Sending) → MaySend p (world (told_closed (created_told ∷ []) ∷ []) opened temp_removed)
+closed-untold-each part.OnChannel = quiet-sends part.OnChannel (told_closed (created_told ∷ [])) opened temp_removed refl refl refl
+closed-untold-each p = quiet-sends p (told_closed (created_told ∷ [])) opened temp_removed refl refl refl
+
+pub closed-untold : Legal (world (told_closed (created_told ∷ []) ∷ []) opened temp_removed)
+closed-untold = all-legal _ closed-untold-each
+
+removed-untold-rest : (p : Sending) → (p ≡ part.ToldRemoved → ⊥) → MaySend p (world (told_so (created_told ∷ []) ∷ []) opened temp_removed)
+removed-untold-rest part.ToldRemoved ne = absurd (ne refl)
+removed-untold-rest p ne = quiet-sends p (told_so (created_told ∷ [])) opened temp_removed refl refl refl
+
+pub removed-untold : SendsWrong part.ToldRemoved (world (told_so (created_told ∷ []) ∷ []) opened temp_removed)
+removed-untold = (removed-untold-rest, λ h. (let t = its-sent part.ToldRemoved (told_so (created_told ∷ [])) opened temp_removed refl refl h.0 0 0 5 0 1 (created-here (told_so (created_told ∷ [])) temp_removed refl refl refl refl (only-added (Added 0 temp ∷ []) 0 refl)) refl (uncleared (told_so (created_told ∷ [])) 1 refl) refl in let e = (one-at created_told t.0 t.1 t.2).1 in let f : created_told.cause ≡ t.1.cause = ap (λ (u : Told). u.cause) (sym e) in let g = t.4 in cc))
+
+-- ---- subscriptions
+
+adds-legal-each : (p : Sending) → MaySend p (world (goes_out (adding 0 9 ∷ adding 1 10 ∷ []) ∷ []) opened temp_there)
+adds-legal-each part.OnChannel = sends part.OnChannel (goes_out (adding 0 9 ∷ adding 1 10 ∷ [])) opened temp_there refl refl (all-on-sid (goes_out (adding 0 9 ∷ adding 1 10 ∷ [])) opened temp_there ((adding 0 9).message) ((adding 1 10).message ∷ []) 1 refl refl refl refl refl refl refl) tt
+adds-legal-each p = quiet-sends p (goes_out (adding 0 9 ∷ adding 1 10 ∷ [])) opened temp_there refl refl refl
+
+pub adds-legal : Legal (world (goes_out (adding 0 9 ∷ adding 1 10 ∷ []) ∷ []) opened temp_there)
+adds-legal = all-legal _ adds-legal-each
+
+added-twice-rest : (p : Sending) → (p ≡ part.Apart → ⊥) → MaySend p (world (goes_out (adding 0 9 ∷ adding 0 10 ∷ []) ∷ []) opened temp_there)
+added-twice-rest part.Apart ne = absurd (ne refl)
+added-twice-rest part.OnChannel ne = sends part.OnChannel (goes_out (adding 0 9 ∷ adding 0 10 ∷ [])) opened temp_there refl refl (all-on-sid (goes_out (adding 0 9 ∷ adding 0 10 ∷ [])) opened temp_there ((adding 0 9).message) ((adding 0 10).message ∷ []) 1 refl refl refl refl refl refl refl) tt
+added-twice-rest p ne = quiet-sends p (goes_out (adding 0 9 ∷ adding 0 10 ∷ [])) opened temp_there refl refl refl
+
+pub added-twice : SendsWrong part.Apart (world (goes_out (adding 0 9 ∷ adding 0 10 ∷ []) ∷ []) opened temp_there)
+added-twice = (added-twice-rest, λ h. (let p = its-sent part.Apart (goes_out (adding 0 9 ∷ adding 0 10 ∷ [])) opened temp_there refl refl h.0 1 2 0 0 (omega arith) (adding 0 9, refl, refl) (adding 0 10, refl, refl) in let after = p.1 in let early = p.2 in omega (arith, after, early)))
+
+abbrev intent-of : Line → Intent
+intent-of (Called i e) = i
+intent-of l = On 0 Create
+
+-- the subscription that was called
+called-is : (channel number i : ℕ) → At subscribe_called i (Called (On channel (Subscribe number)) None) → On 0 (Subscribe 1) ≡ On channel (Subscribe number)
+called-is channel number i at = each-at (λ (k : ℕ) (l : Line). l ≡ Called (On channel (Subscribe number)) None → On 0 (Subscribe 1) ≡ On channel (Subscribe number)) subscribe_called ((λ e. absurd cc), ((λ e. ap intent-of e), tt)) i _ at refl
+
+cancelled-is : (channel number i : ℕ) → At cancel_called i (Called (On channel (Subscribe number)) None) → On 0 (Subscribe 1) ≡ On channel (Subscribe number)
+cancelled-is channel number i at = each-at (λ (k : ℕ) (l : Line). l ≡ Called (On channel (Subscribe number)) None → On 0 (Subscribe 1) ≡ On channel (Subscribe number)) cancel_called ((λ e. absurd cc), ((λ e. ap intent-of e), ((λ e. absurd (let f : On 0 (Cancel 1) ≡ On channel (Subscribe number) = ap intent-of e in cc)), tt))) i _ at refl
+
+called-legal-each : (p : Sending) → MaySend p (world (called_at 1 (adding 1 9 ∷ []) ∷ []) subscribe_called temp_there)
+called-legal-each part.OnChannel = sends part.OnChannel (called_at 1 (adding 1 9 ∷ [])) subscribe_called temp_there refl refl (all-on-sid (called_at 1 (adding 1 9 ∷ [])) subscribe_called temp_there ((adding 1 9).message) [] 1 refl refl refl refl refl refl refl) tt
+called-legal-each part.HasAdd = sends part.HasAdd (called_at 1 (adding 1 9 ∷ [])) subscribe_called temp_there refl refl tt (λ channel number h. (0, 1, (called_at 1 (adding 1 9 ∷ []), refl, refl, (adding 1 9, refl, called-is channel number h.0 h.1))))
+called-legal-each p = quiet-sends p (called_at 1 (adding 1 9 ∷ [])) subscribe_called temp_there refl refl refl
+
+pub called-legal : Legal (world (called_at 1 (adding 1 9 ∷ []) ∷ []) subscribe_called temp_there)
+called-legal = all-legal _ called-legal-each
+
+called-unsent-rest : (p : Sending) → (p ≡ part.HasAdd → ⊥) → MaySend p (world (called_at 1 [] ∷ []) subscribe_called temp_there)
+called-unsent-rest part.HasAdd ne = absurd (ne refl)
+called-unsent-rest p ne = quiet-sends p (called_at 1 []) subscribe_called temp_there refl refl refl
+
+pub called-unsent : SendsWrong part.HasAdd (world (called_at 1 [] ∷ []) subscribe_called temp_there)
+called-unsent = (called-unsent-rest, λ h. (let a = h.1 0 subscribe_called refl 0 1 (1, refl) in let c = one-at (called_at 1 []) a.0 a.2.0 a.2.1 in let s = one-at creating a.1 a.2.3.0 (subst (λ (d : Circuit). At d.up a.1 a.2.3.0) c.1 a.2.3.1) in (let e : On 0 Create ≡ On 0 (Subscribe 1) = sym (ap (λ (z : Sent). z.intent) s.1) ∙ a.2.3.2 in cc)))
+
+-- The subscription was called, and neither ended nor told of, in the first two lines.
+held-yet : (channel number : ℕ) → IsHeld subscribe_called (On channel (Subscribe number)) × ((o : Outcome) → In subscribe_called (Noticed (On channel (Subscribe number)) o) → ⊥)
+held-yet channel number = (
+  (
+    (λ g. each-at (λ (k : ℕ) (l : Line). l ≡ Called (On channel Clear) None → ⊥) subscribe_called ((λ e. cc), ((λ e. (let f : On 0 (Subscribe 1) ≡ On channel Clear = ap intent-of e in cc)), tt)) g.0 _ g.1 refl),
+    (λ g. each-at (λ (k : ℕ) (l : Line). l ≡ Called (On channel (Cancel number)) None → ⊥) subscribe_called ((λ e. cc), ((λ e. (let f : On 0 (Subscribe 1) ≡ On channel (Cancel number) = ap intent-of e in cc)), tt)) g.0 _ g.1 refl),
+  ),
+  λ o g. each-at (λ (k : ℕ) (l : Line). l ≡ Noticed (On channel (Subscribe number)) o → ⊥) subscribe_called ((λ e. cc), ((λ e. cc), tt)) g.0 _ g.1 refl,
+)
+
+cancelled-later-legal-each : (p : Sending) → MaySend p (world (called_at 2 (adding 1 9 ∷ []) ∷ []) cancel_called temp_there)
+cancelled-later-legal-each part.OnChannel = sends part.OnChannel (called_at 2 (adding 1 9 ∷ [])) cancel_called temp_there refl refl (all-on-sid (called_at 2 (adding 1 9 ∷ [])) cancel_called temp_there ((adding 1 9).message) [] 1 refl refl refl refl refl refl refl) tt
+cancelled-later-legal-each part.HasAdd = sends part.HasAdd (called_at 2 (adding 1 9 ∷ [])) cancel_called temp_there refl refl tt (λ channel number h. (0, 1, ((called_at 2 (adding 1 9 ∷ [])), refl, refl, (adding 1 9, refl, cancelled-is channel number h.0 h.1))))
+cancelled-later-legal-each part.Anew = sends part.Anew (called_at 2 (adding 1 9 ∷ [])) cancel_called temp_there refl refl (λ channel k number h live standing. (let g : step 1 2 2 ≡ h = sym (one-at (step 1 2 2) live.0 h live.8).1 in let j = (one-at created_told live.0 live.2 live.4) in let k0 : 0 ≡ k = sym (ap (λ (t : Told). t.place) j.1) ∙ live.5 in subst (λ (n : ℕ). (l : ℕ) × (h.sent ≤ l) × Meant (called_at 2 (adding 1 9 ∷ [])) l (On channel (Subscribe number)) × ((p : ℕ) → n < p → p < l → Meant (called_at 2 (adding 1 9 ∷ [])) p (On channel Create) → ⊥)) k0 (1, subst (λ (z : Step). z.sent ≤ 1) g (omega arith), (adding 1 9, refl, called-is channel number standing.0.0 (subst (λ (z : Step). At (take z.logged cancel_called) standing.0.0 (Called (On channel (Subscribe number)) None)) (sym g) standing.0.1)), λ p a b. absurd (omega (arith, a, b))))) tt
+cancelled-later-legal-each part.Ended = sends part.Ended (called_at 2 (adding 1 9 ∷ [])) cancel_called temp_there refl refl (λ channel k l number h live lt meant. (let g : step 1 2 2 ≡ h = sym (one-at (step 1 2 2) live.0 h live.8).1 in subst (λ (z : Step). IsHeld (take z.logged cancel_called) (On channel (Subscribe number)) × ((o : Outcome) → In (take z.logged cancel_called) (Noticed (On channel (Subscribe number)) o) → ⊥)) g (held-yet channel number))) tt
+cancelled-later-legal-each p = quiet-sends p (called_at 2 (adding 1 9 ∷ [])) cancel_called temp_there refl refl refl
+
+pub cancelled-later-legal : Legal (world (called_at 2 (adding 1 9 ∷ []) ∷ []) cancel_called temp_there)
+cancelled-later-legal = all-legal _ cancelled-later-legal-each
+
+abbrev cancel-of : Intent → Intent
+cancel-of (On channel (Subscribe number)) = On channel (Cancel number)
+cancel-of i = i
+
+not-standing : (channel number : ℕ) (h : Step) → step 1 3 3 ≡ h → IsStanding (take h.logged cancel_called) (On channel (Subscribe number)) → ⊥
+not-standing channel number h g standing =
+    let s : IsStanding cancel_called (On channel (Subscribe number)) = subst (λ (z : Step). IsStanding (take z.logged cancel_called) (On channel (Subscribe number))) (sym g) standing in
+    let i : On 0 (Cancel 1) ≡ On channel (Cancel number) = ap cancel-of (cancelled-is channel number s.0.0 s.0.1) in
+    s.1.1 (2, subst (λ (d : Intent). At (Opened 0 temp_name ∷ Called (On 0 (Subscribe 1)) None ∷ Called (On 0 (Cancel 1)) None ∷ []) 2 (Called d None)) i refl)
+
+added-cancelled-rest : (p : Sending) → (p ≡ part.Ended → ⊥) → MaySend p (world (called_at 3 (adding 1 9 ∷ []) ∷ []) cancel_called temp_there)
+added-cancelled-rest part.Ended ne = absurd (ne refl)
+added-cancelled-rest part.OnChannel ne = sends part.OnChannel (called_at 3 (adding 1 9 ∷ [])) cancel_called temp_there refl refl (all-on-sid (called_at 3 (adding 1 9 ∷ [])) cancel_called temp_there ((adding 1 9).message) [] 1 refl refl refl refl refl refl refl) tt
+added-cancelled-rest part.HasAdd ne = sends part.HasAdd (called_at 3 (adding 1 9 ∷ [])) cancel_called temp_there refl refl tt (λ channel number h. (0, 1, ((called_at 3 (adding 1 9 ∷ [])), refl, refl, (adding 1 9, refl, cancelled-is channel number h.0 h.1))))
+added-cancelled-rest part.Anew ne = sends part.Anew (called_at 3 (adding 1 9 ∷ [])) cancel_called temp_there refl refl (λ channel k number h live standing. absurd (not-standing channel number h (sym (one-at (step 1 3 3) live.0 h live.8).1) standing)) tt
+added-cancelled-rest p ne = quiet-sends p (called_at 3 (adding 1 9 ∷ [])) cancel_called temp_there refl refl refl
+
+pub added-cancelled : SendsWrong part.Ended (world (called_at 3 (adding 1 9 ∷ []) ∷ []) cancel_called temp_there)
+added-cancelled = (added-cancelled-rest, λ h. (let e = its-sent part.Ended (called_at 3 (adding 1 9 ∷ [])) cancel_called temp_there refl refl h.0 0 0 1 1 (step 1 3 3) (0, 5, created_told, (creating, refl, refl), refl, refl, refl, (refl, refl), refl) (omega arith) (adding 1 9, refl, refl) in e.0.1 (2, refl)))
+
+-- what a message on a channel has
+abbrev SentOn : Circuit → ℕ → Fields → Type 0
+SentOn c k m =
+    (i j cid : ℕ) × HasChannel (client_conduct c) k i j cid (sid_in m) × ((Is command.ClearChannel m × (m.p2 ≡ cid))
+    ⊎ ((Is command.ClearChannel m → ⊥) × ((l : ℕ) (r : Fields) → j < l → ReadsBetween (client_conduct c) i k l r → IsDisconnect cid r → ⊥)))
+
+-- which creation a step tells live
+abbrev AddedAfter : Circuit → (k channel number : ℕ) → Step → Type 0
+AddedAfter c k channel number h =
+    (l : ℕ) × (h.sent ≤ l) × Meant c l (On channel (Subscribe number)) × ((p : ℕ) → k < p → p < l → Meant c p (On channel Create) → ⊥)
+
+added-after : (k channel number : ℕ) (h : Step) → BecomesLive (live_again (added_again ∷ [])) channel k h → On 0 (Subscribe 1) ≡ On channel (Subscribe number) → AddedAfter (live_again (added_again ∷ [])) k channel number h
+added-after k channel number h live is =
+    each-at (λ (j : ℕ) (t : Told). (g : Step) → t.place ≡ k → At (step 1 2 2 ∷ step 3 2 2 ∷ []) j g → AddedAfter (live_again (added_again ∷ [])) k channel number g) (created_told ∷ created_again ∷ []) (
+      (λ g place at. subst (λ (z : Step). AddedAfter (live_again (added_again ∷ [])) k channel number z) (some_is (step 1 2 2) g at) (subst (λ (n : ℕ). AddedAfter (live_again (added_again ∷ [])) n channel number (step 1 2 2)) place (1, omega arith, (adding 1 9, refl, is), λ p a b. absurd (omega (arith, a, b))))),
+      ((λ g place at. subst (λ (z : Step). AddedAfter (live_again (added_again ∷ [])) k channel number z) (some_is (step 3 2 2) g at) (subst (λ (n : ℕ). AddedAfter (live_again (added_again ∷ [])) n channel number (step 3 2 2)) place (3, omega arith, (added_again, refl, is), λ p a b. absurd (omega (arith, a, b))))), tt),
+    ) live.0 live.2 live.4 h live.5 live.8
+
+-- Of a subscription there is an EVENT_ADD before, and one after, the second creation.
+add-places : (k : ℕ) (s : Sent) (channel number : ℕ) → At (live_again (added_again ∷ [])).up k s → s.intent ≡ On channel (Subscribe number) → ((k ≡ 1) ⊎ (k ≡ 3)) × (channel ≡ 0)
+add-places k s channel number at is =
+    each-at (λ (i : ℕ) (z : Sent). z.intent ≡ On channel (Subscribe number) → ((i ≡ 1) ⊎ (i ≡ 3)) × (channel ≡ 0)) (live_again (added_again ∷ [])).up (
+      (λ e. absurd cc),
+      ((λ e. (inl refl, sym (ap channel-of e))), ((λ e. absurd cc), ((λ e. (inr refl, sym (ap channel-of e))), tt))),
+    ) k s at is
+
+between : (k l channel number : ℕ) → k < l → Meant (live_again (added_again ∷ [])) k (On channel (Subscribe number)) → Meant (live_again (added_again ∷ [])) l (On channel (Subscribe number)) → (p : ℕ) × (k < p) × (p < l) × Meant (live_again (added_again ∷ [])) p (On channel Create)
+between k l channel number lt a b =
+    let p = add-places k a.0 channel number a.1 a.2 in
+    let q = add-places l b.0 channel number b.1 b.2 in
+    let made : Meant (live_again (added_again ∷ [])) 2 (On channel Create) = (asked_again, refl, ap (λ (n : ℕ). On n Create) (sym p.1)) in
+    elim p.0 [
+      | inl first ↦ elim q.0 [
+        | inl e ↦ absurd (omega (arith, first, e, lt))
+        | inr e ↦ (2, omega (arith, first), omega (arith, e), made)
+      ]
+      | inr last ↦ elim q.0 [
+        | inl e ↦ absurd (omega (arith, last, e, lt))
+        | inr e ↦ absurd (omega (arith, last, e, lt))
+      ]
+    ]
+
+again-legal-each : (p : Sending) → MaySend p (world (live_again (added_again ∷ []) ∷ []) subscribe_called temp_there)
+again-legal-each part.OnChannel = sends part.OnChannel (live_again (added_again ∷ [])) subscribe_called temp_there refl refl (λ k m at o. each-at (λ (i : ℕ) (z : Fields). IsOnChannel z → SentOn (live_again (added_again ∷ [])) i z) (client_conduct (live_again (added_again ∷ []))).sent ((λ f. absurd (let e : false ≡ true = on-channel-so creating.message f in cc)), ((λ f. on-sid (client_conduct (live_again (added_again ∷ []))) 1 refl refl refl (omega arith) refl refl 1 (adding 1 9).message refl (omega arith) refl), ((λ f. absurd (let e : false ≡ true = on-channel-so asked_again.message f in cc)), ((λ f. (2, 1, 2, (asked_again.message, created_again.message, refl, (refl, refl), (3, refl, refl, omega arith, omega arith), (refl, refl), refl, λ l r after before here clears same. none (is 12) (client_conduct (live_again (added_again ∷ []))).sent refl l r here (is-so 12 r clears.0)), inr ((λ e. omega (arith, e)), (λ l r after reads d. none (is 27) (client_conduct (live_again (added_again ∷ []))).came refl l r reads.1 (is-so 27 r d.0))))), tt)))) k m at o) tt
+again-legal-each part.HasAdd = sends part.HasAdd (live_again (added_again ∷ [])) subscribe_called temp_there refl refl tt (λ channel number h. (0, 1, ((live_again (added_again ∷ [])), refl, refl, (adding 1 9, refl, called-is channel number h.0 h.1))))
+again-legal-each part.Ended = sends part.Ended (live_again (added_again ∷ [])) subscribe_called temp_there refl refl (λ channel k l number h live lt meant. each-at (λ (i : ℕ) (z : Step). IsHeld (take z.logged subscribe_called) (On channel (Subscribe number)) × ((o : Outcome) → In (take z.logged subscribe_called) (Noticed (On channel (Subscribe number)) o) → ⊥)) (step 1 2 2 ∷ step 3 2 2 ∷ []) (held-yet channel number, (held-yet channel number, tt)) live.0 h live.8) tt
+again-legal-each part.Apart = sends part.Apart (live_again (added_again ∷ [])) subscribe_called temp_there refl refl between tt
+again-legal-each part.Anew = sends part.Anew (live_again (added_again ∷ [])) subscribe_called temp_there refl refl (λ channel k number h live standing. added-after k channel number h live (each-at (λ (j : ℕ) (g : Step). At (take g.logged subscribe_called) standing.0.0 (Called (On channel (Subscribe number)) None) → On 0 (Subscribe 1) ≡ On channel (Subscribe number)) (step 1 2 2 ∷ step 3 2 2 ∷ []) ((λ e. called-is channel number standing.0.0 e), ((λ e. called-is channel number standing.0.0 e), tt)) live.0 h live.8 standing.0.1)) tt
+again-legal-each p = quiet-sends p (live_again (added_again ∷ [])) subscribe_called temp_there refl refl refl
+
+pub again-legal : Legal (world (live_again (added_again ∷ []) ∷ []) subscribe_called temp_there)
+again-legal = all-legal _ again-legal-each
+
+not-added-again-rest : (p : Sending) → (p ≡ part.Anew → ⊥) → MaySend p (world (live_again [] ∷ []) subscribe_called temp_there)
+not-added-again-rest part.Anew ne = absurd (ne refl)
+not-added-again-rest part.OnChannel ne = sends part.OnChannel (live_again []) subscribe_called temp_there refl refl (λ k m at o. each-at (λ (i : ℕ) (z : Fields). IsOnChannel z → SentOn (live_again []) i z) (client_conduct (live_again [])).sent ((λ f. absurd (let e : false ≡ true = on-channel-so creating.message f in cc)), ((λ f. on-sid (client_conduct (live_again [])) 1 refl refl refl (omega arith) refl refl 1 (adding 1 9).message refl (omega arith) refl), ((λ f. absurd (let e : false ≡ true = on-channel-so asked_again.message f in cc)), tt))) k m at o) tt
+not-added-again-rest part.HasAdd ne = sends part.HasAdd (live_again []) subscribe_called temp_there refl refl tt (λ channel number h. (0, 1, ((live_again []), refl, refl, (adding 1 9, refl, called-is channel number h.0 h.1))))
+not-added-again-rest part.Ended ne = sends part.Ended (live_again []) subscribe_called temp_there refl refl (λ channel k l number h live lt meant. each-at (λ (i : ℕ) (z : Step). IsHeld (take z.logged subscribe_called) (On channel (Subscribe number)) × ((o : Outcome) → In (take z.logged subscribe_called) (Noticed (On channel (Subscribe number)) o) → ⊥)) (step 1 2 2 ∷ step 3 2 2 ∷ []) (held-yet channel number, (held-yet channel number, tt)) live.0 h live.8) tt
+not-added-again-rest p ne = quiet-sends p (live_again []) subscribe_called temp_there refl refl refl
+
+pub not-added-again : SendsWrong part.Anew (world (live_again [] ∷ []) subscribe_called temp_there)
+not-added-again = (not-added-again-rest, λ h. (let a = its-sent part.Anew (live_again []) subscribe_called temp_there refl refl h.0 0 2 1 (step 3 2 2) (1, 6, created_again, (asked_again, refl, refl), refl, refl, refl, (refl, refl), refl) ((1, refl), (held-yet 0 1).0, (held-yet 0 1).1) in let m = a.2 in let w = At-within (live_again []).up a.0 m.0 m.1 in let late = a.1 in omega (arith, w, late)))

@@ -1,0 +1,72 @@
+ghost use Rattle.std.specs.Prelude.{◌∷◌, []};
+ghost use Rattle.ca_model.specs.History.{World};
+ghost use Rattle.ca_model.specs.Legal.{Legal};
+ghost use Rattle.ca_model_examples.specs.Worlds.{putting, clearing, adding, created_told, disconnected, step, world};
+ghost use Rattle.ca_model_examples.specs.Parts.{Anew, Apart, Cancels, Confirmations, Disconnects, Ended, HasAdd, Ids, MaySend, OnChannel, Sending, SendsWrong, Sids, ToldRemoved, Updates};
+ghost use Rattle.ca_model_examples.specs.Unsafe.{cancelling, opened, temp_removed, temp_there};
+ghost use Rattle.ca_model_examples.specs.Illegal.{added_again, both_asked, both_created, called_at, cancel_called, confirm_out, created_read, goes_out, live_again, read_out, reads_out, alone, writing, unasked, sent_in, subscribed_in, told_closed, told_so, update_out};
+
+/// The parts are those of what is legal, and no more.
+pub fn the_parts_are_all_that_is_legal()
+    ensures whole { (w : World) → ((p : Sending) → MaySend p w) → Legal w }
+    ensures parts { (w : World) → Legal w → (p : Sending) → MaySend p w }
+{}
+
+/// A read goes out once the creation's reply was read; a cancel is for an EVENT_ADD; and two ids
+/// of a kind that are in use have two indexes.
+pub fn what_a_client_may_send()
+    ensures read { Legal (sent_in (read_out (created_read ∷ []))) }
+    ensures read_too_soon { SendsWrong OnChannel (sent_in (read_out [])) }
+    ensures put_alone { SendsWrong OnChannel (sent_in (alone (putting 0 8 22))) }
+    ensures write_alone { SendsWrong OnChannel (sent_in (alone writing)) }
+    ensures add_alone { SendsWrong OnChannel (sent_in (alone (adding 0 9))) }
+    ensures clear_alone { SendsWrong OnChannel (sent_in (alone clearing)) }
+    ensures subs_shared { SendsWrong Ids (sent_in (goes_out (adding 0 9 ∷ adding 1 9 ∷ []))) }
+    ensures unasked { SendsWrong OnChannel (sent_in unasked) }
+    ensures cancel { Legal (sent_in (goes_out (adding 0 9 ∷ cancelling ∷ []))) }
+    ensures cancel_of_nothing { SendsWrong Cancels (sent_in (goes_out (cancelling ∷ []))) }
+    ensures ids { Legal (sent_in (both_asked 2)) }
+    ensures reads { Legal (sent_in (reads_out 8)) }
+    ensures id_reused { SendsWrong Ids (sent_in (reads_out 7)) }
+    ensures id_shared { SendsWrong Ids (sent_in (both_asked 1)) }
+{}
+
+/// Two open channels have two SIDs; an update is for an EVENT_ADD that was read, and a
+/// confirmation for an EVENT_CANCEL that was; and a channel that was created has a SERVER_DISCONN
+/// once.
+pub fn what_a_server_may_send()
+    ensures sids { Legal (sent_in (both_created 6)) }
+    ensures sid_shared { SendsWrong Sids (sent_in (both_created 5)) }
+    ensures update { Legal (sent_in (update_out (step 0 0 0 ∷ step 1 0 0 ∷ []))) }
+    ensures update_too_soon { SendsWrong Updates (sent_in (update_out (step 0 0 0 ∷ []))) }
+    ensures confirmation { Legal
+        (sent_in (confirm_out (step 0 0 0 ∷ step 1 0 0 ∷ step 1 0 0 ∷ []))) }
+    ensures confirmation_too_soon { SendsWrong Confirmations
+        (sent_in (confirm_out (step 0 0 0 ∷ step 1 0 0 ∷ []))) }
+    ensures gone { Legal (sent_in (told_so (created_told ∷ disconnected ∷ []))) }
+    ensures gone_uncreated { SendsWrong Disconnects (sent_in (told_so (disconnected ∷ []))) }
+    ensures gone_twice { SendsWrong Disconnects
+        (sent_in (told_so (created_told ∷ disconnected ∷ disconnected ∷ []))) }
+{}
+
+/// A channel whose record is removed has its SERVER_DISCONN, unless its server's end closed.
+pub fn what_must_be_sent()
+    ensures closed { Legal (world (told_closed (created_told ∷ []) ∷ []) opened temp_removed) }
+    ensures untold { SendsWrong ToldRemoved
+        (world (told_so (created_told ∷ []) ∷ []) opened temp_removed) }
+{}
+
+/// A subscription that was called has an EVENT_ADD, one for each creation of its channel after
+/// which that is live, and none once it was cancelled.
+pub fn a_subscription_has_one_event_add()
+    ensures two { Legal (sent_in (goes_out (adding 0 9 ∷ adding 1 10 ∷ []))) }
+    ensures one_twice { SendsWrong Apart (sent_in (goes_out (adding 0 9 ∷ adding 0 10 ∷ []))) }
+    ensures called { Legal (subscribed_in (called_at 1 (adding 1 9 ∷ []))) }
+    ensures unsent { SendsWrong HasAdd (subscribed_in (called_at 1 [])) }
+    ensures cancelled_later { Legal
+        (world (called_at 2 (adding 1 9 ∷ []) ∷ []) cancel_called temp_there) }
+    ensures cancelled_before { SendsWrong Ended
+        (world (called_at 3 (adding 1 9 ∷ []) ∷ []) cancel_called temp_there) }
+    ensures again { Legal (subscribed_in (live_again (added_again ∷ []))) }
+    ensures not_again { SendsWrong Anew (subscribed_in (live_again [])) }
+{}
