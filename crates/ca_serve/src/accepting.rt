@@ -19,7 +19,7 @@ use std::sync::ledger::{Ledger, Share};
 use std::sync::{Arc, Wait};
 use std::thread::{JoinHandle, Parker, Threads};
 use std::time::{Clock, Duration};
-use std::{io, thread};
+use std::{io, net, thread};
 
 // Circuits at a time, at most.
 const MOST_CIRCUITS: usize = 65_536;
@@ -65,7 +65,13 @@ struct Accepted<L: Ledger, D: Device> {
 pub(crate) fn accept_all<
     L: Ledger + Send + Sync + 'static,
     D: Device + Send + Sync + 'static,
-    R: Threads + Wait + Clock + Net + Copy + Send + 'static,
+    R: Threads
+        + Wait
+        + Clock
+        + Net<Stream = net::TcpStream, Listener = net::TcpListener>
+        + Copy
+        + Send
+        + 'static,
 >(
     rt: R,
     alloc: Global,
@@ -153,7 +159,13 @@ fn looked<L: Ledger, D: Device, R: Wait>(
 fn accept_one<
     L: Ledger + Send + Sync + 'static,
     D: Device + Send + Sync + 'static,
-    R: Threads + Wait + Clock + Net + Copy + Send + 'static,
+    R: Threads
+        + Wait
+        + Clock
+        + Net<Stream = net::TcpStream, Listener = net::TcpListener>
+        + Copy
+        + Send
+        + 'static,
 >(
     rt: R,
     alloc: Global,
@@ -276,7 +288,13 @@ pub(crate) fn new_poll<R: Net>(rt: &R) -> Result<(Poll, Waker), Refusal> {
 fn start_circuit<
     L: Ledger + Send + Sync + 'static,
     D: Device + Send + Sync + 'static,
-    R: Threads + Wait + Clock + Net + Copy + Send + 'static,
+    R: Threads
+        + Wait
+        + Clock
+        + Net<Stream = net::TcpStream, Listener = net::TcpListener>
+        + Copy
+        + Send
+        + 'static,
 >(
     rt: R,
     accepted: Accepted<L, D>,

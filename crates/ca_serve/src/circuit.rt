@@ -10,7 +10,7 @@ use ca_arena::Handle;
 use ca_server_core::Step;
 use ca_wire::Pipe;
 use indexmap::IndexSet;
-use std::net::Net;
+use std::net::{Net, TcpListener, TcpStream};
 use std::sync::atomic::{AtomicBool, Ordering};
 use std::sync::ledger::{Ledger, Share};
 use std::sync::{Arc, Wait};
@@ -78,7 +78,10 @@ impl<L: Ledger, D: Device> Circuit<L, D> {
 
 impl<L: Ledger, D: Device> Work<Gathered<L>> for Circuit<L, D> {
     // Reads, steps and writes until the circuit is closed.
-    fn run<R: Wait + Clock + Net>(self, rt: &R) -> Gathered<L> {
+    fn run<R: Wait + Clock + Net<Stream = TcpStream, Listener = TcpListener>>(
+        self,
+        rt: &R,
+    ) -> Gathered<L> {
         let Circuit {
             shared,
             mut line,

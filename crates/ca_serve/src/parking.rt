@@ -10,7 +10,7 @@ use ca_arena::Handle;
 use ca_text::Refusal;
 use mio::{Events, Poll, Registry, Token, Waker};
 use std::alloc::Global;
-use std::net::Net;
+use std::net::{Net, TcpListener, TcpStream};
 use std::sync::ledger::Ledger;
 use std::sync::{Arc, Mutex, Wait};
 use std::time::{Clock, Duration};
@@ -125,7 +125,7 @@ pub(crate) struct Poller<L: Ledger, D: Device> {
 
 impl<L: Ledger, D: Device> Work<()> for Poller<L, D> {
     // Wakes the threads of the circuits whose sockets are ready, until the server is to end; after a wait that failed those of all.
-    fn run<R: Wait + Clock + Net>(self, rt: &R) {
+    fn run<R: Wait + Clock + Net<Stream = TcpStream, Listener = TcpListener>>(self, rt: &R) {
         let Poller {
             shared,
             mut poll,

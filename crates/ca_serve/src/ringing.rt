@@ -5,7 +5,7 @@ use ca_arena::Handle;
 use mio::Waker;
 use std::alloc::{AllocError, Global};
 use std::mem;
-use std::net::Net;
+use std::net::{Net, TcpListener, TcpStream};
 use std::sync::ledger::Ledger;
 use std::sync::{Arc, Condvar, Wait};
 use std::thread::Parker;
@@ -140,7 +140,7 @@ pub(crate) struct Ringer<L: Ledger, D: Device> {
 
 impl<L: Ledger, D: Device> Work<()> for Ringer<L, D> {
     // Rings what was handed over, with no lock held. At the end all bells are rung by whoever ends the server.
-    fn run<R: Wait + Clock + Net>(self, rt: &R) {
+    fn run<R: Wait + Clock + Net<Stream = TcpStream, Listener = TcpListener>>(self, rt: &R) {
         let Ringer { shared } = self;
         let mut rings = Rings::new(shared.alloc);
         for _ in rt.forever() {

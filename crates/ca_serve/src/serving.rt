@@ -39,7 +39,13 @@ pub struct Places {
 /// A connection for which there is no room is closed at once. Refused as Device if a socket or a thread cannot be had, and as OutOfMemory.
 pub fn serve<
     D: Device + Send + Sync + 'static,
-    R: Threads + Wait + Clock + Net + Copy + Send + 'static,
+    R: Threads
+        + Wait
+        + Clock
+        + Net<Stream = net::TcpStream, Listener = net::TcpListener>
+        + Copy
+        + Send
+        + 'static,
 >(
     rt: R,
     alloc: Global,
@@ -65,7 +71,13 @@ pub fn serve<
 fn serve_as<
     L: Ledger + Send + Sync + 'static,
     D: Device + Send + Sync + 'static,
-    R: Threads + Wait + Clock + Net + Copy + Send + 'static,
+    R: Threads
+        + Wait
+        + Clock
+        + Net<Stream = net::TcpStream, Listener = net::TcpListener>
+        + Copy
+        + Send
+        + 'static,
 >(
     rt: R,
     alloc: Global,
@@ -226,7 +238,13 @@ fn open_parking<R: Net>(rt: &R) -> Result<(Poll, Parking), Refusal> {
 fn start_helpers<
     L: Ledger + Send + Sync + 'static,
     D: Device + Send + Sync + 'static,
-    R: Threads + Wait + Clock + Net + Copy + Send + 'static,
+    R: Threads
+        + Wait
+        + Clock
+        + Net<Stream = net::TcpStream, Listener = net::TcpListener>
+        + Copy
+        + Send
+        + 'static,
 >(
     rt: R,
     alloc: Global,
@@ -247,7 +265,13 @@ fn start_helpers<
 fn start_processor<
     L: Ledger + Send + Sync + 'static,
     D: Device + Send + Sync + 'static,
-    R: Threads + Wait + Clock + Net + Copy + Send + 'static,
+    R: Threads
+        + Wait
+        + Clock
+        + Net<Stream = net::TcpStream, Listener = net::TcpListener>
+        + Copy
+        + Send
+        + 'static,
 >(rt: R, shared: &Arc<Shared<L, D>>) -> Result<JoinHandle<()>, Refusal> {
     let shared = Arc::try_clone(shared)?;
     started(rt, Processor { shared })
@@ -256,7 +280,13 @@ fn start_processor<
 fn start_datagrams<
     L: Ledger + Send + Sync + 'static,
     D: Device + Send + Sync + 'static,
-    R: Threads + Wait + Clock + Net + Copy + Send + 'static,
+    R: Threads
+        + Wait
+        + Clock
+        + Net<Stream = net::TcpStream, Listener = net::TcpListener>
+        + Copy
+        + Send
+        + 'static,
 >(rt: R, shared: &Arc<Shared<L, D>>, desk: Desk) -> Result<JoinHandle<()>, Refusal> {
     let shared = Arc::try_clone(shared)?;
     started(rt, Datagrams { shared, desk })
@@ -265,7 +295,13 @@ fn start_datagrams<
 fn start_poller<
     L: Ledger + Send + Sync + 'static,
     D: Device + Send + Sync + 'static,
-    R: Threads + Wait + Clock + Net + Copy + Send + 'static,
+    R: Threads
+        + Wait
+        + Clock
+        + Net<Stream = net::TcpStream, Listener = net::TcpListener>
+        + Copy
+        + Send
+        + 'static,
 >(rt: R, alloc: Global, shared: &Arc<Shared<L, D>>, poll: Poll) -> Result<JoinHandle<()>, Refusal> {
     let shared = Arc::try_clone(shared)?;
     let events = Events::with_capacity(alloc, SOCKETS)?;
@@ -280,7 +316,13 @@ fn start_poller<
 fn start_ringer<
     L: Ledger + Send + Sync + 'static,
     D: Device + Send + Sync + 'static,
-    R: Threads + Wait + Clock + Net + Copy + Send + 'static,
+    R: Threads
+        + Wait
+        + Clock
+        + Net<Stream = net::TcpStream, Listener = net::TcpListener>
+        + Copy
+        + Send
+        + 'static,
 >(rt: R, shared: &Arc<Shared<L, D>>) -> Result<JoinHandle<()>, Refusal> {
     let shared = Arc::try_clone(shared)?;
     started(rt, Ringer { shared })
