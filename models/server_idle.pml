@@ -434,6 +434,8 @@ proctype Circuit(byte c) {
         :: turn == CLOSED -> ring_all(); line[c] = 0; break       /* write_left, which ends by itself */
         :: else
         fi;
+        /* Line::sends */
+        came = came || line[c] != 0;
         /* Line::write */
         has_no_room = 0;
         if
@@ -446,7 +448,7 @@ proctype Circuit(byte c) {
         /* go_on */
 #ifdef PARKS
         if
-        :: moved != OVER && (came || turn == BUSY) && !own[c] -> unpark()
+        :: moved != OVER && came && !own[c] -> unpark()
         :: else
         fi;
 #endif

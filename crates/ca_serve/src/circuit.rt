@@ -162,8 +162,8 @@ fn turned<L: Ledger, D: Device, R: Wait + Clock>(
     turn
 }
 
-// After a turn and a write, with no lock held: reads if nothing else is to be done. A circuit to which bytes came, or of which more waits to be sent than one that is
-// parked takes, is parked no more.
+// After a turn and a write, with no lock held: reads if nothing else is to be done. A circuit to which bytes came, or that sends some, is parked
+// no more.
 fn go_on<L: Ledger, D: Device, R: Wait + Clock + Net>(
     rt: &R,
     shared: &Shared<L, D>,
@@ -173,7 +173,7 @@ fn go_on<L: Ledger, D: Device, R: Wait + Clock + Net>(
     written: Written,
     line: &mut Line,
 ) -> Moved {
-    let is_busy = matches!(moved, Moved::Count(_)) || matches!(turn, Turn::Busy);
+    let is_busy = matches!(moved, Moved::Count(_)) || line.sends();
     if is_busy && line.is_parked() {
         unpark(rt, shared, circuit, line);
     }

@@ -83,6 +83,11 @@ impl Line {
         self.own.is_none()
     }
 
+    /// Whether bytes were taken for output in the last turn, or wait since an earlier one.
+    pub(crate) fn sends(&self) -> bool {
+        !self.output.is_empty()
+    }
+
     /// Puts the socket among those of the circuits that are parked, and says whether it could. It is told of what is there already, too.
     pub(crate) fn join(&mut self, registry: &Registry, token: Token) -> bool {
         let readable = Interest::READABLE;
