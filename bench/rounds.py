@@ -319,9 +319,9 @@ class Server:
         self.run.stdout.close()
 
 
-def served(program_path, folder):
-    """`ca serve` with two records of one LONG, which is 21."""
+def served(program_path, folder, *settings):
+    """`ca serve` with two records of one LONG, which is 21, and these settings in its environment."""
     file = os.path.join(folder, "records")
     with open(file, "w", encoding="ascii") as out:
         out.write("record TEMP LONG 1 quick 21\nrecord SETP LONG 1 quick 21\n")
-    return Server(program_path, "serve", "--records", file, "--listen", "127.0.0.1:0")
+    return Server("env", *settings, program_path, "serve", "--records", file, "--listen", "127.0.0.1:0")

@@ -5,6 +5,10 @@
  * Each block names the function that it follows, in the function's own order; threads take turns between statements. What is done under the mutex is one step with
  * the taking of the mutex, since nobody else can look meanwhile; the letting go, and what follows, are steps of their own.
  *
+ * With PARKS a circuit begins parked, and is parked again as nothing comes to its poll, so many times at most. While it has a poll of its own (`own`, of which `life` is the number)
+ * it is told by `edge` and `bell`. While it is parked its socket is among those of the polling thread (`joined`, `told`), and its thread waits for `token`. Either poll reports
+ * at once what is there as a socket comes in. Where there is no descriptor for a poll the circuit stays parked. Without PARKS each circuit has its poll for ever.
+ *
  * A circuit has `rx`, messages in its socket; `input`, messages in the core; `due`, updates that wait in the core for a pump; `output`, bytes in the core that wait
  * to be sent; `line`, bytes that the thread took out and has not written; `room`, whether the socket takes bytes. Edges (`edge`, `bell`) are kept until a poll takes
  * them. No wait of the server ends by time, but for the pauses of a thread without memory and of what a closed circuit left, which are left out.
@@ -27,6 +31,7 @@
  *   LATE        the last circuit is accepted at any time
  *   LACKS       there may be no memory for an update, which ends its circuit
  *   HANDS       all bells are handed over to the ringing thread
+ *   PARKS=1     how often a circuit is parked again
  *   ENDS        the server ends at some time
  *   P=1         processing threads
  *   PLANT=n     a wrong form, which is to be found
@@ -42,6 +47,12 @@
  *    10  a circuit's thread that is about to wait forgets that its bell was rung
  *    11  a circuit that its update ended is not rung (LACKS)
  *    12  the ringing thread is told of bells before it is handed them (HANDS)
+ *    13  a circuit that is parked waits before it takes a turn (PARKS)
+ *    14  the polling thread takes the bells of those that it wakes (PARKS=0: a wait that ends by time hides it)
+ *    15  a parked circuit whose socket is full does not ask to be told of room (PARKS, FULL)
+ *    16  the bell of a parked circuit is that of the poll that it had (PARKS)
+ *    17  `end` rings no bell of a parked circuit (PARKS, ENDS)
+ *    18  a circuit's own poll does not tell of room (PARKS=0)
  */
 #ifndef C
 #define C 2
@@ -67,10 +78,16 @@
 #define PROCESSORS 0
 #endif
 #ifdef HANDS
-#define HELPERS (PROCESSORS + 1)
+#define RINGERS 1
 #else
-#define HELPERS PROCESSORS
+#define RINGERS 0
 #endif
+#ifdef PARKS
+#define POLLERS 1
+#else
+#define POLLERS 0
+#endif
+#define HELPERS (PROCESSORS + RINGERS + POLLERS)
 #define OUTPUT 2        /* the core's output is full with so much */
 #define MOST_DUE 2      /* a newer update takes the place of the newest */
 
@@ -84,13 +101,14 @@ byte output[C];
 bit open[C];
 bit is_idle[C];
 bit has_bell[C];
+bit has_waker[C];       /* Bell.waker: it has that of the poll which the circuit has */
 bit busy;               /* the slow record */
 byte busy_of;
 byte waits[C];
 bit given;              /* its name is in Locked.busy */
 bit ending;
 
-bit handed[C];          /* Locked.rings */
+byte handed[C];         /* Locked.rings */
 
 /* The conditions that a record became busy, and that there are bells for the ringing thread. */
 bit unseen, sleeps;
@@ -102,6 +120,13 @@ bit shut[C];
 bit room[C];
 bit edge[C];
 bit bell[C];
+bit own[C];
+bit life[C];
+bit joined[C];
+bit told[C];
+bit asks_room[C];       /* the polling thread is told of room, too */
+bit token[C];           /* the parker's */
+bit end_told;           /* the polling thread's waker */
 byte line[C];
 bit entered[C];
 bit gone[C];            /* Locked.gone has it: the thread is at its end */
@@ -118,14 +143,31 @@ byte ended_threads;
 
 inline let_go() { lock = 0 }
 
+/* What the polls are told as a socket has bytes, or is shut; and as it has room. */
+inline tell(c) { edge[c] = own[c]; told[c] = told[c] || joined[c] }
+inline tell_room(c) { edge[c] = own[c]; told[c] = told[c] || (joined[c] && asks_room[c]) }
+
+/* Bell::wake, and its ring: the parker, or the waker of a poll by its life. One of a poll that was let go wakes nobody. */
+#define PARKER 1
+#define WAKE(k) (has_waker[k] -> 2 + life[k] : PARKER)
+inline ring(k, wake) {
+    if
+    :: wake == PARKER -> token[k] = 1
+    :: wake > PARKER && own[k] && life[k] == wake - 2 -> bell[k] = 1
+    :: else
+    fi
+}
+
 /* Condvar::notify_all. */
 inline notify() { d_step { unseen = 1; sleeps = 0 } }
 inline notify_rung() { d_step { unseen_rung = 1; sleeps_rung = 0 } }
 
 #if C == 2
 #define NO_BELLS (handed[0] == 0 && handed[1] == 0)
+#define ANY_TOLD (told[0] || told[1])
 #else
 #define NO_BELLS (handed[0] == 0 && handed[1] == 0 && handed[2] == 0)
+#define ANY_TOLD (told[0] || told[1] || told[2])
 #endif
 #define WATCHES(c) ((c) + WATCHERS >= C)
 #ifdef LACKS
@@ -167,7 +209,7 @@ inline post(c) {
 inline reach(c) {
     for (k : 0 .. LAST) {
         if
-        :: WATCHES(k) && k != c && has_bell[k] && IS_RUNG(k) -> is_idle[k] = 0; rings[k] = 1
+        :: WATCHES(k) && k != c && has_bell[k] && IS_RUNG(k) -> is_idle[k] = 0; rings[k] = WAKE(k)
         :: else
         fi
     };
@@ -179,7 +221,7 @@ inline hand_over() {
 #if defined(HANDS) && PLANT != 12
     for (k : 0 .. C - 1) {
         if
-        :: rings[k] -> rings[k] = 0; handed[k] = 1; is_handed = 1
+        :: rings[k] -> handed[k] = rings[k]; rings[k] = 0; is_handed = 1
         :: else
         fi
     };
@@ -193,14 +235,14 @@ inline hand_over() {
 inline ring_all() {
 #ifdef HANDS
 #if PLANT == 12
-    d_step { for (k : 0 .. C - 1) { is_handed = is_handed || rings[k] }; k = 0 };
+    d_step { for (k : 0 .. C - 1) { is_handed = is_handed || rings[k] != 0 }; k = 0 };
     if
     :: is_handed ->
         is_handed = 0;
         notify_rung();
         atomic {
             lock == 0 -> lock = 1;
-            d_step { for (k : 0 .. C - 1) { handed[k] = handed[k] || rings[k]; rings[k] = 0 }; k = 0 }
+            d_step { for (k : 0 .. C - 1) { handed[k] = (rings[k] -> rings[k] : handed[k]); rings[k] = 0 }; k = 0 }
         };
         let_go()
     :: else
@@ -215,7 +257,7 @@ inline ring_all() {
     do
     :: k < C ->
         if
-        :: rings[k] -> d_step { rings[k] = 0; bell[k] = 1 }
+        :: rings[k] -> d_step { ring(k, rings[k]); rings[k] = 0 }
         :: else
         fi;
         k++
@@ -242,14 +284,47 @@ inline cut(c) {
     waits[c] = 0
 }
 
+#ifdef PARKS
+/* unpark: the circuit has a poll of its own, or there is none to be had. */
+inline unpark() {
+    if
+    :: true ->
+        /* Line::leave */
+#if PLANT == 18
+        d_step { life[c] = 1 - life[c]; own[c] = 1; edge[c] = rx[c] != 0 || shut[c]; bell[c] = 0 };
+#else
+        d_step { life[c] = 1 - life[c]; own[c] = 1; edge[c] = rx[c] != 0 || shut[c] || room[c]; bell[c] = 0 };
+#endif
+        d_step { joined[c] = 0; told[c] = 0; asks_room[c] = 0 };
+        /* hang */
+        d_step { lock == 0 -> has_waker[c] = 1 }
+    :: true
+    fi
+}
+
+/* park */
+inline park() {
+    d_step { joined[c] = 1; told[c] = rx[c] != 0 || shut[c] };
+    /* hang */
+#if PLANT != 16
+    d_step { lock == 0 -> has_waker[c] = 0 };
+#endif
+    /* Line::drop_own */
+    d_step { own[c] = 0; edge[c] = 0; bell[c] = 0 }
+}
+#endif
+
 /* A circuit's thread: Circuit::run. */
 proctype Circuit(byte c) {
     mtype moved = LATER, turn = IDLE;
-    bit is_given, is_handed, slow, all, again, has_no_room;
-    bit rings[C];
-    byte k, steps;
+    bit is_given, is_handed, slow, all, again, has_no_room, came;
+    byte rings[C];
+    byte k, steps, parks;
 
     entered[c];
+#ifdef PARKS
+    d_step { joined[c] = 1; told[c] = rx[c] != 0 || shut[c] };
+#endif
     do
     ::  /* turned */
 #if PLANT == 2
@@ -269,6 +344,7 @@ proctype Circuit(byte c) {
             :: !ending && moved == COUNT -> d_step { input[c] = input[c] + steps }
             :: else
             fi;
+            came = moved == COUNT;
             moved = LATER;
             steps = 0;
             /* steps */
@@ -283,6 +359,13 @@ proctype Circuit(byte c) {
             :: open[c] && output[c] < OUTPUT && input[c] != 0 ->
                 input[c]--;
                 turn = BUSY;
+#ifdef PARKS
+                /* Of 64 messages the last may have been handled. */
+                if
+                :: input[c] == 0 -> turn = IDLE
+                :: true
+                fi;
+#endif
 #ifdef SLOW
                 if
                 :: slow = 1
@@ -351,6 +434,8 @@ proctype Circuit(byte c) {
         :: turn == CLOSED -> ring_all(); line[c] = 0; break       /* write_left, which ends by itself */
         :: else
         fi;
+        /* Line::sends */
+        came = came || line[c] != 0;
         /* Line::write */
         has_no_room = 0;
         if
@@ -361,18 +446,33 @@ proctype Circuit(byte c) {
         fi;
         ring_all();
         /* go_on */
+#ifdef PARKS
+        if
+        :: moved != OVER && came && !own[c] -> unpark()
+        :: else
+        fi;
+#endif
         if
         :: has_no_room ->
-            has_no_room = 0;
+            /* Line::wait_for_room */
+            if
+            :: own[c] ->
 end_full:
-            d_step { edge[c] || bell[c] -> edge[c] = 0; bell[c] = 0 };
+                edge[c] || bell[c] -> d_step { edge[c] = 0; bell[c] = 0 }
+            :: !own[c] ->
+#if PLANT != 15
+                d_step { asks_room[c] = 1; told[c] = told[c] || room[c] || rx[c] != 0 || shut[c] };
+#endif
+end_parked_full:
+                token[c] -> token[c] = 0
+            fi;
             goto turned_again
         :: else
         fi;
         if
         :: moved == OVER || turn == BUSY
         :: moved != OVER && turn == IDLE ->
-            /* Line::read: it reads, waits if nothing was there, and reads again. */
+            /* read: it reads, waits if nothing was there, and reads again. */
             again = 1;
 #if PLANT == 4
             goto waiting;
@@ -392,26 +492,48 @@ waiting:
 #if PLANT == 10
                 bell[c] = 0;
 #endif
+                /* Line::is_idle */
+                if
+                :: own[c] ->
 end_idle:
-                d_step { edge[c] || bell[c] -> edge[c] = 0; bell[c] = 0 };
+                    if
+                    :: edge[c] || bell[c] -> d_step { edge[c] = 0; bell[c] = 0 }
+#ifdef PARKS
+                    :: parks < PARKS && !edge[c] && !bell[c] ->
+                        parks++;
+                        park();
+#if PLANT == 13
+                        goto waiting
+#else
+                        goto turned_again
+#endif
+#endif
+                    fi
+                :: !own[c] ->
+end_parked:
+                    token[c] -> token[c] = 0
+                fi;
                 goto reading
             :: else
-            fi;
-            again = 0
+            fi
         fi;
 turned_again:
+        has_no_room = 0;
+        again = 0;
         turn = IDLE;
+        came = 0;
         is_given = 0
     od;
     /* note_gone */
     atomic { lock == 0 -> lock = 1; gone[c] = 1 };
-    let_go()
+    let_go();
+    d_step { own[c] = 0; joined[c] = 0; edge[c] = 0; bell[c] = 0; told[c] = 0; token[c] = 0 }
 }
 
 #ifdef HANDS
 /* The ringing thread: Ringer::run. */
 proctype Ringer() {
-    bit rings[C];
+    byte rings[C];
     byte k;
 
     do
@@ -442,7 +564,53 @@ end_asleep:
         do
         :: k < C ->
             if
-            :: rings[k] -> d_step { rings[k] = 0; bell[k] = 1 }
+            :: rings[k] -> d_step { ring(k, rings[k]); rings[k] = 0 }
+            :: else
+            fi;
+            k++
+        :: else -> break
+        od;
+        k = 0
+    od;
+    ended_threads++
+}
+#endif
+
+#ifdef PARKS
+/* The polling thread: Poller::run. */
+proctype Poller() {
+    bit ready[C];
+    byte k;
+
+end_polling:
+    do
+    ::  d_step {
+            ANY_TOLD || end_told ->
+            for (k : 0 .. C - 1) { ready[k] = told[k]; told[k] = 0 };
+            end_told = 0;
+            k = 0
+        };
+        /* noted */
+        atomic {
+            lock == 0 ->
+            d_step {
+                for (k : 0 .. C - 1) {
+                    ready[k] = ready[k] && has_bell[k];
+#if PLANT == 14
+                    is_idle[k] = is_idle[k] && !ready[k]
+#endif
+                };
+                k = 0
+            };
+            if
+            :: ending -> break
+            :: else
+            fi
+        };
+        do
+        :: k < C ->
+            if
+            :: ready[k] -> d_step { ready[k] = 0; token[k] = 1 }
             :: else
             fi;
             k++
@@ -458,7 +626,7 @@ end_asleep:
 /* A processing thread: Processor::run. */
 proctype Processor() {
     bit work, next, is_handed;
-    bit rings[C];
+    byte rings[C];
     byte k;
 
     do
@@ -491,7 +659,7 @@ end_asleep:
 #if PLANT != 5
                 d_step {
                     if
-                    :: has_bell[busy_of] && is_idle[busy_of] -> is_idle[busy_of] = 0; rings[busy_of] = 1
+                    :: has_bell[busy_of] && is_idle[busy_of] -> is_idle[busy_of] = 0; rings[busy_of] = WAKE(busy_of)
                     :: else
                     fi
                 };
@@ -544,10 +712,10 @@ proctype Client(byte c) {
     entered[c];
 end:
     do
-    :: d_step { c < SENDERS && sent < PUTS && !over -> sent++; rx[c]++; edge[c] = 1 }
-    :: d_step { !room[c] -> room[c] = 1; edge[c] = 1 }
+    :: d_step { c < SENDERS && sent < PUTS && !over -> sent++; rx[c]++; tell(c) }
+    :: d_step { !room[c] -> room[c] = 1; tell_room(c) }
 #ifdef CLOSES
-    :: d_step { c == 0 && !over -> over = 1; shut[c] = 1; room[c] = 1; edge[c] = 1 }
+    :: d_step { c == 0 && !over -> over = 1; shut[c] = 1; room[c] = 1; tell(c) }
 #endif
     od
 }
@@ -568,7 +736,11 @@ proctype Main() {
 #if PLANT != 6
         for (k : 0 .. C - 1) {
             if
-            :: has_bell[k] -> bell[k] = 1
+#if PLANT == 17
+            :: has_bell[k] && has_waker[k] -> ring(k, WAKE(k))
+#else
+            :: has_bell[k] -> ring(k, WAKE(k))
+#endif
             :: else
             fi
         };
@@ -578,6 +750,7 @@ proctype Main() {
     let_go();
     notify();
     notify_rung();
+    end_told = 1;
     do
     :: k < C -> gone[k]; k++
     :: else -> break
@@ -592,6 +765,10 @@ init {
     atomic {
         for (c : 0 .. C - 1) {
             room[c] = 1;
+#ifndef PARKS
+            own[c] = 1;
+            has_waker[c] = 1;
+#endif
             run Circuit(c);
             run Client(c)
         };
@@ -602,6 +779,9 @@ init {
 #endif
 #ifdef HANDS
         run Ringer();
+#endif
+#ifdef PARKS
+        run Poller();
 #endif
 #ifdef SLOW
         for (c : 1 .. P) { run Processor() };

@@ -2,7 +2,7 @@ ghost use Rattle.std.specs.Prelude.{◌≡◌, ◌+◌, ◌-◌, ◌^◌};
 ghost use Rattle.indexmap.specs.IndexMap.{index_map_len};
 
 use crate::circuit::{Circuit, Gathered};
-use crate::line::{Line, ROOM};
+use crate::line::Line;
 use crate::locked::Shared;
 use crate::processing::Device;
 use crate::ringing::Bell;
@@ -11,23 +11,24 @@ use ca_arena::Handle;
 use ca_text::Refusal;
 use indexmap::IndexMap;
 use mio::net::{TcpListener, TcpStream};
-use mio::{Events, Interest, Poll, Token, Waker};
+use mio::{Events, Poll, Token, Waker};
 use std::alloc::Global;
 use std::net::Net;
 use std::sync::atomic::{AtomicBool, Ordering};
 use std::sync::ledger::{Ledger, Share};
 use std::sync::{Arc, Wait};
-use std::thread::{JoinHandle, Threads};
+use std::thread::{JoinHandle, Parker, Threads};
 use std::time::{Clock, Duration};
-use std::{io, thread};
+use std::{io, net, thread};
 
 // Circuits at a time, at most.
 const MOST_CIRCUITS: usize = 65_536;
 
-/// What a socket's readiness is told under, and a wake.
+/// What the readiness of the only socket of a poll is told under.
 pub(crate) const SOCKET: Token = Token(0);
 
-const WAKER: Token = Token(1);
+// What a wake is told under: no circuit has this index.
+const WAKER: Token = Token(MOST_CIRCUITS);
 
 // After a connection that could neither be taken nor closed nothing is taken for so many milliseconds.
 const PAUSE: u64 = 10;
@@ -64,7 +65,13 @@ struct Accepted<L: Ledger, D: Device> {
 pub(crate) fn accept_all<
     L: Ledger + Send + Sync + 'static,
     D: Device + Send + Sync + 'static,
-    R: Threads + Wait + Clock + Net + Copy + Send + 'static,
+    R: Threads
+        + Wait
+        + Clock
+        + Net<Stream = net::TcpStream, Listener = net::TcpListener>
+        + Copy
+        + Send
+        + 'static,
 >(
     rt: R,
     alloc: Global,
@@ -93,7 +100,7 @@ pub(crate) fn accept_all<
             }
             Err(error) => {
                 if gone.is_none() {
-                    door.wait(&rt, &error);
+                    door.wait(&rt, shared, &error);
                 }
             }
         }
@@ -102,19 +109,29 @@ pub(crate) fn accept_all<
 
 impl Door {
     // Waits until a connection may be there, or the thread is woken. One for which there is no descriptor is closed; one that its client has given up is left.
-    fn wait<R: Net + Clock>(&mut self, rt: &R, error: &io::Error) {
+    fn wait<L: Ledger, D: Device, R: Wait + Net + Clock>(
+        &mut self,
+        rt: &R,
+        shared: &Shared<L, D>,
+        error: &io::Error,
+    ) {
         let goes_on = match error.kind() {
             io::ErrorKind::WouldBlock => self.poll.poll(&mut self.events, None).is_ok(),
             io::ErrorKind::Interrupted | io::ErrorKind::ConnectionAborted => true,
-            _ => has_no_descriptor(error) && self.turn_away(rt),
+            _ => has_no_descriptor(error) && self.turn_away(rt, shared),
         };
         if !goes_on {
             thread::sleep(rt, Duration::from_millis(PAUSE));
         }
     }
 
-    // Closes a connection, and says whether it could. The spare descriptor serves for that, and is there again afterwards.
-    fn turn_away<R: Net>(&mut self, rt: &R) -> bool {
+    // Closes a connection, and says whether it could. The spare descriptor serves for that, and is there again afterwards: no circuit takes it meanwhile.
+    fn turn_away<L: Ledger, D: Device, R: Wait + Net>(
+        &mut self,
+        rt: &R,
+        shared: &Shared<L, D>,
+    ) -> bool {
+        let _held = shared.parking.polls.lock(rt);
         self.spare = None;
         let is_closed = self.listener.accept().is_ok();
         self.spare = Poll::new(rt).ok();
@@ -142,7 +159,13 @@ fn looked<L: Ledger, D: Device, R: Wait>(
 fn accept_one<
     L: Ledger + Send + Sync + 'static,
     D: Device + Send + Sync + 'static,
-    R: Threads + Wait + Clock + Net + Copy + Send + 'static,
+    R: Threads
+        + Wait
+        + Clock
+        + Net<Stream = net::TcpStream, Listener = net::TcpListener>
+        + Copy
+        + Send
+        + 'static,
 >(
     rt: R,
     alloc: Global,
@@ -158,10 +181,10 @@ fn accept_one<
     if running.len() >= MOST_CIRCUITS || running.reserve(1).is_err() {
         return;
     }
-    let Ok((accepted, waker)) = prepared(&rt, alloc, shared, number, stream) else {
+    let Ok((accepted, parker)) = prepared(alloc, shared, number, stream) else {
         return;
     };
-    let Some(circuit) = entered(&rt, shared, waker, running.len(), &accepted.is_to_end) else {
+    let Some(circuit) = entered(&rt, shared, parker, running.len(), &accepted.is_to_end) else {
         return;
     };
     let share = all.split_off(1, 0);
@@ -203,11 +226,11 @@ fn merge<L: Ledger, R: Threads>(rt: &R, handle: JoinHandle<Gathered<L>>, all: &m
     all.merge(share);
 }
 
-// The circuit of a connection, whose thread is woken by this waker. Without memory for that the thread is to close it at once.
+// The circuit of a connection, whose thread has this parker. Without memory for that the thread is to close it at once.
 fn entered<L: Ledger, D: Device, R: Wait>(
     rt: &R,
     shared: &Shared<L, D>,
-    waker: Arc<Waker>,
+    parker: Arc<Parker>,
     running: usize,
     is_to_end: &AtomicBool,
 ) -> Option<Handle> {
@@ -221,7 +244,8 @@ fn entered<L: Ledger, D: Device, R: Wait>(
     };
     let bell = Bell {
         circuit,
-        waker,
+        waker: None,
+        parker,
         is_idle: false,
     };
     if locked.bells.insert(circuit.index, bell).is_err() {
@@ -230,53 +254,23 @@ fn entered<L: Ledger, D: Device, R: Wait>(
     Some(circuit)
 }
 
-fn prepared<L: Ledger, D: Device, R: Net>(
-    rt: &R,
+fn prepared<L: Ledger, D: Device>(
     alloc: Global,
     shared: &Arc<Shared<L, D>>,
     number: u64,
     stream: TcpStream,
-) -> Result<(Accepted<L, D>, Arc<Waker>), Refusal> {
+) -> Result<(Accepted<L, D>, Arc<Parker>), Refusal> {
     let shared = Arc::try_clone(shared)?;
     let is_to_end = Arc::new(alloc, AtomicBool::new(false))?;
-    let (line, waker) = new_line(rt, alloc, stream)?;
+    let parker = Arc::new(alloc, Parker::new())?;
     let accepted = Accepted {
         shared,
-        line,
+        line: Line::new(alloc, stream, Arc::try_clone(&parker)?)?,
         number,
         ends: Arc::try_clone(&is_to_end)?,
         is_to_end,
     };
-    Ok((accepted, Arc::new(alloc, waker)?))
-}
-
-fn new_line<R: Net>(
-    rt: &R,
-    alloc: Global,
-    mut stream: TcpStream,
-) -> Result<(Line, Waker), Refusal> {
-    let (poll, waker) = new_poll(rt)?;
-    watch(&poll, &mut stream)?;
-    let line = Line {
-        stream,
-        poll,
-        events: Events::with_capacity(alloc, 4)?,
-        input: vec![in alloc; 0; ROOM]?,
-        output: Vec::with_capacity(alloc, ROOM)?,
-        written: 0,
-    };
-    Ok((line, waker))
-}
-
-// Replies are small, and each is to go at once.
-fn watch(poll: &Poll, stream: &mut TcpStream) -> Result<(), Refusal> {
-    let both = Interest::READABLE | Interest::WRITABLE;
-    if stream.set_nodelay(true).is_err()
-        || poll.registry().register(stream, SOCKET, both).is_err()
-    {
-        return Err(Refusal::Device);
-    }
-    Ok(())
+    Ok((accepted, parker))
 }
 
 /// What a thread waits at, and what wakes it.
@@ -294,7 +288,13 @@ pub(crate) fn new_poll<R: Net>(rt: &R) -> Result<(Poll, Waker), Refusal> {
 fn start_circuit<
     L: Ledger + Send + Sync + 'static,
     D: Device + Send + Sync + 'static,
-    R: Threads + Wait + Clock + Copy + Send + 'static,
+    R: Threads
+        + Wait
+        + Clock
+        + Net<Stream = net::TcpStream, Listener = net::TcpListener>
+        + Copy
+        + Send
+        + 'static,
 >(
     rt: R,
     accepted: Accepted<L, D>,

@@ -2,6 +2,7 @@ ghost use Rattle.std.specs.Prelude.{◌≡◌, ◌<◌, ◌≤◌, length};
 
 use crate::line::{Line, Moved, Written};
 use crate::locked::{Locked, Shared};
+use crate::parking::{park, token_of, unpark};
 use crate::processing::Device;
 use crate::ringing::{Rings, ring};
 use crate::work::Work;
@@ -9,6 +10,7 @@ use ca_arena::Handle;
 use ca_server_core::Step;
 use ca_wire::Pipe;
 use indexmap::IndexSet;
+use std::net::{Net, TcpListener, TcpStream};
 use std::sync::atomic::{AtomicBool, Ordering};
 use std::sync::ledger::{Ledger, Share};
 use std::sync::{Arc, Wait};
@@ -76,7 +78,10 @@ impl<L: Ledger, D: Device> Circuit<L, D> {
 
 impl<L: Ledger, D: Device> Work<Gathered<L>> for Circuit<L, D> {
     // Reads, steps and writes until the circuit is closed.
-    fn run<R: Wait + Clock>(self, rt: &R) -> Gathered<L> {
+    fn run<R: Wait + Clock + Net<Stream = TcpStream, Listener = TcpListener>>(
+        self,
+        rt: &R,
+    ) -> Gathered<L> {
         let Circuit {
             shared,
             mut line,
@@ -85,10 +90,11 @@ impl<L: Ledger, D: Device> Work<Gathered<L>> for Circuit<L, D> {
             is_to_end,
             mut share,
         } = self;
-        let mut moved = if is_to_end.load(Ordering::SeqCst) {
-            Moved::Ended
-        } else {
+        let is_joined = line.join(&shared.parking.registry, token_of(circuit));
+        let mut moved = if is_joined && !is_to_end.load(Ordering::SeqCst) {
             Moved::Later
+        } else {
+            Moved::Ended
         };
         let mut rings = Rings::new(shared.alloc);
         for _ in rt.forever() {
@@ -105,9 +111,12 @@ impl<L: Ledger, D: Device> Work<Gathered<L>> for Circuit<L, D> {
                 turn => {
                     let written = line.write();
                     rings.ring_all(&shared.rung);
-                    moved = go_on(rt, &turn, written, &mut line);
+                    moved = go_on(rt, &shared, circuit, moved, &turn, written, &mut line);
                 }
             }
+        }
+        if !line.is_parked() {
+            shared.parking.give_back(rt);
         }
         note_gone(rt, &shared, number);
         handed_back(share)
@@ -153,18 +162,50 @@ fn turned<L: Ledger, D: Device, R: Wait + Clock>(
     turn
 }
 
-// After a turn and a write, with no lock held: reads if nothing else is to be done.
-fn go_on<R: Clock>(rt: &R, turn: &Turn, written: Written, line: &mut Line) -> Moved {
+// After a turn and a write, with no lock held: reads if nothing else is to be done. A circuit to which bytes came, or that sends some, is parked
+// no more.
+fn go_on<L: Ledger, D: Device, R: Wait + Clock + Net>(
+    rt: &R,
+    shared: &Shared<L, D>,
+    circuit: Handle,
+    moved: Moved,
+    turn: &Turn,
+    written: Written,
+    line: &mut Line,
+) -> Moved {
+    let is_busy = matches!(moved, Moved::Count(_)) || line.sends();
+    if is_busy && line.is_parked() {
+        unpark(rt, shared, circuit, line);
+    }
     match written {
         Written::Failed => Moved::Ended,
         Written::Some => {
-            line.wait(rt);
+            line.wait_for_room(rt, &shared.parking.registry, token_of(circuit));
             Moved::Later
         }
         Written::All => match turn {
-            Turn::Idle => line.read(rt),
+            Turn::Idle => read(rt, shared, circuit, line),
             _ => Moved::Later,
         },
+    }
+}
+
+// Reads; if nothing is there, waits until something may be, and reads again. If nothing comes for a second the circuit is parked.
+fn read<L: Ledger, D: Device, R: Wait + Clock>(
+    rt: &R,
+    shared: &Shared<L, D>,
+    circuit: Handle,
+    line: &mut Line,
+) -> Moved {
+    match line.read() {
+        Moved::Later => {
+            if line.is_idle(rt) {
+                park(rt, shared, circuit, line);
+                return Moved::Later;
+            }
+            line.read()
+        }
+        moved => moved,
     }
 }
 

@@ -5,7 +5,7 @@ use crate::work::Work;
 use mio::net::UdpSocket;
 use mio::{Events, Poll};
 use std::alloc::Global;
-use std::net::SocketAddr;
+use std::net::{Net, SocketAddr, TcpListener, TcpStream};
 use std::sync::ledger::Ledger;
 use std::sync::{Arc, Wait};
 use std::time::{Clock, Duration};
@@ -40,7 +40,7 @@ pub(crate) struct Desk {
 }
 
 impl<L: Ledger, D: Device> Work<()> for Datagrams<L, D> {
-    fn run<R: Wait + Clock>(self, rt: &R) {
+    fn run<R: Wait + Clock + Net<Stream = TcpStream, Listener = TcpListener>>(self, rt: &R) {
         let Datagrams { shared, mut desk } = self;
         let mut due = 0u64;
         let mut pause = FIRST;

@@ -1,14 +1,24 @@
 ghost use Rattle.std.specs.Prelude.{◌≤◌, length};
 
+use crate::accepting::SOCKET;
+use ca_text::Refusal;
 use mio::net::TcpStream;
-use mio::{Events, Poll};
+use mio::{Events, Interest, Poll, Registry, Token};
 use std::alloc::Global;
 use std::io::{Read, Write};
+use std::sync::{Arc, Wait};
+use std::thread::Parker;
 use std::time::{Clock, Duration};
 use std::{io, thread};
 
-/// Bytes that are read at once, and bytes that are taken for output at once, at most.
-pub(crate) const ROOM: usize = 65_536;
+// Bytes that are read at once, and bytes that are taken for output at once, at most.
+const ROOM: usize = 65_536;
+
+// The same while the circuit is parked. What is had then is had always, so that no lack of memory holds a circuit up.
+const PARKED_ROOM: usize = 512;
+
+// A circuit to which nothing comes for so many seconds is parked.
+const IDLE: u64 = 1;
 
 // A wait that the system refuses is this many milliseconds long.
 const PAUSE: u64 = 10;
@@ -16,13 +26,21 @@ const PAUSE: u64 = 10;
 /// A circuit's socket, what was read of it last, and what is to be written on it. Its calls stand outside the lock.
 #[derive(Drop)]
 pub(crate) struct Line {
-    pub(crate) stream: TcpStream,
-    pub(crate) poll: Poll,
-    pub(crate) events: Events<Global>,
+    stream: TcpStream,
+    // There is none while the circuit is parked.
+    own: Option<Own>,
+    parker: Arc<Parker>,
     pub(crate) input: Vec<u8>,
-    pub(crate) output: Vec<u8>,
+    output: Vec<u8>,
     /// How many bytes of the output were written.
     pub(crate) written: usize,
+}
+
+/// What the thread of one circuit waits at.
+#[derive(Drop)]
+pub(crate) struct Own {
+    pub(crate) poll: Poll,
+    pub(crate) events: Events<Global>,
 }
 
 /// What a read did.
@@ -42,22 +60,69 @@ pub(crate) enum Written {
 }
 
 impl Line {
-    /// Reads; if nothing is there, waits until something may be, and reads again.
-    pub(crate) fn read<R: Clock>(&mut self, rt: &R) -> Moved {
-        match self.read_some() {
-            Moved::Later => {
-                self.wait(rt);
-                self.read_some()
-            }
-            moved => moved,
-        }
+    /// Nothing was read, and the socket is in no poll yet. Replies are small, and each is to go at once.
+    pub(crate) fn new(
+        alloc: Global,
+        stream: TcpStream,
+        parker: Arc<Parker>,
+    ) -> Result<Line, Refusal> {
+        let Ok(()) = stream.set_nodelay(true) else {
+            return Err(Refusal::Device);
+        };
+        Ok(Line {
+            stream,
+            own: None,
+            parker,
+            input: vec![in alloc; 0; PARKED_ROOM]?,
+            output: Vec::with_capacity(alloc, PARKED_ROOM)?,
+            written: 0,
+        })
     }
 
-    // Readiness is told of once, so that a wait is safe only after a read that found nothing.
-    fn read_some(&mut self) -> Moved {
+    pub(crate) fn is_parked(&self) -> bool {
+        self.own.is_none()
+    }
+
+    /// Whether bytes were taken for output in the last turn, or wait since an earlier one.
+    pub(crate) fn sends(&self) -> bool {
+        !self.output.is_empty()
+    }
+
+    /// Puts the socket among those of the circuits that are parked, and says whether it could. It is told of what is there already, too.
+    pub(crate) fn join(&mut self, registry: &Registry, token: Token) -> bool {
+        let readable = Interest::READABLE;
+        registry.register(&mut self.stream, token, readable).is_ok()
+    }
+
+    /// Takes the socket out of these, and has the thread wait at a poll of its own.
+    pub(crate) fn leave(&mut self, own: Own, registry: &Registry) -> Result<(), Refusal> {
+        let both = Interest::READABLE | Interest::WRITABLE;
+        let Ok(()) = own.poll.registry().register(&mut self.stream, SOCKET, both) else {
+            return Err(Refusal::Device);
+        };
+        self.own = Some(own);
+        let _gone = registry.deregister(&mut self.stream);
+        Ok(())
+    }
+
+    /// Gives the poll of the circuit's own back, and the room for many bytes. All that was to be written was written.
+    pub(crate) fn drop_own(&mut self) {
+        self.own = None;
+        self.input.truncate(PARKED_ROOM);
+        self.input.shrink_to(PARKED_ROOM);
+        self.output.clear();
+        self.output.shrink_to(PARKED_ROOM);
+        self.written = 0;
+    }
+
+    /// Reads what is there. Readiness is told of once, so that a wait is safe only after a read that found nothing.
+    pub(crate) fn read(&mut self) -> Moved {
         match self.stream.read(self.input.as_mut_slice()) {
             Ok(0) => Moved::Ended,
-            Ok(count) => Moved::Count(count),
+            Ok(count) => {
+                self.make_room(count);
+                Moved::Count(count)
+            }
             Err(error) => match error.kind() {
                 io::ErrorKind::WouldBlock => Moved::Later,
                 // It is made again after a turn.
@@ -67,19 +132,53 @@ impl Line {
         }
     }
 
-    /// Waits until the socket may be ready, or the thread is woken.
-    pub(crate) fn wait<R: Clock>(&mut self, rt: &R) {
-        self.wait_at_most(rt, None);
+    // A read that filled the room of a parked circuit has the next one find more. Without memory for that it does as well.
+    fn make_room(&mut self, count: usize) {
+        if self.own.is_some() && count == self.input.len() && count < ROOM {
+            let _same = self.input.resize(ROOM, 0);
+        }
     }
 
-    /// The same, for a short time at most.
-    pub(crate) fn pause<R: Clock>(&mut self, rt: &R) {
-        self.wait_at_most(rt, Some(Duration::from_millis(PAUSE)));
+    /// Waits until bytes may be there, or the thread is woken. Says whether neither came for a second: one that is parked waits for ever.
+    pub(crate) fn is_idle<R: Wait + Clock>(&mut self, rt: &R) -> bool {
+        match &mut self.own {
+            Some(own) => own.is_idle(rt, Some(Duration::from_secs(IDLE))),
+            None => {
+                self.parker.park(rt);
+                false
+            }
+        }
     }
 
-    fn wait_at_most<R: Clock>(&mut self, rt: &R, most: Option<Duration>) {
-        if self.poll.poll(&mut self.events, most).is_err() {
-            thread::sleep(rt, Duration::from_millis(PAUSE));
+    /// Waits until the socket may have room, or the thread is woken. The socket of a circuit that is parked tells of room from here on, and of what it has already.
+    pub(crate) fn wait_for_room<R: Wait + Clock>(
+        &mut self,
+        rt: &R,
+        registry: &Registry,
+        token: Token,
+    ) {
+        match &mut self.own {
+            Some(own) => {
+                let _woken = own.is_idle(rt, None);
+            }
+            None => {
+                let both = Interest::READABLE | Interest::WRITABLE;
+                match registry.reregister(&mut self.stream, token, both) {
+                    Ok(()) => self.parker.park(rt),
+                    Err(_) => self.pause(rt),
+                }
+            }
+        }
+    }
+
+    /// Waits for a short time, or until the thread is woken.
+    pub(crate) fn pause<R: Wait + Clock>(&mut self, rt: &R) {
+        let most = Duration::from_millis(PAUSE);
+        match &mut self.own {
+            Some(own) => {
+                let _woken = own.is_idle(rt, Some(most));
+            }
+            None => self.parker.park_timeout(rt, most),
         }
     }
 
@@ -112,13 +211,37 @@ impl Line {
         if self.written < self.output.len() {
             return 0;
         }
-        let count = bytes.len().min(ROOM);
-        let first = &bytes[..count];
         self.output.clear();
         self.written = 0;
+        let count = self.room_for(bytes.len());
+        let first = &bytes[..count];
         match self.output.extend_from_slice(first) {
             Ok(()) => count,
             Err(_) => 0,
+        }
+    }
+
+    // How many of so many bytes there is room for, which is made if the circuit is not parked. Without memory for that there are those that a parked one takes.
+    fn room_for(&mut self, bytes: usize) -> usize
+        ensures { result ≤ bytes }
+    {
+        if self.own.is_some() && self.output.reserve(bytes.min(ROOM)).is_ok() {
+            bytes.min(ROOM)
+        } else {
+            bytes.min(PARKED_ROOM)
+        }
+    }
+}
+
+impl Own {
+    // Waits until something comes, for so long at most. Says whether nothing did.
+    fn is_idle<R: Clock>(&mut self, rt: &R, most: Option<Duration>) -> bool {
+        match self.poll.poll(&mut self.events, most) {
+            Ok(()) => self.events.is_empty(),
+            Err(_) => {
+                thread::sleep(rt, Duration::from_millis(PAUSE));
+                false
+            }
         }
     }
 }

@@ -1,6 +1,7 @@
 ghost use Rattle.std.specs.Prelude.{◌≡◌, ◌<◌};
 
 use crate::clock::{parts_of, stamp_after};
+use crate::parking::Parking;
 use crate::processing::Device;
 use crate::ringing::{Bell, Rings, ring};
 use ca_arena::Handle;
@@ -45,6 +46,7 @@ pub(crate) struct Shared<L: Ledger, D: Device> {
     pub(crate) given: Condvar,
     /// There are bells for the ringing thread, or the server is to end.
     pub(crate) rung: Condvar,
+    pub(crate) parking: Parking,
     /// Wakes the thread that accepts circuits.
     pub(crate) accepting: Waker,
     /// Wakes the thread that answers datagrams.
@@ -61,6 +63,7 @@ impl<L: Ledger, D: Device> Shared<L, D> {
         alloc: Global,
         state: State<L>,
         slow: IndexSet<Vec<u8>>,
+        parking: Parking,
         accepting: Waker,
         answering: Waker,
         device: D,
@@ -82,6 +85,7 @@ impl<L: Ledger, D: Device> Shared<L, D> {
             }),
             given: Condvar::new(),
             rung: Condvar::new(),
+            parking,
             accepting,
             answering,
             device,
@@ -96,11 +100,12 @@ impl<L: Ledger, D: Device> Shared<L, D> {
         let locked = &mut *guard;
         locked.ending = true;
         for (_, bell) in &locked.bells {
-            ring(&bell.waker);
+            bell.ring();
         }
         drop(guard);
         self.given.notify_all();
         self.rung.notify_all();
+        ring(&self.parking.waker);
         ring(&self.accepting);
         ring(&self.answering);
     }

@@ -4,6 +4,7 @@ use crate::work::Work;
 use ca_dbr::Value;
 use ca_text::Refusal;
 use std::alloc::Global;
+use std::net::{Net, TcpListener, TcpStream};
 use std::sync::ledger::Ledger;
 use std::sync::{Arc, Wait};
 use std::thread;
@@ -25,7 +26,7 @@ pub(crate) struct Processor<L: Ledger, D: Device> {
 
 impl<L: Ledger, D: Device> Work<()> for Processor<L, D> {
     // Takes up one record after another, until the server is to end: nobody would hear of a put that is finished then.
-    fn run<R: Wait + Clock>(self, rt: &R) {
+    fn run<R: Wait + Clock + Net<Stream = TcpStream, Listener = TcpListener>>(self, rt: &R) {
         let Processor { shared } = self;
         for _ in rt.forever() {
             let mut guard = shared.given.wait_while(

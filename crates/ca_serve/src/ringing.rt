@@ -3,10 +3,12 @@ use crate::processing::Device;
 use crate::work::Work;
 use ca_arena::Handle;
 use mio::Waker;
-use std::alloc::Global;
+use std::alloc::{AllocError, Global};
 use std::mem;
+use std::net::{Net, TcpListener, TcpStream};
 use std::sync::ledger::Ledger;
 use std::sync::{Arc, Condvar, Wait};
+use std::thread::Parker;
 use std::time::Clock;
 
 // A thread rings so many bells by itself, at most: each ring is a call of the system.
@@ -16,15 +18,50 @@ const FEW: usize = 8;
 #[derive(Drop)]
 pub(crate) struct Bell {
     pub(crate) circuit: Handle,
-    pub(crate) waker: Arc<Waker>,
+    /// Of the poll that the circuit has for itself, unless it is parked.
+    pub(crate) waker: Option<Arc<Waker>>,
+    pub(crate) parker: Arc<Parker>,
     /// The thread waits for bytes, nothing waits to be sent on its circuit, and nobody is about to wake it.
     pub(crate) is_idle: bool,
+}
+
+impl Bell {
+    /// Wakes the thread, wherever it waits.
+    pub(crate) fn ring(&self) {
+        match &self.waker {
+            Some(waker) => ring(waker),
+            None => self.parker.unpark(),
+        }
+    }
+
+    fn wake(&self) -> Result<Wake, AllocError> {
+        match &self.waker {
+            Some(waker) => Ok(Wake::Poll(Arc::try_clone(waker)?)),
+            None => Ok(Wake::Park(Arc::try_clone(&self.parker)?)),
+        }
+    }
+}
+
+// A thread that is to be woken, at its poll or where it is parked.
+#[derive(Drop)]
+enum Wake {
+    Poll(Arc<Waker>),
+    Park(Arc<Parker>),
+}
+
+impl Wake {
+    fn ring(&self) {
+        match self {
+            Wake::Poll(waker) => ring(waker),
+            Wake::Park(parker) => parker.unpark(),
+        }
+    }
 }
 
 /// Bells that are rung once the lock is let go.
 #[derive(Drop)]
 pub(crate) struct Rings {
-    wakers: Vec<Arc<Waker>>,
+    wakes: Vec<Wake>,
     // The ringing thread has got some.
     are_handed_over: bool,
 }
@@ -32,13 +69,13 @@ pub(crate) struct Rings {
 impl Rings {
     pub(crate) fn new(alloc: Global) -> Rings {
         Rings {
-            wakers: Vec::new(alloc),
+            wakes: Vec::new(alloc),
             are_handed_over: false,
         }
     }
 
     pub(crate) fn is_empty(&self) -> bool {
-        self.wakers.is_empty()
+        self.wakes.is_empty()
     }
 
     /// The bell is to ring, if its thread is idle. Without memory for that it rings at once.
@@ -47,25 +84,33 @@ impl Rings {
             return;
         }
         bell.is_idle = false;
-        match Arc::try_clone(&bell.waker) {
-            Ok(waker) => self.add(waker),
-            Err(_) => ring(&bell.waker),
+        match bell.wake() {
+            Ok(wake) => self.add(wake),
+            Err(_) => bell.ring(),
         }
     }
 
-    fn add(&mut self, waker: Arc<Waker>) {
-        if let Err(refused) = self.wakers.push(waker) {
-            ring(&refused.value);
+    /// The thread is to be woken if it is parked, whatever it waits for there.
+    pub(crate) fn call(&mut self, bell: &Bell) {
+        match Arc::try_clone(&bell.parker) {
+            Ok(parker) => self.add(Wake::Park(parker)),
+            Err(_) => bell.parker.unpark(),
+        }
+    }
+
+    fn add(&mut self, wake: Wake) {
+        if let Err(refused) = self.wakes.push(wake) {
+            refused.value.ring();
         }
     }
 
     /// If these are more than a few, all go to those of the ringing thread.
     pub(crate) fn hand_over(&mut self, others: &mut Rings) {
-        if self.wakers.len() <= FEW {
+        if self.wakes.len() <= FEW {
             return;
         }
-        while let Some(waker) = self.wakers.pop() {
-            others.add(waker);
+        while let Some(wake) = self.wakes.pop() {
+            others.add(wake);
         }
         self.are_handed_over = true;
     }
@@ -76,8 +121,8 @@ impl Rings {
             self.are_handed_over = false;
             rung.notify_all();
         }
-        while let Some(waker) = self.wakers.pop() {
-            ring(&waker);
+        while let Some(wake) = self.wakes.pop() {
+            wake.ring();
         }
     }
 }
@@ -95,7 +140,7 @@ pub(crate) struct Ringer<L: Ledger, D: Device> {
 
 impl<L: Ledger, D: Device> Work<()> for Ringer<L, D> {
     // Rings what was handed over, with no lock held. At the end all bells are rung by whoever ends the server.
-    fn run<R: Wait + Clock>(self, rt: &R) {
+    fn run<R: Wait + Clock + Net<Stream = TcpStream, Listener = TcpListener>>(self, rt: &R) {
         let Ringer { shared } = self;
         let mut rings = Rings::new(shared.alloc);
         for _ in rt.forever() {

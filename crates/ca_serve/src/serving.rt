@@ -4,6 +4,7 @@ use crate::accepting::{Door, SOCKET, accept_all, join_all, new_poll};
 use crate::clock::moment_now;
 use crate::datagrams::{Datagrams, Desk};
 use crate::locked::Shared;
+use crate::parking::{Parking, Poller, SOCKETS};
 use crate::processing::{Device, Processor};
 use crate::ringing::Ringer;
 use crate::work::started;
@@ -18,7 +19,7 @@ use std::marker::Brand;
 use std::net;
 use std::net::{Net, SocketAddr};
 use std::sync::ledger::{Blank, Ledger};
-use std::sync::{Arc, Wait};
+use std::sync::{Arc, Mutex, Wait};
 use std::thread::{JoinHandle, Threads};
 use std::time::Clock;
 
@@ -38,7 +39,13 @@ pub struct Places {
 /// A connection for which there is no room is closed at once. Refused as Device if a socket or a thread cannot be had, and as OutOfMemory.
 pub fn serve<
     D: Device + Send + Sync + 'static,
-    R: Threads + Wait + Clock + Net + Copy + Send + 'static,
+    R: Threads
+        + Wait
+        + Clock
+        + Net<Stream = net::TcpStream, Listener = net::TcpListener>
+        + Copy
+        + Send
+        + 'static,
 >(
     rt: R,
     alloc: Global,
@@ -64,7 +71,13 @@ pub fn serve<
 fn serve_as<
     L: Ledger + Send + Sync + 'static,
     D: Device + Send + Sync + 'static,
-    R: Threads + Wait + Clock + Net + Copy + Send + 'static,
+    R: Threads
+        + Wait
+        + Clock
+        + Net<Stream = net::TcpStream, Listener = net::TcpListener>
+        + Copy
+        + Send
+        + 'static,
 >(
     rt: R,
     alloc: Global,
@@ -83,19 +96,21 @@ fn serve_as<
     let (book, mut all) = blank.open::<L>();
     let state = State::new(book, port, moment_now(&rt), records, rules)?;
     let (mut door, desk, accepting, answering) = opened(&rt, alloc, places)?;
+    let (poll, parking) = open_parking(&rt)?;
     let shared = Arc::new(
         alloc,
         Shared::new(
             alloc,
             state,
             slow_names(alloc, records)?,
+            parking,
             accepting,
             answering,
             device,
         )?,
     )?;
-    let mut helpers = Vec::with_capacity(alloc, 4)?;
-    let helped = start_helpers(rt, &shared, desk, &mut helpers);
+    let mut helpers = Vec::with_capacity(alloc, 5)?;
+    let helped = start_helpers(rt, alloc, &shared, desk, poll, &mut helpers);
     if helped.is_err() {
         shared.end(&rt);
     }
@@ -205,19 +220,42 @@ fn open_desk<R: Net>(
     Ok((desk, waker))
 }
 
-// Starts the thread for datagrams, the ringing thread and two processing threads.
+// The poll that all circuits share that are parked, and what they need for that.
+fn open_parking<R: Net>(rt: &R) -> Result<(Poll, Parking), Refusal> {
+    let (poll, waker) = new_poll(rt)?;
+    let Ok(registry) = poll.registry().try_clone() else {
+        return Err(Refusal::Device);
+    };
+    let parking = Parking {
+        registry,
+        waker,
+        polls: Mutex::new(0),
+    };
+    Ok((poll, parking))
+}
+
+// Starts the thread for datagrams, the polling thread, the ringing thread and two processing threads.
 fn start_helpers<
     L: Ledger + Send + Sync + 'static,
     D: Device + Send + Sync + 'static,
-    R: Threads + Wait + Clock + Copy + Send + 'static,
+    R: Threads
+        + Wait
+        + Clock
+        + Net<Stream = net::TcpStream, Listener = net::TcpListener>
+        + Copy
+        + Send
+        + 'static,
 >(
     rt: R,
+    alloc: Global,
     shared: &Arc<Shared<L, D>>,
     desk: Desk,
+    poll: Poll,
     helpers: &mut Vec<JoinHandle<()>>,
 ) -> Result<(), Refusal> {
-    helpers.reserve(4)?;
+    helpers.reserve(5)?;
     helpers.push_reserved(start_datagrams(rt, shared, desk)?);
+    helpers.push_reserved(start_poller(rt, alloc, shared, poll)?);
     helpers.push_reserved(start_ringer(rt, shared)?);
     helpers.push_reserved(start_processor(rt, shared)?);
     helpers.push_reserved(start_processor(rt, shared)?);
@@ -227,7 +265,13 @@ fn start_helpers<
 fn start_processor<
     L: Ledger + Send + Sync + 'static,
     D: Device + Send + Sync + 'static,
-    R: Threads + Wait + Clock + Copy + Send + 'static,
+    R: Threads
+        + Wait
+        + Clock
+        + Net<Stream = net::TcpStream, Listener = net::TcpListener>
+        + Copy
+        + Send
+        + 'static,
 >(rt: R, shared: &Arc<Shared<L, D>>) -> Result<JoinHandle<()>, Refusal> {
     let shared = Arc::try_clone(shared)?;
     started(rt, Processor { shared })
@@ -236,16 +280,49 @@ fn start_processor<
 fn start_datagrams<
     L: Ledger + Send + Sync + 'static,
     D: Device + Send + Sync + 'static,
-    R: Threads + Wait + Clock + Copy + Send + 'static,
+    R: Threads
+        + Wait
+        + Clock
+        + Net<Stream = net::TcpStream, Listener = net::TcpListener>
+        + Copy
+        + Send
+        + 'static,
 >(rt: R, shared: &Arc<Shared<L, D>>, desk: Desk) -> Result<JoinHandle<()>, Refusal> {
     let shared = Arc::try_clone(shared)?;
     started(rt, Datagrams { shared, desk })
 }
 
+fn start_poller<
+    L: Ledger + Send + Sync + 'static,
+    D: Device + Send + Sync + 'static,
+    R: Threads
+        + Wait
+        + Clock
+        + Net<Stream = net::TcpStream, Listener = net::TcpListener>
+        + Copy
+        + Send
+        + 'static,
+>(rt: R, alloc: Global, shared: &Arc<Shared<L, D>>, poll: Poll) -> Result<JoinHandle<()>, Refusal> {
+    let shared = Arc::try_clone(shared)?;
+    let events = Events::with_capacity(alloc, SOCKETS)?;
+    let poller = Poller {
+        shared,
+        poll,
+        events,
+    };
+    started(rt, poller)
+}
+
 fn start_ringer<
     L: Ledger + Send + Sync + 'static,
     D: Device + Send + Sync + 'static,
-    R: Threads + Wait + Clock + Copy + Send + 'static,
+    R: Threads
+        + Wait
+        + Clock
+        + Net<Stream = net::TcpStream, Listener = net::TcpListener>
+        + Copy
+        + Send
+        + 'static,
 >(rt: R, shared: &Arc<Shared<L, D>>) -> Result<JoinHandle<()>, Refusal> {
     let shared = Arc::try_clone(shared)?;
     started(rt, Ringer { shared })

@@ -1,4 +1,5 @@
 use ca_text::Refusal;
+use std::net::{Net, TcpListener, TcpStream};
 use std::sync::Wait;
 use std::sync::atomic::{AtomicBool, Ordering};
 use std::thread;
@@ -7,13 +8,19 @@ use std::time::Clock;
 
 /// Work for a thread of its own.
 pub(crate) trait Work<T>: Drop {
-    fn run<R: Wait + Clock>(self, rt: &R) -> T;
+    fn run<R: Wait + Clock + Net<Stream = TcpStream, Listener = TcpListener>>(self, rt: &R) -> T;
 }
 
 /// Starts a thread for the work. The work's type is a parameter, so that whether it may cross is asked of it alone. Refused as Device.
 pub(crate) fn started<
     T: Send + Drop + 'static,
-    R: Threads + Wait + Clock + Copy + Send + 'static,
+    R: Threads
+        + Wait
+        + Clock
+        + Net<Stream = TcpStream, Listener = TcpListener>
+        + Copy
+        + Send
+        + 'static,
     W: Work<T> + Send + 'static,
 >(rt: R, work: W) -> Result<JoinHandle<T>, Refusal> {
     match thread::spawn(&rt, move || work.run(&rt)) {
@@ -25,7 +32,13 @@ pub(crate) fn started<
 /// The same. If no thread can be had, the word is set, and the work is done here: it is to end at once then.
 pub(crate) fn started_or_ended<
     T: Send + Drop + 'static,
-    R: Threads + Wait + Clock + Copy + Send + 'static,
+    R: Threads
+        + Wait
+        + Clock
+        + Net<Stream = TcpStream, Listener = TcpListener>
+        + Copy
+        + Send
+        + 'static,
     W: Work<T> + Send + 'static,
 >(rt: R, work: W, is_to_end: &AtomicBool) -> Result<JoinHandle<T>, T> {
     match thread::spawn(&rt, move || work.run(&rt)) {

@@ -1,4 +1,4 @@
 use Rattle.ca_serve.proofs.ringing.Rings.ring_all.Given as goal
 
-abbrev pub decreases-loop-waker : goal.decreases-loop-waker
-decreases-loop-waker l = goal.left-loop-waker l
+abbrev pub decreases-loop-wake : goal.decreases-loop-wake
+decreases-loop-wake l = goal.left-loop-wake l
