@@ -30,7 +30,8 @@ pub(crate) const SOCKET: Token = Token(0);
 // What a wake is told under: no circuit has this index.
 const WAKER: Token = Token(MOST_CIRCUITS);
 
-// After a connection that could neither be taken nor closed nothing is taken for so many milliseconds.
+// After a connection that could neither be taken nor closed nothing is taken for this many
+// milliseconds.
 const PAUSE: u64 = 10;
 
 // What the system says if no descriptor is left: ENFILE and EMFILE.
@@ -57,11 +58,12 @@ struct Accepted<L: Ledger, D: Device> {
     number: u64,
     // Whether the circuit is to be closed at once.
     is_to_end: Arc<AtomicBool>,
-    // The same word, for the circuit's thread.
+    // That word, for the circuit's thread.
     ends: Arc<AtomicBool>,
 }
 
-/// Accepts connections until so many circuits were closed, without a number for ever, or the server is to end. Each gets a thread and a share.
+/// Accepts connections until that many circuits were closed, without a number for ever, or the
+/// server is to end. Each gets a thread and a share.
 pub(crate) fn accept_all<
     L: Ledger + Send + Sync + 'static,
     D: Device + Send + Sync + 'static,
@@ -108,7 +110,8 @@ pub(crate) fn accept_all<
 }
 
 impl Door {
-    // Waits until a connection may be there, or the thread is woken. One for which there is no descriptor is closed; one that its client has given up is left.
+    // Waits until a connection may be there, or the thread is woken. One for which there is no
+    // descriptor is closed; one that its client has given up is left.
     fn wait<L: Ledger, D: Device, R: Wait + Net + Clock>(
         &mut self,
         rt: &R,
@@ -125,7 +128,8 @@ impl Door {
         }
     }
 
-    // Closes a connection, and says whether it could. The spare descriptor serves for that, and is there again afterwards: no circuit takes it meanwhile.
+    // Closes a connection, and says whether it could. The spare descriptor serves for that, and is
+    // there again afterwards: no circuit takes it meanwhile.
     fn turn_away<L: Ledger, D: Device, R: Wait + Net>(
         &mut self,
         rt: &R,
@@ -145,7 +149,8 @@ fn has_no_descriptor(error: &io::Error) -> bool {
         .is_some_and(|code| NO_DESCRIPTOR.contains(&code))
 }
 
-// How many circuits were closed, the number of one whose thread is at its end, and whether the server is to end.
+// How many circuits were closed, the number of one whose thread is at its end, and whether the
+// server is to end.
 fn looked<L: Ledger, D: Device, R: Wait>(
     rt: &R,
     shared: &Shared<L, D>,
@@ -197,7 +202,8 @@ fn accept_one<
     }
 }
 
-// Keeps a thread under its circuit's number. There is room, and no thread has the number; else the one that is left over is joined.
+// Keeps a thread under its circuit's number. There is room, and no thread has the number; else the
+// one that is left over is joined.
 fn keep<L: Ledger, R: Threads>(
     rt: &R,
     running: &mut Running<L>,
@@ -226,7 +232,8 @@ fn merge<L: Ledger, R: Threads>(rt: &R, handle: JoinHandle<Gathered<L>>, all: &m
     all.merge(share);
 }
 
-// The circuit of a connection, whose thread has this parker. Without memory for that the thread is to close it at once.
+// The circuit of a connection, whose thread has this parker. Without memory for that the thread is
+// to close it at once.
 fn entered<L: Ledger, D: Device, R: Wait>(
     rt: &R,
     shared: &Shared<L, D>,

@@ -19,7 +19,8 @@ use std::time::Clock;
 // Messages that are handled while the lock is held.
 const STEPS: u32 = 64;
 
-// A client that takes nothing of what its closed circuit left is waited for so many times, and for fewer once the server is to end.
+// A client that takes nothing of what its closed circuit left is waited for this often, and for
+// fewer once the server is to end.
 const WAITS: u32 = 300;
 
 const WAITS_AT_END: u32 = 10;
@@ -129,13 +130,15 @@ fn handed_back<L: Ledger>(share: Share<L>) -> Gathered<L>
     Gathered { share }
 }
 
-// The thread that accepts circuits is to join this one. Where there were no room for its number, it would be joined at the server's end.
+// The thread that accepts circuits is to join this one. Where there were no room for its number, it
+// would be joined at the server's end.
 fn note_gone<L: Ledger, D: Device, R: Wait>(rt: &R, shared: &Shared<L, D>, number: u64) {
     let _full = shared.locked.lock(rt).gone.push(number);
     ring(&shared.accepting);
 }
 
-// A turn under the lock: takes in what was read, handles messages, and takes bytes out that are to be sent.
+// A turn under the lock: takes in what was read, handles messages, and takes bytes out that are to
+// be sent.
 fn turned<L: Ledger, D: Device, R: Wait + Clock>(
     rt: &R,
     shared: &Shared<L, D>,
@@ -162,8 +165,8 @@ fn turned<L: Ledger, D: Device, R: Wait + Clock>(
     turn
 }
 
-// After a turn and a write, with no lock held: reads if nothing else is to be done. A circuit to which bytes came, or that sends some, is parked
-// no more.
+// After a turn and a write, with no lock held: reads if nothing else is to be done. A circuit to
+// which bytes came, or that sends some, is parked no more.
 fn go_on<L: Ledger, D: Device, R: Wait + Clock + Net>(
     rt: &R,
     shared: &Shared<L, D>,
@@ -190,7 +193,8 @@ fn go_on<L: Ledger, D: Device, R: Wait + Clock + Net>(
     }
 }
 
-// Reads; if nothing is there, waits until something may be, and reads again. If nothing comes for a second the circuit is parked.
+// Reads; if nothing is there, waits until something may be, and reads again. If nothing comes for a
+// second the circuit is parked.
 fn read<L: Ledger, D: Device, R: Wait + Clock>(
     rt: &R,
     shared: &Shared<L, D>,
@@ -209,7 +213,8 @@ fn read<L: Ledger, D: Device, R: Wait + Clock>(
     }
 }
 
-// Gives the server what was read. A circuit at its end is cut, and so is one whose bytes there is no memory for.
+// Gives the server what was read. A circuit at its end is cut, and so is one whose bytes there is
+// no memory for.
 fn take_in<L: Ledger>(locked: &mut Locked<L>, circuit: Handle, moved: Moved, buffer: &[u8]) {
     if locked.ending {
         locked.state.cut(circuit);
@@ -229,8 +234,9 @@ fn take_in<L: Ledger>(locked: &mut Locked<L>, circuit: Handle, moved: Moved, buf
     }
 }
 
-// Handles messages of a circuit, up to a number of them, and then puts its updates out. The machine's time is handed in before each that may be a write: to read
-// the clock takes as long as a third of a put.
+// Handles messages of a circuit, up to a number of them, and then puts its updates out. The
+// machine's time is handed in before each that may be a write: to read the clock takes as long as a
+// third of a put.
 fn steps<L: Ledger, R: Clock>(
     rt: &R,
     locked: &mut Locked<L>,
@@ -260,7 +266,8 @@ fn steps<L: Ledger, R: Clock>(
     Turn::Busy
 }
 
-// Hands bytes that wait over to the line. A circuit is idle if nothing more waits then; one that is closed is counted, and has no bell any more.
+// Hands bytes that wait over to the line. A circuit is idle if nothing more waits then; one that is
+// closed is counted, and has no bell any more.
 fn take_out<L: Ledger>(
     locked: &mut Locked<L>,
     circuit: Handle,
@@ -284,7 +291,7 @@ fn take_out<L: Ledger>(
     }
 }
 
-// Writes what a closed circuit left. A client that takes nothing is waited for so many times.
+// Writes what a closed circuit left. A client that takes nothing is waited for that often.
 fn write_left<L: Ledger, D: Device, R: Wait + Clock>(
     rt: &R,
     shared: &Shared<L, D>,

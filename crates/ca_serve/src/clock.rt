@@ -8,8 +8,9 @@ const NANOS: u64 = 1_000_000_000;
 // The last moment that a stamp can show.
 const LAST: u64 = (1 << 32) * NANOS - 1;
 
-/// The machine's time as a time stamp, in nanoseconds since 1990-01-01 00:00:00 UTC, if it is after this one. A clock that was set back, or shows no later
-/// time, counts as one nanosecond more: so no two stamps are equal, and none is before an earlier one.
+/// The machine's time as a time stamp, in nanoseconds since 1990-01-01 00:00:00 UTC, if it is after
+/// this one. A clock that was set back, or shows no later time, counts as one nanosecond more: so
+/// no two stamps are equal, and none is before an earlier one.
 pub(crate) fn stamp_after<R: Clock>(rt: &R, last: u64) -> u64 {
     nanos_now(rt).max(last.saturating_add(1)).min(LAST)
 }

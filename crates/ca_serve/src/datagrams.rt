@@ -14,12 +14,14 @@ use std::{io, thread};
 // Datagrams that are answered between two looks at the clock.
 const DATAGRAMS: u32 = 64;
 
-// After the first beacon the next is due in so many milliseconds, and then each time in twice as many, up to a limit.
+// After the first beacon the next is due in this many milliseconds, and then each time in twice as
+// many, up to a limit.
 const FIRST: u64 = 20;
 
 const LAST: u64 = 15_000;
 
-// A wait that the system refuses is this many milliseconds long, and so is one after a read that it refuses.
+// A wait that the system refuses is this many milliseconds long, and so is one after a read that it
+// refuses.
 const PAUSE: u64 = 10;
 
 /// The thread that answers searches, and sends beacons.
@@ -76,7 +78,7 @@ enum Answered {
 }
 
 impl Desk {
-    // Waits for a datagram, for so many milliseconds at most, or until the thread is woken.
+    // Waits for a datagram, for that many milliseconds at most, or until the thread is woken.
     fn wait<R: Clock>(&mut self, rt: &R, milliseconds: u64) {
         let most = Duration::from_millis(milliseconds);
         if self.poll.poll(&mut self.events, Some(most)).is_err() {
@@ -121,7 +123,8 @@ fn answer_some<L: Ledger, D: Device, R: Wait>(
             Err(error) => match error.kind() {
                 io::ErrorKind::WouldBlock => return Answered::All,
                 io::ErrorKind::Interrupted => {}
-                // Of another fault there is nothing to be done: it may be of a datagram that was sent.
+                // Of another fault there is nothing to be done: it may be of a datagram that was
+                // sent.
                 _ => return Answered::Failed,
             },
         }

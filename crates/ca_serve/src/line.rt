@@ -14,16 +14,18 @@ use std::{io, thread};
 // Bytes that are read at once, and bytes that are taken for output at once, at most.
 const ROOM: usize = 65_536;
 
-// The same while the circuit is parked. What is had then is had always, so that no lack of memory holds a circuit up.
+// And while the circuit is parked. What is had then is had always, so that no lack of memory
+// holds a circuit up.
 const PARKED_ROOM: usize = 512;
 
-// A circuit to which nothing comes for so many seconds is parked.
+// A circuit to which nothing comes for this many seconds is parked.
 const IDLE: u64 = 1;
 
 // A wait that the system refuses is this many milliseconds long.
 const PAUSE: u64 = 10;
 
-/// A circuit's socket, what was read of it last, and what is to be written on it. Its calls stand outside the lock.
+/// A circuit's socket, what was read of it last, and what is to be written on it. Its calls stand
+/// outside the lock.
 #[derive(Drop)]
 pub(crate) struct Line {
     stream: TcpStream,
@@ -60,7 +62,8 @@ pub(crate) enum Written {
 }
 
 impl Line {
-    /// Nothing was read, and the socket is in no poll yet. Replies are small, and each is to go at once.
+    /// Nothing was read, and the socket is in no poll yet. Replies are small, and each is to go at
+    /// once.
     pub(crate) fn new(
         alloc: Global,
         stream: TcpStream,
@@ -88,7 +91,8 @@ impl Line {
         !self.output.is_empty()
     }
 
-    /// Puts the socket among those of the circuits that are parked, and says whether it could. It is told of what is there already, too.
+    /// Puts the socket among those of the circuits that are parked, and says whether it could. It
+    /// is told of what is there already, too.
     pub(crate) fn join(&mut self, registry: &Registry, token: Token) -> bool {
         let readable = Interest::READABLE;
         registry.register(&mut self.stream, token, readable).is_ok()
@@ -105,7 +109,8 @@ impl Line {
         Ok(())
     }
 
-    /// Gives the poll of the circuit's own back, and the room for many bytes. All that was to be written was written.
+    /// Gives the poll of the circuit's own back, and the room for many bytes. All that was to be
+    /// written was written.
     pub(crate) fn drop_own(&mut self) {
         self.own = None;
         self.input.truncate(PARKED_ROOM);
@@ -115,7 +120,8 @@ impl Line {
         self.written = 0;
     }
 
-    /// Reads what is there. Readiness is told of once, so that a wait is safe only after a read that found nothing.
+    /// Reads what is there. Readiness is told of once, so that a wait is safe only after a read
+    /// that found nothing.
     pub(crate) fn read(&mut self) -> Moved {
         match self.stream.read(self.input.as_mut_slice()) {
             Ok(0) => Moved::Ended,
@@ -132,14 +138,16 @@ impl Line {
         }
     }
 
-    // A read that filled the room of a parked circuit has the next one find more. Without memory for that it does as well.
+    // A read that filled the room of a parked circuit has the next one find more. Without memory
+    // for that it does as well.
     fn make_room(&mut self, count: usize) {
         if self.own.is_some() && count == self.input.len() && count < ROOM {
             let _same = self.input.resize(ROOM, 0);
         }
     }
 
-    /// Waits until bytes may be there, or the thread is woken. Says whether neither came for a second: one that is parked waits for ever.
+    /// Waits until bytes may be there, or the thread is woken. Says whether neither came for a
+    /// second: one that is parked waits for ever.
     pub(crate) fn is_idle<R: Wait + Clock>(&mut self, rt: &R) -> bool {
         match &mut self.own {
             Some(own) => own.is_idle(rt, Some(Duration::from_secs(IDLE))),
@@ -150,7 +158,8 @@ impl Line {
         }
     }
 
-    /// Waits until the socket may have room, or the thread is woken. The socket of a circuit that is parked tells of room from here on, and of what it has already.
+    /// Waits until the socket may have room, or the thread is woken. The socket of a circuit that
+    /// is parked tells of room from here on, and of what it has already.
     pub(crate) fn wait_for_room<R: Wait + Clock>(
         &mut self,
         rt: &R,
@@ -204,7 +213,8 @@ impl Line {
         Written::Failed
     }
 
-    /// Takes as many of these bytes for output as there is room for, if all before was written, and tells how many.
+    /// Takes as many of these bytes for output as there is room for, if all before was written, and
+    /// tells how many.
     pub(crate) fn take_out(&mut self, bytes: &[u8]) -> usize
         ensures { result ≤ length bytes.now }
     {
@@ -221,7 +231,8 @@ impl Line {
         }
     }
 
-    // How many of so many bytes there is room for, which is made if the circuit is not parked. Without memory for that there are those that a parked one takes.
+    // How many of these bytes there is room for, which is made if the circuit is not parked.
+    // Without memory for that there are those that a parked one takes.
     fn room_for(&mut self, bytes: usize) -> usize
         ensures { result ≤ bytes }
     {

@@ -20,7 +20,8 @@ use std::time::Clock;
 #[derive(Drop)]
 pub(crate) struct Locked<L: Ledger> {
     pub(crate) state: State<L>,
-    /// The records that a put made busy, and that no thread has taken up yet, by their places among the slow ones. There is room for all.
+    /// The records that a put made busy, and that no thread has taken up yet, by their places among
+    /// the slow ones. There is room for all.
     pub(crate) busy: VecDeque<usize>,
     /// By their places among the slow ones: whether a record waits for that, or is processed.
     pub(crate) in_hand: Vec<bool>,
@@ -32,7 +33,8 @@ pub(crate) struct Locked<L: Ledger> {
     pub(crate) stamped: u64,
     /// How many circuits were closed.
     pub(crate) closed: u64,
-    /// The numbers of the circuits whose threads are at their end, and were not joined yet. There is room for all that run.
+    /// The numbers of the circuits whose threads are at their end, and were not joined yet. There
+    /// is room for all that run.
     pub(crate) gone: Vec<u64>,
     /// The server is to end.
     pub(crate) ending: bool,
@@ -112,7 +114,8 @@ impl<L: Ledger, D: Device> Shared<L, D> {
 }
 
 impl<L: Ledger> Locked<L> {
-    /// One step of a circuit. A record that it makes busy is handed on, and idle circuits that its write may have reached are to be rung.
+    /// One step of a circuit. A record that it makes busy is handed on, and idle circuits that its
+    /// write may have reached are to be rung.
     pub(crate) fn step(
         &mut self,
         slow: &IndexSet<Vec<u8>>,
@@ -149,7 +152,8 @@ impl<L: Ledger> Locked<L> {
         }
     }
 
-    // The other circuits that may have updates of a write on this channel are to be rung: the circuit that wrote is in its turn.
+    // The other circuits that may have updates of a write on this channel are to be rung: the
+    // circuit that wrote is in its turn.
     fn reach_by(&mut self, circuit: Handle, sid: u32, rings: &mut Rings) {
         let Locked { state, bells, .. } = self;
         if let Some(name) = state.served_name(circuit, Sid::new(sid)) {
@@ -157,14 +161,16 @@ impl<L: Ledger> Locked<L> {
         }
     }
 
-    // All idle circuits are to be rung: a circuit that had no memory for the update of its own write does not tell of the record that it wrote.
+    // All idle circuits are to be rung: a circuit that had no memory for the update of its own
+    // write does not tell of the record that it wrote.
     fn reach_all(&mut self, rings: &mut Rings) {
         for (_, bell) in &mut self.bells {
             rings.take(bell);
         }
     }
 
-    // All records that are busy are to be processed: a circuit that had no memory for the update of its own put does not tell of the record that this put made busy.
+    // All records that are busy are to be processed: a circuit that had no memory for the update of
+    // its own put does not tell of the record that this put made busy.
     fn hand_on_all(&mut self, slow: &IndexSet<Vec<u8>>) {
         for place in 0..slow.len() {
             let Some(name) = slow.get_index(place) else {
@@ -187,15 +193,17 @@ impl<L: Ledger> Locked<L> {
         }
     }
 
-    /// Hands the machine's time in: the next write that is applied has this time stamp, and no write had it before.
+    /// Hands the machine's time in: the next write that is applied has this time stamp, and no
+    /// write had it before.
     pub(crate) fn stamp<R: Clock>(&mut self, rt: &R) {
         self.stamped = stamp_after(rt, self.stamped);
         let (seconds, nanos) = parts_of(self.stamped);
         self.state.stamp(seconds, nanos);
     }
 
-    /// Finishes the put that makes the record of this name busy. If a put that waited makes it busy again, it goes to the end of those that wait to be
-    /// processed, so that no record keeps others waiting. The circuit of the put is to be rung, and those that the next put may have reached.
+    /// Finishes the put that makes the record of this name busy. If a put that waited makes it busy
+    /// again, it goes to the end of those that wait to be processed, so that no record keeps others
+    /// waiting. The circuit of the put is to be rung, and those that the next put may have reached.
     pub(crate) fn finish<R: Clock>(
         &mut self,
         rt: &R,
@@ -229,7 +237,8 @@ impl<L: Ledger> Locked<L> {
     }
 }
 
-// The circuits that may have subscriptions on the record of this name are to be rung, but for this one.
+// The circuits that may have subscriptions on the record of this name are to be rung, but for this
+// one.
 fn reach<L: Ledger>(
     state: &State<L>,
     bells: &mut IndexMap<u16, Bell>,

@@ -16,7 +16,8 @@ use std::sync::{Arc, Mutex, Wait};
 use std::time::{Clock, Duration};
 use std::{mem, thread};
 
-// Circuits that have a poll of their own, at most. More that are busy go on by the one that all share.
+// Circuits that have a poll of their own, at most. More that are busy go on by the one that all
+// share.
 const MOST_POLLS: usize = 1_024;
 
 /// Sockets that the polling thread hears of at once, at most.
@@ -25,15 +26,16 @@ pub(crate) const SOCKETS: usize = 256;
 // A wait that the system refuses is this many milliseconds long.
 const PAUSE: u64 = 10;
 
-/// What a circuit needs to be parked, and to have a poll of its own again. While it is parked its socket is in the poll that all such circuits share, and its thread waits for its
-/// parker.
+/// What a circuit needs to be parked, and to have a poll of its own again. While it is parked its
+/// socket is in the poll that all such circuits share, and its thread waits for its parker.
 #[derive(Drop)]
 pub(crate) struct Parking {
     /// Of the poll that all share.
     pub(crate) registry: Registry,
     /// Wakes the polling thread.
     pub(crate) waker: Waker,
-    /// How many circuits have a poll of their own. Who makes a descriptor has this lock, so that nobody takes the one that another has just given up.
+    /// How many circuits have a poll of their own. Who makes a descriptor has this lock, so that
+    /// nobody takes the one that another has just given up.
     pub(crate) polls: Mutex<usize>,
 }
 
@@ -69,9 +71,11 @@ pub(crate) fn token_of(circuit: Handle) -> Token {
     Token(usize::from(circuit.index))
 }
 
-/// Has a circuit that is parked have a poll of its own. Without a descriptor or memory for that it stays parked.
+/// Has a circuit that is parked have a poll of its own. Without a descriptor or memory for that it
+/// stays parked.
 ///
-/// A ring that came before the change was for the parker. What it was for is not left: the poll tells of room at once, or as soon as there is some, and a turn follows.
+/// A ring that came before the change was for the parker. What it was for is not left: the poll
+/// tells of room at once, or as soon as there is some, and a turn follows.
 pub(crate) fn unpark<L: Ledger, D: Device, R: Wait + Net>(
     rt: &R,
     shared: &Shared<L, D>,
@@ -85,7 +89,8 @@ pub(crate) fn unpark<L: Ledger, D: Device, R: Wait + Net>(
 
 /// Parks a circuit. If its socket has no room among those of the others, it keeps its poll.
 ///
-/// A ring that came before the change was for the poll: so a turn is to follow before the thread waits.
+/// A ring that came before the change was for the poll: so a turn is to follow before the thread
+/// waits.
 pub(crate) fn park<L: Ledger, D: Device, R: Wait>(
     rt: &R,
     shared: &Shared<L, D>,
@@ -124,7 +129,8 @@ pub(crate) struct Poller<L: Ledger, D: Device> {
 }
 
 impl<L: Ledger, D: Device> Work<()> for Poller<L, D> {
-    // Wakes the threads of the circuits whose sockets are ready, until the server is to end; after a wait that failed those of all.
+    // Wakes the threads of the circuits whose sockets are ready, until the server is to end; after
+    // a wait that failed those of all.
     fn run<R: Wait + Clock + Net<Stream = TcpStream, Listener = TcpListener>>(self, rt: &R) {
         let Poller {
             shared,

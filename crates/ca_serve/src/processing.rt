@@ -10,9 +10,11 @@ use std::sync::{Arc, Wait};
 use std::thread;
 use std::time::{Clock, Duration};
 
-/// Does what a slow record needs. It is called with no lock held, by two threads: for one record at a time by one of them.
+/// Does what a slow record needs. It is called with no lock held, by two threads: for one record at
+/// a time by one of them.
 ///
-/// A call that takes long keeps one of the two, so that two such calls hold up the other slow records. One that never returns holds up the end of the server.
+/// A call that takes long keeps one of the two, so that two such calls hold up the other slow
+/// records. One that never returns holds up the end of the server.
 pub trait Device: Drop {
     /// Processes the value that was put to the record of this name.
     fn process(&self, record: &[u8], value: &Value);
@@ -25,7 +27,8 @@ pub(crate) struct Processor<L: Ledger, D: Device> {
 }
 
 impl<L: Ledger, D: Device> Work<()> for Processor<L, D> {
-    // Takes up one record after another, until the server is to end: nobody would hear of a put that is finished then.
+    // Takes up one record after another, until the server is to end: nobody would hear of a put
+    // that is finished then.
     fn run<R: Wait + Clock + Net<Stream = TcpStream, Listener = TcpListener>>(self, rt: &R) {
         let Processor { shared } = self;
         for _ in rt.forever() {

@@ -11,7 +11,7 @@ use std::sync::{Arc, Condvar, Wait};
 use std::thread::Parker;
 use std::time::Clock;
 
-// A thread rings so many bells by itself, at most: each ring is a call of the system.
+// A thread rings this many bells by itself, at most: each ring is a call of the system.
 const FEW: usize = 8;
 
 /// How the thread of a circuit is woken.
@@ -21,12 +21,13 @@ pub(crate) struct Bell {
     /// Of the poll that the circuit has for itself, unless it is parked.
     pub(crate) waker: Option<Arc<Waker>>,
     pub(crate) parker: Arc<Parker>,
-    /// The thread waits for bytes, nothing waits to be sent on its circuit, and nobody is about to wake it.
+    /// The thread waits for bytes, nothing waits to be sent on its circuit, and nobody is about to
+    /// wake it.
     pub(crate) is_idle: bool,
 }
 
 impl Bell {
-    /// Wakes the thread, wherever it waits.
+    /// Wakes the thread, at its poll or its parker.
     pub(crate) fn ring(&self) {
         match &self.waker {
             Some(waker) => ring(waker),
@@ -139,7 +140,8 @@ pub(crate) struct Ringer<L: Ledger, D: Device> {
 }
 
 impl<L: Ledger, D: Device> Work<()> for Ringer<L, D> {
-    // Rings what was handed over, with no lock held. At the end all bells are rung by whoever ends the server.
+    // Rings what was handed over, with no lock held. At the end all bells are rung by whoever ends
+    // the server.
     fn run<R: Wait + Clock + Net<Stream = TcpStream, Listener = TcpListener>>(self, rt: &R) {
         let Ringer { shared } = self;
         let mut rings = Rings::new(shared.alloc);

@@ -34,9 +34,11 @@ pub struct Places {
     pub beacons: SocketAddr,
 }
 
-/// Serves records until so many circuits were closed, without a number for ever. Tells how many writes were applied for the circuits.
+/// Serves records until that many circuits were closed, without a number for ever. Reports how many
+/// writes were applied for the circuits.
 ///
-/// A connection for which there is no room is closed at once. Refused as Device if a socket or a thread cannot be had, and as OutOfMemory.
+/// A connection for which there is no room is closed at once. Refused as Device if a socket or a
+/// thread cannot be had, and as OutOfMemory.
 pub fn serve<
     D: Device + Send + Sync + 'static,
     R: Threads
@@ -67,7 +69,7 @@ pub fn serve<
     )
 }
 
-// The same, with the ledger of the circuits' shares. All threads are joined at the end.
+// Serves with this ledger of the circuits' shares. All threads are joined at the end.
 fn serve_as<
     L: Ledger + Send + Sync + 'static,
     D: Device + Send + Sync + 'static,
@@ -234,7 +236,8 @@ fn open_parking<R: Net>(rt: &R) -> Result<(Poll, Parking), Refusal> {
     Ok((poll, parking))
 }
 
-// Starts the thread for datagrams, the polling thread, the ringing thread and two processing threads.
+// Starts the thread for datagrams, the polling thread, the ringing thread and two processing
+// threads.
 fn start_helpers<
     L: Ledger + Send + Sync + 'static,
     D: Device + Send + Sync + 'static,

@@ -11,7 +11,8 @@ pub(crate) trait Work<T>: Drop {
     fn run<R: Wait + Clock + Net<Stream = TcpStream, Listener = TcpListener>>(self, rt: &R) -> T;
 }
 
-/// Starts a thread for the work. The work's type is a parameter, so that whether it may cross is asked of it alone. Refused as Device.
+/// Starts a thread for the work. The work's type is a parameter, so that whether it may cross is
+/// asked of it alone. Refused as Device.
 pub(crate) fn started<
     T: Send + Drop + 'static,
     R: Threads
@@ -29,7 +30,8 @@ pub(crate) fn started<
     }
 }
 
-/// The same. If no thread can be had, the word is set, and the work is done here: it is to end at once then.
+/// Starts a thread for the work, too. If none can be had, the word is set, and the work is done
+/// here: it is to end at once then.
 pub(crate) fn started_or_ended<
     T: Send + Drop + 'static,
     R: Threads
