@@ -48,5 +48,6 @@ pub mod MovedOwn
 pub mod MovedLegal
 pub mod Moved
 pub mod RefusedCreation
+pub mod OwnValue
 pub mod Engine
 pub mod Limits

@@ -1,12 +1,12 @@
 -- Parts that are true since a fact is shown at each line, entry or message.
 use Rattle.std.proofs.Common.{◌≡◌, ℕ, ◌<◌, ◌≤◌, ◌+◌, ◌⊎◌, inl, length, arith, List, [], ◌∷◌, refl, sym, subst}
-use Rattle.std.specs.Prelude.{None}
+use Rattle.std.specs.Prelude.{Option, None, take}
 use Rattle.ca_text.specs.Place.{At}
 use Rattle.ca_dbr.specs.declared.value.Outcome.TheVariants as outcome
 use Rattle.ca_wire.specs.Fields.{Fields}
 use Rattle.ca_model.specs.Speech.{Id, Speaks}
 use Rattle.ca_model.specs.History.{Reply, Circuit, Entry, Line, Sent, Told, Step, Applied, Withdrawn, Finished, Called, Noticed, World}
-use Rattle.ca_model.specs.Channels.{IsBusyUntil, IsDropped, IsLost, IsOwnWrite, IsReply, IsRequest, Stands}
+use Rattle.ca_model.specs.Channels.{IsBusyUntil, IsDropped, IsLost, IsOwnWrite, IsReply, IsRequest, Stands, before}
 use Rattle.ca_model.specs.Headline.{Answered, HasCause, Reads, TakesOwn}
 use Rattle.ca_requests.specs.Meaning.{Means}
 use Rattle.ca_model.specs.Updates.{Shows}
@@ -73,17 +73,18 @@ module _ (c : Circuit) (x : List Line) (y : List Entry) (e : c.client ≡ 0) (f 
   answered-each all = holds AnyDue part.Answered c x y e f (λ k h at. each-at (λ (i : ℕ) (g : Step). Answered AnyDue Shows Means 0 c y i g) c.handled all k h at) tt tt
 
 -- A message is answered by these replies, in a row from where its step began, and its step logged these entries.
-pub answered-by :
-    (c : Circuit) (y : List Entry) (k : ℕ) (h : Step) (s : Sent) (replies : List Fields) (logs : List Entry) → At c.up k s → Each (λ (i : ℕ) (m : Fields). IsReply c k (h.sent + i) m) replies
+pub answered-as :
+    (Due : ℕ → Circuit → List Entry → Fields → List Fields → Option Fields → List Entry → Type 0) (c : Circuit) (y : List Entry) (k : ℕ) (h : Step) (s : Sent) (replies : List Fields) (logs : List Entry) → At c.up k s
+    → Due 0 (before c k h) (take h.logged y) s.message replies None logs → Each (λ (i : ℕ) (m : Fields). IsReply c k (h.sent + i) m) replies
     → Each (λ (i : ℕ) (e : Entry). At y (h.logged + i) e) logs → h.logged + length logs ≡ h.after → Each (λ (j : ℕ) (t : Told). t.place ≡ k → t.cause ≡ Reply → j < h.sent + length replies) c.down
-    → Each (λ (l : ℕ) (g : Step). k < l → h.sent + length replies ≤ g.sent) c.handled → Answered AnyDue Shows Means 0 c y k h
-answered-by c y k h s replies logs at now logged ends only next = record {
+    → Each (λ (l : ℕ) (g : Step). k < l → h.sent + length replies ≤ g.sent) c.handled → Answered Due Shows Means 0 c y k h
+answered-as Due c y k h s replies logs at due now logged ends only next = record {
   s = s;
   at = at;
   replies = replies;
   late = None;
   logs = logs;
-  due = tt;
+  due = due;
   now = λ i m here. each-at (λ (a : ℕ) (z : Fields). IsReply c k (h.sent + a) z) replies now i m here;
   logged = λ i e here. each-at (λ (a : ℕ) (z : Entry). At y (h.logged + a) z) logs logged i e here;
   within = omega (arith, ends);
@@ -93,3 +94,10 @@ answered-by c y k h s replies logs at now logged ends only next = record {
   comes = λ m is. absurd cc;
   next = λ l g after here. each-at (λ (a : ℕ) (z : Step). k < a → h.sent + length replies ≤ z.sent) c.handled next l g here after;
 }
+
+-- And that is so if any may be due.
+pub answered-by :
+    (c : Circuit) (y : List Entry) (k : ℕ) (h : Step) (s : Sent) (replies : List Fields) (logs : List Entry) → At c.up k s → Each (λ (i : ℕ) (m : Fields). IsReply c k (h.sent + i) m) replies
+    → Each (λ (i : ℕ) (e : Entry). At y (h.logged + i) e) logs → h.logged + length logs ≡ h.after → Each (λ (j : ℕ) (t : Told). t.place ≡ k → t.cause ≡ Reply → j < h.sent + length replies) c.down
+    → Each (λ (l : ℕ) (g : Step). k < l → h.sent + length replies ≤ g.sent) c.handled → Answered AnyDue Shows Means 0 c y k h
+answered-by c y k h s replies logs at = answered-as AnyDue c y k h s replies logs at tt

@@ -104,10 +104,10 @@ no-key c y all key is =
 
 -- ---- names
 
-by-test : (y : List Entry) (name : List ℕ) (known : Option KnownRecord) (b : Bool) → (b ≡ true → IsRecordOf y name known) → (b ≡ false → IsRecordOf y name None)
-    → IsRecordOf y name (if b then known else None)
-by-test y name known true f g = f refl
-by-test y name known false f g = g refl
+pub by-test : (y : List Entry) (name : List ℕ) (known other : Option KnownRecord) (b : Bool) → (b ≡ true → IsRecordOf y name known) → (b ≡ false → IsRecordOf y name other)
+    → IsRecordOf y name (if b then known else other)
+by-test y name known other true f g = f refl
+by-test y name known other false f g = g refl
 
 -- the name of the record of an entry, where it adds one
 abbrev pub name-of : Entry → List ℕ
@@ -120,7 +120,7 @@ AllTemp y = Each (λ (i : ℕ) (e : Entry). name-of e ≡ temp_name) y
 
 records : (y : List Entry) (known : Option KnownRecord) → AllTemp y → IsRecordOf y temp_name known → (name : List ℕ) → IsRecordOf y name ((knows known true []).record_of name)
 records y known all is name =
-    by-test y name known (bytes_eq temp_name name) (
+    by-test y name known None (bytes_eq temp_name name) (
     λ e. subst (λ (n : List ℕ). IsRecordOf y n known) ((bytes_eq-Decides temp_name name).0 e) is) (
     λ e r h.
     (let named : h.0.name ≡ temp_name = each-at (λ (i : ℕ) (z : Entry). name-of z ≡ temp_name) y all h.1.0 (Added r h.0) h.1.1 in
@@ -144,13 +144,14 @@ no-names c all k m e =
 
 -- ---- the whole
 
-pub knew : (c : Circuit) (y : List Entry) (known : Option KnownRecord) (settled : Bool) (channels : List KnownChannel) → AllTemp y → IsRecordOf y temp_name known
+-- these records are known
+pub knew-by : (c : Circuit) (y : List Entry) (known : List ℕ → Option KnownRecord) (settled : Bool) (channels : List KnownChannel) → ((name : List ℕ) → IsRecordOf y name (known name))
     → AreUnnamed c.up → false ≡ list_any (λ (s : Sent). s.message.command == command_number command.Version) c.up → settled ≡ has_created c.down
-    → AreJust channels (IsChannel c y) → ((key : SubKey) → IsKey c y key → ⊥) → Knew 5064 [] c y (knows known settled channels)
-knew c y known settled channels all is unnamed greets sets open-ones none = record {
+    → AreJust channels (IsChannel c y) → ((key : SubKey) → IsKey c y key → ⊥) → Knew 5064 [] c y (record (knows None settled channels) { record_of = known })
+knew-by c y known settled channels are unnamed greets sets open-ones none = record {
   on_port = refl;
   by_rules = refl;
-  records = records y known all is;
+  records = are;
   greeted = greets;
   user = inr (refl, λ k r e f. (no-names c unnamed k r e).0 f);
   host = inr (refl, λ k r e f. (no-names c unnamed k r e).1 f);
@@ -159,6 +160,12 @@ knew c y known settled channels all is unnamed greets sets open-ones none = reco
   full = λ e. absurd cc;
   keys = none-just (IsKey c y) none;
 }
+
+-- or TEMP alone
+pub knew : (c : Circuit) (y : List Entry) (known : Option KnownRecord) (settled : Bool) (channels : List KnownChannel) → AllTemp y → IsRecordOf y temp_name known
+    → AreUnnamed c.up → false ≡ list_any (λ (s : Sent). s.message.command == command_number command.Version) c.up → settled ≡ has_created c.down
+    → AreJust channels (IsChannel c y) → ((key : SubKey) → IsKey c y key → ⊥) → Knew 5064 [] c y (knows known settled channels)
+knew c y known settled channels all is = knew-by c y (knows known settled channels).record_of settled channels (records y known all is)
 
 -- ---- what is due, by the command
 

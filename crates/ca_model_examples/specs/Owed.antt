@@ -5,16 +5,16 @@ use Rattle.ca_text.specs.Status.{normal}
 use Rattle.ca_dbr.specs.declared.value.Outcome.TheVariants as outcome
 use Rattle.ca_dbr.specs.Elements.{longs}
 use Rattle.ca_wire.specs.Fields.{Fields}
-use Rattle.ca_wire.specs.Messages.{bare, error_reply, failed_reply, put_request, status_reply}
+use Rattle.ca_wire.specs.Messages.{bare, error_reply, failed_reply, put_request, status_reply, value_reply}
 use Rattle.ca_model.specs.Speech.{Is, Stored}
-use Rattle.ca_records.specs.Record.{unset}
+use Rattle.ca_records.specs.Record.{RecordState, unset}
 use Rattle.ca_model.specs.Updates.{Shows}
 use Rattle.ca_model.specs.History.{Clear, Create, Request, Subscribe, Read, Put, Write, On, Sent, Told, Step, Circuit, Entry, Added, Applied, Finished, Waits, Withdrawn, Line, Called, Noticed, Opened, World}
 use Rattle.ca_model.specs.Headline.{Safe}
 use Rattle.ca_model.specs.Known.{IsSafe}
 use Rattle.ca_requests.specs.Meaning.{Means}
-use Rattle.ca_model_examples.specs.Unsafe.{temp_there}
-use Rattle.ca_model_examples.specs.Worlds.{circuit, clearing, created_told, creating, long, ports, put_told, putting, reading, reply, rules, step, temp, temp_name, wanted, world}
+use Rattle.ca_model_examples.specs.Unsafe.{opened, temp_there}
+use Rattle.ca_model_examples.specs.Worlds.{circuit, clearing, created_told, creating, long, ports, put_told, putting, reading, reply, rights_told, rules, step, temp, temp_name, wanted, world}
 
 -- A channel to TEMP was opened and became live.
 abbrev pub live_lines : List Line → List Line
@@ -136,6 +136,26 @@ refused_creation = world (creation_refused ∷ []) (Opened 0 temp_name ∷ []) t
 -- A world is unsafe by what was due in it.
 abbrev pub UnsafeAsDue : World → Type 0
 UnsafeAsDue w = IsSafe ports rules w → ⊥
+
+-- ---- a read while another record is there
+
+-- SETP, which is 5, is there beside TEMP, which is 21.
+abbrev pub setp : RecordState
+setp = record temp { name = 83 ∷ 69 ∷ 84 ∷ 80 ∷ []; value = (long 5).value }
+
+abbrev pub temp_and_setp : List Entry
+temp_and_setp = Added 0 temp ∷ Added 1 setp ∷ []
+
+-- A channel to TEMP was created, and a read on it is answered by this value.
+abbrev pub value_told : ℕ → Told
+value_told value = reply 1 (value_reply (reading 0 7).message 1 (0 ∷ 0 ∷ 0 ∷ value ∷ []))
+
+abbrev pub temp_read : ℕ → Circuit
+temp_read value =
+    circuit (creating ∷ reading 0 7 ∷ []) (rights_told ∷ created_told ∷ value_told value ∷ []) (step 0 2 2 ∷ step 2 2 2 ∷ []) []
+
+abbrev pub answered_by_value : ℕ → World
+answered_by_value value = world (temp_read value ∷ []) opened temp_and_setp
 
 -- ---- what is due for a message
 

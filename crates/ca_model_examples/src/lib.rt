@@ -76,6 +76,7 @@ pub use illegal_worlds::what_a_client_may_send;
 pub use illegal_worlds::what_a_server_may_send;
 pub use illegal_worlds::what_must_be_sent;
 pub use owed_worlds::a_creation_refused_for_nothing_is_unsafe;
+pub use owed_worlds::a_read_is_of_the_record_that_was_asked_for;
 pub use owed_worlds::a_write_with_an_alarm_is_unsafe;
 pub use owed_worlds::an_early_or_lost_late_reply_is_unsafe;
 pub use owed_worlds::an_unsaid_notice_is_unsafe;

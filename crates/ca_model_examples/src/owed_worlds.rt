@@ -1,7 +1,8 @@
 ghost use Rattle.std.specs.Prelude.{false};
 ghost use Rattle.ca_model.specs.History.{Applied, Waits};
-ghost use Rattle.ca_model_examples.specs.Worlds.{Unsafe};
-ghost use Rattle.ca_model_examples.specs.Owed.{alarmed, logs_put, UnsafeAsDue, UnsafeBesides, UnsafeSlow, UnsafeUnlogged, UnsafeUnsent, answered_cleared, answered_otherwise, answered_unfinished, answered_withdrawn, foreign_refusal, lost_for_nothing, refused_creation, unanswered_put};
+ghost use Rattle.ca_model.specs.Known.{IsSafe};
+ghost use Rattle.ca_model_examples.specs.Worlds.{Unsafe, ports, rules};
+ghost use Rattle.ca_model_examples.specs.Owed.{alarmed, logs_put, UnsafeAsDue, UnsafeBesides, UnsafeSlow, UnsafeUnlogged, UnsafeUnsent, answered_by_value, answered_cleared, answered_otherwise, answered_unfinished, answered_withdrawn, foreign_refusal, lost_for_nothing, refused_creation, unanswered_put};
 
 /// The reply that is due for a message is sent and its entry logged, and its step logs no other.
 pub fn what_is_not_as_due_is_unsafe()
@@ -38,4 +39,10 @@ pub fn a_creation_refused_for_nothing_is_unsafe()
 pub fn a_write_with_an_alarm_is_unsafe()
     ensures made { UnsafeAsDue (logs_put (Applied 0 1 0 alarmed false)) }
     ensures waits { UnsafeAsDue (logs_put (Waits 0 1 0 alarmed)) }
+{}
+
+/// A read on a channel to TEMP, which is 21, is not answered by the value of SETP, which is 5.
+pub fn a_read_is_of_the_record_that_was_asked_for()
+    ensures own { IsSafe ports rules (answered_by_value 21) }
+    ensures of_another { UnsafeAsDue (answered_by_value 5) }
 {}
