@@ -27,6 +27,7 @@
  *   WATCHERS=1  how many circuits watch, from the last on; all, if it is not said
  *   SLOW        puts may be on the slow record
  *   FULL        a client may stop reading for a time
+ *   DEAF        and the client of circuit 0 for ever
  *   CLOSES      the client of circuit 0 may close it
  *   LATE        the last circuit is accepted at any time
  *   LACKS       there may be no memory for an update, which ends its circuit
@@ -52,7 +53,7 @@
  *    15  a parked circuit whose socket is full does not ask to be told of room (PARKS, FULL)
  *    16  the bell of a parked circuit is that of the poll that it had (PARKS)
  *    17  `end` rings no bell of a parked circuit (PARKS, ENDS)
- *    18  a circuit's own poll does not tell of room (PARKS=0)
+ *    18  a circuit that has a poll of its own again does not ring it (PARKS, FULL, DEAF, ENDS)
  */
 #ifndef C
 #define C 2
@@ -290,12 +291,11 @@ inline unpark() {
     if
     :: true ->
         /* Line::leave */
-#if PLANT == 18
-        d_step { life[c] = 1 - life[c]; own[c] = 1; edge[c] = rx[c] != 0 || shut[c]; bell[c] = 0 };
-#else
         d_step { life[c] = 1 - life[c]; own[c] = 1; edge[c] = rx[c] != 0 || shut[c] || room[c]; bell[c] = 0 };
-#endif
         d_step { joined[c] = 0; told[c] = 0; asks_room[c] = 0 };
+#if PLANT != 18
+        bell[c] = 1;
+#endif
         /* hang */
         d_step { lock == 0 -> has_waker[c] = 1 }
     :: true
@@ -461,7 +461,10 @@ end_full:
                 edge[c] || bell[c] -> d_step { edge[c] = 0; bell[c] = 0 }
             :: !own[c] ->
 #if PLANT != 15
-                d_step { asks_room[c] = 1; told[c] = told[c] || room[c] || rx[c] != 0 || shut[c] };
+                if
+                :: !asks_room[c] -> d_step { asks_room[c] = 1; told[c] = told[c] || room[c] || rx[c] != 0 || shut[c] }
+                :: asks_room[c]
+                fi;
 #endif
 end_parked_full:
                 token[c] -> token[c] = 0
@@ -713,7 +716,11 @@ proctype Client(byte c) {
 end:
     do
     :: d_step { c < SENDERS && sent < PUTS && !over -> sent++; rx[c]++; tell(c) }
+#ifdef DEAF
+    :: d_step { c != 0 && !room[c] -> room[c] = 1; tell_room(c) }
+#else
     :: d_step { !room[c] -> room[c] = 1; tell_room(c) }
+#endif
 #ifdef CLOSES
     :: d_step { c == 0 && !over -> over = 1; shut[c] = 1; room[c] = 1; tell(c) }
 #endif

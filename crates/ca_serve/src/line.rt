@@ -32,6 +32,8 @@ pub(crate) struct Line {
     // There is none while the circuit is parked.
     own: Option<Own>,
     parker: Arc<Parker>,
+    // The poll that all parked circuits share tells of room, too.
+    asks_room: bool,
     pub(crate) input: Vec<u8>,
     output: Vec<u8>,
     /// How many bytes of the output were written.
@@ -76,6 +78,7 @@ impl Line {
             stream,
             own: None,
             parker,
+            asks_room: false,
             input: vec![in alloc; 0; PARKED_ROOM]?,
             output: Vec::with_capacity(alloc, PARKED_ROOM)?,
             written: 0,
@@ -95,6 +98,7 @@ impl Line {
     /// is told of what is there already, too.
     pub(crate) fn join(&mut self, registry: &Registry, token: Token) -> bool {
         let readable = Interest::READABLE;
+        self.asks_room = false;
         registry.register(&mut self.stream, token, readable).is_ok()
     }
 
@@ -159,7 +163,8 @@ impl Line {
     }
 
     /// Waits until the socket may have room, or the thread is woken. The socket of a circuit that
-    /// is parked tells of room from here on, and of what it has already.
+    /// is parked tells of room from here on. It is asked once: it tells again of bytes that were
+    /// not read each time that it is asked.
     pub(crate) fn wait_for_room<R: Wait + Clock>(
         &mut self,
         rt: &R,
@@ -172,9 +177,12 @@ impl Line {
             }
             None => {
                 let both = Interest::READABLE | Interest::WRITABLE;
-                match registry.reregister(&mut self.stream, token, both) {
-                    Ok(()) => self.parker.park(rt),
-                    Err(_) => self.pause(rt),
+                self.asks_room = self.asks_room
+                    || registry.reregister(&mut self.stream, token, both).is_ok();
+                if self.asks_room {
+                    self.parker.park(rt);
+                } else {
+                    self.pause(rt);
                 }
             }
         }

@@ -4,7 +4,7 @@ use crate::accepting::new_poll;
 use crate::line::{Line, Own};
 use crate::locked::Shared;
 use crate::processing::Device;
-use crate::ringing::Rings;
+use crate::ringing::{Rings, ring};
 use crate::work::Work;
 use ca_arena::Handle;
 use ca_text::Refusal;
@@ -74,8 +74,8 @@ pub(crate) fn token_of(circuit: Handle) -> Token {
 /// Has a circuit that is parked have a poll of its own. Without a descriptor or memory for that it
 /// stays parked.
 ///
-/// A ring that came before the change was for the parker. What it was for is not left: the poll
-/// tells of room at once, or as soon as there is some, and a turn follows.
+/// A ring that came before the change was for the parker: so the poll is rung, and a turn follows
+/// the next wait.
 pub(crate) fn unpark<L: Ledger, D: Device, R: Wait + Net>(
     rt: &R,
     shared: &Shared<L, D>,
@@ -83,6 +83,7 @@ pub(crate) fn unpark<L: Ledger, D: Device, R: Wait + Net>(
     line: &mut Line,
 ) {
     if let Ok(waker) = shared.parking.own(rt, shared.alloc, line) {
+        ring(&waker);
         hang(rt, shared, circuit, Some(waker));
     }
 }
