@@ -7,7 +7,7 @@ use Rattle.ca_dbr.specs.Conversion.{converted}
 use Rattle.ca_dbr.specs.Elements.{Elements, base_of}
 use Rattle.ca_records.specs.Record.{RecordState}
 use Rattle.ca_model.specs.History.{Added, Applied, Ask, Called, Create, Entry, Intent, On, Opened, Sent}
-use Rattle.ca_model.specs.Speech.{In, Stored}
+use Rattle.ca_model.specs.Speech.{In, IsWritten, Stored}
 use Rattle.ca_model.specs.Channels.{IsApplied, IsOwnWrite}
 use Rattle.ca_model.specs.Events.{Event}
 use Rattle.ca_model.specs.Runs.{AreEvents, Runs}
@@ -40,8 +40,11 @@ module _ (s : Setting) (es : List Event) (stopped : Option Event) (w : World) (o
     same : a.0 ≡ m.y
     same = At-one w.server_logs l a.0 m.y a.2 m.log
 
+    told_of : IsTitled w n k r m.y × IsWritten v
+    told_of = run-titled s es stopped w ok are runs l m.y m.log n k r (Applied n k r v a.1) (i, subst (λ (y : List Entry). At y i (Applied n k r v a.1)) same a.3) (refl, refl, refl)
+
     t : IsTitled w n k r m.y
-    t = run-titled s es stopped w ok are runs l m.y m.log n k r (Applied n k r v a.1) (i, subst (λ (y : List Entry). At y i (Applied n k r v a.1)) same a.3) (refl, refl, refl)
+    t = told_of.0
 
     circuit : t.c ≡ m.c
     circuit = At-one w.circuits n t.c m.c t.on m.on
@@ -83,6 +86,7 @@ module _ (s : Setting) (es : List Event) (stopped : Option Event) (w : World) (o
       to = m.to;
       there = (subst (λ (z : ℕ × RecordState). In t.x (Opened z.0 (z.1).name)) (λ j. (sym number j, sym state j)) t.opened, (m.there).0, (m.there).1);
       value = subst (λ (z : Elements). converted z (base_of (m.to).value) ≡ Ok v.value) given m.value;
+      written = told_of.1;
       came = m.came;
     }
 

@@ -46,7 +46,7 @@ use Rattle.ca_laws_runs.proofs.OnceRuns.{once-runs}
 use Rattle.ca_laws_runs.proofs.OrderGrows.{ticks-grown}
 use Rattle.ca_laws_runs.proofs.StepWhole.{run-serves, takes-next}
 use Rattle.ca_laws_runs.proofs.ToldGrows.{WorldsOn, event-on, on-grown}
-use Rattle.ca_laws_runs.specs.Carried.{AllTitled, IsTitled, IsWrite, IsWriteTo, LogTitled}
+use Rattle.ca_laws_runs.specs.Carried.{AllTitled, HasNoAlarm, IsTitled, IsWrite, IsWriteTo, LogTitled}
 use Rattle.ca_laws_runs.specs.KnewLists.{as_known}
 use Rattle.ca_laws_runs.proofs.Acting.{taken-below}
 use Rattle.ca_laws_runs.proofs.ActsNamedRuns.{run-names}
@@ -143,17 +143,17 @@ titled-on w new n k r log on t =
       added = t.added;
     }
 
--- these writes are of records that are titled in the log before
+-- these writes are of records that are titled in the log before, and store no alarm
 abbrev MayTell : World → List Entry → List Entry → Type 0
-MayTell v log more = (n k r : ℕ) (e : Entry) → In more e → IsWriteTo n k r e → IsTitled v n k r log
+MayTell v log more = (n k r : ℕ) (e : Entry) → In more e → IsWriteTo n k r e → IsTitled v n k r log × HasNoAlarm e
 
 quiet-may : (v : World) (log more : List Entry) → AreQuiet more → MayTell v log more
 quiet-may v log more quiet n k r e there writes = absurd (quiet-none n k r e (quiet there.0 e there.1) writes)
 
 log-more : (v : World) (log more : List Entry) → MayTell v log more → LogTitled v log → LogTitled v (log ++ more)
 log-more v log more may all n k r e there writes = elim (At-parts log more there.0 e there.1) [
-  | inl old ↦ titled-forth v n k r log more (all n k r e (there.0, old) writes)
-  | inr late ↦ titled-forth v n k r log more (may n k r e (late.0, late.2) writes)
+  | inl old ↦ (let z = all n k r e (there.0, old) writes in (titled-forth v n k r log more z.0, z.1))
+  | inr late ↦ (let z = may n k r e (late.0, late.2) writes in (titled-forth v n k r log more z.0, z.1))
 ]
 
 log-quiet : (v : World) (log : List Entry) → AreQuiet log → LogTitled v log
@@ -279,8 +279,10 @@ module _ (v : World) where
           let z = beside-left _ r.waiting x.0.waiting 0 p x.2.each (first-at p r.waiting is) in
           let came = z.2.0 in
           let entry : Entry = Applied p.circuit p.place r.number (stored_now y.core b.value) true in
-          let same : IsWriteTo n k q entry = subst (λ (f : Entry). IsWriteTo n k q f) (only-one entry e there.0 there.1) writes in
-          all n k q (Waits p.circuit p.place r.number came.v) came.came same
+          let is : e ≡ entry = only-one entry e there.0 there.1 in
+          let same : IsWriteTo n k q entry = subst (λ (f : Entry). IsWriteTo n k q f) is writes in (
+          (all n k q (Waits p.circuit p.place r.number came.v) came.came same).0,
+          subst (λ (f : Entry). HasNoAlarm f) (sym is) ((y.core).stamp, refl))
 
   finish-may : (log : List Entry) (p : PutPlace) (es : List Entry) → MayTell v log es → MayTell v log (finish_entry p ∷ es)
   finish-may log p es may n k r e (zero, at) writes = absurd (quiet-none n k r e (one-quiet (finish_entry p) tt zero e at) writes)
@@ -519,21 +521,24 @@ module _ (s : Setting) (es : List Event) (w : World) (ok : IsSetting s) (are : A
   step-may : (new : World) → WorldsOn w new → MayTell new log (told_by k j y n.action)
   step-may new goes = go n.action n.handles.due
     where
-      one : (x : Entry) (r : ℕ) → IsTitled w k place r log → ((a c d : ℕ) → IsWriteTo a c d x → (k ≡ a) × (place ≡ c) × (r ≡ d)) → MayTell new log (x ∷ [])
-      one x r titled parts a c d f (zero, there) tells =
-          let p = parts a c d (subst (λ (z : Entry). IsWriteTo a c d z) (sym (some_is x f there)) tells) in
-          titled-on w new a c d log goes (subst (λ (z : ℕ × ℕ × ℕ). IsTitled w z.0 z.1 z.2 log) (λ i. (p.0 i, p.1 i, p.2 i)) titled)
-      one x r titled parts a c d f (suc i, there) tells = absurd (none_at i f there)
+      one : (x : Entry) (r : ℕ) → IsTitled w k place r log → HasNoAlarm x
+          → ((a c d : ℕ) → IsWriteTo a c d x → (k ≡ a) × (place ≡ c) × (r ≡ d)) → MayTell new log (x ∷ [])
+      one x r titled plain parts a c d f (zero, there) tells =
+          let is : x ≡ f = some_is x f there in
+          let p = parts a c d (subst (λ (z : Entry). IsWriteTo a c d z) (sym is) tells) in (
+          titled-on w new a c d log goes (subst (λ (z : ℕ × ℕ × ℕ). IsTitled w z.0 z.1 z.2 log) (λ i. (p.0 i, p.1 i, p.2 i)) titled),
+          subst (λ (z : Entry). HasNoAlarm z) is plain)
+      one x r titled plain parts a c d f (suc i, there) tells = absurd (none_at i f there)
 
       go : (did : Action) → Due (knows y.core e) n.m n.replies did → MayTell new log (told_by k j y did)
       go (Applies name value busies) due =
           let c = applies-serves (knows y.core e) n.m n.replies name value busies due in
           one (Applied k place (server.number_of name y.records) (stored_now y.core value) busies) (server.number_of name y.records)
-          (write-titled c.0 name c.1 (writes-only (knows y.core e) n.m n.replies (Applies name value busies) due tt)) (λ a b d tells. tells)
+          (write-titled c.0 name c.1 (writes-only (knows y.core e) n.m n.replies (Applies name value busies) due tt)) ((y.core).stamp, refl) (λ a b d tells. tells)
       go (action.Waits name value) due =
           let c = waits-serves (knows y.core e) n.m n.replies name value due in
           one (Waits k place (server.number_of name y.records) (stored_now y.core value)) (server.number_of name y.records)
-          (write-titled c.0 name c.1 (writes-only (knows y.core e) n.m n.replies (action.Waits name value) due tt)) (λ a b d tells. tells)
+          (write-titled c.0 name c.1 (writes-only (knows y.core e) n.m n.replies (action.Waits name value) due tt)) ((y.core).stamp, refl) (λ a b d tells. tells)
       go (action.Clears sid) due =
           quiet-may new log (told_by k j y (action.Clears sid))
           (withdrawn-quiet (flat_map (λ (ps : List PutPlace). ps) (server.with_core (λ (c : Record) (r : RecordSide). server.places_where (server.is_of_channel j.at_server sid) c.waiting r.waiting) y.core.records y.records)))
@@ -548,7 +553,8 @@ module _ (s : Setting) (es : List Event) (w : World) (ok : IsSetting s) (are : A
 -- ---- every run
 
 all-on : (w new : World) → WorldsOn w new → AllTitled w → AllIn new w
-all-on w new on all life y at n k r e there writes = titled-on w new n k r y on (all life y at n k r e there writes)
+all-on w new on all life y at n k r e there writes =
+    (let z = all life y at n k r e there writes in (titled-on w new n k r y on z.0, z.1))
 
 after-titled : (s : Setting) (es rest : List Event) (w new : World) → IsSetting s → AreEvents es → AreEvents rest → FoldsTo Happens (opening s) es w → FoldsTo Happens w rest new → AllTitled w → AllTitled new
 after-titled s es [] w new ok are more folds same all = subst (λ (v : World). AllTitled v) same all

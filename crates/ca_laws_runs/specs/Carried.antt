@@ -7,7 +7,7 @@ use Rattle.ca_records.specs.Record.{RecordState}
 use Rattle.ca_text.specs.Place.{At}
 use Rattle.ca_wire.specs.Fields.{Fields, padded}
 use Rattle.ca_model.specs.History.{Added, Applied, Ask, Called, Entry, Intent, Line, On, Opened, Put, Request, Sent, Waits, Write}
-use Rattle.ca_model.specs.Speech.{In}
+use Rattle.ca_model.specs.Speech.{In, IsWritten}
 use Rattle.ca_model.specs.World.{Joined, World}
 
 -- ---- what clients send
@@ -60,10 +60,16 @@ pub record IsTitled (w : World) (n k r : ℕ) (y : List Entry) : Type 0 where
   pub opened : In x (Opened channel state.name)
   pub added : In y (Added r state)
 
+-- what the entry stores has no alarm
+abbrev pub HasNoAlarm : Entry → Type 0
+HasNoAlarm (Waits n k r v) = IsWritten v
+HasNoAlarm (Applied n k r v busies) = IsWritten v
+HasNoAlarm entry = Unit {0}
+
 -- So it is of each write of which the log of any life of a server tells, as the world has the
--- circuits and the logs of clients.
+-- circuits and the logs of clients; and what is stored has no alarm.
 abbrev pub LogTitled : World → List Entry → Type 0
-LogTitled w y = (n k r : ℕ) (e : Entry) → In y e → IsWriteTo n k r e → IsTitled w n k r y
+LogTitled w y = (n k r : ℕ) (e : Entry) → In y e → IsWriteTo n k r e → IsTitled w n k r y × HasNoAlarm e
 
 abbrev pub AllTitled : World → Type 0
 AllTitled w = (life : ℕ) (y : List Entry) → At w.server_logs life y → LogTitled w y

@@ -8,7 +8,7 @@ use Rattle.ca_dbr.specs.Conversion.{converted}
 use Rattle.ca_dbr.specs.Elements.{Elements, base_of}
 use Rattle.ca_records.specs.Record.{RecordState}
 use Rattle.ca_wire.specs.Fields.{Fields}
-use Rattle.ca_model.specs.Speech.{Id, Cid, Ioid, SubId, Clears, Creates, Ends, In, Is, Stored, name_in, sid_in}
+use Rattle.ca_model.specs.Speech.{Id, Cid, Ioid, SubId, Clears, Creates, Ends, In, Is, IsWritten, Stored, name_in, sid_in}
 use Rattle.ca_model.specs.History.{Ask, Create, Clear, Request, Subscribe, Cancel, Read, Put, Write, Intent, On}
 use Rattle.ca_model.specs.History.{OfCircuit}
 use Rattle.ca_model.specs.History.{Cause, Reply, Removal, Sent, Told, Step, Circuit}
@@ -209,8 +209,8 @@ pub record IsDropped (w : World) (n k l i : ℕ) (y : List Entry) : Type 0 where
   pub at : At c.up k s
   pub why : In (take i y) (Removed r) ⊎ (IsCleared c k (sid_in s.message) i ⊎ (c.server_open ≡ false))
 
--- A write that is applied at entry i has the value that its caller gave, in the type of its record;
--- the record was there then, under the name of the caller's channel; and it was applied when it was
+-- A write that is applied at entry i has the value that its caller gave, in the type of its record,
+-- with no alarm; the record was there then, under the name of the caller's channel; and it was applied when it was
 -- handled, or the server's end closed on it, or after it had waited.
 pub record IsOwnWrite (w : World) (n k l i r : ℕ) (v : Stored) : Type 0 where
   pub c : Circuit
@@ -224,6 +224,7 @@ pub record IsOwnWrite (w : World) (n k l i r : ℕ) (v : Stored) : Type 0 where
   pub to : RecordState
   pub there : In x (Opened channel to.name) × In (take i y) (Added r to) × (In (take i y) (Removed r) → ⊥)
   pub value : converted given (base_of to.value) ≡ Ok v.value
+  pub written : IsWritten v
   pub came : IsTaken c k i ⊎ HasWaited n c y k i r
 
 -- Until entry e the put at place k of circuit n made its record busy: it was applied before, and no

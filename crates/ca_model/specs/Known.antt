@@ -10,15 +10,13 @@ use Rattle.ca_text.specs.Limits.{arena_slots, last_generation}
 use Rattle.ca_text.specs.Place.{At}
 use Rattle.ca_queue.specs.declared.entry.SubKey.{SubKey}
 use Rattle.ca_queue.specs.Order.{last_of}
-use Rattle.ca_records.specs.declared.puts.Stamp.{Stamp}
-use Rattle.ca_records.specs.Puts.{written_meta}
 use Rattle.ca_records.specs.Record.{RecordState}
 use Rattle.ca_records.specs.Rules.{Rule}
 use Rattle.ca_wire.specs.Fields.{Fields}
 use Rattle.ca_wire.specs.Messages.{text_in}
 use Rattle.ca_model.specs.Due.{Action, Applies, Clears, Due, KnownChannel, KnownRecord, Knows, late_reply}
 use Rattle.ca_model.specs.Due as action
-use Rattle.ca_model.specs.Speech.{In, Is, Stored, name_in, sid_in}
+use Rattle.ca_model.specs.Speech.{In, Is, IsWritten, Stored, name_in, sid_in}
 use Rattle.ca_model.specs.History.{Sent, Told, Step, Circuit, Entry, Added, Removed, Waits, Applied, Finished}
 use Rattle.ca_model.specs.History.{Withdrawn, World}
 use Rattle.ca_model.specs.Updates.{Shows}
@@ -134,10 +132,6 @@ pub record Knew (port : ℕ) (rules : List Rule) (c : Circuit) (y : List Entry) 
 abbrev pub IsWithdrawal : (n : ℕ) → Circuit → List Entry → (sid : ℕ) → Entry → Type 0
 IsWithdrawal n c y sid e = (k r : ℕ) × (s : Sent) × In (waiting y r) (n, k) × At c.up k s × (sid_in s.message ≡ sid)
     × (e ≡ Withdrawn n k)
-
--- a write has no alarm, and some stamp
-abbrev pub IsWritten : Stored → Type 0
-IsWritten v = (stamp : Stamp) × (v.meta ≡ written_meta stamp)
 
 -- The write at place k is logged, with no alarm and some stamp.
 abbrev pub IsLogged : (n k : ℕ) → List Entry → Action → List Entry → Type 0

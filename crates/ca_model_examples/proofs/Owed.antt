@@ -14,7 +14,7 @@ use Rattle.ca_model.specs.Channels.{IsFinished, IsReply, OfCircuits}
 use Rattle.ca_model.specs.Headline.{Answered, AnswersOwn}
 use Rattle.ca_requests.specs.Meaning.{Means}
 use Rattle.ca_model.specs.Updates.{Shows}
-use Rattle.ca_model_examples.specs.Worlds.{Unsafe, clearing, created_told, creating, long, put_told, putting, step, temp, world}
+use Rattle.ca_model_examples.specs.Worlds.{Unsafe, alarmed, clearing, created_told, creating, long, put_told, putting, step, temp, world}
 use Rattle.ca_model_examples.specs.Unsafe.{temp_there}
 use Rattle.ca_model_examples.specs.Owed.{EchoDue, EntryDue, NoneDue, SlowDue, UnsafeBesides, UnsafeSlow, UnsafeUnlogged, UnsafeUnsent, answered, answered_cleared, answered_otherwise, otherwise, answered_unfinished, answered_withdrawn, cleared, cleared_lines, finished_entries, foreign_refusal, live_circuit, live_lines, lost_for_nothing, lost_lines, put_lines, refused_write, unanswered, unanswered_put, unanswered_read, unfinished_entries, withdrawn_entries, writing}
 use Rattle.ca_model_examples.proofs.Lists.{Each, each-at, none-at, one-at}
@@ -24,7 +24,7 @@ use Rattle.ca_model.specs.Due as action
 use Rattle.ca_model.specs.Known.{IsDue, Logs}
 use Rattle.ca_model.specs.Channels.{before}
 use Rattle.ca_model.specs.History.{Applied, Waits, Withdrawn}
-use Rattle.ca_model_examples.specs.Owed.{UnsafeAsDue, alarmed, logged_put, logs_put}
+use Rattle.ca_model_examples.specs.Owed.{UnsafeAsDue, logged_put, logs_put}
 use Rattle.ca_model_examples.specs.Worlds.{ports, rules}
 use Rattle.ca_text.proofs.Places.{At-or}
 

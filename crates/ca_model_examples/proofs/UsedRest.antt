@@ -206,6 +206,7 @@ own-write = record {
   to = temp;
   there = ((0, refl), (0, refl), λ h. no-removed h.0 0 (at-take 1 used_entries h.0 _ h.1));
   value = refl;
+  written = (record { seconds = 0; nanos = 0 }, refl);
   came = inl (inl (step 2 1 2, refl, omega arith, omega arith));
 }
 

@@ -246,6 +246,7 @@ put-own m o = record {
   to = temp;
   there = ((0, refl), (0, refl), only-added (Added 0 temp ∷ []) 0 refl);
   value = refl;
+  written = (record { seconds = 0; nanos = 0 }, refl);
   came = inl (inl (step 1 1 2, refl, omega arith, omega arith));
 }
 

@@ -190,6 +190,7 @@ first-write = record {
   to = slow_temp;
   there = ((0, refl), (0, refl), λ h. first-only 1 0 h);
   value = refl;
+  written = (record { seconds = 0; nanos = 0 }, refl);
   came = inl (inl (step 2 1 2, refl, omega arith, omega arith));
 }
 
@@ -210,6 +211,7 @@ second-write = record {
   to = slow_temp;
   there = ((0, refl), (0, refl), λ h. first-only 4 0 h);
   value = refl;
+  written = (record { seconds = 0; nanos = 0 }, refl);
   came = inr (2, long 23, refl, omega arith, inl (step 2 2 3, refl, omega arith, omega arith), (λ h. no-withdrawal h.0 0 2 h.1));
 }
 

@@ -5,14 +5,15 @@ use Rattle.std.specs.Prelude.{Bool, true, false, Some, take, pos, Ok}
 use Rattle.ca_text.specs.Place.{At}
 use Rattle.ca_dbr.specs.Elements.{Elements, longs, base_of}
 use Rattle.ca_dbr.specs.Conversion.{converted}
+use Rattle.ca_dbr.specs.declared.value.Meta.{Meta}
 use Rattle.ca_records.specs.Record.{RecordState}
-use Rattle.ca_model.specs.Speech.{In, Stored}
+use Rattle.ca_model.specs.Speech.{In, IsWritten, Stored}
 use Rattle.ca_model.specs.History.{Request, Put, On, Circuit, Entry, Line, Added, Removed, Waits, Applied, Finished, Withdrawn, Opened, Called}
 use Rattle.ca_model.specs.Channels.{IsBusyUntil, IsDropped, HasWaited, IsOwnWrite, IsTaken}
-use Rattle.ca_model_examples.specs.Worlds.{AnyDue, long, putting, temp, temp_name, world}
+use Rattle.ca_model_examples.specs.Worlds.{AnyDue, alarmed, long, putting, temp, temp_name, world}
 use Rattle.ca_model_examples.specs.Parts.{Part, Holds, BreaksOnly, IsSafeNow, InCircuit, InLife, InWorld}
 use Rattle.ca_model_examples.specs.Parts as part
-use Rattle.ca_model_examples.specs.Unsafe.{finished, dropped, made_gone, made_23, made_twice, made_once, closing, made, opened, put_called, put_closing, unhandled}
+use Rattle.ca_model_examples.specs.Unsafe.{finished, dropped, made_gone, made_23, made_alarmed, made_twice, made_once, closing, made, opened, put_called, put_closing, unhandled}
 use Rattle.ca_model_examples.proofs.Lists.{each-at, none-at, one-at}
 use Rattle.ca_model_examples.proofs.Quiet.{none, few-same, quiet, holds, whole, is_called, is_finished, is_removed}
 use Rattle.ca_model_examples.proofs.Shown.{DroppedAt, OwnAt, SentAt, dropped-each, finished-each, own-each, sent-each}
@@ -23,8 +24,9 @@ put-sent c x y e at asks = (0, 0, (c, refl, e, (putting 0 8 22, at, refl)))
 
 -- The put is the caller's own if its value is converted to this one, its record was there, and it was taken.
 own-put : (c : Circuit) (x : List Line) (y : List Entry) (i : ℕ) (v : Stored) → c.client ≡ 0 → c.server ≡ 0 → At c.up 0 (putting 0 8 22) → At x 0 (Opened 0 temp_name) → At x 1 (Called (On 0 (Request Put 0)) (Some (longs (pos 22 ∷ []))))
-    → At (take i y) 0 (Added 0 temp) → (In (take i y) (Removed 0) → ⊥) → converted (longs (pos 22 ∷ [])) (base_of temp.value) ≡ Ok v.value → IsTaken c 0 i ⊎ HasWaited 0 c y 0 i 0 → IsOwnWrite (world (c ∷ []) x y) 0 0 0 i 0 v
-own-put c x y i v e f at opens calls there kept value came = record {
+    → At (take i y) 0 (Added 0 temp) → (In (take i y) (Removed 0) → ⊥) → converted (longs (pos 22 ∷ [])) (base_of temp.value) ≡ Ok v.value
+    → IsWritten v → IsTaken c 0 i ⊎ HasWaited 0 c y 0 i 0 → IsOwnWrite (world (c ∷ []) x y) 0 0 0 i 0 v
+own-put c x y i v e f at opens calls there kept value written came = record {
   c = c;
   x = x;
   y = y;
@@ -36,15 +38,20 @@ own-put c x y i v e f at opens calls there kept value came = record {
   to = temp;
   there = ((0, opens), (0, there), kept);
   value = value;
+  written = written;
   came = came;
 }
+
+-- what these histories store has no alarm
+plain : (n : ℕ) → IsWritten (long n)
+plain n = (record { seconds = 0; nanos = 0 }, refl)
 
 -- the server's end closed on it
 closed : (i : ℕ) → IsTaken closing 0 i
 closed i = inr (refl, refl, λ l g at. absurd (none-at l g at))
 
 made-own : (y : List Entry) (i : ℕ) → At (take i y) 0 (Added 0 temp) → (In (take i y) (Removed 0) → ⊥) → (b : Bool) → OwnAt (put_closing y) i (Applied 0 0 0 (long 22) b)
-made-own y i there kept b = own-put closing put_called y i (long 22) refl refl refl refl refl there kept refl (inl (closed i))
+made-own y i there kept b = own-put closing put_called y i (long 22) refl refl refl refl refl there kept refl (plain 22) (inl (closed i))
 
 closing-sent : (y : List Entry) → Holds AnyDue part.SentOnce (put_closing y)
 closing-sent y = sent-each closing put_called y refl refl (tt, (put-sent closing put_called y refl refl, tt))
@@ -111,6 +118,17 @@ not-own-value o =
 
 pub another-value : BreaksOnly part.OwnWrite (put_closing made_23)
 another-value = (value-rest, λ h. not-own-value (h.2 0 0 0 1 0 (long 23) (_, false, refl, refl)))
+
+alarmed-rest : (p : Part) → (p ≡ part.OwnWrite → ⊥) → Holds AnyDue p (put_closing made_alarmed)
+alarmed-rest part.OwnWrite ne = absurd (ne refl)
+alarmed-rest part.SentOnce ne = closing-sent made_alarmed
+alarmed-rest p ne = quiet AnyDue p closing put_called made_alarmed refl refl refl refl refl
+
+not-plain : IsOwnWrite (put_closing made_alarmed) 0 0 0 1 0 alarmed → ⊥
+not-plain o = (let e : ◌≡◌ {A = ℕ} 3 0 = ap (λ (m : Meta). m.severity) o.written.1 in omega (arith, e))
+
+pub with-an-alarm : BreaksOnly part.OwnWrite (put_closing made_alarmed)
+with-an-alarm = (alarmed-rest, λ h. not-plain (h.2 0 0 0 1 0 alarmed (_, false, refl, refl)))
 
 gone-rest : (p : Part) → (p ≡ part.OwnWrite → ⊥) → Holds AnyDue p (put_closing made_gone)
 gone-rest part.OwnWrite ne = absurd (ne refl)

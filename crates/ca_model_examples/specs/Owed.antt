@@ -6,8 +6,8 @@ use Rattle.ca_dbr.specs.declared.value.Outcome.TheVariants as outcome
 use Rattle.ca_dbr.specs.Elements.{longs}
 use Rattle.ca_wire.specs.Fields.{Fields}
 use Rattle.ca_wire.specs.Messages.{bare, error_reply, failed_reply, put_request, status_reply, value_reply}
-use Rattle.ca_model.specs.Speech.{Is, Stored}
-use Rattle.ca_records.specs.Record.{RecordState, unset}
+use Rattle.ca_model.specs.Speech.{Is}
+use Rattle.ca_records.specs.Record.{RecordState}
 use Rattle.ca_model.specs.Updates.{Shows}
 use Rattle.ca_model.specs.History.{Clear, Create, Request, Subscribe, Read, Put, Write, On, Sent, Told, Step, Circuit, Entry, Added, Applied, Finished, Waits, Withdrawn, Line, Called, Noticed, Opened, World}
 use Rattle.ca_model.specs.Headline.{Safe}
@@ -112,10 +112,6 @@ abbrev pub unanswered_put : World
 unanswered_put = world (unanswered ∷ []) put_lines finished_entries
 
 -- ---- a write with an alarm
-
--- 22, as an alarm of severity 3
-abbrev pub alarmed : Stored
-alarmed = record { value = (long 22).value; meta = record unset { severity = 3 } }
 
 -- A put is logged so in its step, at once or to wait.
 abbrev pub logged_put : Entry → List Entry

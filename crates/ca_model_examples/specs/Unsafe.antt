@@ -8,7 +8,7 @@ use Rattle.ca_wire.specs.Fields.{Fields}
 use Rattle.ca_dbr.specs.Elements.{longs}
 use Rattle.ca_wire.specs.Messages.{bare, cancel_reply, create_request, created_reply, disconnect, event_cancel_request, put_request, rights_reply, status_reply, update, value_reply}
 use Rattle.ca_model.specs.History.{Cancel, Cause, Removal, Create, Posted, Request, Subscribe, Update, Updated, Read, Put, On, OfCircuit, Sent, Told, Step, Circuit, Entry, Added, Removed, Waits, Applied, Finished, Withdrawn, Line, Opened, Called, Noticed, World}
-use Rattle.ca_model_examples.specs.Worlds.{adding, circuit, created_told, creating, long, putting, reading, reply, step, temp, temp_name, wanted, world}
+use Rattle.ca_model_examples.specs.Worlds.{adding, alarmed, circuit, created_told, creating, long, putting, reading, reply, step, temp, temp_name, wanted, world}
 
 -- TEMP is there, or was removed.
 abbrev pub temp_there : List Entry
@@ -91,6 +91,9 @@ made_twice = Added 0 temp ∷ made ∷ made ∷ []
 
 abbrev pub made_23 : List Entry
 made_23 = Added 0 temp ∷ Applied 0 0 0 (long 23) false ∷ []
+
+abbrev pub made_alarmed : List Entry
+made_alarmed = Added 0 temp ∷ Applied 0 0 0 alarmed false ∷ []
 
 abbrev pub made_gone : List Entry
 made_gone = Added 0 temp ∷ Removed 0 ∷ made ∷ []

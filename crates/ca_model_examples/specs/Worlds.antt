@@ -35,6 +35,10 @@ temp = record { name = temp_name; count = 1; slow = false; value = longs (pos 21
 abbrev pub long : ℕ → Stored
 long n = record { value = longs (pos n ∷ []); meta = unset }
 
+-- 22, as an alarm of severity 3
+abbrev pub alarmed : Stored
+alarmed = record { value = (long 22).value; meta = record unset { severity = 3 } }
+
 -- ---- messages of the client
 
 abbrev pub creating : Sent

@@ -7,7 +7,7 @@ ghost use Rattle.ca_model.specs.History.{GaveUp, Opened, Update, World};
 ghost use Rattle.ca_model.specs.History as history;
 ghost use Rattle.ca_model_examples.specs.Worlds.{AnyDue, reading, reply, step, temp_name, world};
 ghost use Rattle.ca_model_examples.specs.Parts.{BreaksOnly, Holds, IsSafeNow, Part, Acts, Answered, AppliedOnce, Asked, AtOne, Caused, CompletedOnce, DisconnectedOnce, Done, Dropped, Failed, Finished, HandledEach, HandledRise, HandledWithin, HeardEach, HeardRise, HeardWithin, Live, Lost, Matches, Newest, OneAtOnce, OneCall, OneName, OneRecord, Own, OwnWrite, Refused, Retired, Rising, SeesInOrder, SeesOwn, SentOnce, ShowsPost, Told, WasThere};
-ghost use Rattle.ca_model_examples.specs.Unsafe.{sid_given_again, cancelled, added_again, both_updated, called_again, closing, created, created_closed, disconnected, dropped, echo, echoed, echoes, fails, finished, gone, live, lost, made_23, made_gone, made_once, made_twice, misasked, no_channel, of_created, opened, other_name, posted, put_called, put_closing, put_made, put_read, put_told, read_at, read_called, read_lost, removed_again, rights_for, saw, silent, status_of, subscribed, subscriber, temp_removed, temp_there, two_of_a_name, unhandled, unread, uncreated_read, updated, value_21};
+ghost use Rattle.ca_model_examples.specs.Unsafe.{sid_given_again, cancelled, added_again, both_updated, called_again, closing, created, created_closed, disconnected, dropped, echo, echoed, echoes, fails, finished, gone, live, lost, made_23, made_alarmed, made_gone, made_once, made_twice, misasked, no_channel, of_created, opened, other_name, posted, put_called, put_closing, put_made, put_read, put_told, read_at, read_called, read_lost, removed_again, rights_for, saw, silent, status_of, subscribed, subscriber, temp_removed, temp_there, two_of_a_name, unhandled, unread, uncreated_read, updated, value_21};
 
 /// The parts are those of what is safe, and no more. That the server takes a step only for a
 /// message that came is in `Answered` already, so no history breaks it alone.
@@ -44,12 +44,14 @@ pub fn a_read_completes_once()
     ensures twice { BreaksOnly CompletedOnce (disconnected (read_lost ∷ read_lost ∷ [])) }
 {}
 
-/// A put on which its server's end closed is made once, with its caller's value, on a record that
-/// is there; not if nobody called it, nor while the server's end is open and did not handle it.
+/// A put on which its server's end closed is made once, with its caller's value and no alarm, on a
+/// record that is there; not if nobody called it, nor while the server's end is open and did not
+/// handle it.
 pub fn a_put_is_made_once()
     ensures once { IsSafeNow (put_closing made_once) }
     ensures twice { BreaksOnly AppliedOnce (put_closing made_twice) }
     ensures another_value { BreaksOnly OwnWrite (put_closing made_23) }
+    ensures alarmed { BreaksOnly OwnWrite (put_closing made_alarmed) }
     ensures removed_record { BreaksOnly OwnWrite (put_closing made_gone) }
     ensures not_called { BreaksOnly OwnWrite (world (closing ∷ []) opened made_once) }
     ensures not_handled { BreaksOnly OwnWrite (world (unhandled ∷ []) put_called made_once) }
