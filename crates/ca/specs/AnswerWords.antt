@@ -16,7 +16,9 @@ answer_app =
 -- The words after `answer` name this file of records, or none: clap finds no fault in them, and
 -- it is what they give.
 abbrev pub Wants : List Text → Option Text → Type 0
-Wants words file = (has_escape words ≡ false) × (fault_of answer_app words ≡ []) × (first_of (codes "records") (matches_of answer_app words) ≡ file)
+Wants words file =
+    (has_escape words ≡ false) × (fault_of answer_app words ≡ [])
+    × (first_of (codes "records") (matches_of answer_app words) ≡ file)
 
 -- the file that a line names
 abbrev pub file_in : AnswerLine → Option Text

@@ -9,9 +9,12 @@ use Rattle.ca.specs.ReplayWords.{Names}
 
 -- The words ask for this line: the first names it, and the others are as it has them.
 abbrev pub AsksLine : List Text → Line → Type 0
-AsksLine words (Answer line) = (rest : List Text) × (words ≡ codes "answer" ∷ rest) × Wants rest (file_in line)
-AsksLine words (Repeater line) = (rest : List Text) × (words ≡ codes "repeater" ∷ rest) × Asks rest line
-AsksLine words (Replay line) = (rest : List Text) × (words ≡ codes "replay" ∷ rest) × Names rest line.file.now line.seed
+AsksLine words (Answer line) =
+    (rest : List Text) × (words ≡ codes "answer" ∷ rest) × Wants rest (file_in line)
+AsksLine words (Repeater line) =
+    (rest : List Text) × (words ≡ codes "repeater" ∷ rest) × Asks rest line
+AsksLine words (Replay line) =
+    (rest : List Text) × (words ≡ codes "replay" ∷ rest) × Names rest line.file.now line.seed
 
 -- What was read of the words: the line that they ask for, or nothing if they ask for none.
 abbrev pub IsLine : List Text → Option Line → Type 0

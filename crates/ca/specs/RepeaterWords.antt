@@ -1,6 +1,7 @@
 -- The words of `repeater [--port P] [--datagrams N]`.
 use Rattle.std.specs.Prelude.{ℕ, ◌≡◌, ◌<◌, ◌^◌, List, [], Option, None, Some, true, false, codes, ⊤}
-use Rattle.clap.specs.Words.{App, Rule, Text, fault_of, first_of, matches_of, new_app, new_rule, with_rule}
+use Rattle.clap.specs.Words.{App, Rule, Text, fault_of, first_of, matches_of, new_app, new_rule}
+use Rattle.clap.specs.Words.{with_rule}
 use Rattle.ca_text.specs.Limits.{repeater_port}
 use Rattle.ca.specs.declared.repeater.line.RepeaterLine.{RepeaterLine}
 use Rattle.ca_script.specs.Grammar.{IsNumber}
@@ -49,7 +50,9 @@ IsMeant port datagrams None = (line : RepeaterLine) → Means port datagrams lin
 -- The words after `repeater` ask for this line: clap finds no fault in them, and
 -- their options mean it.
 abbrev pub Asks : List Text → RepeaterLine → Type 0
-Asks words line = (has_escape words ≡ false) × (fault_of repeater_app words ≡ []) × Means (given (codes "port") words) (given (codes "datagrams") words) line
+Asks words line =
+    (has_escape words ≡ false) × (fault_of repeater_app words ≡ [])
+    × Means (given (codes "port") words) (given (codes "datagrams") words) line
 
 -- What was read of the words after `repeater`: the line that they ask for, or nothing
 -- if they ask for none.

@@ -1,7 +1,8 @@
 -- What the host's repeater does with the datagrams that come, over any device that carries them
 -- (section "CA Repeater"). A datagram came, went or was refused, or a receive failed: each may lead
 -- the device from a first state to a second.
-use Rattle.std.specs.Prelude.{ℕ, ◌≡◌, ◌<◌, ◌⊎◌, ◌-◌, ◌^◌, zero, suc, not, filter, List, [], ◌∷◌, Option, None, Some, Vec, Result, Ok, Err}
+use Rattle.std.specs.Prelude.{ℕ, ◌≡◌, ◌<◌, ◌⊎◌, ◌-◌, ◌^◌, zero, suc, not, filter, List, [], ◌∷◌}
+use Rattle.std.specs.Prelude.{Option, None, Some, Vec, Result, Ok, Err}
 use Rattle.std.specs.declared.alloc.Global.{Global}
 use Rattle.ca_text.specs.declared.refusal.Refusal.{Refusal}
 use Rattle.ca_text.specs.declared.refusal.Refusal.TheVariants.{Device, OutOfMemory}
@@ -17,12 +18,15 @@ module _ {D : Type 0} (went refuses : D → Address → List ℕ → D → Type 
   -- One datagram is sent, or refused: then the member to whom it went is dropped.
   abbrev pub SendsOne : D → List Address → Sent → D → List Address → Type 0
   SendsOne s members d t after =
-      (went s d.to d.bytes t × (after ≡ members)) ⊎ (refuses s d.to d.bytes t × (after ≡ filter (λ m. not (same m d.to)) members))
+      (went s d.to d.bytes t × (after ≡ members))
+      ⊎ (refuses s d.to d.bytes t × (after ≡ filter (λ m. not (same m d.to)) members))
 
   -- These are sent, in order.
   abbrev pub Sends : D → List Address → List Sent → D → List Address → Type 0
   Sends s members [] t after = (t ≡ s) × (after ≡ members)
-  Sends s members (d ∷ sends) t after = (mid : D) × (known : List Address) × SendsOne s members d mid known × Sends mid known sends t after
+  Sends s members (d ∷ sends) t after =
+      (mid : D) × (known : List Address) × SendsOne s members d mid known
+      × Sends mid known sends t after
 
   module _ (came : D → Address → List ℕ → D → Type 0) where
     -- One datagram came, and what is due for it was sent.
@@ -39,11 +43,13 @@ module _ {D : Type 0} (went refuses : D → Address → List ℕ → D → Type 
     -- n rounds, the first with no members
     abbrev pub Rounds : ℕ → D → D → List Address → Type 0
     Rounds zero s0 s members = (s ≡ s0) × (members ≡ [])
-    Rounds (suc n) s0 s members = (mid : D) × (known : List Address) × Rounds n s0 mid known × Round mid known s members
+    Rounds (suc n) s0 s members =
+        (mid : D) × (known : List Address) × Rounds n s0 mid known × Round mid known s members
 
     module _ (fails : D → D → Type 0) where
       -- A datagram came, and memory lacked for what is due for it.
-      pub record Lacks (s : D) (members : List Address) (t : D) (after : List Address) : Type 0 where
+      pub record Lacks (s : D) (members : List Address) (t : D)
+          (after : List Address) : Type 0 where
         pub from : Address
         pub bytes : List ℕ
         pub came_in : came s from bytes t
@@ -61,9 +67,13 @@ module _ {D : Type 0} (went refuses : D → Address → List ℕ → D → Type 
       -- datagram that came after fewer.
       abbrev pub Repeats : ℕ → D → Result (Unit {0}) Refusal → D → Type 0
       Repeats n s0 (Ok _) s = (members : List Address) × Rounds n s0 s members
-      Repeats n s0 (Err Device) s = (i : ℕ) × (mid : D) × (members : List Address) × (i < n) × Rounds i s0 mid members × fails mid s
+      Repeats n s0 (Err Device) s =
+          (i : ℕ) × (mid : D) × (members : List Address) × (i < n) × Rounds i s0 mid members
+          × fails mid s
       Repeats n s0 (Err OutOfMemory) s =
-          (s ≡ s0) ⊎ ((i : ℕ) × (mid : D) × (members after : List Address) × (i < n) × Rounds i s0 mid members × Lacks mid members s after)
+          (s ≡ s0) ⊎
+          ((i : ℕ) × (mid : D) × (members after : List Address) × (i < n) × Rounds i s0 mid members
+          × Lacks mid members s after)
       Repeats n s0 (Err _) s = ⊥
 
       -- n datagrams at most; without a number more than ever come
@@ -81,4 +91,5 @@ module _ {D : Type 0} (went refuses : D → Address → List ℕ → D → Type 
       -- bound, or if the port that the system chose could not be told.
       abbrev pub RepeatsFrom : Result D Fault → RepeaterLine → ℕ → Type 0
       RepeatsFrom (Err _) line status = status ≡ 1
-      RepeatsFrom (Ok s0) line status = ((line.port ≡ 0) × (status ≡ 1)) ⊎ ((s : D) × RepeatsTo line.datagrams s0 s status)
+      RepeatsFrom (Ok s0) line status =
+          ((line.port ≡ 0) × (status ≡ 1)) ⊎ ((s : D) × RepeatsTo line.datagrams s0 s status)

@@ -3,7 +3,8 @@
 use Rattle.std.specs.Prelude.{ℕ, ◌≡◌, ◌<◌, ◌⊎◌, List, Option, None, Some, Result, Ok, Err, take}
 use Rattle.ca_replay.specs.Replayed.{IsNotRead, Reported}
 use Rattle.ca_text.specs.declared.refusal.Refusal.{Refusal}
-use Rattle.ca_text.specs.declared.refusal.Refusal.TheVariants.{BadEvent, BadText, Device, OutOfMemory}
+use Rattle.ca_text.specs.declared.refusal.Refusal.TheVariants.{BadEvent, BadText, Device}
+use Rattle.ca_text.specs.declared.refusal.Refusal.TheVariants.{OutOfMemory}
 use Rattle.ca.specs.Files.{Gives}
 use Rattle.ca_link.specs.Exits.{status_of}
 
@@ -12,14 +13,17 @@ abbrev pub ended : Option Refusal → Result (Unit {0}) Refusal
 ended None = Ok tt
 ended (Some refusal) = Err refusal
 
-module _ {K : Type 0} (takes : K → List ℕ → K → Type 0) (faults : K → ℕ) (script : List ℕ) (seed : Option ℕ) (k0 k : K) where
+module _ {K : Type 0} (takes : K → List ℕ → K → Type 0) (faults : K → ℕ) (script : List ℕ)
+    (seed : Option ℕ) (k0 k : K) where
   -- From k0 to k the sink took the report of a run that ended so.
   abbrev pub Tells : Option Refusal → Type 0
   Tells stop = (text : List ℕ) × Reported script seed stop text × takes k0 text k
 
   -- It failed after the first bytes of a report.
   abbrev pub BreaksOff : Type 0
-  BreaksOff = (stop : Option Refusal) × (text : List ℕ) × (n : ℕ) × Reported script seed stop text × takes k0 (take n text) k × (faults k0 < faults k)
+  BreaksOff =
+      (stop : Option Refusal) × (text : List ℕ) × (n : ℕ) × Reported script seed stop text
+      × takes k0 (take n text) k × (faults k0 < faults k)
 
   -- The replay ended so: well with the report of all events; at an event that cannot be done with
   -- the report of those before it; out of memory with such a report or with nothing; with nothing
@@ -39,6 +43,9 @@ module _ {K : Type 0} (takes : K → List ℕ → K → Type 0) (faults : K → 
     pub told : status ≡ status_of outcome
 
 -- The script of a file was replayed; or none could be read, and the sink took nothing.
-abbrev pub ReplaysFrom : {F E K : Type 0} → (F → Option (List ℕ)) → (K → List ℕ → K → Type 0) → (K → ℕ) → Result F E → Option ℕ → K → K → ℕ → Type 0
+abbrev pub ReplaysFrom : {F E K : Type 0} → (F → Option (List ℕ)) → (K → List ℕ → K → Type 0)
+    → (K → ℕ) → Result F E → Option ℕ → K → K → ℕ → Type 0
 ReplaysFrom remaining takes faults file seed k0 k status =
-    ((k ≡ k0) × (status ≡ 1)) ⊎ ((script : List ℕ) × Gives remaining file script × ReplaysTo takes faults script seed k0 k status)
+    ((k ≡ k0) × (status ≡ 1))
+    ⊎ ((script : List ℕ) × Gives remaining file script
+    × ReplaysTo takes faults script seed k0 k status)

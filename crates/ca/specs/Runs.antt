@@ -13,12 +13,14 @@ abbrev pub Says : Option (List ℕ) → FileReading → Type 0
 Says None file = file ≡ record { records = standing; rules = [] }
 Says (Some text) file = SaysFile text file
 
-module _ {S K : Type 0} (gives : S → List ℕ → S → Type 0) (takes : K → List ℕ → K → Type 0) (calls : S → ℕ) (calls' : K → ℕ) (faults : S → ℕ) (faults' : K → ℕ) (s0 s : S) (k0 k : K) where
+module _ {S K : Type 0} (gives : S → List ℕ → S → Type 0) (takes : K → List ℕ → K → Type 0)
+    (calls : S → ℕ) (calls' : K → ℕ) (faults : S → ℕ) (faults' : K → ℕ) (s0 s : S) (k0 k : K) where
   -- The records were served to this outcome; or they could not be read, and nothing was read or
   -- written of the circuit.
   abbrev pub Serves : Option (List ℕ) → Result (Unit {0}) Refusal → Type 0
   Serves text outcome =
-      ((file : FileReading) × Says text file × Streams gives takes calls calls' faults faults' file.rules file.records s0 s k0 k outcome)
+      ((file : FileReading) × Says text file
+      × Streams gives takes calls calls' faults faults' file.rules file.records s0 s k0 k outcome)
       ⊎ ((s ≡ s0) × (k ≡ k0) × ((e : Refusal) × (outcome ≡ Err e) × Refuses (Says text) e))
 
   -- The records of a text were served to some outcome, which has this exit status.
@@ -33,7 +35,8 @@ module _ {S K : Type 0} (gives : S → List ℕ → S → Type 0) (takes : K →
 
   -- The records of a file were served; or it could not be read.
   abbrev pub RunsFrom : {F E : Type 0} → (F → Option (List ℕ)) → Result F E → (status : ℕ) → Type 0
-  RunsFrom remaining file status = Leaves status 1 ⊎ ((text : List ℕ) × Gives remaining file text × RunsTo (Some text) status)
+  RunsFrom remaining file status =
+      Leaves status 1 ⊎ ((text : List ℕ) × Gives remaining file text × RunsTo (Some text) status)
 
   -- The records of the file of this name were served, or the standing ones if none is named.
   abbrev pub Answers : Option (List ℕ) → (status : ℕ) → Type 0

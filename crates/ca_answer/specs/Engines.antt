@@ -20,7 +20,8 @@ pub record EngineState : Type 0 where
 
 -- an engine of these rules and records on whose circuit no byte came
 abbrev pub IsNew : List Rule → List RecordState → EngineState → Type 0
-IsNew rules states x = Accepts (new_server server_port 0 rules states) (Ok x.circuit) x.core × (x.waiting ≡ 0)
+IsNew rules states x =
+    Accepts (new_server server_port 0 rules states) (Ok x.circuit) x.core × (x.waiting ≡ 0)
 
 -- the bytes that wait to be handed to the sink
 abbrev pub what_waits : EngineState → List ℕ
@@ -28,7 +29,9 @@ what_waits x = take x.waiting (output_of (under x.core.circuits x.circuit))
 
 -- they were handed over
 abbrev pub HasSent : EngineState → EngineState → Type 0
-HasSent x new = Sends x.core x.circuit (length (what_waits x)) new.core × (new ≡ record x { core = new.core; waiting = 0 })
+HasSent x new =
+    Sends x.core x.circuit (length (what_waits x)) new.core
+    × (new ≡ record x { core = new.core; waiting = 0 })
 
 -- what came on a circuit and was not read: nothing if its end is not open
 abbrev pub unread : Option ServerCircuit → List ℕ

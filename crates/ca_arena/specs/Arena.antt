@@ -1,6 +1,8 @@
 -- What an arena is: a finite map from handles to values, which remembers for each index the
 -- generation given last.
-use Rattle.std.specs.Prelude.{ℕ, ◌≡◌, ◌≢◌, ◌+◌, ◌-◌, ◌<◌, ◌≤◌, ◌==◌, if◌then◌else◌, List, [], ◌∷◌, ◌++◌, length, Option, Some, None, IsSome, is_some, count_by, slice_index_or, slice_set, drop, Result, Ok, Err, Vec, refl}
+use Rattle.std.specs.Prelude.{ℕ, ◌≡◌, ◌≢◌, ◌+◌, ◌-◌, ◌<◌, ◌≤◌, ◌==◌, if◌then◌else◌, List, [], ◌∷◌}
+use Rattle.std.specs.Prelude.{◌++◌, length, Option, Some, None, IsSome, is_some, count_by}
+use Rattle.std.specs.Prelude.{slice_index_or, slice_set, drop, Result, Ok, Err, Vec, refl}
 use Rattle.std.specs.Coded.{Coded, code_by, coded×, coded_ℕ, coded_list, coded_option}
 use Rattle.std.specs.declared.alloc.Global.{Global}
 use Rattle.ca_text.specs.declared.refusal.Refusal.{Refusal}
@@ -95,9 +97,14 @@ module _ {T : Type 0} where
 
   -- the contents with this value under the handle that comes next
   abbrev pub inserted_from : List (Place T) → List ℕ → T → Contents T
-  inserted_from given [] value = record { given = given ++ record { generation = 1; value = Some value } ∷ []; freed = [] }
+  inserted_from given [] value =
+      record { given = given ++ record { generation = 1; value = Some value } ∷ []; freed = [] }
   inserted_from given (index ∷ freed) value =
-      record { given = slice_set given index (record { generation = (place_at given index).generation + 1; value = Some value }); freed = freed }
+      record {
+        given = slice_set given index
+            (record { generation = (place_at given index).generation + 1; value = Some value });
+        freed = freed;
+      }
 
   abbrev pub inserted : Contents T → T → Contents T
   inserted a value = inserted_from a.given a.freed value
@@ -111,13 +118,18 @@ module _ {T : Type 0} where
   -- the contents with another value under a handle that has one
   abbrev pub written : Contents T → Handle → T → Contents T
   written a handle value =
-      record { given = slice_set a.given handle.index (record { generation = handle.generation; value = Some value }); freed = a.freed }
+      record {
+        given = slice_set a.given handle.index
+            (record { generation = handle.generation; value = Some value });
+        freed = a.freed;
+      }
 
   -- the contents without the value of a handle that has one: its index goes before the others that
   -- are free, and at its last generation it is given up for good
   abbrev pub removed : Contents T → Handle → Contents T
   removed a handle = record {
-    given = slice_set a.given handle.index (record { generation = handle.generation; value = None });
+    given = slice_set a.given handle.index
+        (record { generation = handle.generation; value = None });
     freed = if handle.generation == last_generation then a.freed else handle.index ∷ a.freed;
   }
 
@@ -129,9 +141,12 @@ module _ {T : Type 0} where
   -- From old, this value was inserted, with this answer, and left new. Memory is asked for only if
   -- no index is free again.
   abbrev pub Inserts : Contents T → T → Result Handle (T × Refusal) → Contents T → Type 0
-  Inserts old value (Ok handle) new = (0 < free_slots old) × (handle ≡ next_handle old) × (new ≡ inserted old value)
-  Inserts old value (Err (back, ArenaFull)) new = (free_slots old ≡ 0) × (back ≡ value) × (new ≡ old)
-  Inserts old value (Err (back, OutOfMemory)) new = (old.freed ≡ []) × (0 < free_slots old) × (back ≡ value) × (new ≡ old)
+  Inserts old value (Ok handle) new =
+      (0 < free_slots old) × (handle ≡ next_handle old) × (new ≡ inserted old value)
+  Inserts old value (Err (back, ArenaFull)) new =
+      (free_slots old ≡ 0) × (back ≡ value) × (new ≡ old)
+  Inserts old value (Err (back, OutOfMemory)) new =
+      (old.freed ≡ []) × (0 < free_slots old) × (back ≡ value) × (new ≡ old)
   Inserts old value (Err _) new = ⊥
 
   -- From old, this value was inserted under a handle that was asked for, with this
@@ -144,16 +159,20 @@ module _ {T : Type 0} where
   -- handle, and that left new.
   abbrev pub InsertsEach : Contents T → List (Handle × T) → Contents T → Type 0
   InsertsEach old [] new = new ≡ old
-  InsertsEach old (e ∷ es) new = (0 < free_slots old) × (e.0 ≡ next_handle old) × InsertsEach (inserted old e.1) es new
+  InsertsEach old (e ∷ es) new =
+      (0 < free_slots old) × (e.0 ≡ next_handle old) × InsertsEach (inserted old e.1) es new
 
   -- what is told of the handle that comes after these
   abbrev pub TellsAfter : Contents T → List (Handle × T) → Result (Option Handle) Refusal → Type 0
-  TellsAfter a es (Ok o) = (b : Contents T) × InsertsEach a es b × (o ≡ (if free_slots b == 0 then None else Some (next_handle b)))
+  TellsAfter a es (Ok o) =
+      (b : Contents T) × InsertsEach a es b
+      × (o ≡ (if free_slots b == 0 then None else Some (next_handle b)))
   TellsAfter a es (Err _) = es ≢ []
 
   -- From old, these values were inserted, each under its handle, with this answer, and
   -- left new: all, or none.
-  abbrev pub InsertsAll : Contents T → Vec (Handle × T) Global → Result (Unit {0}) (Vec (Handle × T) Global) → Contents T → Type 0
+  abbrev pub InsertsAll : Contents T → Vec (Handle × T) Global
+      → Result (Unit {0}) (Vec (Handle × T) Global) → Contents T → Type 0
   InsertsAll old values (Ok _) new = InsertsEach old values.items new
   InsertsAll old values (Err back) new = (values.items ≢ []) × (back ≡ values) × (new ≡ old)
 

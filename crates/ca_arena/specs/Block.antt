@@ -22,7 +22,9 @@ module _ (R : RattleType) where
   -- the items side by side from the first slot on, room in the others, and the right to
   -- give the memory back
   abbrev pub owns_slots : (Ty → Ptr → Fml) → Ptr → List R.Denot → Fml
-  owns_slots right first items = fsep slots_fit (in_block first (block_with_items right R first (length items) block_slots items))
+  owns_slots right first items =
+      fsep slots_fit
+      (in_block first (block_with_items right R first (length items) block_slots items))
 
   -- a `&` to each item
   abbrev pub lends_slots : Ptr → List R.Denot → Lft → Fml

@@ -1,5 +1,6 @@
 -- What the fields of an arena stand for. No clause of a caller needs it.
-use Rattle.std.specs.Prelude.{ℕ, ◌≡◌, ◌+◌, zero, suc, List, [], ◌∷◌, length, map, slice_get, Option, Some, None}
+use Rattle.std.specs.Prelude.{ℕ, ◌≡◌, ◌+◌, zero, suc, List, [], ◌∷◌, length, map, slice_get, Option}
+use Rattle.std.specs.Prelude.{Some, None}
 use Rattle.ca_text.specs.Limits.{arena_slots}
 use Rattle.ca_arena.specs.declared.slot.Slot.{Slot}
 use Rattle.ca_arena.specs.Arena.{Contents, live_count}
@@ -15,7 +16,8 @@ module _ {T : Type 0} where
   -- n free indices, from this one on: the slot of each names the one that was freed before it
   abbrev pub freed_from : List (Slot T) → ℕ → ℕ → List ℕ
   freed_from slots zero index = []
-  freed_from slots (suc count) index = index ∷ freed_from slots count (link_read (slice_get slots index))
+  freed_from slots (suc count) index =
+      index ∷ freed_from slots count (link_read (slice_get slots index))
 
   -- what the slot of the last of them names
   abbrev pub freed_end : List (Slot T) → ℕ → ℕ → ℕ
@@ -25,7 +27,8 @@ module _ {T : Type 0} where
   -- what the fields stand for: the slots, how many indices are free again, and
   -- which one was freed last
   abbrev pub contents_of : List (Slot T) → ℕ → ℕ → Contents T
-  contents_of slots freed first = record { given = map place_of slots; freed = freed_from slots freed first }
+  contents_of slots freed first =
+      record { given = map place_of slots; freed = freed_from slots freed first }
 
   -- the fields stand for something sound; each index has a value, is free or is retired; and after
   -- the last of the free ones comes none

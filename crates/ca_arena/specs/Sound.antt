@@ -20,7 +20,8 @@ module _ {T : Type 0} where
   -- all of these are free, and each is here once
   abbrev pub AreFree : List (Place T) → List ℕ → Type 0
   AreFree given [] = Unit {0}
-  AreFree given (index ∷ rest) = IsFree given index × AllByRecursion (λ other. other ≢ index) rest × AreFree given rest
+  AreFree given (index ∷ rest) =
+      IsFree given index × AllByRecursion (λ other. other ≢ index) rest × AreFree given rest
 
   -- there are at most n indices, and no generation beyond the last; what is listed as free is free,
   -- and all that is free is listed; and the free indices and those with a value are together no

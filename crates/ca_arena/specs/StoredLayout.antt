@@ -17,4 +17,5 @@ module _ {X A : Type 0} where
   -- there are n items, and each block is full before the next has one
   abbrev pub AreFilled : ℕ → List (Block X A) → Type 0
   AreFilled count [] = count ≡ 0
-  AreFilled count (block ∷ rest) = (length block.items ≡ min block_slots count) × AreFilled (count - block_slots) rest
+  AreFilled count (block ∷ rest) =
+      (length block.items ≡ min block_slots count) × AreFilled (count - block_slots) rest

@@ -20,7 +20,8 @@ module _ {T : Type 0} where
   Leads old (Removed handle value ∷ calls) new =
       (mid : Contents T) × Removes old handle (Ok value) mid × Leads mid calls new
   Leads old (Wrote handle value ∷ calls) new =
-      (mid : Contents T) × (IsLive old handle × (mid ≡ written old handle value)) × Leads mid calls new
+      (mid : Contents T) × (IsLive old handle × (mid ≡ written old handle value))
+      × Leads mid calls new
 
   -- the handles that were given, in order
   abbrev pub given_by : List (Call T) → List Handle

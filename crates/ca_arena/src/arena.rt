@@ -1,9 +1,14 @@
-ghost use Rattle.std.specs.Prelude.{◌≡◌, ◌≢◌, ◌+◌, ◌-◌, ◌<◌, ◌≤◌, ◌==◌, ◌↔◌, ℕ, IsTrue, IfOk, OnOk, Some, None, if◌then◌else◌, length, nat_lt, option_copied, is_some, slice_index_or, []};
+ghost use Rattle.std.specs.Prelude.{◌≡◌, ◌≢◌, ◌+◌, ◌-◌, ◌<◌, ◌≤◌, ◌==◌, ◌↔◌, ℕ, IsTrue, IfOk, OnOk};
+ghost use Rattle.std.specs.Prelude.{Some, None, if◌then◌else◌, length, nat_lt, option_copied};
+ghost use Rattle.std.specs.Prelude.{is_some, slice_index_or, []};
 ghost use Rattle.std.specs.Option.{option_copied_mut};
 ghost use Rattle.std.specs.Borrow.{sem};
 ghost use Rattle.ca_text.specs.Limits.{arena_slots, last_generation};
 ghost use Rattle.ca_arena.specs.Sound.{IsSound};
-ghost use Rattle.ca_arena.specs.Arena.{empty, find, live_count, free_slots, IsLive, Inserts, InsertsAt, Removes, IsFresh, IsFirstFrom, IsHandleAt, Contents, InsertsAll, InsertsEach, TellsAfter, handle_after, next_handle, walk_start, place_at};
+ghost use Rattle.ca_arena.specs.Arena.{empty, find, live_count, free_slots, IsLive, Inserts};
+ghost use Rattle.ca_arena.specs.Arena.{InsertsAt, Removes, IsFresh, IsFirstFrom, IsHandleAt};
+ghost use Rattle.ca_arena.specs.Arena.{Contents, InsertsAll, InsertsEach, TellsAfter, handle_after};
+ghost use Rattle.ca_arena.specs.Arena.{next_handle, walk_start, place_at};
 
 use crate::blocks::Blocks;
 use crate::handle::Handle;

@@ -1,5 +1,6 @@
 //! Items by index, in blocks that never move.
-ghost use Rattle.std.specs.Prelude.{◌≡◌, ◌+◌, ◌<◌, ◌≤◌, [], Some, OnOk, length, option_copied, slice_get};
+ghost use Rattle.std.specs.Prelude.{◌≡◌, ◌+◌, ◌<◌, ◌≤◌, [], Some, OnOk, length, option_copied};
+ghost use Rattle.std.specs.Prelude.{slice_get};
 ghost use Rattle.std.specs.Borrow.{sem};
 ghost use Rattle.ca_text.specs.Limits.{arena_slots};
 ghost use Rattle.ca_arena.specs.Block.{block_slots};

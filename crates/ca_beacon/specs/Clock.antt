@@ -13,7 +13,12 @@ fresh start = record { number = 0; wait = 20; due = start }
 
 -- the clock after a beacon that was sent now
 abbrev pub sent_at : Clock → ℕ → Clock
-sent_at c now = record { number = (c.number + 1) % 2 ^ 32; wait = min (2 * c.wait) 15000; due = min (now + c.wait) latest }
+sent_at c now =
+    record {
+      number = (c.number + 1) % 2 ^ 32;
+      wait = min (2 * c.wait) 15000;
+      due = min (now + c.wait) latest;
+    }
 
 -- the clock after beacons of these moments
 abbrev pub run : Clock → List ℕ → Clock

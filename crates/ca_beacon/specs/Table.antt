@@ -1,5 +1,7 @@
 -- Which beacons are anomalies.
-use Rattle.std.specs.Prelude.{ℕ, ◌≡◌, ◌+◌, ◌*◌, ◌%◌, ◌^◌, ◌<◌, ◌≤◌, ◌||◌, Bool, true, not, nat_eq, nat_lt, if◌then◌else◌, List, length, is_some, Option, None, Some, Result, Ok, Err}
+use Rattle.std.specs.Prelude.{ℕ, ◌≡◌, ◌+◌, ◌*◌, ◌%◌, ◌^◌, ◌<◌, ◌≤◌, ◌||◌, Bool, true, not, nat_eq}
+use Rattle.std.specs.Prelude.{nat_lt, if◌then◌else◌, List, length, is_some, Option, None, Some}
+use Rattle.std.specs.Prelude.{Result, Ok, Err}
 use Rattle.std.specs.Ordering.{nat_cmp}
 use Rattle.std.specs.FinMap as map
 use Rattle.ca_text.specs.Limits.{beacon_servers}
@@ -22,13 +24,17 @@ anomaly (Some last) number = not (nat_eq number ((last + 1) % 2 ^ 32))
 
 -- the table after a beacon: a server beyond the limit is not kept
 abbrev pub noted : Servers → ℕ → ℕ → Servers
-noted old s number = if is_some (map.get old s) || nat_lt (map.len old) beacon_servers then map.insert old s number else old
+noted old s number =
+    if is_some (map.get old s) || nat_lt (map.len old) beacon_servers then map.insert old s number
+    else old
 
 -- Hearing this number of this server, with this answer, leaves new. Only a server that is
 -- kept again takes memory.
 abbrev pub Hears : Servers → ℕ → ℕ → Result Bool Refusal → Servers → Type 0
-Hears old s number (Ok told) new = (told ≡ anomaly (map.get old s) number) × (new ≡ noted old s number)
-Hears old s number (Err OutOfMemory) new = (map.get old s ≡ None) × (map.len old < beacon_servers) × (new ≡ old)
+Hears old s number (Ok told) new =
+    (told ≡ anomaly (map.get old s) number) × (new ≡ noted old s number)
+Hears old s number (Err OutOfMemory) new =
+    (map.get old s ≡ None) × (map.len old < beacon_servers) × (new ≡ old)
 Hears old s number (Err _) new = ⊥
 
 -- the table in which the last number of a server is again this one, or none; of a server that is

@@ -7,7 +7,8 @@ use Rattle.atomic_table.specs.declared.shared.Seat.{Seat}
 use Rattle.ca_text.specs.Limits.{board_cells}
 use Rattle.ca_board.specs.declared.ticket.Ticket.{Ticket}
 use Rattle.ca_board.specs.declared.steps.View.{View}
-use Rattle.ca_board.specs.History.{Has, IsUnfilled, Slot, core_view, core_log, caller_view, caller_log, no_caller, IsStock}
+use Rattle.ca_board.specs.History.{Has, IsUnfilled, Slot, core_view, core_log, caller_view}
+use Rattle.ca_board.specs.History.{caller_log, no_caller, IsStock}
 use Rattle.ca_board.specs.Views.{CoreView, CallerView}
 
 -- a board has a word and a slot for each cell
@@ -19,10 +20,17 @@ BoardSeat = Seat Slot View
 
 abbrev pub seen_by_core : BoardSeat → CoreView
 seen_by_core s = let log = s.me.0.core in
-    record { board = s.table_id; arms = log.arms; fills = log.fills; refused = log.refused; recycles = log.recycles }
+    record {
+      board = s.table_id;
+      arms = log.arms;
+      fills = log.fills;
+      refused = log.refused;
+      recycles = log.recycles;
+    }
 
 abbrev pub seen_by_caller : BoardSeat → CallerView
-seen_by_caller s = record { board = s.table_id; takes = s.me.0.caller.takes; gives = s.me.0.caller.gives; seen = s.me.0.caller.seen }
+seen_by_caller s =
+    record { board = s.table_id; takes = s.me.0.caller.takes; gives = s.me.0.caller.gives; seen = s.me.0.caller.seen }
 
 -- each ticket is of a cell of the board
 abbrev pub IsInside : List Ticket → Type 0
@@ -30,7 +38,8 @@ IsInside ts = (i : ℕ) (t : Ticket) → get_elem? ts i ≡ some t → t.cell < 
 
 -- the core's seat holds no slot
 abbrev pub IsIdle : BoardSeat → Type 0
-IsIdle s = let log = s.me.0.core in s.me ≡ (core_view (core_log log.arms log.fills log.refused log.recycles 0) no_caller, [])
+IsIdle s =
+    let log = s.me.0.core in s.me ≡ (core_view (core_log log.arms log.fills log.refused log.recycles 0) no_caller, [])
 
 -- the core armed the ticket, of a cell of the board, and did not fill it
 abbrev pub IsWaiting : BoardSeat → Ticket → Type 0
@@ -46,4 +55,5 @@ pub record IsCoreSeat (s : BoardSeat) (free : List Ticket) (room : ℕ) : Type 0
 
 -- a caller's seat holds no slot
 abbrev pub IsCallerSeat : BoardSeat → Type 0
-IsCallerSeat s = s.me ≡ (caller_view (caller_log s.me.0.caller.takes s.me.0.caller.gives s.me.0.caller.seen 0 0), [])
+IsCallerSeat s =
+    s.me ≡ (caller_view (caller_log s.me.0.caller.takes s.me.0.caller.gives s.me.0.caller.seen 0 0), [])

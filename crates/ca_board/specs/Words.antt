@@ -2,7 +2,8 @@
 use Rattle.std.specs.Prelude.{ℕ, ◌+◌, ◌*◌}
 use Rattle.ca_board.specs.declared.ticket.Ticket.{Ticket}
 use Rattle.ca_board.specs.declared.word.State.{State}
-use Rattle.ca_board.specs.declared.word.State.TheVariants.{Free, Waiting, Done, Taken, Empty, GivenUp}
+use Rattle.ca_board.specs.declared.word.State.TheVariants.{Free, Waiting, Done, Taken, Empty}
+use Rattle.ca_board.specs.declared.word.State.TheVariants.{GivenUp}
 
 -- the number of a state in a word
 abbrev pub state_number : State → ℕ

@@ -1,11 +1,14 @@
-ghost use Rattle.std.specs.Prelude.{◌≡◌, ◌≢◌, ◌≤◌, ◌+◌, ◌*◌, ◌⊎◌, ◌∷◌, ℕ, suc, None, [], IfOk, IfErr, IsTrue, IsFalse};
+ghost use Rattle.std.specs.Prelude.{◌≡◌, ◌≢◌, ◌≤◌, ◌+◌, ◌*◌, ◌⊎◌, ◌∷◌, ℕ, suc, None, [], IfOk};
+ghost use Rattle.std.specs.Prelude.{IfErr, IsTrue, IsFalse};
 ghost use Rattle.std.specs.Vec.{vec_capacity};
 ghost use Rattle.ca_text.specs.Limits.{board_cells};
 ghost use Rattle.ca_text.specs.declared.refusal.Refusal.TheVariants.{OutOfMemory};
 ghost use Rattle.ca_board.specs.History.{Has, IsStock, holding, refused_too};
 ghost use Rattle.ca_board.specs.Seats.{IsIdle, IsWaiting};
-ghost use Rattle.ca_board.specs.Views.{core_start, caller_start, with_give_up, Found, HasFoundEnded, HasFoundOpen, IsDue, IsOutside, IsOwnOpen};
-ghost use Rattle.ca_board.specs.Views.{HasArmed, HasCollected, HasFilled, HasGivenUp, HasRecycled, HasTakenBack};
+ghost use Rattle.ca_board.specs.Views.{core_start, caller_start, with_give_up, Found};
+ghost use Rattle.ca_board.specs.Views.{HasFoundEnded, HasFoundOpen, IsDue, IsOutside, IsOwnOpen};
+ghost use Rattle.ca_board.specs.Views.{HasArmed, HasCollected, HasFilled, HasGivenUp, HasRecycled};
+ghost use Rattle.ca_board.specs.Views.{HasTakenBack};
 
 use crate::seats::{CallerSeat, CoreSeat};
 use crate::steps::{

@@ -16,5 +16,6 @@ datagram_of g = spelled (version_reply ∷ g)
 pub record ArePacked (replies : List Fields) (datagrams : List (List ℕ)) : Type 0 where
   pub groups : List (List Fields)
   pub all : flat_map (λ (g : List Fields). g) groups ≡ replies
-  pub sizes : (i : ℕ) (g : List Fields) → At groups i g → (g ≢ []) × (length g ≤ datagram_replies) × (i + 1 < length groups → length g ≡ datagram_replies)
+  pub sizes : (i : ℕ) (g : List Fields) → At groups i g → (g ≢ []) × (length g ≤ datagram_replies)
+      × (i + 1 < length groups → length g ≡ datagram_replies)
   pub are : datagrams ≡ map datagram_of groups

@@ -18,6 +18,8 @@ searched bytes cid name = begun bytes ++ spelling (search_request cid name)
 -- Putting a search for this name into the datagram, with this answer, leaves new.
 abbrev pub Searches : List ℕ → ℕ → List ℕ → Result (Unit {0}) Refusal → List ℕ → Type 0
 Searches old cid name (Ok _) new = (length new ≤ datagram_limit) × (new ≡ searched old cid name)
-Searches old cid name (Err DatagramTooLong) new = (datagram_limit < length (searched old cid name)) × (new ≡ old)
-Searches old cid name (Err OutOfMemory) new = (length (searched old cid name) ≤ datagram_limit) × (new ≡ old)
+Searches old cid name (Err DatagramTooLong) new =
+    (datagram_limit < length (searched old cid name)) × (new ≡ old)
+Searches old cid name (Err OutOfMemory) new =
+    (length (searched old cid name) ≤ datagram_limit) × (new ≡ old)
 Searches old cid name (Err _) new = ⊥

@@ -9,7 +9,14 @@ use Rattle.ca_records.specs.Record.{RecordState, unset}
 
 -- a record as it is when it is added, with no alarm and no stamp
 abbrev pub record_of : Addition → RecordState
-record_of a = record { name = a.name.items; count = a.count; slow = a.slow; value = elements a.value; meta = unset }
+record_of a =
+    record {
+      name = a.name.items;
+      count = a.count;
+      slow = a.slow;
+      value = elements a.value;
+      meta = unset;
+    }
 
 -- an event as the statement has it
 abbrev pub event_of : Event → world.Event
@@ -18,7 +25,8 @@ event_of (event.Clear client channel) = world.Clear client channel
 event_of (event.Read client channel data_type count) = world.Read client channel data_type count
 event_of (event.Write client channel v) = world.Write client channel (elements v.value)
 event_of (event.WriteNotify client channel v) = world.WriteNotify client channel (elements v.value)
-event_of (event.Subscribe client channel data_type count mask) = world.Subscribe client channel data_type count mask
+event_of (event.Subscribe client channel data_type count mask) =
+    world.Subscribe client channel data_type count mask
 event_of (event.Unsubscribe client subscription) = world.Unsubscribe client subscription
 event_of (event.Collect client request) = world.Collect client request
 event_of (event.GiveUp client request) = world.GiveUp client request
@@ -34,7 +42,8 @@ event_of (event.CutClient circuit) = world.CutClient circuit
 event_of (event.CutServer circuit) = world.CutServer circuit
 event_of (event.ClientRestart client) = world.ClientRestart client
 event_of (event.ServerRestart server) = world.ServerRestart server
-event_of (event.Post p) = world.Post p.value.server p.value.name.items (elements p.value.value) p.value.mask
+event_of (event.Post p) =
+    world.Post p.value.server p.value.name.items (elements p.value.value) p.value.mask
 event_of (event.Finish server name) = world.Finish server name.items
 event_of (event.Remove server name) = world.Remove server name.items
 event_of (event.Add a) = world.Add a.value.server (record_of a.value)

@@ -5,7 +5,8 @@ use Rattle.std.specs.declared.alloc.Global.{Global}
 use Rattle.ca_text.specs.declared.refusal.Refusal.{Refusal}
 use Rattle.ca_text.specs.declared.refusal.Refusal.TheVariants as refusal
 use Rattle.ca_arena.specs.declared.handle.Handle.{Handle}
-use Rattle.ca_ids.specs.Table.{IsFull, MayGive, MayGiveAll, Table, has_free, is_full, with_all_held, with_held}
+use Rattle.ca_ids.specs.Table.{IsFull, MayGive, MayGiveAll, Table, has_free, is_full, with_all_held}
+use Rattle.ca_ids.specs.Table.{with_held}
 
 module _ {T : Type 0} where
   -- From old, this value was given an id, with this answer, and left new. Memory is asked for only
@@ -34,6 +35,8 @@ module _ {T : Type 0} where
 
   -- From old, these values were given the ids that were told, with this answer, and
   -- left new: all, or none.
-  abbrev pub FillsAll : Table T → Vec (Handle × T) Global → Result (Unit {0}) (Vec (Handle × T) Global) → Table T → Type 0
-  FillsAll old values (Ok _) new = MayGiveAll old values.items × (new ≡ with_all_held values.items old)
+  abbrev pub FillsAll : Table T → Vec (Handle × T) Global
+      → Result (Unit {0}) (Vec (Handle × T) Global) → Table T → Type 0
+  FillsAll old values (Ok _) new =
+      MayGiveAll old values.items × (new ≡ with_all_held values.items old)
   FillsAll old values (Err back) new = (values.items ≢ []) × (back ≡ values) × (new ≡ old)

@@ -3,7 +3,8 @@ use Rattle.std.specs.Prelude.{ℕ, ◌≡◌, ◌<◌, ◌≤◌, [], Option, So
 use Rattle.ca_text.specs.declared.refusal.Refusal.{Refusal}
 use Rattle.ca_text.specs.declared.refusal.Refusal.TheVariants as refusal
 use Rattle.ca_arena.specs.declared.handle.Handle.{Handle}
-use Rattle.ca_arena.specs.Arena.{Contents, find, IsLive, free_slots, next_handle, inserted, written, removed}
+use Rattle.ca_arena.specs.Arena.{Contents, find, IsLive, free_slots, next_handle, inserted, written}
+use Rattle.ca_arena.specs.Arena.{removed}
 use Rattle.ca_ids.specs.declared.table.Entry.{Entry}
 use Rattle.ca_ids.specs.declared.table.Entry.TheVariants.{Open, Draining}
 use Rattle.ca_ids.specs.Wire.{wire_of}
@@ -43,8 +44,10 @@ module _ {T : Type 0} where
   -- From old, this value was opened, with this answer, and left new.
   abbrev pub Opens : Ids T → T → Result (Handle × ℕ) (T × Refusal) → Ids T → Type 0
   Opens old value (Ok (handle, wire)) new =
-      (0 < free_slots old) × (handle ≡ next_handle old) × (wire ≡ wire_of handle) × (new ≡ inserted old (Open value))
-  Opens old value (Err (back, refusal.ArenaFull)) new = (free_slots old ≡ 0) × (back ≡ value) × (new ≡ old)
+      (0 < free_slots old) × (handle ≡ next_handle old) × (wire ≡ wire_of handle)
+      × (new ≡ inserted old (Open value))
+  Opens old value (Err (back, refusal.ArenaFull)) new =
+      (free_slots old ≡ 0) × (back ≡ value) × (new ≡ old)
   Opens old value (Err (back, refusal.OutOfMemory)) new =
       (old.freed ≡ []) × (0 < free_slots old) × (back ≡ value) × (new ≡ old)
   Opens old value (Err _) new = ⊥
@@ -58,7 +61,8 @@ module _ {T : Type 0} where
   -- From old, this wire id ended draining, with this answer, and left new.
   abbrev pub Drains : Ids T → ℕ → Result (Unit {0}) Refusal → Ids T → Type 0
   Drains old wire (Ok _) new =
-      (handle : Handle) × IsOnly old wire handle × IsDraining old handle × (new ≡ removed old handle)
+      (handle : Handle) × IsOnly old wire handle × IsDraining old handle
+      × (new ≡ removed old handle)
   Drains old wire (Err refusal.StaleHandle) new =
       ((handle : Handle) → wire_of handle ≡ wire → IsDraining old handle → ⊥) × (new ≡ old)
   Drains old wire (Err _) new = ⊥
@@ -66,7 +70,8 @@ module _ {T : Type 0} where
   -- what has this wire id: a handle that is open, one that drains, or nothing
   abbrev pub IsNamed : Ids T → ℕ → Result Handle Refusal → Type 0
   IsNamed ids wire (Ok handle) = IsOnly ids wire handle × ((value : T) × IsOpen ids handle value)
-  IsNamed ids wire (Err refusal.Draining) = (handle : Handle) × IsOnly ids wire handle × IsDraining ids handle
+  IsNamed ids wire (Err refusal.Draining) =
+      (handle : Handle) × IsOnly ids wire handle × IsDraining ids handle
   IsNamed ids wire (Err refusal.StaleHandle) = IsUnused ids wire
   IsNamed ids wire (Err _) = ⊥
 
@@ -76,4 +81,5 @@ module _ {T : Type 0} where
   IsFirstOpen ids start None = (other : Handle) → start ≤ other.index → open_at ids other ≡ None
   IsFirstOpen ids start (Some handle) =
       (start ≤ handle.index) × ((value : T) × IsOpen ids handle value)
-      × ((other : Handle) → start ≤ other.index → other.index < handle.index → open_at ids other ≡ None)
+      × ((other : Handle) → start ≤ other.index → other.index < handle.index
+      → open_at ids other ≡ None)

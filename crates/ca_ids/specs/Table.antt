@@ -1,6 +1,8 @@
 -- Vocabulary: a table of wire ids by index, as whoever gives the ids sees it (section
 -- "Message Identifiers").
-use Rattle.std.specs.Prelude.{ℕ, ◌≡◌, ◌<◌, ◌≤◌, ◌+◌, ◌==◌, ◌&&◌, Bool, true, List, [], ◌∷◌, ◌++◌, Option, Some, None, find, if◌then◌else◌, is_some, length, map, nat_le, nat_lt, not, option_map, option_to_list, slice_set}
+use Rattle.std.specs.Prelude.{ℕ, ◌≡◌, ◌<◌, ◌≤◌, ◌+◌, ◌==◌, ◌&&◌, Bool, true, List, [], ◌∷◌, ◌++◌}
+use Rattle.std.specs.Prelude.{Option, Some, None, find, if◌then◌else◌, is_some, length, map, nat_le}
+use Rattle.std.specs.Prelude.{nat_lt, not, option_map, option_to_list, slice_set}
 use Rattle.std.specs.List.{list_any}
 use Rattle.ca_text.specs.Limits.{arena_slots, last_generation}
 use Rattle.ca_arena.specs.declared.handle.Handle.{Handle}
@@ -24,7 +26,10 @@ module _ {T : Type 0} where
   -- what holds an id from this index on, in order of index
   abbrev pub held_from : ℕ → Table T → List (Handle × T)
   held_from i [] = []
-  held_from i (p ∷ t) = option_to_list (option_map (λ (v : T). (record { index = i; generation = p.generation }, v)) p.value) ++ held_from (i + 1) t
+  held_from i (p ∷ t) =
+      option_to_list
+      (option_map (λ (v : T). (record { index = i; generation = p.generation }, v)) p.value)
+      ++ held_from (i + 1) t
 
   -- all that holds an id, in order of index
   abbrev pub held : Table T → List (Handle × T)
@@ -49,7 +54,8 @@ module _ {T : Type 0} where
 
   -- an index that had an id may have another
   abbrev pub has_free : Table T → Bool
-  has_free t = list_any (λ (p : Place T). not (is_some p.value) && nat_lt p.generation last_generation) t
+  has_free t =
+      list_any (λ (p : Place T). not (is_some p.value) && nat_lt p.generation last_generation) t
 
   -- No id may be given: each index is held, or had its last generation.
   abbrev pub is_full : Table T → Bool
@@ -60,7 +66,10 @@ module _ {T : Type 0} where
 
   -- the table in which this holds the id of a handle
   abbrev pub with_held : Handle → T → Table T → Table T
-  with_held h v t = let p : Place T = record { generation = h.generation; value = Some v } in if h.index == length t then t ++ p ∷ [] else slice_set t h.index p
+  with_held h v t =
+      let p : Place T =
+      record { generation = h.generation; value = Some v } in if h.index == length t then t
+      ++ p ∷ [] else slice_set t h.index p
 
   -- the table in which these hold the ids of their handles
   abbrev pub with_all_held : List (Handle × T) → Table T → Table T
@@ -74,11 +83,15 @@ module _ {T : Type 0} where
 
   -- the table with what holds the id of this handle changed; a stale handle changes nothing
   abbrev pub with_changed : (T → T) → Handle → Table T → Table T
-  with_changed f h t = if is_some (under t h) then slice_set t h.index (record { generation = h.generation; value = option_map f (under t h) }) else t
+  with_changed f h t =
+      if is_some (under t h) then slice_set t h.index
+      (record { generation = h.generation; value = option_map f (under t h) }) else t
 
   -- the table in which the id of this handle is free; a stale handle changes nothing
   abbrev pub with_freed : Handle → Table T → Table T
-  with_freed h t = if is_some (under t h) then slice_set t h.index (record { generation = h.generation; value = None }) else t
+  with_freed h t =
+      if is_some (under t h) then slice_set t h.index
+      (record { generation = h.generation; value = None }) else t
 
   -- the table with all that holds an id changed
   abbrev pub with_all : (T → T) → Table T → Table T
@@ -96,7 +109,11 @@ module _ {T : Type 0} where
   -- the table with each changed, by its handle
   abbrev pub with_each_from : ℕ → (Handle → T → T) → Table T → Table T
   with_each_from i f [] = []
-  with_each_from i f (p ∷ t) = record p { value = option_map (f (record { index = i; generation = p.generation })) p.value } ∷ with_each_from (i + 1) f t
+  with_each_from i f (p ∷ t) =
+      record p {
+        value = option_map
+            (f (record { index = i; generation = p.generation })) p.value;
+      } ∷ with_each_from (i + 1) f t
 
   abbrev pub with_each : (Handle → T → T) → Table T → Table T
   with_each f t = with_each_from 0 f t

@@ -3,7 +3,8 @@ ghost use Rattle.std.specs.Option.{option_copied_mut};
 ghost use Rattle.std.specs.Borrow.{sem};
 ghost use Rattle.ca_arena.specs.Sound.{IsSound};
 ghost use Rattle.ca_arena.specs.Arena.{empty, free_slots, IsLive, walk_start};
-ghost use Rattle.ca_ids.specs.Ids.{Opens, Retires, Drains, IsNamed, IsUnused, IsOnly, IsFirstOpen, open_at, value_of};
+ghost use Rattle.ca_ids.specs.Ids.{Opens, Retires, Drains, IsNamed, IsUnused, IsOnly, IsFirstOpen};
+ghost use Rattle.ca_ids.specs.Ids.{open_at, value_of};
 
 use crate::wire_id::WireId;
 use ca_arena::{Arena, Handle};

@@ -1,5 +1,6 @@
 -- Working: a server's records beside the log of its life: what each record is, the log says.
-use Rattle.std.specs.Prelude.{ℕ, ◌≡◌, ◌<◌, ◌≤◌, ◌⊎◌, Bool, true, List, [], ◌∷◌, Option, Some, None, filter_map, length, map}
+use Rattle.std.specs.Prelude.{ℕ, ◌≡◌, ◌<◌, ◌≤◌, ◌⊎◌, Bool, true, List, [], ◌∷◌, Option, Some, None}
+use Rattle.std.specs.Prelude.{filter_map, length, map}
 use Rattle.ca_text.specs.Place.{At}
 use Rattle.ca_dbr.specs.Elements.{Elements, base_of}
 use Rattle.ca_queue.specs.Order.{last_of}
@@ -7,7 +8,8 @@ use Rattle.ca_records.specs.declared.puts.Put.{Put}
 use Rattle.ca_records.specs.Puts.{Record, WaitingPut}
 use Rattle.ca_records.specs.Record.{RecordState}
 use Rattle.ca_model.specs.Speech.{In, Stored}
-use Rattle.ca_model.specs.History.{Entry, Added, Applied, Finished, Posted, Removed, Waits, Withdrawn}
+use Rattle.ca_model.specs.History.{Entry, Added, Applied, Finished, Posted, Removed, Waits}
+use Rattle.ca_model.specs.History.{Withdrawn}
 use Rattle.ca_model.specs.Known.{waiting}
 use Rattle.ca_model.specs.Posts.{post_in}
 use Rattle.ca_model.specs.World.{PutPlace, RecordSide}
@@ -28,7 +30,8 @@ pub record IsBusyWith (y : List Entry) (r : ℕ) (p : PutPlace) : Type 0 where
   pub at : At y i (Applied p.circuit p.place r v true)
   pub last : (j n k : ℕ) (u : Stored) → i < j → At y j (Applied n k r u true) → ⊥
   pub unfinished : IsFinished y p → ⊥
-  pub others : (n k : ℕ) (u : Stored) → In y (Applied n k r u true) → In y (Finished n k) ⊎ ((n ≡ p.circuit) × (k ≡ p.place))
+  pub others : (n k : ℕ) (u : Stored) → In y (Applied n k r u true) → In y (Finished n k)
+      ⊎ ((n ≡ p.circuit) × (k ≡ p.place))
 
 -- by this log record r is busy with this put, or with none
 abbrev pub IsBusyBy : List Entry → (r : ℕ) → Option PutPlace → Type 0
@@ -115,12 +118,15 @@ AreOthers (r ∷ rs) = Lack r.name r.number rs × AreOthers rs
 -- Two tests agree on the puts that wait.
 abbrev pub TestsAgree : (PutPlace → Bool) → (Put → Bool) → List Record → List RecordSide → Type 0
 TestsAgree which test cs rs =
-    (i j : ℕ) (c : Record) (r : RecordSide) (p : PutPlace) (w : WaitingPut) → At cs i c → At rs i r → At r.waiting j p → At c.waiting j w → which p ≡ test w.put
+    (i j : ℕ) (c : Record) (r : RecordSide) (p : PutPlace) (w : WaitingPut) → At cs i c → At rs i r
+    → At r.waiting j p → At c.waiting j w → which p ≡ test w.put
 
 -- those that it names are lost from now on
-abbrev pub LoseAll : (PutPlace → (i : ℕ) → Type 0) → (PutPlace → Bool) → List Entry → List RecordSide → Type 0
+abbrev pub LoseAll : (PutPlace → (i : ℕ) → Type 0) → (PutPlace → Bool) → List Entry
+    → List RecordSide → Type 0
 LoseAll Lost which y rs =
-    (j : ℕ) (r : RecordSide) (p : PutPlace) → At rs j r → In r.waiting p → which p ≡ true → (i : ℕ) → length y ≤ i → Lost p i
+    (j : ℕ) (r : RecordSide) (p : PutPlace) → At rs j r → In r.waiting p → which p ≡ true → (i : ℕ)
+    → length y ≤ i → Lost p i
 
 -- ---- a life
 
@@ -136,7 +142,9 @@ IsOf r (Withdrawn n k) = ⊥
 
 -- A server's life: its log has each write once, and its records, of which n were added,
 -- are what the log says.
-pub record Agree (Came : PutPlace → (i : ℕ) → Elements → Type 0) (Lost : PutPlace → (i : ℕ) → Type 0) (Is : PutPlace → Put → Type 0) (y : List Entry) (records : List Record)
+pub record Agree (Came : PutPlace → (i : ℕ) → Elements → Type 0)
+    (Lost : PutPlace → (i : ℕ) → Type 0) (Is : PutPlace → Put → Type 0) (y : List Entry)
+    (records : List Record)
     (sides : List RecordSide) (added : ℕ) : Type 0 where
   pub once : Once Came Lost y
   pub each : Both (Agrees Is y) records sides

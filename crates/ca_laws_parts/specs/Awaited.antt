@@ -11,6 +11,9 @@ use Rattle.ca_laws_parts.specs.Kept.{kept}
 
 -- A busy put whose end and channel the core has open is kept on the circuit where it came.
 abbrev pub KeepsAwaited : World → Type 0
-KeepsAwaited w = (i : ℕ) (y : ServerSide) (name : List ℕ) (c : Record) (b : Put) (r : RecordSide) (q : PutPlace) (e : ServerEnd) → At w.servers i y
-    → record_named y.core.records name ≡ Some c → c.busy ≡ Some b → In y.records r → r.name ≡ name → r.busy ≡ Some q → IsAwaited y.core b e
+KeepsAwaited w =
+    (i : ℕ) (y : ServerSide) (name : List ℕ) (c : Record) (b : Put) (r : RecordSide) (q : PutPlace)
+    (e : ServerEnd) → At w.servers i y
+    → record_named y.core.records name ≡ Some c → c.busy ≡ Some b → In y.records r → r.name ≡ name
+    → r.busy ≡ Some q → IsAwaited y.core b e
     → In (kept w q.circuit) q.place

@@ -20,10 +20,14 @@ has_sid sid c = c.sid == sid
 pub record ChannelsOn (e : ServerEnd) (c : Joined) : Type 0 where
   pub few : length e.channels ≤ arena_slots
   pub opens : (h : Handle) (ch : OpenChannel) → under e.channels h ≡ Some ch
-      → (x : Creation) × (find (has_sid (wire_of h)) c.creations ≡ Some x) × ((s : Sent) × At c.lists.up x.place s × (s.message.p1 ≡ ch.cid))
-  pub stale : (x : Creation) → In c.creations x → (h : Handle) × (ch : OpenChannel) × (under e.channels h ≡ Some ch) × (wire_of h ≡ x.sid)
+      → (x : Creation) × (find (has_sid (wire_of h)) c.creations ≡ Some x)
+      × ((s : Sent) × At c.lists.up x.place s × (s.message.p1 ≡ ch.cid))
+  pub stale : (x : Creation) → In c.creations x → (h : Handle) × (ch : OpenChannel)
+      × (under e.channels h ≡ Some ch) × (wire_of h ≡ x.sid)
 
 -- So it is of each open end of a world.
 abbrev pub AllChannels : World → Type 0
-AllChannels w = (n : ℕ) (c : Joined) (y : ServerSide) (e : ServerEnd) → At w.circuits n c → At w.servers c.server y → c.lists.server_open ≡ true
+AllChannels w =
+    (n : ℕ) (c : Joined) (y : ServerSide) (e : ServerEnd) → At w.circuits n c
+    → At w.servers c.server y → c.lists.server_open ≡ true
     → HasEnd y.core c.at_server e → ChannelsOn e c

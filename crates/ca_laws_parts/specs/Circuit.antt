@@ -10,7 +10,8 @@ use Rattle.ca_model.specs.Answers.{Sending}
 use Rattle.ca_model.specs.Client.{Channel, Client, Phase, channel_on}
 use Rattle.ca_model.specs.Hears.{heard_by}
 use Rattle.ca_model.specs.Speech.{Id, In, Is, SubId}
-use Rattle.ca_model.specs.History.{Ask, Cancel, Circuit, Clear, Create, Intent, On, Reply, Sent, Subscribe, Told}
+use Rattle.ca_model.specs.History.{Ask, Cancel, Circuit, Clear, Create, Intent, On, Reply, Sent}
+use Rattle.ca_model.specs.History.{Subscribe, Told}
 use Rattle.ca_model.specs.Channels.{named}
 use Rattle.ca_model.specs.ClientEvents.{channel_number, intent_of, meant_by, sent_on}
 use Rattle.ca_model.specs.World.{ClientSide, Joined, Names, World}
@@ -53,16 +54,20 @@ AreGiven names t = (i : ℕ) (e : Handle × Intent) → At names i e → WasGive
 -- That holds of circuit k of a world, whose client is there.
 abbrev pub HeldAt : (kept : List ℕ) → World → (k : ℕ) → Type 0
 HeldAt kept w k =
-    (j : Joined) × (x : ClientSide) × At w.circuits k j × At w.clients j.client x × HeldOn kept x.names x.core j
+    (j : Joined) × (x : ClientSide) × At w.circuits k j × At w.clients j.client x
+    × HeldOn kept x.names x.core j
 
 -- Circuits whose ends at one client are open have handles of their own there.
 abbrev pub HaveHandles : World → Type 0
-HaveHandles w = (k l : ℕ) (a b : Joined) → At w.circuits k a → At w.circuits l b → a.client ≡ b.client
-    → a.lists.client_open ≡ true → b.lists.client_open ≡ true → same_handle a.at_client b.at_client ≡ true → k ≡ l
+HaveHandles w =
+    (k l : ℕ) (a b : Joined) → At w.circuits k a → At w.circuits l b → a.client ≡ b.client
+    → a.lists.client_open ≡ true → b.lists.client_open ≡ true
+    → same_handle a.at_client b.at_client ≡ true → k ≡ l
 
 -- After this place nothing was sent on the channel.
 abbrev pub IsQuiet : Circuit → (place channel : ℕ) → Type 0
-IsQuiet c place channel = (l : ℕ) (r : Sent) (ask : Ask) → place < l → At c.up l r → r.intent ≡ On channel ask → ⊥
+IsQuiet c place channel =
+    (l : ℕ) (r : Sent) (ask : Ask) → place < l → At c.up l r → r.intent ≡ On channel ask → ⊥
 
 -- Before this place the subscription of this number was subscribed to, and after it
 -- nothing was sent about it.
@@ -79,33 +84,45 @@ pub record IsKnown (n : Names) (x : Client) (on : Handle) (c : Circuit) (m : Fie
   pub is : t.message ≡ m
   pub s : Sent
   pub there : At c.up t.place s
-  pub reply : (Is command.AccessRights m → ⊥) → (Is command.ServerDisconnect m → ⊥) → (Is command.EventAdd m → m.payload ≡ []) → t.cause ≡ Reply
+  pub reply : (Is command.AccessRights m → ⊥) → (Is command.ServerDisconnect m → ⊥)
+      → (Is command.EventAdd m → m.payload ≡ []) → t.cause ≡ Reply
   pub own : OnChannels n x c
-  pub failed : (h : Handle) (p : Phase) → Is command.CreateChannelFail m → channel_on x on m.p1 ≡ Some (h, p)
+  pub failed : (h : Handle) (p : Phase) → Is command.CreateChannelFail m
+      → channel_on x on m.p1 ≡ Some (h, p)
       → (s.intent ≡ On (channel_number n h) Create) × IsQuiet c t.place (channel_number n h)
-  pub cleared : (h : Handle) (p : Phase) → Is command.ClearChannel m → channel_on x on m.p2 ≡ Some (h, p)
+  pub cleared : (h : Handle) (p : Phase) → Is command.ClearChannel m
+      → channel_on x on m.p2 ≡ Some (h, p)
       → (s.intent ≡ On (channel_number n h) Clear) × IsQuiet c t.place (channel_number n h)
-  pub confirms : (q : Handle) → Is command.EventAdd m → m.payload ≡ [] → confirmed_by on m.p2 x.subscriptions ≡ Some q
-      → (channel number : ℕ) × (s.intent ≡ On channel (Cancel number)) × IsLastCancel c t.place (SubId (wire_of q)) number
-  pub refuses : (h : Header) (q : Handle) → Is command.Error m → QuotesHeader m h → h.command ≡ command_number command.EventAdd
+  pub confirms : (q : Handle) → Is command.EventAdd m → m.payload ≡ []
+      → confirmed_by on m.p2 x.subscriptions ≡ Some q
+      → (channel number : ℕ) × (s.intent ≡ On channel (Cancel number))
+      × IsLastCancel c t.place (SubId (wire_of q)) number
+  pub refuses : (h : Header) (q : Handle) → Is command.Error m → QuotesHeader m h
+      → h.command ≡ command_number command.EventAdd
       → heard_by x on h.p2 ≡ Some q
-      → (number : ℕ) × Is command.EventAdd s.message × (named (SubId (wire_of q)) (meant_by n.subscriptions q) ≡ Some number)
+      → (number : ℕ) × Is command.EventAdd s.message
+      × (named (SubId (wire_of q)) (meant_by n.subscriptions q) ≡ Some number)
       × ((p : ℕ) (r : Sent) (a : ℕ) → At c.up p r → r.intent ≡ On a (Cancel number) → ⊥)
 
 -- Each channel of a client has a number.
 abbrev pub AreNumbered : Names → Client → Type 0
-AreNumbered n x = (h : Handle) (ch : Channel) → under x.channels h ≡ Some ch → At n.channels (channel_number n h) h
+AreNumbered n x =
+    (h : Handle) (ch : Channel) → under x.channels h ≡ Some ch
+    → At n.channels (channel_number n h) h
 
 -- What is known of the message that a server handles next on a circuit, with these replies, if it
 -- keeps something for other places then: it is one that the client sent; a WRITE is handled on the
 -- channel for which it was meant; the server keeps nothing new but for this message, and nothing
 -- for it if it has its one reply, nor for what it ends.
-pub record IsNext (kept now : List ℕ) (c : Circuit) (k : Knows) (m : Fields) (replies : List Fields) : Type 0 where
+pub record IsNext (kept now : List ℕ) (c : Circuit) (k : Knows) (m : Fields)
+    (replies : List Fields) : Type 0 where
   pub s : Sent
   pub at : At c.up (length c.handled) s
   pub is : s.message ≡ m
   pub fits : HeaderFits (header_of m)
-  pub writes : Is command.Write m → (cid : ℕ) → IsCidAt k m.p1 cid → IsCidOf c.up (length c.handled) s.intent cid
+  pub writes : Is command.Write m → (cid : ℕ) → IsCidAt k m.p1 cid
+      → IsCidOf c.up (length c.handled) s.intent cid
   pub were : (p : ℕ) → In now p → In kept p ⊎ (p ≡ length c.handled)
   pub gone : (r : Fields) → replies ≡ r ∷ [] → In now (length c.handled) → ⊥
-  pub over : (p : ℕ) (r : Sent) → At c.up p r → p < length c.handled → Ends s.intent r.intent → In now p → ⊥
+  pub over : (p : ℕ) (r : Sent) → At c.up p r → p < length c.handled → Ends s.intent r.intent
+      → In now p → ⊥

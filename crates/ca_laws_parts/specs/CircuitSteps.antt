@@ -24,10 +24,13 @@ update_of place number m = record { message = m; place = place; cause = Update n
 -- that is kept for s, and nothing for what s ends; two are those to a CREATE_CHAN, and end
 -- nothing; there are no more.
 pub record Answers (c : Circuit) (now : List ℕ) (s : Sent) (replies : List Fields) : Type 0 where
-  pub speaks : (i : ℕ) (m : Fields) → At replies i m → (id : Id) → Speaks m id → Concerns c.up (length c.handled) id
+  pub speaks : (i : ℕ) (m : Fields) → At replies i m → (id : Id) → Speaks m id
+      → Concerns c.up (length c.handled) id
   pub last : (m : Fields) → replies ≡ m ∷ [] → IsLast m s.intent → In now (length c.handled) → ⊥
-  pub over : (m : Fields) → replies ≡ m ∷ [] → (p : ℕ) (r : Sent) → At c.up p r → p < length c.handled → Ends s.intent r.intent
+  pub over : (m : Fields) → replies ≡ m ∷ [] → (p : ℕ) (r : Sent) → At c.up p r
+      → p < length c.handled → Ends s.intent r.intent
       → In now p → ⊥
   pub more : (m q : Fields) → replies ≡ m ∷ q ∷ []
-      → (IsLast m s.intent → ⊥) × (IsLast q s.intent → ⊥) × ((other : Intent) → Ends s.intent other → ⊥)
+      → (IsLast m s.intent → ⊥) × (IsLast q s.intent → ⊥)
+      × ((other : Intent) → Ends s.intent other → ⊥)
   pub few : (m q r : Fields) (rest : List Fields) → replies ≡ m ∷ q ∷ r ∷ rest → ⊥

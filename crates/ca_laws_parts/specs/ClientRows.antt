@@ -1,6 +1,7 @@
 -- Statement: one client's core alone: rows of its calls, with any answers and whatever its peers
 -- send, and what it did on each circuit.
-use Rattle.std.specs.Prelude.{ℕ, ◌≡◌, Bool, List, [], Option, Some, None, Result, Ok, filter, if◌then◌else◌, map}
+use Rattle.std.specs.Prelude.{ℕ, ◌≡◌, Bool, List, [], Option, Some, None, Result, Ok, filter}
+use Rattle.std.specs.Prelude.{if◌then◌else◌, map}
 use Rattle.std.specs.List.{FoldsTo}
 use Rattle.ca_text.specs.declared.refusal.Refusal.{Refusal}
 use Rattle.ca_dbr.specs.Elements.{Elements}
@@ -9,8 +10,12 @@ use Rattle.ca_ids.specs.Table.{same_handle}
 use Rattle.ca_wire.specs.Fields.{Fields}
 use Rattle.ca_model.specs.Answers.{Closing, Notice, Notices, Sending, Stepped, Ticked}
 use Rattle.ca_model.specs.Client.{Client, Connection, connection_at}
-use Rattle.ca_model.specs.ClientCalls.{ClientClears, ClientOpens, ClientPuts, ClientReads, ClientSubscribes, ClientUnsubscribes, ClientWrites, Opening, Shape}
-use Rattle.ca_model.specs.ClientEnds.{Arrival, ClientBegins, ClientCloses, ClientConnects, ClientCuts, ClientGives, ClientReceives, ClientSetting, ClientSteps, ClientTicks, Takes, handed_over}
+use Rattle.ca_model.specs.ClientCalls.{ClientClears, ClientOpens, ClientPuts, ClientReads}
+use Rattle.ca_model.specs.ClientCalls.{ClientSubscribes, ClientUnsubscribes, ClientWrites, Opening}
+use Rattle.ca_model.specs.ClientCalls.{Shape}
+use Rattle.ca_model.specs.ClientEnds.{Arrival, ClientBegins, ClientCloses, ClientConnects}
+use Rattle.ca_model.specs.ClientEnds.{ClientCuts, ClientGives, ClientReceives, ClientSetting}
+use Rattle.ca_model.specs.ClientEnds.{ClientSteps, ClientTicks, Takes, handed_over}
 use Rattle.ca_model.specs.Sends.{Conduct, LegalClient}
 use Rattle.ca_laws_parts.specs.Conduct.{nothing_done, with_all_sent, with_read}
 
@@ -37,7 +42,8 @@ pub data Call : Type 0 where
 -- answers no notices read none.
 abbrev pub Reads : Client → Handle → Option Fields → Stepped → List Sending → Client → Type 0
 Reads old c (Some m) (Notices told) sent new =
-    (d : Connection) × (connection_at old c ≡ Some d) × (t : Takes old c d (record { core = new; sent = sent; notices = told }))
+    (d : Connection) × (connection_at old c ≡ Some d)
+    × (t : Takes old c d (record { core = new; sent = sent; notices = told }))
     × (t.m ≡ m)
 Reads old c None (Notices told) sent new = ⊥
 Reads old c (Some m) answer sent new = ⊥
@@ -63,7 +69,8 @@ Does old (Datagram a answer) sent new = ClientReceives old a answer sent new
 
 -- the messages that were sent on this circuit
 abbrev pub sent_on : Handle → List Sending → List Fields
-sent_on c sent = map (λ (s : Sending). s.message) (filter (λ (s : Sending). same_handle s.circuit c) sent)
+sent_on c sent =
+    map (λ (s : Sending). s.message) (filter (λ (s : Sending). same_handle s.circuit c) sent)
 
 -- what the client did on a circuit by the time that a call sends: as a circuit is connected, also
 -- again under the same handle, it did nothing on it yet; and a step on it read a message
@@ -87,9 +94,12 @@ Leads c old call new =
 -- circuit c since that was connected last.
 abbrev pub Rows : Handle → ClientSetting → List Call → Alone → Type 0
 Rows c a calls now =
-    (x : Client) × ClientBegins a (Ok x) × FoldsTo (Leads c) (record { core = x; conduct = nothing_done }) calls now
+    (x : Client) × ClientBegins a (Ok x)
+    × FoldsTo (Leads c) (record { core = x; conduct = nothing_done }) calls now
 
 -- After any row of calls, what the client sent on any circuit is legal: whatever was called,
 -- whatever its peers sent.
 abbrev pub ClientsSendLegally : Type 0
-ClientsSendLegally = (c : Handle) (a : ClientSetting) (calls : List Call) (now : Alone) → Rows c a calls now → LegalClient now.conduct
+ClientsSendLegally =
+    (c : Handle) (a : ClientSetting) (calls : List Call) (now : Alone) → Rows c a calls now
+    → LegalClient now.conduct

@@ -39,10 +39,15 @@ MakesLive old call c h m =
 -- subscription that is on that, and no other, under the channel's new SID and the
 -- subscription's own id.
 pub record AddsAreSent : Type 0 where
-  pub only : (old : Client) (call : Call) (sent : List Sending) (new : Client) → Does old call sent new
+  pub only : (old : Client) (call : Call) (sent : List Sending) (new : Client)
+      → Does old call sent new
       → (i : ℕ) (s : Sending) → At sent i s → Is command.EventAdd s.message
-      → ((h : Handle) × (a : Shape) × (mask : ℕ) × (g : Handle) × (call ≡ Subscribe h a mask (Ok g)) × (sent ≡ s ∷ []))
-      ⊎ ((c h : Handle) × (m : Fields) × (g : Handle) × (d : Subscription) × MakesLive old call c h m × StandsAs old g d × (d.channel ≡ h)
+      → ((h : Handle) × (a : Shape) × (mask : ℕ) × (g : Handle) × (call ≡ Subscribe h a mask (Ok g))
+      × (sent ≡ s ∷ []))
+      ⊎ ((c h : Handle) × (m : Fields) × (g : Handle) × (d : Subscription)
+      × MakesLive old call c h m × StandsAs old g d × (d.channel ≡ h)
       × (s ≡ event_add_sent c m.p2 g d))
-  pub all : (old : Client) (call : Call) (sent : List Sending) (new : Client) (c h : Handle) (m : Fields) (g : Handle) (d : Subscription)
-      → Does old call sent new → MakesLive old call c h m → StandsAs old g d → d.channel ≡ h → In sent (event_add_sent c m.p2 g d)
+  pub all : (old : Client) (call : Call) (sent : List Sending) (new : Client) (c h : Handle)
+      (m : Fields) (g : Handle) (d : Subscription)
+      → Does old call sent new → MakesLive old call c h m → StandsAs old g d → d.channel ≡ h
+      → In sent (event_add_sent c m.p2 g d)

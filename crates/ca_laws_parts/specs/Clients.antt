@@ -10,6 +10,7 @@ use Rattle.ca_laws_parts.specs.Client.{IsSound}
 -- handle of its own there.
 pub record ClientsStand (w : World) : Type 0 where
   pub sound : (i : ℕ) (x : ClientSide) → At w.clients i x → IsSound x.names x.core
-  pub connected : (k : ℕ) (j : Joined) (x : ClientSide) → At w.circuits k j → At w.clients j.client x → j.lists.client_open ≡ true
+  pub connected : (k : ℕ) (j : Joined) (x : ClientSide) → At w.circuits k j
+      → At w.clients j.client x → j.lists.client_open ≡ true
       → is_none (connection_at x.core j.at_client) ≡ false
   pub handles : HaveHandles w

@@ -4,7 +4,8 @@ use Rattle.ca_text.specs.declared.command.Command.TheVariants as command
 use Rattle.ca_text.specs.Place.{At}
 use Rattle.ca_wire.specs.Fields.{Fields}
 use Rattle.ca_model.specs.Speech.{Id, Cid, SubId, Gives, In, Is, Speaks}
-use Rattle.ca_model.specs.History.{Ask, Create, Clear, Subscribe, Cancel, Intent, On, Reply, Sent, Told, Step, Circuit}
+use Rattle.ca_model.specs.History.{Ask, Create, Clear, Subscribe, Cancel, Intent, On, Reply, Sent}
+use Rattle.ca_model.specs.History.{Told, Step, Circuit}
 use Rattle.ca_model.specs.Channels.{Suits, named}
 use Rattle.ca_model.specs.Headline.{TakesOwn}
 
@@ -41,13 +42,15 @@ IsGiven up id k number =
 -- By now the id means what the client's message at place p is about.
 abbrev pub MeansOwn : List Sent → (p : ℕ) → Id → Type 0
 MeansOwn up p id =
-    (k number : ℕ) × (r : Sent) × IsGiven up id k number × (k ≤ p) × At up p r × (named id r.intent ≡ Some number)
+    (k number : ℕ) × (r : Sent) × IsGiven up id k number × (k ≤ p) × At up p r
+    × (named id r.intent ≡ Some number)
 
 -- The CID of the channel of the message at place p: the last CREATE_CHAN before it that was meant
 -- for that channel gave it.
 abbrev pub IsCidOf : List Sent → (p : ℕ) → Intent → (cid : ℕ) → Type 0
 IsCidOf up p intent cid =
-    (channel k : ℕ) × (ask : Ask) × (r : Sent) × (intent ≡ On channel ask) × (k < p) × At up k r × (r.intent ≡ On channel Create)
+    (channel k : ℕ) × (ask : Ask) × (r : Sent) × (intent ≡ On channel ask) × (k < p) × At up k r
+    × (r.intent ≡ On channel Create)
     × Gives r.message (Cid cid)
     × ((l : ℕ) (s : Sent) → k < l → l < p → At up l s → s.intent ≡ On channel Create → ⊥)
 
@@ -88,7 +91,8 @@ module _ (Awaits : ℕ → Type 0) where
   abbrev pub IsPending : Circuit → (p : ℕ) → Id → Type 0
   IsPending c p id =
       (Awaits p × Concerns c.up p id)
-      ⊎ ((j : ℕ) × (t : Told) × At c.down j t × (length c.heard ≤ j) × (t.place ≡ p) × Speaks t.message id)
+      ⊎ ((j : ℕ) × (t : Told) × At c.down j t × (length c.heard ≤ j) × (t.place ≡ p)
+      × Speaks t.message id)
 
   -- After the server's message at place j no other comes about the client's at place p.
   abbrev pub NoMore : Circuit → (j p : ℕ) → Type 0
@@ -105,17 +109,21 @@ module _ (Awaits : ℕ → Type 0) where
     pub asked : (k : ℕ) (s : Sent) → At c.up k s → Suits s.intent s.message
     -- For `own` of AnswersOwn: an id in a message of the server is taken for what
     -- the message is about.
-    pub own : (j : ℕ) (t : Told) (id : Id) → At c.down j t → Speaks t.message id → TakesOwn c j t.place id
+    pub own : (j : ℕ) (t : Told) (id : Id) → At c.down j t → Speaks t.message id
+        → TakesOwn c j t.place id
     -- It is one that this concerns.
-    pub concerns : (j : ℕ) (t : Told) (id : Id) → At c.down j t → Speaks t.message id → Concerns c.up t.place id
+    pub concerns : (j : ℕ) (t : Told) (id : Id) → At c.down j t → Speaks t.message id
+        → Concerns c.up t.place id
     -- And so will be those in the messages that may still be sent: nothing else is given an id that
     -- may still come back.
     pub next : (p : ℕ) (id : Id) → Awaits p → Concerns c.up p id → MeansOwn c.up p id
     -- For `once` of CompletesOnce, and why an id may be given again: after the last message about a
     -- request, a subscription or a channel none comes.
-    pub last : (j : ℕ) (t : Told) (s : Sent) → At c.down j t → t.cause ≡ Reply → At c.up t.place s → IsLast t.message s.intent
+    pub last : (j : ℕ) (t : Told) (s : Sent) → At c.down j t → t.cause ≡ Reply → At c.up t.place s
+        → IsLast t.message s.intent
         → NoMore c j t.place
-    pub over : (j p : ℕ) (t : Told) (s r : Sent) → At c.down j t → t.cause ≡ Reply → At c.up t.place s → At c.up p r → p < t.place
+    pub over : (j p : ℕ) (t : Told) (s r : Sent) → At c.down j t → t.cause ≡ Reply
+        → At c.up t.place s → At c.up p r → p < t.place
         → Ends s.intent r.intent → NoMore c j p
 
   -- A message may be sent: it is what was meant; nothing that may still come speaks of the id that
@@ -123,7 +131,8 @@ module _ (Awaits : ℕ → Type 0) where
   pub record MaySend (c : Circuit) (s : Sent) : Type 0 where
     pub suits : Suits s.intent s.message
     pub fresh : (p : ℕ) (id : Id) → Gives s.message id → IsPending c p id → ⊥
-    pub means : (id : Id) → Concerns (c.up ++ s ∷ []) (length c.up) id → MeansOwn (c.up ++ s ∷ []) (length c.up) id
+    pub means : (id : Id) → Concerns (c.up ++ s ∷ []) (length c.up) id
+        → MeansOwn (c.up ++ s ∷ []) (length c.up) id
 
   -- These messages may be sent, one after another.
   abbrev pub MaySendAll : Circuit → List Sent → Type 0
@@ -138,5 +147,7 @@ pub record MayTell (Awaits Fewer : ℕ → Type 0) (c : Circuit) (t : Told) : Ty
   pub awaits : Awaits t.place
   pub speaks : (id : Id) → Speaks t.message id → Concerns c.up t.place id
   pub fewer : (p : ℕ) → Fewer p → Awaits p
-  pub last : (s : Sent) → t.cause ≡ Reply → At c.up t.place s → IsLast t.message s.intent → Fewer t.place → ⊥
-  pub over : (p : ℕ) (s r : Sent) → t.cause ≡ Reply → At c.up t.place s → At c.up p r → p < t.place → Ends s.intent r.intent → Fewer p → ⊥
+  pub last : (s : Sent) → t.cause ≡ Reply → At c.up t.place s → IsLast t.message s.intent
+      → Fewer t.place → ⊥
+  pub over : (p : ℕ) (s r : Sent) → t.cause ≡ Reply → At c.up t.place s → At c.up p r → p < t.place
+      → Ends s.intent r.intent → Fewer p → ⊥

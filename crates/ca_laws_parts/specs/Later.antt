@@ -1,5 +1,6 @@
 -- Working: messages that a server sends later about messages that it handled before.
-use Rattle.std.specs.Prelude.{ℕ, ◌≡◌, ◌<◌, ◌++◌, List, [], ◌∷◌, length, option_map, slice_get, slice_set, unwrap_or}
+use Rattle.std.specs.Prelude.{ℕ, ◌≡◌, ◌<◌, ◌++◌, List, [], ◌∷◌, length, option_map, slice_get}
+use Rattle.std.specs.Prelude.{slice_set, unwrap_or}
 use Rattle.ca_queue.specs.Queue.{Queue, with_front_taken}
 use Rattle.ca_model.specs.History.{Cause, Circuit, Reply, Told}
 use Rattle.ca_model.specs.ServerSteps.{Update}
@@ -20,6 +21,16 @@ abbrev pub stamped_told : List Update → Joined → List Told
 stamped_told [] j = []
 stamped_told (u ∷ us) j =
     let item : ℕ × Cause = unwrap_or (front_number j.queues u.queue) (0, Reply) in
-    let queues : List (Queue (ℕ × Cause)) = unwrap_or (option_map (λ (q : Queue (ℕ × Cause)). slice_set j.queues u.queue (with_front_taken q)) (slice_get j.queues u.queue)) j.queues in
+    let queues : List (Queue (ℕ × Cause)) =
+    unwrap_or
+    (option_map (λ (q : Queue (ℕ × Cause)). slice_set j.queues u.queue (with_front_taken q))
+    (slice_get j.queues u.queue)) j.queues in
     record { message = u.message; place = item.0; cause = item.1 }
-    ∷ stamped_told us (record j { queues = queues; lists = record j.lists { down = j.lists.down ++ record { message = u.message; place = item.0; cause = item.1 } ∷ [] } })
+    ∷ stamped_told us
+    (record j {
+      queues = queues;
+      lists = record j.lists {
+        down = j.lists.down
+            ++ record { message = u.message; place = item.0; cause = item.1 } ∷ [];
+      };
+    })

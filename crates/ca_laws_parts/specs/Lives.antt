@@ -29,7 +29,8 @@ IsWriting m = Is command.Write m ⊎ Is command.WriteNotify m
 
 -- The write came at this place of a circuit that joins this life, and entry i was made when it was
 -- handled. Its message has elements that are the value in that value's type.
-pub record CameOn (circuits : List Joined) (life : ℕ) (p : PutPlace) (i : ℕ) (value : Elements) : Type 0 where
+pub record CameOn (circuits : List Joined) (life : ℕ) (p : PutPlace) (i : ℕ)
+    (value : Elements) : Type 0 where
   pub c : Joined
   pub on : At circuits p.circuit c
   pub joins : c.lists.server ≡ life
@@ -63,7 +64,8 @@ pub record IsPutOf (circuits : List Joined) (server : ℕ) (p : PutPlace) (b : P
 
 -- A server's life on these circuits: its log has each write once, and its records
 -- are what the log says.
-abbrev pub Life : List Joined → (server life : ℕ) → List Entry → List Record → List RecordSide → (added : ℕ) → Type 0
+abbrev pub Life : List Joined → (server life : ℕ) → List Entry → List Record → List RecordSide
+    → (added : ℕ) → Type 0
 Life circuits server life y records sides added =
     Agree (CameOn circuits life) (LostOn circuits) (IsPutOf circuits server) y records sides added
 
@@ -77,7 +79,8 @@ pub record Later (c d : Joined) : Type 0 where
   pub life : d.lists.server ≡ c.lists.server
   pub up : (k : ℕ) (s : Sent) → At c.lists.up k s → At d.lists.up k s
   pub handled : (k : ℕ) (h : Step) → At c.lists.handled k h → At d.lists.handled k h
-  pub ended : c.lists.server_open ≡ false → (d.lists.server_open ≡ false) × (d.lists.handled ≡ c.lists.handled)
+  pub ended : c.lists.server_open ≡ false → (d.lists.server_open ≡ false)
+      × (d.lists.handled ≡ c.lists.handled)
 
 -- each circuit that was there
 abbrev pub AreLater : List Joined → List Joined → Type 0
@@ -87,7 +90,9 @@ AreLater old new = (n : ℕ) (c : Joined) → At old n c → (d : Joined) × At 
 
 -- the log of each life has each write once
 abbrev pub LogsOnce : World → Type 0
-LogsOnce w = (life : ℕ) (y : List Entry) → At w.server_logs life y → Once (CameOn w.circuits life) (LostOn w.circuits) y
+LogsOnce w =
+    (life : ℕ) (y : List Entry) → At w.server_logs life y
+    → Once (CameOn w.circuits life) (LostOn w.circuits) y
 
 -- The server's part of what an applied write is: the message at its place carries the value, in the
 -- type of the record, which was there; and it was applied when it was handled, or the server's end
@@ -114,7 +119,8 @@ pub record IsOfMessage (w : World) (n k life i r : ℕ) (v : Stored) : Type 0 wh
 -- applied, and of a write that is told Failed the log never tells.
 pub record SaysSo (y : List Entry) (p : PutPlace) (s : Sent) (m : Fields) : Type 0 where
   pub done : Is command.WriteNotify s.message → Means m Done → IsApplied y p
-  pub failed : (status : Status) → IsWriting s.message → Means m (Failed status) → (e : Entry) → In y e → write_in e ≡ Some p → ⊥
+  pub failed : (status : Status) → IsWriting s.message → Means m (Failed status) → (e : Entry)
+      → In y e → write_in e ≡ Some p → ⊥
 
 -- Each reply on circuit n says what is so.
 abbrev pub SayWhatIsSo : List Entry → (n : ℕ) → Circuit → Type 0
@@ -127,20 +133,25 @@ SayWhatIsSo y n c =
 -- each put that waits came on a circuit whose end at the server is open
 abbrev pub AreOpen : List Joined → List RecordSide → Type 0
 AreOpen circuits rs =
-    (j : ℕ) (r : RecordSide) (p : PutPlace) (c : Joined) → At rs j r → In r.waiting p → At circuits p.circuit c
+    (j : ℕ) (r : RecordSide) (p : PutPlace) (c : Joined) → At rs j r → In r.waiting p
+    → At circuits p.circuit c
     → c.lists.server_open ≡ true
 
 -- The core withdraws just the puts of the circuits of a server that end, among those that are open.
-abbrev pub EndsAgree : List Joined → (server : ℕ) → (ends : Joined → Option (List ℕ)) → (lost : Put → Bool) → Type 0
+abbrev pub EndsAgree : List Joined → (server : ℕ) → (ends : Joined → Option (List ℕ))
+    → (lost : Put → Bool) → Type 0
 EndsAgree circuits server ends lost =
-    (n : ℕ) (c : Joined) (b : Put) → At circuits n c → c.server ≡ server → c.lists.server_open ≡ true → b.circuit ≡ c.at_server
+    (n : ℕ) (c : Joined) (b : Put) → At circuits n c → c.server ≡ server
+    → c.lists.server_open ≡ true → b.circuit ≡ c.at_server
     → lost b ≡ is_some (ends c)
 
 -- ---- what is due
 
 -- the server knows of no busy record that is not slow
 abbrev pub AreSlow : Knows → Type 0
-AreSlow k = (name : List ℕ) (r : KnownRecord) → k.record_of name ≡ Some r → r.busy ≡ true → r.state.slow ≡ true
+AreSlow k =
+    (name : List ℕ) (r : KnownRecord) → k.record_of name ≡ Some r → r.busy ≡ true
+    → r.state.slow ≡ true
 
 -- the action writes: at once, or once its put waited
 abbrev pub IsWrite : Action → Type 0

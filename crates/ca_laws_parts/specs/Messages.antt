@@ -11,9 +11,11 @@ use Rattle.ca_model.specs.World.{Creation, Joined, Standing, World}
 -- CREATE_CHAN; both were handled.
 pub record Messages (c : Joined) : Type 0 where
   pub subs : (st : Standing) → In c.standing st
-      → (s : Sent) × At c.lists.up st.place s × Is command.EventAdd s.message × (key_in s.message ≡ st.key) × (st.place < length c.lists.handled)
+      → (s : Sent) × At c.lists.up st.place s × Is command.EventAdd s.message
+      × (key_in s.message ≡ st.key) × (st.place < length c.lists.handled)
   pub channels : (x : Creation) → In c.creations x
-      → (s : Sent) × At c.lists.up x.place s × Is command.CreateChannel s.message × (x.place < length c.lists.handled)
+      → (s : Sent) × At c.lists.up x.place s × Is command.CreateChannel s.message
+      × (x.place < length c.lists.handled)
 
 -- So it is on each circuit whose end at its server is open.
 abbrev pub AllMessages : World → Type 0

@@ -11,14 +11,19 @@ use Rattle.ca_model.specs.World.{Joined, Standing, World}
 -- Each number in a queue is that of a subscription which the queue has and which stands, beside the
 -- place of its EVENT_ADD.
 abbrev pub IsNumberOf : List Standing → SubKey × (ℕ × Cause) → Type 0
-IsNumberOf ss w = (st : Standing) × In ss st × (st.key ≡ w.0) × ((a : ℕ) × (w.1 ≡ (st.place, Update a)))
+IsNumberOf ss w =
+    (st : Standing) × In ss st × (st.key ≡ w.0) × ((a : ℕ) × (w.1 ≡ (st.place, Update a)))
 
 abbrev pub HasNumbers : List Standing → Queue (ℕ × Cause) → Type 0
-HasNumbers ss q = (w : SubKey × (ℕ × Cause)) → In q.waiting w → (is_among w.0 q.subscriptions ≡ true) × IsNumberOf ss w
+HasNumbers ss q =
+    (w : SubKey × (ℕ × Cause)) → In q.waiting w → (is_among w.0 q.subscriptions ≡ true)
+    × IsNumberOf ss w
 
 abbrev pub HaveNumbers : List Standing → List (Queue (ℕ × Cause)) → Type 0
 HaveNumbers ss queues = (q : Queue (ℕ × Cause)) → In queues q → HasNumbers ss q
 
 -- So it is on each circuit whose end at its server is open.
 abbrev pub AllNumbers : World → Type 0
-AllNumbers w = (n : ℕ) (c : Joined) → At w.circuits n c → c.lists.server_open ≡ true → HaveNumbers c.standing c.queues
+AllNumbers w =
+    (n : ℕ) (c : Joined) → At w.circuits n c → c.lists.server_open ≡ true
+    → HaveNumbers c.standing c.queues

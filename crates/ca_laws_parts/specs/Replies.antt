@@ -8,7 +8,8 @@ use Rattle.ca_model.specs.Speech.{Id, Cid, SubId, Gives, In, Is}
 -- A WRITE under this SID is refused with this CID: that of the open channel, or none if no open
 -- channel has the SID.
 abbrev pub IsCidAt : Knows → (sid cid : ℕ) → Type 0
-IsCidAt k sid cid = ((c : KnownChannel) × In k.channels c × (c.sid ≡ sid) × (c.cid ≡ cid)) ⊎ IsUnknown k sid cid
+IsCidAt k sid cid =
+    ((c : KnownChannel) × In k.channels c × (c.sid ≡ sid) × (c.cid ≡ cid)) ⊎ IsUnknown k sid cid
 
 -- The id is one that the message gives; of a CLEAR_CHANNEL its CID, of an EVENT_CANCEL its
 -- subscription id, and of a WRITE the CID of the channel that is open under its SID.

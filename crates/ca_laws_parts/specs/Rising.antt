@@ -17,7 +17,8 @@ pub record EndsIn (ns : List ℕ) (last : ℕ) : Type 0 where
 -- The numbers of one subscription, by how its entries carry them (stamp): those that were
 -- taken, and then those that wait. They rise, and end in the newest: the next post has
 -- the number after that.
-pub record Rising {E : Type 0} (stamp : ℕ → E) (key : SubKey) (gone : List ℕ) (next : ℕ) (q : Queue E) : Type 0 where
+pub record Rising {E : Type 0} (stamp : ℕ → E) (key : SubKey) (gone : List ℕ) (next : ℕ)
+    (q : Queue E) : Type 0 where
   pub wait : List ℕ
   pub are : entries_of key q.waiting ≡ map stamp wait
   pub rise : Rises (gone ++ wait)

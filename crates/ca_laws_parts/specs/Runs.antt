@@ -17,7 +17,8 @@ use Rattle.ca_laws_parts.specs.Worlds.{AllStream, ClientsSpeak, HandlesStand}
 
 -- A run leads to this world, from a well-formed setting.
 abbrev pub IsReached : World → Type 0
-IsReached w = (s : Setting) × (es : List Event) × (stopped : Option Event) × IsSetting s × Runs s es stopped w
+IsReached w =
+    (s : Setting) × (es : List Event) × (stopped : Option Event) × IsSetting s × Runs s es stopped w
 
 -- What clients sent are messages; and each client's core fits messages, as do the
 -- names that it is given.
@@ -38,6 +39,9 @@ pub record Stands (s : Setting) (w : World) : Type 0 where
 
 -- What an open end of a client takes next is the next message that its server sent.
 abbrev pub HearsSent : World → Type 0
-HearsSent w = (k : ℕ) (j : Joined) (x : ClientSide) (d : Connection) (m : Fields) (rest : List ℕ) → At w.circuits k j
-    → At w.clients j.client x → j.lists.client_open ≡ true → connection_at x.core j.at_client ≡ Some d → TakesFirst d.link m rest
+HearsSent w =
+    (k : ℕ) (j : Joined) (x : ClientSide) (d : Connection) (m : Fields) (rest : List ℕ)
+    → At w.circuits k j
+    → At w.clients j.client x → j.lists.client_open ≡ true
+    → connection_at x.core j.at_client ≡ Some d → TakesFirst d.link m rest
     → (t : Told) × At j.lists.down (length j.lists.heard) t × (t.message ≡ m)

@@ -19,26 +19,35 @@ use Rattle.ca_laws_parts.specs.Lives.{SayWhatIsSo}
 -- reply fails nothing.
 abbrev pub IsAbout : Joined → Told → Type 0
 IsAbout c t =
-    ((s : Sent) × At c.lists.up t.place s) × ((t.place < length c.lists.handled) ⊎ ((s : Status) → Means t.message (Failed s) → ⊥))
+    ((s : Sent) × At c.lists.up t.place s)
+    × ((t.place < length c.lists.handled) ⊎ ((s : Status) → Means t.message (Failed s) → ⊥))
 
 -- Each reply of a server says what is so by the log of its life.
 pub record Says (w : World) : Type 0 where
-  pub so : (n : ℕ) (c : Joined) (y : List Entry) → At w.circuits n c → At w.server_logs c.lists.server y → SayWhatIsSo y n c.lists
-  pub about : (n i : ℕ) (c : Joined) (t : Told) → At w.circuits n c → At c.lists.down i t → t.cause ≡ Reply → IsAbout c t
+  pub so : (n : ℕ) (c : Joined) (y : List Entry) → At w.circuits n c
+      → At w.server_logs c.lists.server y → SayWhatIsSo y n c.lists
+  pub about : (n i : ℕ) (c : Joined) (t : Told) → At w.circuits n c → At c.lists.down i t
+      → t.cause ≡ Reply → IsAbout c t
 
 -- An update that leaves a queue has its number in front there, and so it is none of the replies.
 abbrev pub AreNumbered : World → Type 0
-AreNumbered w = (k : ℕ) (j : Joined) (y : ServerSide) (updates : List Update) (core : Server) → At w.circuits k j
+AreNumbered w =
+    (k : ℕ) (j : Joined) (y : ServerSide) (updates : List Update) (core : Server)
+    → At w.circuits k j
     → At w.servers j.server y → j.lists.server_open ≡ true → Pumps y.core j.at_server updates core
-    → (i : ℕ) (t : Told) → At (stamped updates j).lists.down i t → t.cause ≡ Reply → At j.lists.down i t
+    → (i : ℕ) (t : Told) → At (stamped updates j).lists.down i t → t.cause ≡ Reply
+    → At j.lists.down i t
 
 -- ---- what callers are told
 
 -- each message of a client is of the kind that its intent says
 abbrev pub AllAsked : World → Type 0
-AllAsked w = (n k : ℕ) (c : Joined) (s : Sent) → At w.circuits n c → At c.lists.up k s → Suits s.intent s.message
+AllAsked w =
+    (n k : ℕ) (c : Joined) (s : Sent) → At w.circuits n c → At c.lists.up k s
+    → Suits s.intent s.message
 
 -- a notice in a client's log says what the reply to its own message means, or that this is lost;
 -- and each request is at one place
 abbrev pub CompleteOnce : World → Type 0
-CompleteOnce w = OfClients (told w) (CompletesOnce (IsDue (port_of w) (rules_of w)) Shows Means (told w))
+CompleteOnce w =
+    OfClients (told w) (CompletesOnce (IsDue (port_of w) (rules_of w)) Shows Means (told w))

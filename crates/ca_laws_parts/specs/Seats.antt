@@ -25,13 +25,15 @@ pub record HasSeat (w : World) (c : Joined) : Type 0 where
 -- Each circuit whose end at its server is open has its seat, under a handle of its own.
 pub record Seated (w : World) : Type 0 where
   pub each : (n : ℕ) (c : Joined) → At w.circuits n c → c.lists.server_open ≡ true → HasSeat w c
-  pub one : (n m : ℕ) (c d : Joined) → At w.circuits n c → At w.circuits m d → c.server ≡ d.server → c.lists.server_open ≡ true
+  pub one : (n m : ℕ) (c d : Joined) → At w.circuits n c → At w.circuits m d → c.server ≡ d.server
+      → c.lists.server_open ≡ true
       → d.lists.server_open ≡ true → c.at_server ≡ d.at_server → n ≡ m
 
 -- Each step of a server's end ended within the log of its server's life, which is there.
 abbrev pub WithinLogs : World → Type 0
 WithinLogs w = (n : ℕ) (c : Joined) → At w.circuits n c
-    → (y : List Entry) × At w.server_logs c.lists.server y × ((k : ℕ) (h : Step) → At c.lists.handled k h → h.after ≤ length y)
+    → (y : List Entry) × At w.server_logs c.lists.server y
+    × ((k : ℕ) (h : Step) → At c.lists.handled k h → h.after ≤ length y)
 
 -- each server is as it was given
 abbrev pub AsGiven : Setting → World → Type 0
@@ -47,8 +49,11 @@ pub record Sound (s : Setting) (w : World) : Type 0 where
 
 -- What an open end takes next is the next message that its client sent.
 abbrev pub TakesSent : World → Type 0
-TakesSent w = (k : ℕ) (j : Joined) (y : ServerSide) (e : ServerEnd) (m : Fields) (rest : List ℕ) → At w.circuits k j
-    → At w.servers j.server y → j.lists.server_open ≡ true → HasEnd y.core j.at_server e → TakesFirst e.link m rest
+TakesSent w =
+    (k : ℕ) (j : Joined) (y : ServerSide) (e : ServerEnd) (m : Fields) (rest : List ℕ)
+    → At w.circuits k j
+    → At w.servers j.server y → j.lists.server_open ≡ true → HasEnd y.core j.at_server e
+    → TakesFirst e.link m rest
     → (s : Sent) × At j.lists.up (length j.lists.handled) s × (s.message ≡ m)
 
 -- So it is in each world to which a beginning of these events leads.

@@ -1,5 +1,6 @@
 -- Statement: what the subscriber of one EVENT_ADD saw, with what is in flight and queued.
-use Rattle.std.specs.Prelude.{ℕ, ◌≡◌, ◌==◌, ◌++◌, Bool, true, false, List, ◌∷◌, Some, filter, filter_map, if◌then◌else◌, drop, length, take}
+use Rattle.std.specs.Prelude.{ℕ, ◌≡◌, ◌==◌, ◌++◌, Bool, true, false, List, ◌∷◌, Some, filter}
+use Rattle.std.specs.Prelude.{filter_map, if◌then◌else◌, drop, length, take}
 use Rattle.ca_text.specs.Place.{At}
 use Rattle.ca_queue.specs.Order.{last_of}
 use Rattle.ca_wire.specs.Messages.{mask_in}
@@ -33,13 +34,15 @@ pub record SeesPosts (c : Circuit) (y : List Entry) (k r : ℕ) (s : Sent) (h : 
   pub sent : List Stored
   pub queued : List Stored
   pub each : length sent ≡ length (updates_of k c.down)
-  pub shows : (i : ℕ) (t : Told) (v : Stored) → At (updates_of k c.down) i t → At sent i v → Shows s.message v t.message
+  pub shows : (i : ℕ) (t : Told) (v : Stored) → At (updates_of k c.down) i t → At sent i v
+      → Shows s.message v t.message
   pub wait : length queued ≡ length (filter (is_update_of k) c.queued)
   pub posts : List Stored
   pub are : posts ≡ matching y h.logged r (mask_in s.message)
   pub first : Stored
   pub was : last_of (filter_map (post_in r (λ bits. true)) (take h.logged y)) ≡ Some first
-  pub begins : posts ≡ first ∷ filter_map (post_in r (share_bit (mask_in s.message))) (drop h.logged y)
+  pub begins : posts ≡ first ∷ filter_map (post_in r (share_bit (mask_in s.message)))
+      (drop h.logged y)
   pub part : IsSubsequence (sent ++ queued) posts
   pub read : (n : ℕ) → IsSubsequence (take n sent) posts
   pub newest : Lasts c y k r s → last_of (sent ++ queued) ≡ last_of posts

@@ -63,7 +63,10 @@ pub record ServersFit (w : World) : Type 0 where
 
 -- A message that a server told is a reply, or a SERVER_DISCONN, or an EVENT_ADD with a payload.
 abbrev pub IsCaused : Told → Type 0
-IsCaused t = (t.cause ≡ Reply) ⊎ (Is command.ServerDisconnect t.message ⊎ (Is command.EventAdd t.message × (t.message.payload ≡ [] → ⊥)))
+IsCaused t =
+    (t.cause ≡ Reply)
+    ⊎ (Is command.ServerDisconnect t.message
+    ⊎ (Is command.EventAdd t.message × (t.message.payload ≡ [] → ⊥)))
 
 -- So it is of all that servers told.
 pub record AllCaused (w : World) : Type 0 where

@@ -1,6 +1,7 @@
 -- Statement: one server's core alone: rows of its calls, with any answers and whatever its peers
 -- send, and what it did on each circuit.
-use Rattle.std.specs.Prelude.{ℕ, ◌≡◌, ◌<◌, ◌^◌, Bool, false, List, [], Option, Some, None, Result, Ok, Err, filter, if◌then◌else◌, map, take}
+use Rattle.std.specs.Prelude.{ℕ, ◌≡◌, ◌<◌, ◌^◌, Bool, false, List, [], Option, Some, None, Result}
+use Rattle.std.specs.Prelude.{Ok, Err, filter, if◌then◌else◌, map, take}
 use Rattle.std.specs.List.{FoldsTo}
 use Rattle.ca_text.specs.declared.refusal.Refusal.{Refusal}
 use Rattle.ca_text.specs.Place.{At}
@@ -13,8 +14,10 @@ use Rattle.ca_records.specs.Rules.{Rule}
 use Rattle.ca_wire.specs.Fields.{Fields}
 use Rattle.ca_model.specs.Sends.{Conduct, LegalServer}
 use Rattle.ca_model.specs.Server.{Open, Server, ServerCircuit, ServerEnd, new_server}
-use Rattle.ca_model.specs.ServerCalls.{AddsRecord, Beacons, Finishes, Posts, Removes, disconnects, stamped}
-use Rattle.ca_model.specs.ServerSteps.{Accepts, Cuts, Gives, HasEnd, Handled, Next, Pumps, Reaches, Sends, Stepped, Steps, Update}
+use Rattle.ca_model.specs.ServerCalls.{AddsRecord, Beacons, Finishes, Posts, Removes, disconnects}
+use Rattle.ca_model.specs.ServerCalls.{stamped}
+use Rattle.ca_model.specs.ServerSteps.{Accepts, Cuts, Gives, HasEnd, Handled, Next, Pumps, Reaches}
+use Rattle.ca_model.specs.ServerSteps.{Sends, Stepped, Steps, Update}
 use Rattle.ca_model.specs.Speech.{Stored}
 use Rattle.ca_laws_parts.specs.Conduct.{nothing_done, with_all_sent, with_read}
 
@@ -55,14 +58,16 @@ on_circuit c h d = if same_handle h c then d else nothing
 -- read and sent nothing.
 abbrev pub StepDoes : Server → Handle → Stepped → Did → Server → Type 0
 StepDoes old h Handled d new =
-    (e : ServerEnd) × HasEnd old h e × (next : Next old h e) × (gone : Handle → Bool) × (gone h ≡ false) × Reaches next.action gone next.after new
+    (e : ServerEnd) × HasEnd old h e × (next : Next old h e) × (gone : Handle → Bool)
+    × (gone h ≡ false) × Reaches next.action gone next.after new
     × (d ≡ record { read = Some next.m; sent = next.replies })
 StepDoes old h answer d new = Steps old h answer new × (d ≡ nothing)
 
 -- the SERVER_DISCONNs that a removal sent on a circuit: all that were due, or as many of them as
 -- were left by an end that ended out of memory
 abbrev pub removal_sent : List ℕ → Bool → ℕ → Option ServerCircuit → List Fields
-removal_sent name gone left (Some (Open e)) = if gone then take left (disconnects name e) else disconnects name e
+removal_sent name gone left (Some (Open e)) =
+    if gone then take left (disconnects name e) else disconnects name e
 removal_sent name gone left c = []
 
 -- of a call that is refused nothing
@@ -71,7 +76,8 @@ of_ok (Ok _) sent = sent
 of_ok (Err e) sent = []
 
 -- what a removal did on a circuit
-abbrev pub RemovalDoes : Handle → Server → List ℕ → Result (Unit {0}) Refusal → Did → Server → Type 0
+abbrev pub RemovalDoes : Handle → Server → List ℕ → Result (Unit {0}) Refusal → Did → Server
+    → Type 0
 RemovalDoes c old name answer d new =
     (gone : Handle → Bool) × (left : Handle → ℕ) × Removes old name gone left answer new
     × (d ≡ only_sent (of_ok answer (removal_sent name (gone c) (left c) (under old.circuits c))))
@@ -82,15 +88,20 @@ abbrev pub Does : Handle → Server → Call → Did → Server → Type 0
 Does c old (Accept answer) d new = Accepts old answer new × (d ≡ nothing)
 Does c old (Give h bytes answer) d new = Gives old h bytes answer new × (d ≡ nothing)
 Does c old (Sent h n) d new = Sends old h n new × (d ≡ nothing)
-Does c old (Step h answer) d new = (did : Did) × StepDoes old h answer did new × (d ≡ on_circuit c h did)
+Does c old (Step h answer) d new =
+    (did : Did) × StepDoes old h answer did new × (d ≡ on_circuit c h did)
 Does c old (Pump h) d new =
-    (updates : List Update) × Pumps old h updates new × (d ≡ on_circuit c h (only_sent (map (λ (u : Update). u.message) updates)))
+    (updates : List Update) × Pumps old h updates new
+    × (d ≡ on_circuit c h (only_sent (map (λ (u : Update). u.message) updates)))
 Does c old (Cut h) d new = Cuts old h new × (d ≡ nothing)
 Does c old (Finish name answer) d new =
     (sent : List (Handle × Fields)) × Finishes old name sent answer new
-    × (d ≡ only_sent (map (λ (s : Handle × Fields). s.1) (filter (λ (s : Handle × Fields). same_handle s.0 c) sent)))
-Does c old (Post name v mask answer) d new = (gone : Handle → Bool) × Posts old name v mask gone answer new × (d ≡ nothing)
-Does c old (AddRecord s answer) d new = (behind : ℕ) × AddsRecord old s behind answer new × (d ≡ nothing)
+    × (d ≡ only_sent
+    (map (λ (s : Handle × Fields). s.1) (filter (λ (s : Handle × Fields). same_handle s.0 c) sent)))
+Does c old (Post name v mask answer) d new =
+    (gone : Handle → Bool) × Posts old name v mask gone answer new × (d ≡ nothing)
+Does c old (AddRecord s answer) d new =
+    (behind : ℕ) × AddsRecord old s behind answer new × (d ≡ nothing)
 Does c old (RemoveRecord name answer) d new = RemovalDoes c old name answer d new
 Does c old (SetStamp s) d new = (new ≡ stamped s old) × (d ≡ nothing)
 Does c old (Beacon now answer) d new = Beacons old now answer new × (d ≡ nothing)
@@ -108,7 +119,8 @@ pub record Alone : Type 0 where
 -- One call leads from old to new.
 abbrev pub Leads : Handle → Alone → Call → Alone → Type 0
 Leads c old call new =
-    (d : Did) × Does c old.core call d new.core × (new.conduct ≡ with_all_sent d.sent (with_read d.read (before c call old.conduct)))
+    (d : Did) × Does c old.core call d new.core
+    × (new.conduct ≡ with_all_sent d.sent (with_read d.read (before c call old.conduct)))
 
 -- Values that callers give are values, each element one of its type.
 abbrev pub IsCall : Call → Type 0
@@ -132,11 +144,13 @@ pub record IsSetting (a : ServerSetting) : Type 0 where
 -- it did on circuit c.
 abbrev pub Rows : Handle → ServerSetting → List Call → Alone → Type 0
 Rows c a calls now =
-    FoldsTo (Leads c) (record { core = new_server a.port a.now a.rules a.states; conduct = nothing_done }) calls now
+    FoldsTo (Leads c)
+    (record { core = new_server a.port a.now a.rules a.states; conduct = nothing_done }) calls now
 
 -- After any row of calls, what the server sent on any circuit is legal: whatever was called,
 -- whatever its peers sent.
 abbrev pub ServersSendLegally : Type 0
 ServersSendLegally =
-    (c : Handle) (a : ServerSetting) (calls : List Call) (now : Alone) → IsSetting a → ((i : ℕ) (it : Call) → At calls i it → IsCall it)
+    (c : Handle) (a : ServerSetting) (calls : List Call) (now : Alone) → IsSetting a
+    → ((i : ℕ) (it : Call) → At calls i it → IsCall it)
     → Rows c a calls now → LegalServer now.conduct

@@ -18,7 +18,8 @@ AllHeld {T} P t = (h : Handle) (v : T) → under t h ≡ Some v → P v
 pub record ChannelFits (ch : Channel) : Type 0 where
   pub name : length ch.name ≤ channel_name_limit
   pub priority : ch.priority ≤ priority_limit
-  pub native : (c : Handle) (n : Native) (rights : ℕ) → ch.standing ≡ On c (Live n rights) → (n.sid < 2 ^ 32) × (n.count < 2 ^ 32)
+  pub native : (c : Handle) (n : Native) (rights : ℕ) → ch.standing ≡ On c (Live n rights)
+      → (n.sid < 2 ^ 32) × (n.count < 2 ^ 32)
 
 -- a subscription whose type and count do
 abbrev pub SubscriptionFits : Subscription → Type 0
@@ -30,7 +31,9 @@ CircuitFits c = c.priority ≤ priority_limit
 
 -- searches whose CIDs and names do
 abbrev pub SearchesFit : List (ℕ × search.Channel) → Type 0
-SearchesFit cs = (i : ℕ) (c : ℕ × search.Channel) → At cs i c → (c.0 < 2 ^ 32) × (length c.1.name ≤ channel_name_limit)
+SearchesFit cs =
+    (i : ℕ) (c : ℕ × search.Channel) → At cs i c → (c.0 < 2 ^ 32)
+    × (length c.1.name ≤ channel_name_limit)
 
 pub record ClientFits (x : Client) : Type 0 where
   pub user : length x.peer.user < payload_limit

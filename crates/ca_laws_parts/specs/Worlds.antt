@@ -1,5 +1,6 @@
 -- Working: the bytes on all circuits of a world.
-use Rattle.std.specs.Prelude.{ℕ, ◌≡◌, false, List, [], Option, Some, length, map, option_map, unwrap_or}
+use Rattle.std.specs.Prelude.{ℕ, ◌≡◌, false, List, [], Option, Some, length, map, option_map}
+use Rattle.std.specs.Prelude.{unwrap_or}
 use Rattle.ca_ids.specs.Table.{under}
 use Rattle.ca_text.specs.Place.{At}
 use Rattle.ca_wire.specs.Fields.{Fields}
@@ -67,7 +68,10 @@ ServersSpeak w = (k : ℕ) (j : Joined) → At w.circuits k j → AreMessages (s
 -- The handles of circuits at a server in its present life: its table gave each, and once the end
 -- there has ended nothing has it.
 pub record HandlesStand (w : World) : Type 0 where
-  pub given : (n : ℕ) (c : Joined) (y : ServerSide) → At w.circuits n c → At w.servers c.server y → c.lists.server ≡ y.life
+  pub given : (n : ℕ) (c : Joined) (y : ServerSide) → At w.circuits n c → At w.servers c.server y
+      → c.lists.server ≡ y.life
       → WasGiven y.core.circuits c.at_server
-  pub gone : (n : ℕ) (c : Joined) (y : ServerSide) (v : ServerCircuit) → At w.circuits n c → At w.servers c.server y
-      → c.lists.server ≡ y.life → c.lists.server_open ≡ false → under y.core.circuits c.at_server ≡ Some v → ⊥
+  pub gone : (n : ℕ) (c : Joined) (y : ServerSide) (v : ServerCircuit) → At w.circuits n c
+      → At w.servers c.server y
+      → c.lists.server ≡ y.life → c.lists.server_open ≡ false
+      → under y.core.circuits c.at_server ≡ Some v → ⊥

@@ -9,5 +9,7 @@ use Rattle.ca_laws_parts.specs.InStep.{EndInStep}
 -- Each circuit that is open at its server is in step with its end there: the same subscriptions are
 -- in both, each once, and the same updates wait.
 abbrev pub AllInStep : World → Type 0
-AllInStep w = (n : ℕ) (c : Joined) (y : ServerSide) (e : ServerEnd) → At w.circuits n c → At w.servers c.server y → c.lists.server_open ≡ true
+AllInStep w =
+    (n : ℕ) (c : Joined) (y : ServerSide) (e : ServerEnd) → At w.circuits n c
+    → At w.servers c.server y → c.lists.server_open ≡ true
     → HasEnd y.core c.at_server e → EndInStep e c

@@ -1,7 +1,8 @@
 ghost use Rattle.std.specs.Prelude.{◌≡◌, List, Option, ℕ};
 ghost use Rattle.ca_text.specs.Place.{At};
 ghost use Rattle.ca_model.specs.Speech.{In, Stored};
-ghost use Rattle.ca_model.specs.History.{Entry, Finished, Intent, Line, Noticed, On, Put, Request, Withdrawn};
+ghost use Rattle.ca_model.specs.History.{Entry, Finished, Intent, Line, Noticed, On, Put, Request};
+ghost use Rattle.ca_model.specs.History.{Withdrawn};
 ghost use Rattle.ca_model.specs.Channels.{IsApplied, IsBusyUntil, IsDropped, Stands};
 ghost use Rattle.ca_model.specs.Events.{Event};
 ghost use Rattle.ca_model.specs.Runs.{Happens, Runs};

@@ -281,8 +281,9 @@ module _ (v : World) where
           let entry : Entry = Applied p.circuit p.place r.number (stored_now y.core b.value) true in
           let is : e ≡ entry = only-one entry e there.0 there.1 in
           let same : IsWriteTo n k q entry = subst (λ (f : Entry). IsWriteTo n k q f) is writes in (
-          (all n k q (Waits p.circuit p.place r.number came.v) came.came same).0,
-          subst (λ (f : Entry). HasNoAlarm f) (sym is) ((y.core).stamp, refl))
+            (all n k q (Waits p.circuit p.place r.number came.v) came.came same).0,
+            subst (λ (f : Entry). HasNoAlarm f) (sym is) ((y.core).stamp, refl),
+          )
 
   finish-may : (log : List Entry) (p : PutPlace) (es : List Entry) → MayTell v log es → MayTell v log (finish_entry p ∷ es)
   finish-may log p es may n k r e (zero, at) writes = absurd (quiet-none n k r e (one-quiet (finish_entry p) tt zero e at) writes)
@@ -526,8 +527,9 @@ module _ (s : Setting) (es : List Event) (w : World) (ok : IsSetting s) (are : A
       one x r titled plain parts a c d f (zero, there) tells =
           let is : x ≡ f = some_is x f there in
           let p = parts a c d (subst (λ (z : Entry). IsWriteTo a c d z) (sym is) tells) in (
-          titled-on w new a c d log goes (subst (λ (z : ℕ × ℕ × ℕ). IsTitled w z.0 z.1 z.2 log) (λ i. (p.0 i, p.1 i, p.2 i)) titled),
-          subst (λ (z : Entry). HasNoAlarm z) is plain)
+            titled-on w new a c d log goes (subst (λ (z : ℕ × ℕ × ℕ). IsTitled w z.0 z.1 z.2 log) (λ i. (p.0 i, p.1 i, p.2 i)) titled),
+            subst (λ (z : Entry). HasNoAlarm z) is plain,
+          )
       one x r titled plain parts a c d f (suc i, there) tells = absurd (none_at i f there)
 
       go : (did : Action) → Due (knows y.core e) n.m n.replies did → MayTell new log (told_by k j y did)

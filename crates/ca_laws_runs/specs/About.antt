@@ -32,24 +32,33 @@ use Rattle.ca_laws_runs.specs.Held.{IsKnownStep}
 -- that was not created is about its CREATE_CHAN, a CLEAR_CHANNEL about the client's, and nothing
 -- was sent since on the channel. A confirmation is about the EVENT_CANCEL of a subscription, an
 -- ERROR that refuses one about an EVENT_ADD of one that was not cancelled.
-pub record IsAbout (n : Names) (x : Client) (on : Handle) (c : Circuit) (m : Fields) (t : Told) (s : Sent) : Type 0 where
+pub record IsAbout (n : Names) (x : Client) (on : Handle) (c : Circuit) (m : Fields) (t : Told)
+    (s : Sent) : Type 0 where
   pub own : OnChannels n x c
-  pub failed : (h : Handle) (p : Phase) → Is command.CreateChannelFail m → channel_on x on m.p1 ≡ Some (h, p) → was_live p ≡ false
+  pub failed : (h : Handle) (p : Phase) → Is command.CreateChannelFail m
+      → channel_on x on m.p1 ≡ Some (h, p) → was_live p ≡ false
       → (s.intent ≡ On (channel_number n h) Create) × IsQuiet c t.place (channel_number n h)
-  pub cleared : (h : Handle) (p : Phase) → Is command.ClearChannel m → channel_on x on m.p2 ≡ Some (h, p)
+  pub cleared : (h : Handle) (p : Phase) → Is command.ClearChannel m
+      → channel_on x on m.p2 ≡ Some (h, p)
       → (s.intent ≡ On (channel_number n h) Clear) × IsQuiet c t.place (channel_number n h)
-  pub confirms : (q : Handle) → Is command.EventAdd m → m.payload ≡ [] → confirmed_by on m.p2 x.subscriptions ≡ Some q
-      → (channel number : ℕ) × (s.intent ≡ On channel (Cancel number)) × IsLastCancel c t.place (SubId (wire_of q)) number
-  pub refuses : (h : Header) (q : Handle) → Is command.Error m → QuotesHeader m h → h.command ≡ command_number command.EventAdd
+  pub confirms : (q : Handle) → Is command.EventAdd m → m.payload ≡ []
+      → confirmed_by on m.p2 x.subscriptions ≡ Some q
+      → (channel number : ℕ) × (s.intent ≡ On channel (Cancel number))
+      × IsLastCancel c t.place (SubId (wire_of q)) number
+  pub refuses : (h : Header) (q : Handle) → Is command.Error m → QuotesHeader m h
+      → h.command ≡ command_number command.EventAdd
       → heard_by x on h.p2 ≡ Some q
-      → (number : ℕ) × Is command.EventAdd s.message × (named (SubId (wire_of q)) (meant_by n.subscriptions q) ≡ Some number)
+      → (number : ℕ) × Is command.EventAdd s.message
+      × (named (SubId (wire_of q)) (meant_by n.subscriptions q) ≡ Some number)
       × ((p : ℕ) (r : Sent) (a : ℕ) → At c.up p r → r.intent ≡ On a (Cancel number) → ⊥)
 
 -- So it is of the message that the client's end of circuit k takes next.
 abbrev pub ReadsAbout : World → (k : ℕ) → Type 0
 ReadsAbout w k =
-    (j : Joined) (x : ClientSide) (d : Connection) (m : Fields) (rest : List ℕ) (t : Told) (s : Sent) → At w.circuits k j → At w.clients j.client x
-    → connection_at x.core j.at_client ≡ Some d → TakesFirst d.link m rest → At j.lists.down (length j.lists.heard) t → At j.lists.up t.place s
+    (j : Joined) (x : ClientSide) (d : Connection) (m : Fields) (rest : List ℕ) (t : Told)
+    (s : Sent) → At w.circuits k j → At w.clients j.client x
+    → connection_at x.core j.at_client ≡ Some d → TakesFirst d.link m rest
+    → At j.lists.down (length j.lists.heard) t → At j.lists.up t.place s
     → IsAbout x.names (after_taking j.at_client rest x.core) j.at_client j.lists m t s
 
 -- Of the message that a server's end takes in this event it is known what it is about. Of other
@@ -60,4 +69,6 @@ IsOwnStep w e new = Unit {0}
 
 -- So it is of each of these events in a row.
 abbrev pub AllOwn : World → List Event → Type 0
-AllOwn w es = (n : ℕ) (e : Event) (mid new : World) → FoldsTo Happens w (take n es) mid → At es n e → Happens mid e new → IsOwnStep mid e new
+AllOwn w es =
+    (n : ℕ) (e : Event) (mid new : World) → FoldsTo Happens w (take n es) mid → At es n e
+    → Happens mid e new → IsOwnStep mid e new

@@ -23,15 +23,22 @@ IsAddedSince up channel number =
 -- So it is of each subscription that is in its client's table, on each open circuit on which
 -- its channel is live.
 abbrev pub SubscriptionsAreAddedAnew : World → Type 0
-SubscriptionsAreAddedAnew w = (k sid : ℕ) (j : Joined) (x : ClientSide) (g : Handle) (d : Subscription) → At w.circuits k j
-    → At w.clients j.client x → j.lists.client_open ≡ true → under x.core.subscriptions g ≡ Some d → stands_in d.stage ≡ true
+SubscriptionsAreAddedAnew w =
+    (k sid : ℕ) (j : Joined) (x : ClientSide) (g : Handle) (d : Subscription) → At w.circuits k j
+    → At w.clients j.client x → j.lists.client_open ≡ true → under x.core.subscriptions g ≡ Some d
+    → stands_in d.stage ≡ true
     → IsLiveAs x.core.channels j.at_client d.channel sid
-    → (a m : ℕ) × (meant_by x.names.subscriptions g ≡ On a (Subscribe m)) × IsAddedSince j.lists.up a m
+    → (a m : ℕ) × (meant_by x.names.subscriptions g ≡ On a (Subscribe m))
+    × IsAddedSince j.lists.up a m
 
 -- A subscription that is in its client's table, on a channel that is live, is held by the log of
 -- that client's life: its caller ended neither it nor its channel, and no notice told of its end.
 abbrev pub LiveSubscriptionsAreHeld : World → Type 0
-LiveSubscriptionsAreHeld w = (i sid : ℕ) (x : ClientSide) (log : List Line) (g on : Handle) (d : Subscription) → At w.clients i x
-    → At w.client_logs x.life log → under x.core.subscriptions g ≡ Some d → stands_in d.stage ≡ true → IsLiveAs x.core.channels on d.channel sid
-    → (a m : ℕ) × (meant_by x.names.subscriptions g ≡ On a (Subscribe m)) × IsHeld log (On a (Subscribe m))
+LiveSubscriptionsAreHeld w =
+    (i sid : ℕ) (x : ClientSide) (log : List Line) (g on : Handle) (d : Subscription)
+    → At w.clients i x
+    → At w.client_logs x.life log → under x.core.subscriptions g ≡ Some d → stands_in d.stage ≡ true
+    → IsLiveAs x.core.channels on d.channel sid
+    → (a m : ℕ) × (meant_by x.names.subscriptions g ≡ On a (Subscribe m))
+    × IsHeld log (On a (Subscribe m))
     × ((o : Outcome) → In log (Noticed (On a (Subscribe m)) o) → ⊥)

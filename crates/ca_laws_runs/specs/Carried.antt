@@ -6,7 +6,8 @@ use Rattle.ca_dbr.specs.Types.{base_number}
 use Rattle.ca_records.specs.Record.{RecordState}
 use Rattle.ca_text.specs.Place.{At}
 use Rattle.ca_wire.specs.Fields.{Fields, padded}
-use Rattle.ca_model.specs.History.{Added, Applied, Ask, Called, Entry, Intent, Line, On, Opened, Put, Request, Sent, Waits, Write}
+use Rattle.ca_model.specs.History.{Added, Applied, Ask, Called, Entry, Intent, Line, On, Opened}
+use Rattle.ca_model.specs.History.{Put, Request, Sent, Waits, Write}
 use Rattle.ca_model.specs.Speech.{In, IsWritten}
 use Rattle.ca_model.specs.World.{Joined, World}
 
@@ -33,7 +34,9 @@ pub record IsCarried (x : List Line) (s : Sent) : Type 0 where
 
 -- So it is of each put and each plain write that was sent, by the log of its client's life.
 abbrev pub AllCarried : World → Type 0
-AllCarried w = (n k : ℕ) (c : Joined) (s : Sent) (x : List Line) → At w.circuits n c → At c.lists.up k s → At w.client_logs c.lists.client x
+AllCarried w =
+    (n k : ℕ) (c : Joined) (s : Sent) (x : List Line) → At w.circuits n c → At c.lists.up k s
+    → At w.client_logs c.lists.client x
     → IsWrite s.intent → IsCarried x s
 
 -- ---- what servers log
@@ -69,7 +72,8 @@ HasNoAlarm entry = Unit {0}
 -- So it is of each write of which the log of any life of a server tells, as the world has the
 -- circuits and the logs of clients; and what is stored has no alarm.
 abbrev pub LogTitled : World → List Entry → Type 0
-LogTitled w y = (n k r : ℕ) (e : Entry) → In y e → IsWriteTo n k r e → IsTitled w n k r y × HasNoAlarm e
+LogTitled w y =
+    (n k r : ℕ) (e : Entry) → In y e → IsWriteTo n k r e → IsTitled w n k r y × HasNoAlarm e
 
 abbrev pub AllTitled : World → Type 0
 AllTitled w = (life : ℕ) (y : List Entry) → At w.server_logs life y → LogTitled w y

@@ -26,13 +26,17 @@ pub record IsTaken (log : List Entry) (c : Circuit) (k : ℕ) : Type 0 where
 pub record SourcesOn (log : List Entry) (c : Joined) : Type 0 where
   pub made : (j sid : ℕ) (t : Told) → At c.lists.down j t → t.cause ≡ Reply → Creates t.message sid
       → (r : ℕ) × Created c.lists log j t.place sid r
-  pub updates : (j a : ℕ) (t : Told) → At c.lists.down j t → t.cause ≡ Update a → IsTaken log c.lists t.place
-  pub removals : (j : ℕ) (t : Told) → At c.lists.down j t → t.cause ≡ Removal → HasCause c.lists log t Removal
+  pub updates : (j a : ℕ) (t : Told) → At c.lists.down j t → t.cause ≡ Update a
+      → IsTaken log c.lists t.place
+  pub removals : (j : ℕ) (t : Told) → At c.lists.down j t → t.cause ≡ Removal
+      → HasCause c.lists log t Removal
   pub stands : (st : Standing) → In c.standing st → IsTaken log c.lists st.place
 
 -- So it is on each circuit, open or not.
 abbrev pub AllSources : World → Type 0
-AllSources w = (n : ℕ) (c : Joined) (log : List Entry) → At w.circuits n c → At w.server_logs c.lists.server log → SourcesOn log c
+AllSources w =
+    (n : ℕ) (c : Joined) (log : List Entry) → At w.circuits n c
+    → At w.server_logs c.lists.server log → SourcesOn log c
 
 -- Each message of the server has its cause, and was sent in the step that handled what it
 -- is about, or after it.

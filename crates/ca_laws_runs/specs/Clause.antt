@@ -19,7 +19,13 @@ use Rattle.ca_model.specs.World.{Joined, ServerSide, Standing, World, circuit_of
 -- its updates follow the record that has its name: they carry matching posts by rising numbers,
 -- show them, and the newest is among them.
 abbrev pub StandingFollow : World → Type 0
-StandingFollow w = (n : ℕ) (c : Joined) (y : ServerSide) (e : ServerEnd) (log : List Entry) (i : ℕ) (sub : Subscription) (st : Standing) → At w.circuits n c → At w.servers c.server y
-    → c.lists.server_open ≡ true → HasEnd y.core c.at_server e → At w.server_logs y.life log → At e.subscriptions i sub → At c.standing i st
-    → (s : Sent) × (h : Step) × At c.lists.up st.place s × Is command.EventAdd s.message × At c.lists.handled st.place h
-    × Follows (IsDue (port_of w) (rules_of w)) Shows Means (circuit_of c) log st.place (number_of sub.name y.records) s (matching log h.logged (number_of sub.name y.records) (mask_in s.message))
+StandingFollow w =
+    (n : ℕ) (c : Joined) (y : ServerSide) (e : ServerEnd) (log : List Entry) (i : ℕ)
+    (sub : Subscription) (st : Standing) → At w.circuits n c → At w.servers c.server y
+    → c.lists.server_open ≡ true → HasEnd y.core c.at_server e → At w.server_logs y.life log
+    → At e.subscriptions i sub → At c.standing i st
+    → (s : Sent) × (h : Step) × At c.lists.up st.place s × Is command.EventAdd s.message
+    × At c.lists.handled st.place h
+    × Follows (IsDue (port_of w) (rules_of w)) Shows Means (circuit_of c) log st.place
+    (number_of sub.name y.records) s
+    (matching log h.logged (number_of sub.name y.records) (mask_in s.message))

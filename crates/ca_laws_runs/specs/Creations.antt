@@ -12,12 +12,16 @@ use Rattle.ca_model.specs.World.{Creation, Joined, ServerSide, World}
 pub record CreationsOn (c : Joined) : Type 0 where
   pub within : length c.lists.handled ≤ length c.lists.up
   pub told : (x : Creation) → In c.creations x
-      → (i : ℕ) × (t : Told) × At c.lists.down i t × (t.place ≡ x.place) × (t.cause ≡ Reply) × Creates t.message x.sid
-  pub uncleared : (x : Creation) (l : ℕ) (r : Sent) → In c.creations x → x.place < l → l < length c.lists.handled → At c.lists.up l r
+      → (i : ℕ) × (t : Told) × At c.lists.down i t × (t.place ≡ x.place) × (t.cause ≡ Reply)
+      × Creates t.message x.sid
+  pub uncleared : (x : Creation) (l : ℕ) (r : Sent) → In c.creations x → x.place < l
+      → l < length c.lists.handled → At c.lists.up l r
       → Clears r.message x.sid → ⊥
   pub one : (x z : Creation) → In c.creations x → In c.creations z → x.sid ≡ z.sid → x ≡ z
 
 -- So it is of each open end of a world.
 abbrev pub AllCreations : World → Type 0
-AllCreations w = (n : ℕ) (c : Joined) (y : ServerSide) (e : ServerEnd) → At w.circuits n c → At w.servers c.server y → c.lists.server_open ≡ true
+AllCreations w =
+    (n : ℕ) (c : Joined) (y : ServerSide) (e : ServerEnd) → At w.circuits n c
+    → At w.servers c.server y → c.lists.server_open ≡ true
     → HasEnd y.core c.at_server e → CreationsOn c

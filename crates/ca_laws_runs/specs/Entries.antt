@@ -34,4 +34,5 @@ titles rs = map title rs
 -- The log says the value of each record that a core has.
 abbrev pub Tells : List Entry → List Record → List RecordSide → Type 0
 Tells log cs rs = (name : List ℕ) (c : Record) → record_named cs name ≡ Some c
-    → (r : RecordSide) × In rs r × (r.name ≡ name) × (number_of name rs ≡ r.number) × (value_by log r.number ≡ Some (stored c))
+    → (r : RecordSide) × In rs r × (r.name ≡ name) × (number_of name rs ≡ r.number)
+    × (value_by log r.number ≡ Some (stored c))

@@ -11,7 +11,8 @@ use Rattle.ca_model.specs.Due.{Action, Clears, Due, Knows}
 use Rattle.ca_model.specs.History.{Circuit, Entry, Finished, Line, Sent, Step, Withdrawn}
 use Rattle.ca_model.specs.Speech.{In, Is, sid_in}
 use Rattle.ca_model.specs.Channels.{IsFinished, IsReply, IsUncleared, OfCircuits, before}
-use Rattle.ca_model.specs.Known.{AreJust, IsChannel, IsFull, IsKey, IsLogged, IsRecordOf, IsWithdrawal, NamesItself, has_created}
+use Rattle.ca_model.specs.Known.{AreJust, IsChannel, IsFull, IsKey, IsLogged, IsRecordOf}
+use Rattle.ca_model.specs.Known.{IsWithdrawal, NamesItself, has_created}
 use Rattle.ca_model.specs.World.{Setting, World, told}
 use Rattle.ca_laws_runs.specs.Given.{IsGiven}
 
@@ -20,7 +21,8 @@ use Rattle.ca_laws_runs.specs.Given.{IsGiven}
 -- its port and its rules.
 pub record KnowsLists (c : Circuit) (y : List Entry) (k : Knows) : Type 0 where
   pub records : (name : List ℕ) → IsRecordOf y name (k.record_of name)
-  pub greeted : k.greeted ≡ list_any (λ (s : Sent). s.message.command == command_number command.Version) c.up
+  pub greeted : k.greeted ≡ list_any
+      (λ (s : Sent). s.message.command == command_number command.Version) c.up
   pub user : NamesItself c command.ClientName k.peer.user
   pub host : NamesItself c command.HostName k.peer.host
   pub settled : k.settled ≡ has_created c.down
@@ -54,10 +56,12 @@ pub record IsAnswered (n : ℕ) (c : Circuit) (y : List Entry) (k : ℕ) (h : St
   pub next : (l : ℕ) (g : Step) → k < l → At c.handled l g → h.sent + length replies ≤ g.sent
   pub logs : List Entry
   pub logs_are : LogsSo n k (take h.logged y) did logs
-  pub clears : (sid : ℕ) → did ≡ Clears sid → AreJust logs (IsWithdrawal n (past c k h) (take h.logged y) sid)
+  pub clears : (sid : ℕ) → did ≡ Clears sid
+      → AreJust logs (IsWithdrawal n (past c k h) (take h.logged y) sid)
   pub logged : (i : ℕ) (e : Entry) → At logs i e → At y (h.logged + i) e
   pub within : h.logged + length logs ≤ h.after
-  pub besides : (i : ℕ) (e : Entry) → h.logged + length logs ≤ i → i < h.after → At y i e → (m l : ℕ) × (e ≡ Withdrawn m l)
+  pub besides : (i : ℕ) (e : Entry) → h.logged + length logs ≤ i → i < h.after → At y i e
+      → (m l : ℕ) × (e ≡ Withdrawn m l)
   pub ends : h.after ≤ length y
 
 -- A reply that came later, to a put, says that it was done; and that put was finished, before its
@@ -65,11 +69,14 @@ pub record IsAnswered (n : ℕ) (c : Circuit) (y : List Entry) (k : ℕ) (h : St
 abbrev pub IsLate : (n : ℕ) → Circuit → List Entry → (k : ℕ) → Fields → Type 0
 IsLate n c y k m =
     Is command.WriteNotify m × (m.p1 ≡ normal) × In y (Finished n k)
-    × ((s : Sent) × At c.up k s × Is command.WriteNotify s.message × ((e : ℕ) × At y e (Finished n k) × IsUncleared c k (sid_in s.message) e))
+    × ((s : Sent) × At c.up k s × Is command.WriteNotify s.message
+    × ((e : ℕ) × At y e (Finished n k) × IsUncleared c k (sid_in s.message) e))
 
 -- And every other reply about it is late.
 abbrev pub AnsweredAt : (n : ℕ) → Circuit → List Entry → (k : ℕ) → Step → Type 0
-AnsweredAt n c y k h = (a : IsAnswered n c y k h) × ((j : ℕ) (m : Fields) → IsReply c k j m → (j < h.sent + length a.replies) ⊎ IsLate n c y k m)
+AnsweredAt n c y k h =
+    (a : IsAnswered n c y k h)
+    × ((j : ℕ) (m : Fields) → IsReply c k j m → (j < h.sent + length a.replies) ⊎ IsLate n c y k m)
 
 -- So it is, and the server went by what server i was given.
 abbrev pub AnsweredBy : Setting → (i n : ℕ) → Circuit → List Entry → (k : ℕ) → Step → Type 0
@@ -80,8 +87,13 @@ abbrev pub AnsweredSo : (n : ℕ) → Circuit → List Entry → (k : ℕ) → S
 AnsweredSo n c y k h =
     (a : IsAnswered n c y k h)
     × ((j : ℕ) (m : Fields) → IsReply c k j m
-    → (j < h.sent + length a.replies) ⊎ (Is command.WriteNotify m × (m.p1 ≡ normal) × Is command.WriteNotify a.s.message × IsFinished n c y k a.s))
+    → (j < h.sent + length a.replies)
+    ⊎ (Is command.WriteNotify m × (m.p1 ≡ normal) × Is command.WriteNotify a.s.message
+    × IsFinished n c y k a.s))
 
 -- And of each message that was handled on any circuit, whether its ends are open or not.
 abbrev pub AreAnswered : World → Type 0
-AreAnswered w = OfCircuits (told w) (λ (n : ℕ) (c : Circuit) (x : List Line) (y : List Entry). (k : ℕ) (h : Step) → At c.handled k h → AnsweredSo n c y k h)
+AreAnswered w =
+    OfCircuits (told w)
+    (λ (n : ℕ) (c : Circuit) (x : List Line) (y : List Entry). (k : ℕ) (h : Step) → At c.handled k h
+    → AnsweredSo n c y k h)

@@ -30,9 +30,14 @@ pub record IsGone (log : List Entry) (c : Joined) (sid : ℕ) (ch : OpenChannel)
 
 -- So it is of each channel of an end that is retired.
 abbrev pub GoneOn : List Entry → ServerEnd → Joined → Type 0
-GoneOn log e c = (g : Handle) (ch : OpenChannel) → under e.channels g ≡ Some ch → ch.retired ≡ true → IsGone log c (wire_of g) ch
+GoneOn log e c =
+    (g : Handle) (ch : OpenChannel) → under e.channels g ≡ Some ch → ch.retired ≡ true
+    → IsGone log c (wire_of g) ch
 
 -- And of each open end of a world.
 abbrev pub AllGone : World → Type 0
-AllGone w = (n : ℕ) (c : Joined) (y : ServerSide) (e : ServerEnd) (log : List Entry) → At w.circuits n c → At w.servers c.server y
-    → c.lists.server_open ≡ true → HasEnd y.core c.at_server e → At w.server_logs y.life log → GoneOn log e c
+AllGone w =
+    (n : ℕ) (c : Joined) (y : ServerSide) (e : ServerEnd) (log : List Entry) → At w.circuits n c
+    → At w.servers c.server y
+    → c.lists.server_open ≡ true → HasEnd y.core c.at_server e → At w.server_logs y.life log
+    → GoneOn log e c

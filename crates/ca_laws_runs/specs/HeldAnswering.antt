@@ -20,5 +20,6 @@ pub record Answers (m r : Fields) : Type 0 where
 
 -- So it is of each reply of a server, whether its end is open or not.
 abbrev pub AllAnswer : World → Type 0
-AllAnswer w = (n i : ℕ) (c : Joined) (t : Told) → At w.circuits n c → At c.lists.down i t → t.cause ≡ Reply
+AllAnswer w =
+    (n i : ℕ) (c : Joined) (t : Told) → At w.circuits n c → At c.lists.down i t → t.cause ≡ Reply
     → (s : Sent) × At c.lists.up t.place s × Answers s.message t.message

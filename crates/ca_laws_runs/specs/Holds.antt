@@ -1,6 +1,7 @@
 -- Working: what holds of an open end's queues and of its circuit's numbers, by the posts that
 -- each subscription sees.
-use Rattle.std.specs.Prelude.{ℕ, ◌≡◌, ◌<◌, ◌==◌, true, false, List, [], Option, Some, None, filter_map, if◌then◌else◌, length, map, slice_get, unwrap_or}
+use Rattle.std.specs.Prelude.{ℕ, ◌≡◌, ◌<◌, ◌==◌, true, false, List, [], Option, Some, None}
+use Rattle.std.specs.Prelude.{filter_map, if◌then◌else◌, length, map, slice_get, unwrap_or}
 use Rattle.ca_queue.specs.declared.entry.SubKey.{SubKey}
 use Rattle.ca_queue.specs.Images.{queue_images}
 use Rattle.ca_queue.specs.Keys.{AreApart, is_among}
@@ -43,20 +44,24 @@ stamp_of other posts place n = record { value = post_at other posts n; place = p
 
 -- One queue has the subscription: what waits there under its key are numbers that rise after
 -- those that were sent.
-pub record Home (both : List (Queue Numbered)) (key : SubKey) (stamp : ℕ → Numbered) (gone : List ℕ) (next : ℕ) : Type 0 where
+pub record Home (both : List (Queue Numbered)) (key : SubKey) (stamp : ℕ → Numbered) (gone : List ℕ)
+    (next : ℕ) : Type 0 where
   pub home : ℕ
   pub q : Queue Numbered
   pub at : At both home q
   pub has : is_among key q.subscriptions ≡ true
   pub rising : Rising stamp key gone next q
-  pub elsewhere : (i : ℕ) (x : Queue Numbered) → At both i x → is_among key x.subscriptions ≡ true → i ≡ home
+  pub elsewhere : (i : ℕ) (x : Queue Numbered) → At both i x → is_among key x.subscriptions ≡ true
+      → i ≡ home
 
 -- The server counts the posts that a subscription sees. Those that were sent show their posts.
-pub record Counts (posts : Subscription → ℕ → List Stored) (down : List Told) (both : List (Queue Numbered)) (sub : Subscription) (st : Standing) : Type 0 where
+pub record Counts (posts : Subscription → ℕ → List Stored) (down : List Told)
+    (both : List (Queue Numbered)) (sub : Subscription) (st : Standing) : Type 0 where
   pub key : key_of sub ≡ st.key
   pub other : Stored
   pub counts : st.posts ≡ length (posts sub st.place)
-  pub numbers : Home both st.key (stamp_of other (posts sub st.place) st.place) (sent_numbers st.place down) st.posts
+  pub numbers : Home both st.key (stamp_of other (posts sub st.place) st.place)
+      (sent_numbers st.place down) st.posts
   pub shows : (j a : ℕ) (t : Told) → At down j t → t.place ≡ st.place → t.cause ≡ Update a
       → (v : Stored) × At (posts sub st.place) a v × ShowsTo sub.wanted v t.message
 
@@ -65,14 +70,19 @@ pub record Counts (posts : Subscription → ℕ → List Stored) (down : List To
 -- So it is of each subscription that stands, of which each has its own key and place. Values and
 -- numbers wait in step, and each for a subscription that stands. The EVENT_ADDs of those that
 -- stand, and of updates that were sent, were handled.
-pub record Holds (posts : Subscription → ℕ → List Stored) (subs : List Subscription) (values : List (Queue Stored)) (c : Joined) : Type 0 where
+pub record Holds (posts : Subscription → ℕ → List Stored) (subs : List Subscription)
+    (values : List (Queue Stored)) (c : Joined) : Type 0 where
   pub both : List (Queue Numbered)
   pub values_are : values ≡ map (queue_images value_in) both
   pub numbers_are : c.queues ≡ map (queue_images number_in) both
   pub each : Both (Counts posts c.lists.down both) subs c.standing
   pub apart : AreApart (keys_standing c)
-  pub lone : (i j : ℕ) (s t : Standing) → At c.standing i s → At c.standing j t → s.place ≡ t.place → i ≡ j
-  pub seats : (i : ℕ) (x : Queue Numbered) (key : SubKey) → At both i x → is_among key x.subscriptions ≡ true → is_among key (keys_standing c) ≡ true
-  pub tidy : (i : ℕ) (x : Queue Numbered) (key : SubKey) → At both i x → is_among key x.subscriptions ≡ false → entries_of key x.waiting ≡ []
+  pub lone : (i j : ℕ) (s t : Standing) → At c.standing i s → At c.standing j t → s.place ≡ t.place
+      → i ≡ j
+  pub seats : (i : ℕ) (x : Queue Numbered) (key : SubKey) → At both i x
+      → is_among key x.subscriptions ≡ true → is_among key (keys_standing c) ≡ true
+  pub tidy : (i : ℕ) (x : Queue Numbered) (key : SubKey) → At both i x
+      → is_among key x.subscriptions ≡ false → entries_of key x.waiting ≡ []
   pub stood : (i : ℕ) (st : Standing) → At c.standing i st → st.place < length c.lists.handled
-  pub early : (j a : ℕ) (t : Told) → At c.lists.down j t → t.cause ≡ Update a → t.place < length c.lists.handled
+  pub early : (j a : ℕ) (t : Told) → At c.lists.down j t → t.cause ≡ Update a
+      → t.place < length c.lists.handled

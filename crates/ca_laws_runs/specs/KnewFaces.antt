@@ -26,7 +26,8 @@ face_of e = record { greeted = e.greeted; peer = e.peer; settled = e.settled }
 
 -- So it is by these lists.
 pub record IsFace (c : Circuit) (f : Face) : Type 0 where
-  pub greeted : f.greeted ≡ list_any (λ (s : Sent). s.message.command == command_number command.Version) c.up
+  pub greeted : f.greeted ≡ list_any
+      (λ (s : Sent). s.message.command == command_number command.Version) c.up
   pub user : NamesItself c command.ClientName f.peer.user
   pub host : NamesItself c command.HostName f.peer.host
   pub settled : f.settled ≡ has_created c.down
@@ -40,9 +41,13 @@ pub record IsFaced (given : ServerSetting) (Q : Handle → Face → Type 0) (y :
 -- What each server knows of the peer on each open end is what the lists of the circuit say, as
 -- far as it handled them.
 abbrev pub KnowFaces : World → Type 0
-KnowFaces w = (n : ℕ) (c : Joined) (y : ServerSide) (e : ServerEnd) → At w.circuits n c → At w.servers c.server y → c.lists.server_open ≡ true
+KnowFaces w =
+    (n : ℕ) (c : Joined) (y : ServerSide) (e : ServerEnd) → At w.circuits n c
+    → At w.servers c.server y → c.lists.server_open ≡ true
     → HasEnd y.core c.at_server e → IsFace (as_known c.lists) (face_of e)
 
 -- Each server has the port and the rules that it was given.
 abbrev pub KeepSettings : World → Type 0
-KeepSettings w = (i : ℕ) (y : ServerSide) → At w.servers i y → (y.core.port ≡ y.setting.address.port) × (y.core.rules ≡ y.setting.rules)
+KeepSettings w =
+    (i : ℕ) (y : ServerSide) → At w.servers i y → (y.core.port ≡ y.setting.address.port)
+    × (y.core.rules ≡ y.setting.rules)

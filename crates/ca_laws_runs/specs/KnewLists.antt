@@ -23,11 +23,15 @@ as_known c = record c {
 -- ids and names, and retired if the log removed their records; and the keys that it knows are just
 -- those of the subscriptions that last.
 abbrev pub KnowChannels : World → Type 0
-KnowChannels w = (n : ℕ) (c : Joined) (y : ServerSide) (e : ServerEnd) (log : List Entry) → At w.circuits n c → At w.servers c.server y
+KnowChannels w =
+    (n : ℕ) (c : Joined) (y : ServerSide) (e : ServerEnd) (log : List Entry) → At w.circuits n c
+    → At w.servers c.server y
     → c.lists.server_open ≡ true → HasEnd y.core c.at_server e → At w.server_logs y.life log
     → AreJust (knows y.core e).channels (IsChannel (as_known c.lists) log)
 
 abbrev pub KnowKeys : World → Type 0
-KnowKeys w = (n : ℕ) (c : Joined) (y : ServerSide) (e : ServerEnd) (log : List Entry) → At w.circuits n c → At w.servers c.server y
+KnowKeys w =
+    (n : ℕ) (c : Joined) (y : ServerSide) (e : ServerEnd) (log : List Entry) → At w.circuits n c
+    → At w.servers c.server y
     → c.lists.server_open ≡ true → HasEnd y.core c.at_server e → At w.server_logs y.life log
     → AreJust (knows y.core e).keys (IsKey (as_known c.lists) log)

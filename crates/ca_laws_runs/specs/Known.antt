@@ -20,7 +20,8 @@ use Rattle.ca_laws_parts.specs.Both.{Both}
 
 -- An open channel was created by a CREATE_CHAN that was handled and has its name. Unless it is
 -- retired, the record that had that name then has it still.
-pub record IsOrigin (log : List Entry) (rs : List RecordSide) (c : Joined) (sid : ℕ) (ch : OpenChannel) : Type 0 where
+pub record IsOrigin (log : List Entry) (rs : List RecordSide) (c : Joined) (sid : ℕ)
+    (ch : OpenChannel) : Type 0 where
   pub x : Creation
   pub noted : In c.creations x
   pub under_sid : x.sid ≡ sid
@@ -30,7 +31,8 @@ pub record IsOrigin (log : List Entry) (rs : List RecordSide) (c : Joined) (sid 
   pub handled : At c.lists.handled x.place h
   pub name : ch.name ≡ name_in s.message
   pub within : h.logged ≤ length log
-  pub still : ch.retired ≡ false → (r : ℕ) → Has (take h.logged log) r ch.name → In (titles rs) (ch.name, r)
+  pub still : ch.retired ≡ false → (r : ℕ) → Has (take h.logged log) r ch.name
+      → In (titles rs) (ch.name, r)
 
 -- The message at place k was refused, by a reply.
 abbrev pub IsRefused : Circuit → (k : ℕ) → Type 0
@@ -44,7 +46,8 @@ IsStanding ss k = (i : ℕ) × (st : Standing) × At ss i st × (st.place ≡ k)
 -- it acted was removed.
 abbrev pub IsOver : List Entry → Circuit → (k : ℕ) → Sent → Type 0
 IsOver log c k s =
-    ((l : ℕ) × (m : Sent) × (k < l) × (l < length c.handled) × At c.up l m × Ends s.message m.message)
+    ((l : ℕ) × (m : Sent) × (k < l) × (l < length c.handled) × At c.up l m
+    × Ends s.message m.message)
     ⊎ ((r : ℕ) → Acted c log k r → In log (Removed r))
 
 -- The step in which a message was handled was within what was sent and logged.
@@ -54,7 +57,8 @@ pub record IsWithin (log : List Entry) (c : Circuit) (h : Step) : Type 0 where
 
 -- The record on which the EVENT_ADD of a subscription that stands acted is the
 -- one that has its name.
-pub record IsOnRecord (log : List Entry) (rs : List RecordSide) (c : Circuit) (sub : Subscription) (st : Standing) : Type 0 where
+pub record IsOnRecord (log : List Entry) (rs : List RecordSide) (c : Circuit) (sub : Subscription)
+    (st : Standing) : Type 0 where
   pub key : key_of sub ≡ st.key
   pub s : Sent
   pub sent : At c.up st.place s
@@ -64,16 +68,22 @@ pub record IsOnRecord (log : List Entry) (rs : List RecordSide) (c : Circuit) (s
   pub acted : (r : ℕ) → Acted c log st.place r → In (titles rs) (sub.name, r)
 
 -- What is to be known of an open end and its circuit.
-pub record KnownOn (log : List Entry) (rs : List RecordSide) (e : ServerEnd) (c : Joined) : Type 0 where
+pub record KnownOn (log : List Entry) (rs : List RecordSide) (e : ServerEnd)
+    (c : Joined) : Type 0 where
   pub few : length e.channels ≤ arena_slots
   pub came : length c.lists.handled ≤ length c.lists.up
-  pub origins : (g : Handle) (ch : OpenChannel) → under e.channels g ≡ Some ch → IsOrigin log rs c (wire_of g) ch
+  pub origins : (g : Handle) (ch : OpenChannel) → under e.channels g ≡ Some ch
+      → IsOrigin log rs c (wire_of g) ch
   pub within : (k : ℕ) (h : Step) → At c.lists.handled k h → IsWithin log c.lists h
-  pub adds : (k : ℕ) (s : Sent) (h : Step) → At c.lists.up k s → At c.lists.handled k h → Is command.EventAdd s.message
+  pub adds : (k : ℕ) (s : Sent) (h : Step) → At c.lists.up k s → At c.lists.handled k h
+      → Is command.EventAdd s.message
       → IsRefused c.lists k ⊎ (IsStanding c.standing k ⊎ IsOver log c.lists k s)
   pub subs : Both (IsOnRecord log rs c.lists) e.subscriptions c.standing
 
 -- So it is of each open end of a world.
 abbrev pub AllKnown : World → Type 0
-AllKnown w = (n : ℕ) (c : Joined) (y : ServerSide) (e : ServerEnd) (log : List Entry) → At w.circuits n c → At w.servers c.server y
-    → c.lists.server_open ≡ true → HasEnd y.core c.at_server e → At w.server_logs y.life log → KnownOn log y.records e c
+AllKnown w =
+    (n : ℕ) (c : Joined) (y : ServerSide) (e : ServerEnd) (log : List Entry) → At w.circuits n c
+    → At w.servers c.server y
+    → c.lists.server_open ≡ true → HasEnd y.core c.at_server e → At w.server_logs y.life log
+    → KnownOn log y.records e c

@@ -25,7 +25,11 @@ AddsNoneEnded c x = (channel k l number : ℕ) (h : Step) → BecomesLive c chan
 
 -- So it is on each circuit of a world.
 abbrev pub LiveChannelsAreSubscribedTo : World → Type 0
-LiveChannelsAreSubscribedTo w = OfCircuits (told w) (λ (n : ℕ) (c : Circuit) (x : List Line) (y : List Entry). AddsWhatStands c x)
+LiveChannelsAreSubscribedTo w =
+    OfCircuits (told w)
+    (λ (n : ℕ) (c : Circuit) (x : List Line) (y : List Entry). AddsWhatStands c x)
 
 abbrev pub EndedSubscriptionsAreNotAdded : World → Type 0
-EndedSubscriptionsAreNotAdded w = OfCircuits (told w) (λ (n : ℕ) (c : Circuit) (x : List Line) (y : List Entry). AddsNoneEnded c x)
+EndedSubscriptionsAreNotAdded w =
+    OfCircuits (told w)
+    (λ (n : ℕ) (c : Circuit) (x : List Line) (y : List Entry). AddsNoneEnded c x)

@@ -9,8 +9,12 @@ use Rattle.ca_laws_runs.specs.Entries.{titles}
 
 -- Each record that the log added, and did not remove, is there under its name and number.
 abbrev pub IsListed : List Entry → List RecordSide → Type 0
-IsListed log rs = (r : ℕ) (s : RecordState) → In log (Added r s) → (In log (Removed r) → ⊥) → In (titles rs) (s.name, r)
+IsListed log rs =
+    (r : ℕ) (s : RecordState) → In log (Added r s) → (In log (Removed r) → ⊥)
+    → In (titles rs) (s.name, r)
 
 -- So it is of each server and of the log of its life.
 abbrev pub AllListed : World → Type 0
-AllListed w = (i : ℕ) (y : ServerSide) (log : List Entry) → At w.servers i y → At w.server_logs y.life log → IsListed log y.records
+AllListed w =
+    (i : ℕ) (y : ServerSide) (log : List Entry) → At w.servers i y → At w.server_logs y.life log
+    → IsListed log y.records

@@ -11,7 +11,8 @@ use Rattle.ca_laws_parts.specs.Sids.{IsClearedWithin}
 -- the channel that was created there.
 abbrev pub AreCleared : Circuit → Type 0
 AreCleared c = (q : ℕ) (t : Told) → q < length c.heard → At c.down q t → t.cause ≡ Removal
-    → (i sid : ℕ) × (u : Told) × At c.down i u × (u.cause ≡ Reply) × Creates u.message sid × (u.place ≡ t.place) × IsClearedWithin c.up sid u.place (length c.up)
+    → (i sid : ℕ) × (u : Told) × At c.down i u × (u.cause ≡ Reply) × Creates u.message sid
+    × (u.place ≡ t.place) × IsClearedWithin c.up sid u.place (length c.up)
 
 -- So it is on each circuit.
 abbrev pub AllCleared : World → Type 0
@@ -21,5 +22,6 @@ AllCleared w = (n : ℕ) (c : Joined) → At w.circuits n c → AreCleared c.lis
 -- name; while the server's end is open, that is there, or a SERVER_DISCONN is unread.
 abbrev pub LiveAreThere : World → Type 0
 LiveAreThere w = OfCircuits (told w) (λ (n : ℕ) (c : Circuit) (x : List Line) (y : List Entry).
-    (channel j k sid : ℕ) → IsLive c channel j k sid → (r : ℕ) × IsOpen c y j k sid r × IsNamed x y channel r
+    (channel j k sid : ℕ) → IsLive c channel j k sid → (r : ℕ) × IsOpen c y j k sid r
+    × IsNamed x y channel r
     × (c.server_open ≡ true → (In y (Removed r) → ⊥) ⊎ IsUnread c k))

@@ -18,4 +18,5 @@ AllKeepRecords w = (life : ℕ) (y : List Entry) → At w.server_logs life y →
 
 -- Channels and records keep their names, on all circuits with the logs that each joins.
 abbrev pub NamesAreKept : World → Type 0
-NamesAreKept w = OfCircuits (told w) (λ (n : ℕ) (c : Circuit) (x : List Line) (y : List Entry). KeepNames x y)
+NamesAreKept w =
+    OfCircuits (told w) (λ (n : ℕ) (c : Circuit) (x : List Line) (y : List Entry). KeepNames x y)

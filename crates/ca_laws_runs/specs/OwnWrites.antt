@@ -11,7 +11,8 @@ use Rattle.ca_model.specs.World.{World, port_of, rules_of, told}
 -- What was applied is the value that the caller gave, on a record with the name of the caller's
 -- channel, in the step that handled it or after it had waited.
 abbrev pub WritesAreOwn : World → Type 0
-WritesAreOwn w = (n k l i r : ℕ) (v : Stored) → IsApplied (told w) n k l i r v → IsOwnWrite (told w) n k l i r v
+WritesAreOwn w =
+    (n k l i r : ℕ) (v : Stored) → IsApplied (told w) n k l i r v → IsOwnWrite (told w) n k l i r v
 
 -- No write is applied twice.
 abbrev pub WritesAreNotTwice : World → Type 0

@@ -13,7 +13,8 @@ abbrev pub SideWaits : List RecordSide → PutPlace → Type 0
 SideWaits rs q = (r : RecordSide) × In rs r × In r.waiting q
 
 -- This put makes the record of a name busy, and came at this place.
-pub record BusyPair (cs : List Record) (rs : List RecordSide) (q : PutPlace) (b : Put) : Type 0 where
+pub record BusyPair (cs : List Record) (rs : List RecordSide) (q : PutPlace)
+    (b : Put) : Type 0 where
   pub c : Record
   pub r : RecordSide
   pub in_cs : In cs c

@@ -6,9 +6,11 @@ use Rattle.ca_ids.specs.Wire.{wire_of}
 use Rattle.ca_monitor.specs.Subscriptions.{Cancelled, Ended, Stage, Stands, Subscription}
 use Rattle.ca_requests.specs.Requests.{Request}
 use Rattle.ca_text.specs.Place.{At}
-use Rattle.ca_model.specs.Client.{Channel, Clearing, Client, Connecting, Creating, Doomed, Leaving, Live, Phase, Standing}
+use Rattle.ca_model.specs.Client.{Channel, Clearing, Client, Connecting, Creating, Doomed, Leaving}
+use Rattle.ca_model.specs.Client.{Live, Phase, Standing}
 use Rattle.ca_model.specs.Client as standing
-use Rattle.ca_model.specs.History.{Ask, Cancel, Clear, Create, Intent, Kind, On, Put, Read, Sent, Subscribe, Write}
+use Rattle.ca_model.specs.History.{Ask, Cancel, Clear, Create, Intent, Kind, On, Put, Read, Sent}
+use Rattle.ca_model.specs.History.{Subscribe, Write}
 use Rattle.ca_model.specs.History as history
 use Rattle.ca_model.specs.Placed.{WasGiven}
 use Rattle.ca_model.specs.ClientEvents.{channel_number, meant_by}
@@ -30,13 +32,17 @@ IsOfUse ask = Unit {0}
 -- After place k nothing was sent on the channel; it was only used; it was only used, but
 -- for what is at place q.
 abbrev pub NoneAfter : List Sent → (k number : ℕ) → Type 0
-NoneAfter up k number = (l : ℕ) (r : Sent) (ask : Ask) → k < l → At up l r → r.intent ≡ On number ask → ⊥
+NoneAfter up k number =
+    (l : ℕ) (r : Sent) (ask : Ask) → k < l → At up l r → r.intent ≡ On number ask → ⊥
 
 abbrev pub UsedAfter : List Sent → (k number : ℕ) → Type 0
-UsedAfter up k number = (l : ℕ) (r : Sent) (ask : Ask) → k < l → At up l r → r.intent ≡ On number ask → IsOfUse ask
+UsedAfter up k number =
+    (l : ℕ) (r : Sent) (ask : Ask) → k < l → At up l r → r.intent ≡ On number ask → IsOfUse ask
 
 abbrev pub UsedBut : List Sent → (k q number : ℕ) → Type 0
-UsedBut up k q number = (l : ℕ) (r : Sent) (ask : Ask) → k < l → At up l r → r.intent ≡ On number ask → (l ≡ q) ⊎ IsOfUse ask
+UsedBut up k q number =
+    (l : ℕ) (r : Sent) (ask : Ask) → k < l → At up l r → r.intent ≡ On number ask → (l ≡ q)
+    ⊎ IsOfUse ask
 
 -- The channel's last CREATE_CHAN is the last that was sent on it; or it was cleared since, and its
 -- CLEAR_CHANNEL is the last.
@@ -44,7 +50,9 @@ abbrev pub IsBeingCreated : List Sent → (number : ℕ) → Type 0
 IsBeingCreated up number = (k : ℕ) × IsAskedAt up k number Create × NoneAfter up k number
 
 abbrev pub IsBeingCleared : List Sent → (number : ℕ) → Type 0
-IsBeingCleared up number = (k q : ℕ) × IsAskedAt up k number Create × IsAskedAt up q number Clear × NoneAfter up q number × UsedBut up k q number
+IsBeingCleared up number =
+    (k q : ℕ) × IsAskedAt up k number Create × IsAskedAt up q number Clear × NoneAfter up q number
+    × UsedBut up k q number
 
 -- A channel in this phase on the circuit: what was sent on it.
 abbrev pub PhaseIn : List Sent → (number : ℕ) → Phase → Type 0
@@ -83,10 +91,13 @@ HasNumber n h = At n.channels (channel_number n h) h
 
 -- It is meant to make a request on the channel of this handle; to subscribe on it.
 abbrev pub IsRequestOn : Names → Handle → Intent → Type 0
-IsRequestOn n h intent = (kind : Kind) × (number : ℕ) × HasNumber n h × (intent ≡ On (channel_number n h) (history.Request kind number))
+IsRequestOn n h intent =
+    (kind : Kind) × (number : ℕ) × HasNumber n h
+    × (intent ≡ On (channel_number n h) (history.Request kind number))
 
 abbrev pub IsSubscriptionOn : Names → Handle → Intent → Type 0
-IsSubscriptionOn n h intent = (number : ℕ) × HasNumber n h × (intent ≡ On (channel_number n h) (Subscribe number))
+IsSubscriptionOn n h intent =
+    (number : ℕ) × HasNumber n h × (intent ≡ On (channel_number n h) (Subscribe number))
 
 -- a request that the client keeps until it is answered: a read, or a put with notification
 abbrev pub IsAnswered : Kind → Type 0
@@ -100,18 +111,26 @@ pub record Tidy (n : Names) (x : Client) : Type 0 where
   pub numbered : AreNumbered n x
   pub given : (i : ℕ) (h : Handle) → At n.channels i h → WasGiven x.channels h
   pub once : (i : ℕ) (h : Handle) → At n.channels i h → channel_number n h ≡ i
-  pub asked : (i : ℕ) (e : Handle × Intent) → At n.requests i e → (a : ℕ) × (kind : Kind) × (e.1 ≡ On a (history.Request kind i)) × IsAnswered kind
-  pub subscribed : (i : ℕ) (e : Handle × Intent) → At n.subscriptions i e → (a : ℕ) × (e.1 ≡ On a (Subscribe i))
-  pub requests : (q : Handle) (r : Request) → under x.requests q ≡ Some r → IsRequestOn n r.channel (meant_by n.requests q)
-  pub subscriptions : (g : Handle) (d : Subscription) → under x.subscriptions g ≡ Some d → IsSubscriptionOn n d.channel (meant_by n.subscriptions g)
+  pub asked : (i : ℕ) (e : Handle × Intent) → At n.requests i e → (a : ℕ) × (kind : Kind)
+      × (e.1 ≡ On a (history.Request kind i)) × IsAnswered kind
+  pub subscribed : (i : ℕ) (e : Handle × Intent) → At n.subscriptions i e → (a : ℕ)
+      × (e.1 ≡ On a (Subscribe i))
+  pub requests : (q : Handle) (r : Request) → under x.requests q ≡ Some r
+      → IsRequestOn n r.channel (meant_by n.requests q)
+  pub subscriptions : (g : Handle) (d : Subscription) → under x.subscriptions g ≡ Some d
+      → IsSubscriptionOn n d.channel (meant_by n.subscriptions g)
 
 -- What was meant by a message is named: a read or a put, and a subscription that
 -- is made or cancelled.
 abbrev pub IsNamedIn : Names → Intent → Type 0
-IsNamedIn n (On a (history.Request Read number)) = (q : Handle) × At n.requests number (q, On a (history.Request Read number))
-IsNamedIn n (On a (history.Request Put number)) = (q : Handle) × At n.requests number (q, On a (history.Request Put number))
-IsNamedIn n (On a (Subscribe number)) = (g : Handle) × At n.subscriptions number (g, On a (Subscribe number))
-IsNamedIn n (On a (Cancel number)) = (g : Handle) × At n.subscriptions number (g, On a (Subscribe number))
+IsNamedIn n (On a (history.Request Read number)) =
+    (q : Handle) × At n.requests number (q, On a (history.Request Read number))
+IsNamedIn n (On a (history.Request Put number)) =
+    (q : Handle) × At n.requests number (q, On a (history.Request Put number))
+IsNamedIn n (On a (Subscribe number)) =
+    (g : Handle) × At n.subscriptions number (g, On a (Subscribe number))
+IsNamedIn n (On a (Cancel number)) =
+    (g : Handle) × At n.subscriptions number (g, On a (Subscribe number))
 IsNamedIn n intent = Unit {0}
 
 -- A message about a subscription has the id of the handle that its number names.
@@ -122,7 +141,9 @@ HasSubId n s =
 
 -- An EVENT_CANCEL has the subscription id of its EVENT_ADD.
 abbrev pub AreSubIds : List Sent → Type 0
-AreSubIds up = (p q a b number : ℕ) (r s : Sent) → At up p r → At up q s → r.intent ≡ On a (Subscribe number) → s.intent ≡ On b (Cancel number)
+AreSubIds up =
+    (p q a b number : ℕ) (r s : Sent) → At up p r → At up q s → r.intent ≡ On a (Subscribe number)
+    → s.intent ≡ On b (Cancel number)
     → r.message.p2 ≡ s.message.p2
 
 -- A CREATE_CHAN and a CLEAR_CHANNEL have the CID of the handle that their channel's number names.
@@ -136,11 +157,15 @@ HaveCids channels up = (p : ℕ) (s : Sent) → At up p s → HasCid channels s
 
 -- A CLEAR_CHANNEL has the CID of its channel's CREATE_CHANs.
 abbrev pub AreCids : List Sent → Type 0
-AreCids up = (p q a : ℕ) (r s : Sent) → At up p r → At up q s → r.intent ≡ On a Create → s.intent ≡ On a Clear → r.message.p1 ≡ s.message.p2
+AreCids up =
+    (p q a : ℕ) (r s : Sent) → At up p r → At up q s → r.intent ≡ On a Create
+    → s.intent ≡ On a Clear → r.message.p1 ≡ s.message.p2
 
 -- Between two EVENT_ADDs of one subscription its channel was created again.
 abbrev pub AreAddedApart : List Sent → Type 0
-AreAddedApart up = (k l a number : ℕ) (r s : Sent) → k < l → At up k r → At up l s → r.intent ≡ On a (Subscribe number) → s.intent ≡ On a (Subscribe number)
+AreAddedApart up =
+    (k l a number : ℕ) (r s : Sent) → k < l → At up k r → At up l s
+    → r.intent ≡ On a (Subscribe number) → s.intent ≡ On a (Subscribe number)
     → (p : ℕ) × (q : Sent) × (k < p) × (p < l) × At up p q × (q.intent ≡ On a Create)
 
 -- ---- a circuit
@@ -150,18 +175,22 @@ AreAddedApart up = (k l a number : ℕ) (r s : Sent) → k < l → At up k r →
 pub record Quiet (n : Names) (x : Client) (on : Handle) (up : List Sent) : Type 0 where
   pub named : (p : ℕ) (s : Sent) → At up p s → IsNamedIn n s.intent
   pub ids : (p : ℕ) (s : Sent) → At up p s → HasSubId n s
-  pub channels : (h : Handle) (ch : Channel) → under x.channels h ≡ Some ch → StandsIn on up (channel_number n h) ch.standing
-  pub subscriptions : (g : Handle) (d : Subscription) (a number : ℕ) → under x.subscriptions g ≡ Some d → meant_by n.subscriptions g ≡ On a (Subscribe number)
+  pub channels : (h : Handle) (ch : Channel) → under x.channels h ≡ Some ch
+      → StandsIn on up (channel_number n h) ch.standing
+  pub subscriptions : (g : Handle) (d : Subscription) (a number : ℕ)
+      → under x.subscriptions g ≡ Some d → meant_by n.subscriptions g ≡ On a (Subscribe number)
       → StageIn on up number d.stage
 
 -- So it is of all clients of a world, and of their circuits whose ends are open. On all circuits
 -- ids of subscriptions and of channels stay right, and EVENT_ADDs of one subscription apart.
 pub record ClientsQuiet (w : World) : Type 0 where
   pub tidy : (i : ℕ) (x : ClientSide) → At w.clients i x → Tidy x.names x.core
-  pub quiet : (k : ℕ) (j : Joined) (x : ClientSide) → At w.circuits k j → At w.clients j.client x → j.lists.client_open ≡ true
+  pub quiet : (k : ℕ) (j : Joined) (x : ClientSide) → At w.circuits k j → At w.clients j.client x
+      → j.lists.client_open ≡ true
       → Quiet x.names x.core j.at_client j.lists.up
   pub ids : (k : ℕ) (j : Joined) → At w.circuits k j → AreSubIds j.lists.up
   pub apart : (k : ℕ) (j : Joined) → At w.circuits k j → AreAddedApart j.lists.up
-  pub named : (k : ℕ) (j : Joined) (x : ClientSide) → At w.circuits k j → At w.clients j.client x → j.lists.client_open ≡ true
+  pub named : (k : ℕ) (j : Joined) (x : ClientSide) → At w.circuits k j → At w.clients j.client x
+      → j.lists.client_open ≡ true
       → HaveCids x.names.channels j.lists.up
   pub cids : (k : ℕ) (j : Joined) → At w.circuits k j → AreCids j.lists.up

@@ -12,11 +12,15 @@ use Rattle.ca_model.specs.World.{Joined, World, circuit_of, port_of, rules_of, t
 -- The updates of each accepted EVENT_ADD of this circuit follow its record, by the log
 -- of its server's life.
 abbrev pub CircuitFollows : World → (n : ℕ) → Joined → List Entry → Type 0
-CircuitFollows w n c log = (x : List Line) → FollowsRecord (IsDue (port_of w) (rules_of w)) Shows Means n (circuit_of c) x log
+CircuitFollows w n c log =
+    (x : List Line)
+    → FollowsRecord (IsDue (port_of w) (rules_of w)) Shows Means n (circuit_of c) x log
 
 -- So it is on each circuit, open or not.
 abbrev pub AllFollowRecord : World → Type 0
-AllFollowRecord w = (n : ℕ) (c : Joined) (log : List Entry) → At w.circuits n c → At w.server_logs c.lists.server log
+AllFollowRecord w =
+    (n : ℕ) (c : Joined) (log : List Entry) → At w.circuits n c
+    → At w.server_logs c.lists.server log
     → CircuitFollows w n c log
 
 -- And this is the statement's clause, with the logs that each circuit joins.

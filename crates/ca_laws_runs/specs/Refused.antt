@@ -19,9 +19,11 @@ TellsBad w c k j = IsBadChannel (IsDue (port_of w) (rules_of w)) Shows Means c k
 -- it answers each use of that.
 abbrev pub AreRetired : World → Type 0
 AreRetired w = OfCircuits (told w) (λ (n : ℕ) (c : Circuit) (x : List Line) (y : List Entry).
-    (k j r : ℕ) (h : Step) → TellsBad w c k j → Acted c y k r → At c.handled k h → In (take h.logged y) (Removed r))
+    (k j r : ℕ) (h : Step) → TellsBad w c k j → Acted c y k r → At c.handled k h
+    → In (take h.logged y) (Removed r))
 
 abbrev pub AreRefused : World → Type 0
 AreRefused w = OfCircuits (told w) (λ (n : ℕ) (c : Circuit) (x : List Line) (y : List Entry).
-    (k j r : ℕ) (m : Fields) (s : Sent) (h : Step) → IsReply c k j m → At c.up k s → IsUse s.intent → Acted c y k r → At c.handled k h
+    (k j r : ℕ) (m : Fields) (s : Sent) (h : Step) → IsReply c k j m → At c.up k s → IsUse s.intent
+    → Acted c y k r → At c.handled k h
     → In (take h.logged y) (Removed r) → TellsBad w c k j)

@@ -20,16 +20,21 @@ pub record IsShown (log : List Entry) (c : Circuit) (t : Told) (a : ℕ) : Type 
   pub handled : At c.handled t.place h
   pub within : IsWithin log c h
   pub shows : (r : ℕ) → Acted c log t.place r
-      → (v : Stored) × At (matching log h.logged r (mask_in s.message)) a v × Shows s.message v t.message
+      → (v : Stored) × At (matching log h.logged r (mask_in s.message)) a v
+      × Shows s.message v t.message
 
 -- So it is of each update that was sent; those about one message rise; and nothing waits at
 -- an end that has ended.
 pub record SentOn (log : List Entry) (c : Joined) : Type 0 where
-  pub shown : (j a : ℕ) (t : Told) → At c.lists.down j t → t.cause ≡ Update a → IsShown log c.lists t a
-  pub rise : (i j a b : ℕ) (t u : Told) → i < j → At c.lists.down i t → At c.lists.down j u → t.place ≡ u.place
+  pub shown : (j a : ℕ) (t : Told) → At c.lists.down j t → t.cause ≡ Update a
+      → IsShown log c.lists t a
+  pub rise : (i j a b : ℕ) (t u : Told) → i < j → At c.lists.down i t → At c.lists.down j u
+      → t.place ≡ u.place
       → t.cause ≡ Update a → u.cause ≡ Update b → a < b
   pub over : c.lists.server_open ≡ false → c.queues ≡ []
 
 -- So it is on each circuit.
 abbrev pub AllSent : World → Type 0
-AllSent w = (n : ℕ) (c : Joined) (log : List Entry) → At w.circuits n c → At w.server_logs c.lists.server log → SentOn log c
+AllSent w =
+    (n : ℕ) (c : Joined) (log : List Entry) → At w.circuits n c
+    → At w.server_logs c.lists.server log → SentOn log c

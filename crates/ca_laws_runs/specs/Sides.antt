@@ -27,20 +27,25 @@ pub record IsLiveAs (t : Table Channel) (on : Handle) (h : Handle) (sid : ℕ) :
 -- cleared under that SID since.
 pub record Sides (n : Names) (x : Client) (on : Handle) (c : Circuit) : Type 0 where
   pub lives : (h : Handle) (sid : ℕ) → IsLiveAs x.channels on h sid
-      → (j k : ℕ) × (j < length c.heard) × IsCreatedBefore c (channel_number n h) j k sid (length c.up)
-  pub answered : (i sid a : ℕ) (t : Told) (r : Sent) → i < length c.heard → At c.down i t → t.cause ≡ Reply
+      → (j k : ℕ) × (j < length c.heard)
+      × IsCreatedBefore c (channel_number n h) j k sid (length c.up)
+  pub answered : (i sid a : ℕ) (t : Told) (r : Sent) → i < length c.heard → At c.down i t
+      → t.cause ≡ Reply
       → Creates t.message sid → At c.up t.place r → r.intent ≡ history.On a Create
       → IsClearedWithin c.up sid t.place (length c.up)
       ⊎ ((h : Handle) × (channel_number n h ≡ a) × IsLiveAs x.channels on h sid)
 
 -- Before a channel is created again on a circuit, its last CREATE_CHAN was handled.
 abbrev pub AreInTurn : Circuit → Type 0
-AreInTurn c = (p k a : ℕ) (r q : Sent) → p < k → At c.up p r → At c.up k q → r.intent ≡ history.On a Create
+AreInTurn c =
+    (p k a : ℕ) (r q : Sent) → p < k → At c.up p r → At c.up k q → r.intent ≡ history.On a Create
     → q.intent ≡ history.On a Create → p < length c.handled
 
 -- So it goes under the SID of a channel of whose creation the client read.
 abbrev pub AreRead : Circuit → Type 0
-AreRead c = (p channel : ℕ) (s : Sent) (ask : history.Ask) → At c.up p s → s.intent ≡ history.On channel ask → (ask ≡ Create → ⊥)
+AreRead c =
+    (p channel : ℕ) (s : Sent) (ask : history.Ask) → At c.up p s → s.intent ≡ history.On channel ask
+    → (ask ≡ Create → ⊥)
     → (j k : ℕ) × (j < length c.heard) × IsCreatedBefore c channel j k (sid_in s.message) p
 
 -- What a client said on a circuit, by its lists.

@@ -24,15 +24,23 @@ IsOnChannel number intent = (ask : Ask) × (intent ≡ On number ask)
 -- what was meant by s; or that a SERVER_DISCONN for its channel came.
 abbrev pub TellsOwn : Names → Fields → Sent → Notice → Type 0
 TellsOwn n m s (notice.Live h) = (s.intent ≡ On (channel_number n h) Create) × Means m outcome.Done
-TellsOwn n m s (notice.Lost h) = IsOnChannel (channel_number n h) s.intent × Is command.ServerDisconnect m
-TellsOwn n m s (notice.Completed q o) = ((meant_by n.requests q ≡ s.intent) × Means m o) ⊎ ((o ≡ outcome.Disconnected) × Is command.ServerDisconnect m)
+TellsOwn n m s (notice.Lost h) =
+    IsOnChannel (channel_number n h) s.intent × Is command.ServerDisconnect m
+TellsOwn n m s (notice.Completed q o) =
+    ((meant_by n.requests q ≡ s.intent) × Means m o)
+    ⊎ ((o ≡ outcome.Disconnected) × Is command.ServerDisconnect m)
 TellsOwn n m s (notice.Update g o) = (meant_by n.subscriptions g ≡ s.intent) × Means m o
-TellsOwn n m s (notice.SubscriptionEnded g status) = (meant_by n.subscriptions g ≡ s.intent) × Means m (outcome.Failed status)
-TellsOwn n m s (notice.WriteRefused h status) = IsOnChannel (channel_number n h) s.intent × Means m (outcome.Failed status)
+TellsOwn n m s (notice.SubscriptionEnded g status) =
+    (meant_by n.subscriptions g ≡ s.intent) × Means m (outcome.Failed status)
+TellsOwn n m s (notice.WriteRefused h status) =
+    IsOnChannel (channel_number n h) s.intent × Means m (outcome.Failed status)
 
 -- So it is of the message that the client's end of circuit k takes next.
 abbrev pub NoticesTell : World → (k : ℕ) → Type 0
 NoticesTell w k =
-    (j : Joined) (x : ClientSide) (d : Connection) (m : Fields) (rest : List ℕ) (t : Told) (s : Sent) (e : Effect) → At w.circuits k j → At w.clients j.client x
-    → connection_at x.core j.at_client ≡ Some d → TakesFirst d.link m rest → At j.lists.down (length j.lists.heard) t → At j.lists.up t.place s
-    → Hears (after_taking j.at_client rest x.core) j.at_client m e → (i : ℕ) (o : Notice) → At e.notices i o → TellsOwn x.names m s o
+    (j : Joined) (x : ClientSide) (d : Connection) (m : Fields) (rest : List ℕ) (t : Told)
+    (s : Sent) (e : Effect) → At w.circuits k j → At w.clients j.client x
+    → connection_at x.core j.at_client ≡ Some d → TakesFirst d.link m rest
+    → At j.lists.down (length j.lists.heard) t → At j.lists.up t.place s
+    → Hears (after_taking j.at_client rest x.core) j.at_client m e → (i : ℕ) (o : Notice)
+    → At e.notices i o → TellsOwn x.names m s o

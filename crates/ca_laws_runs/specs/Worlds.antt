@@ -40,8 +40,13 @@ IsOther e = Unit {0}
 -- What is not shown of all runs yet, of the message that a server's end handles next on a circuit:
 -- a WRITE has the SID under which the server has the channel for which it was meant; and for what
 -- it ends, by what was meant, the server keeps nothing then.
-pub record IsOwnNext (w new : World) (k : ℕ) (j : Joined) (y : ServerSide) (f : StepHandles w k j y new) : Type 0 where
-  pub writes : (s : Sent) → At j.lists.up (length j.lists.handled) s → Is command.Write s.message → (cid : ℕ)
-      → IsCidAt (knows y.core (record f.e { link = with_rest (f.steps.0).rest f.e.link })) s.message.p1 cid → IsCidOf j.lists.up (length j.lists.handled) s.intent cid
-  pub over : (s r : Sent) (p : ℕ) → At j.lists.up (length j.lists.handled) s → At j.lists.up p r → p < length j.lists.handled → Ends s.intent r.intent
+pub record IsOwnNext (w new : World) (k : ℕ) (j : Joined) (y : ServerSide)
+    (f : StepHandles w k j y new) : Type 0 where
+  pub writes : (s : Sent) → At j.lists.up (length j.lists.handled) s → Is command.Write s.message
+      → (cid : ℕ)
+      → IsCidAt
+      (knows y.core (record f.e { link = with_rest (f.steps.0).rest f.e.link })) s.message.p1 cid
+      → IsCidOf j.lists.up (length j.lists.handled) s.intent cid
+  pub over : (s r : Sent) (p : ℕ) → At j.lists.up (length j.lists.handled) s → At j.lists.up p r
+      → p < length j.lists.handled → Ends s.intent r.intent
       → In (kept new k) p → ⊥

@@ -2,7 +2,8 @@ ghost use Rattle.std.specs.Prelude.{List, Option};
 ghost use Rattle.ca_model.specs.Events.{Event};
 ghost use Rattle.ca_model.specs.Runs.{Runs};
 ghost use Rattle.ca_model.specs.World.{IsSetting, Setting, World};
-ghost use Rattle.ca_laws_runs.specs.Causes.{ChannelsAreRemovedOnce, ErrorsQuoteTheirOwn, MessagesAreRefusedOnce, MessagesComeAfter};
+ghost use Rattle.ca_laws_runs.specs.Causes.{ChannelsAreRemovedOnce, ErrorsQuoteTheirOwn};
+ghost use Rattle.ca_laws_runs.specs.Causes.{MessagesAreRefusedOnce, MessagesComeAfter};
 
 /// After every run from a well-formed setting each message of a server, on each circuit, was sent
 /// in the step that handled the message that it is about, or after that step: replies, late replies

@@ -3,7 +3,9 @@ ghost use Rattle.ca_model.specs.Events.{Event};
 ghost use Rattle.ca_model.specs.Runs.{AreEvents, Runs};
 ghost use Rattle.ca_model.specs.World.{IsSetting, Setting, World, told};
 ghost use Rattle.ca_laws_parts.specs.Says.{CompleteOnce};
-ghost use Rattle.ca_laws_runs.specs.ToldParts.{CreationsAreTold, DoneIsApplied, FailedIsNot, LostWereLive, NoneIsLostSince, NoticesAreTold, RequestsAreTold, UsesAreToldOnce};
+ghost use Rattle.ca_laws_runs.specs.ToldParts.{CreationsAreTold, DoneIsApplied, FailedIsNot};
+ghost use Rattle.ca_laws_runs.specs.ToldParts.{LostWereLive, NoneIsLostSince, NoticesAreTold};
+ghost use Rattle.ca_laws_runs.specs.ToldParts.{RequestsAreTold, UsesAreToldOnce};
 
 /// After every run from a well-formed setting by well-formed events, each notice of a read, a
 /// put or a plain write that does not tell Disconnected was told when a message was read: the

@@ -3,7 +3,8 @@ ghost use Rattle.ca_model.specs.Channels.{OfClients};
 ghost use Rattle.ca_model.specs.Events.{Event};
 ghost use Rattle.ca_model.specs.Runs.{Runs};
 ghost use Rattle.ca_model.specs.World.{Setting, World, told};
-ghost use Rattle.ca_laws_runs.specs.Once.{CallsOnce, SendsCalled, StandsOnce, TellsOnce, WritesTellFailed};
+ghost use Rattle.ca_laws_runs.specs.Once.{CallsOnce, SendsCalled, StandsOnce, TellsOnce};
+ghost use Rattle.ca_laws_runs.specs.Once.{WritesTellFailed};
 
 /// In every world to which a run leads, whatever its setting and events, no call of a client is
 /// twice in a log: requests, plain writes and subscriptions have numbers of their own, and what was

@@ -1,6 +1,7 @@
 -- Vocabulary: ascending lists of indices, one for each owner, by the owner's index.
 use Prim.Native.Nat.{zero, suc}
-use Rattle.std.specs.Prelude.{ℕ, ◌++◌, ◌≡◌, ◌⊎◌, ◌<◌, ◌≤◌, ◌==◌, List, [], ◌∷◌, Result, Ok, Err, filter, if◌then◌else◌, length, nat_lt, not, slice_index_or}
+use Rattle.std.specs.Prelude.{ℕ, ◌++◌, ◌≡◌, ◌⊎◌, ◌<◌, ◌≤◌, ◌==◌, List, [], ◌∷◌, Result, Ok, Err}
+use Rattle.std.specs.Prelude.{filter, if◌then◌else◌, length, nat_lt, not, slice_index_or}
 
 -- it is one of these
 abbrev pub Has : List ℕ → ℕ → Type 0

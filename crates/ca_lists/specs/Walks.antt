@@ -40,8 +40,10 @@ module _ {T : Type 0} where
   -- Each value that has an owner is listed as that owner's.
   abbrev pub AreListed : (T → Option ℕ) → Table T → List (List ℕ) → Type 0
   AreListed owner t lists =
-      (i : ℕ) (v : T) (o : ℕ) → (place_at t i).value ≡ Some v → owner v ≡ Some o → Has (list_of lists o) i
+      (i : ℕ) (v : T) (o : ℕ) → (place_at t i).value ≡ Some v → owner v ≡ Some o
+      → Has (list_of lists o) i
 
   -- All that is this owner's is at these indices.
   abbrev pub AreAllIn : (T → Option ℕ) → ℕ → Table T → List ℕ → Type 0
-  AreAllIn owner o t xs = (i : ℕ) (v : T) → (place_at t i).value ≡ Some v → owner v ≡ Some o → Has xs i
+  AreAllIn owner o t xs =
+      (i : ℕ) (v : T) → (place_at t i).value ≡ Some v → owner v ≡ Some o → Has xs i

@@ -50,24 +50,28 @@ pub record Serves (h : Handle) (old : Server) (m : Fields) (new : Server) : Type
   pub stays : (after : ServerEnd) × HasEnd new h after
 
 -- What waits on the circuit after a message is written, in one piece.
-pub record Writes (h : Handle) (old : Server) (m : Fields) (text : List ℕ) (new : Server) : Type 0 where
+pub record Writes (h : Handle) (old : Server) (m : Fields) (text : List ℕ)
+    (new : Server) : Type 0 where
   pub served : Server
   pub serves : Serves h old m served
   pub e : ServerEnd
   pub has : HasEnd served h e
   pub is : text ≡ e.link.output
-  pub leaves : new ≡ with_end h (record e { link = with_handed (length e.link.output) e.link }) served
+  pub leaves : new ≡ with_end h
+      (record e { link = with_handed (length e.link.output) e.link }) served
 
 -- For these messages in a row this text is written, and new is left. It is the text of all of them,
 -- in whatever pieces it goes out.
 abbrev pub Answers : Handle → Server → List Fields → List ℕ → Server → Type 0
 Answers h old [] text new = (text ≡ []) × (new ≡ old)
 Answers h old (m ∷ ms) text new =
-    (first : List ℕ) × (rest : List ℕ) × (mid : Server) × Writes h old m first mid × Answers h mid ms rest new × (text ≡ first ++ rest)
+    (first : List ℕ) × (rest : List ℕ) × (mid : Server) × Writes h old m first mid
+    × Answers h mid ms rest new × (text ≡ first ++ rest)
 
 -- These messages are answered by this text, as the first on the first circuit of a server with
 -- these records under these rules.
-pub record Answered (rules : List Rule) (states : List RecordState) (ms : List Fields) (text : List ℕ) : Type 0 where
+pub record Answered (rules : List Rule) (states : List RecordState) (ms : List Fields)
+    (text : List ℕ) : Type 0 where
   pub h : Handle
   pub start : Server
   pub accepts : Accepts (new_server server_port 0 rules states) (Ok h) start

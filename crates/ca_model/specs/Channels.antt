@@ -1,6 +1,7 @@
 -- Statement: what is read off the lists: which message is whose, which channels are open or live,
 -- which writes were applied.
-use Rattle.std.specs.Prelude.{ℕ, ◌≡◌, ◌<◌, ◌≤◌, ◌++◌, ◌⊎◌, Bool, true, false, List, [], Option, Some, None, Ok}
+use Rattle.std.specs.Prelude.{ℕ, ◌≡◌, ◌<◌, ◌≤◌, ◌++◌, ◌⊎◌, Bool, true, false, List, [], Option}
+use Rattle.std.specs.Prelude.{Some, None, Ok}
 use Rattle.std.specs.Prelude.{length, map, option_map, slice_get, take, unwrap_or}
 use Rattle.ca_text.specs.declared.command.Command.TheVariants as command
 use Rattle.ca_text.specs.Place.{At}
@@ -8,11 +9,14 @@ use Rattle.ca_dbr.specs.Conversion.{converted}
 use Rattle.ca_dbr.specs.Elements.{Elements, base_of}
 use Rattle.ca_records.specs.Record.{RecordState}
 use Rattle.ca_wire.specs.Fields.{Fields}
-use Rattle.ca_model.specs.Speech.{Id, Cid, Ioid, SubId, Clears, Creates, Ends, In, Is, IsWritten, Stored, name_in, sid_in}
-use Rattle.ca_model.specs.History.{Ask, Create, Clear, Request, Subscribe, Cancel, Read, Put, Write, Intent, On}
+use Rattle.ca_model.specs.Speech.{Id, Cid, Ioid, SubId, Clears, Creates, Ends, In, Is, IsWritten}
+use Rattle.ca_model.specs.Speech.{Stored, name_in, sid_in}
+use Rattle.ca_model.specs.History.{Ask, Create, Clear, Request, Subscribe, Cancel, Read, Put, Write}
+use Rattle.ca_model.specs.History.{Intent, On}
 use Rattle.ca_model.specs.History.{OfCircuit}
 use Rattle.ca_model.specs.History.{Cause, Reply, Removal, Sent, Told, Step, Circuit}
-use Rattle.ca_model.specs.History.{Entry, Added, Removed, Waits, Applied, Finished, Withdrawn, Line, Opened, Called}
+use Rattle.ca_model.specs.History.{Entry, Added, Removed, Waits, Applied, Finished, Withdrawn, Line}
+use Rattle.ca_model.specs.History.{Opened, Called}
 use Rattle.ca_model.specs.History.{World}
 
 -- ---- messages and intents
@@ -23,7 +27,8 @@ Joins w n c x y = At w.circuits n c × At w.clients c.client x × At w.servers c
 
 -- A fact holds of each circuit and of the two logs that it joins, which are there.
 abbrev pub OfCircuits : World → (ℕ → Circuit → List Line → List Entry → Type 0) → Type 0
-OfCircuits w P = (n : ℕ) (c : Circuit) → At w.circuits n c → (x : List Line) × (y : List Entry) × Joins w n c x y
+OfCircuits w P =
+    (n : ℕ) (c : Circuit) → At w.circuits n c → (x : List Line) × (y : List Entry) × Joins w n c x y
     × P n c x y
 
 -- A fact holds of the log of each life of a client.
@@ -69,7 +74,8 @@ IsUse intent = ⊥
 -- no such subscription.
 abbrev pub IsHeld : List Line → Intent → Type 0
 IsHeld x (On channel (Subscribe number)) =
-    (In x (Called (On channel Clear) None) → ⊥) × (In x (Called (On channel (Cancel number)) None) → ⊥)
+    (In x (Called (On channel Clear) None) → ⊥)
+    × (In x (Called (On channel (Cancel number)) None) → ⊥)
 IsHeld x (On channel ask) = In x (Called (On channel Clear) None) → ⊥
 IsHeld x OfCircuit = Unit {0}
 
@@ -108,11 +114,13 @@ IsReply c k j m = At c.down j (record { message = m; place = k; cause = Reply })
 
 -- The steps of an end: one for each of the first messages that came to it, in order; each within
 -- what it sent and logged.
-pub record AreSteps {A B C : Type 0} (steps : List Step) (came : List A) (sent : List B) (log : List C) : Type 0 where
+pub record AreSteps {A B C : Type 0} (steps : List Step) (came : List A) (sent : List B)
+    (log : List C) : Type 0 where
   pub one_each : length steps ≤ length came
   pub within : (k : ℕ) (h : Step) → At steps k h → (h.sent ≤ length sent) × (h.logged ≤ h.after)
       × (h.after ≤ length log)
-  pub rise : (i j : ℕ) (g h : Step) → i < j → At steps i g → At steps j h → (g.sent ≤ h.sent) × (g.after ≤ h.logged)
+  pub rise : (i j : ℕ) (g h : Step) → i < j → At steps i g → At steps j h → (g.sent ≤ h.sent)
+      × (g.after ≤ h.logged)
 
 -- ---- channels
 
@@ -123,7 +131,8 @@ Has y r name = (s : RecordState) × In y (Added r s) × (s.name ≡ name) × (In
 -- A channel is opened once. A record is added once, when no other has its name, and removed
 -- only while it is there.
 pub record KeepNames (x : List Line) (y : List Entry) : Type 0 where
-  pub one_name : (i j channel : ℕ) (a b : List ℕ) → At x i (Opened channel a) → At x j (Opened channel b) → i ≡ j
+  pub one_name : (i j channel : ℕ) (a b : List ℕ) → At x i (Opened channel a)
+      → At x j (Opened channel b) → i ≡ j
   pub one_record : (i j r : ℕ) (a b : RecordState) → At y i (Added r a) → At y j (Added r b) → i ≡ j
   pub one_at_once : (i r q : ℕ) (s : RecordState) → At y i (Added r s) → Has (take i y) q s.name → ⊥
   pub was_there : (i r : ℕ) → At y i (Removed r) → (name : List ℕ) × Has (take i y) r name
@@ -136,7 +145,8 @@ IsNamed x y channel r = (s : RecordState) × In x (Opened channel s.name) × In 
 -- server had under its name.
 abbrev pub Created : Circuit → List Entry → (j k sid r : ℕ) → Type 0
 Created c y j k sid r =
-    (t : Told) × (s : Sent) × (h : Step) × At c.down j t × (t.place ≡ k) × (t.cause ≡ Reply) × Creates t.message sid
+    (t : Told) × (s : Sent) × (h : Step) × At c.down j t × (t.place ≡ k) × (t.cause ≡ Reply)
+    × Creates t.message sid
     × At c.up k s × At c.handled k h × Has (take h.logged y) r (name_in s.message)
 
 -- The channel so created is open: no other was created under its SID later, and no
@@ -150,7 +160,8 @@ IsOpen c y j k sid r =
 -- was sent after place k.
 abbrev pub IsCleared : Circuit → (k sid logged : ℕ) → Type 0
 IsCleared c k sid logged =
-    (l : ℕ) × (s : Sent) × (h : Step) × (k < l) × At c.up l s × At c.handled l h × (h.logged ≤ logged)
+    (l : ℕ) × (s : Sent) × (h : Step) × (k < l) × At c.up l s × At c.handled l h
+    × (h.logged ≤ logged)
     × Clears s.message sid
 
 -- And it had handled none.
@@ -163,38 +174,45 @@ abbrev pub IsLive : Circuit → (channel j k sid : ℕ) → Type 0
 IsLive c channel j k sid =
     (t : Told) × Meant c k (On channel Create) × At c.down j t × (t.place ≡ k) × (t.cause ≡ Reply)
     × Creates t.message sid
-    × (j < length c.heard) × ((l : ℕ) → k < l → Meant c l (On channel Clear) → ⊥) × (c.client_open ≡ true)
+    × (j < length c.heard) × ((l : ℕ) → k < l → Meant c l (On channel Clear) → ⊥)
+    × (c.client_open ≡ true)
 
 -- The SERVER_DISCONN for the channel created at place k was sent, and is unread.
 abbrev pub IsUnread : Circuit → (k : ℕ) → Type 0
-IsUnread c k = (j : ℕ) × (t : Told) × At c.down j t × (t.place ≡ k) × (t.cause ≡ Removal) × (length c.heard ≤ j)
+IsUnread c k =
+    (j : ℕ) × (t : Told) × At c.down j t × (t.place ≡ k) × (t.cause ≡ Removal)
+    × (length c.heard ≤ j)
 
 -- The subscription of the EVENT_ADD s lasts: the server's end is open, record r is there, and no
 -- cancel or clear was handled.
 abbrev pub Lasts : Circuit → List Entry → (k r : ℕ) → Sent → Type 0
 Lasts c y k r s =
     (c.server_open ≡ true) × (In y (Removed r) → ⊥)
-    × ((l : ℕ) (m : Sent) → k < l → l < length c.handled → At c.up l m → Ends s.message m.message → ⊥)
+    × ((l : ℕ) (m : Sent) → k < l → l < length c.handled → At c.up l m → Ends s.message m.message
+    → ⊥)
 
 -- ---- writes and endings
 
 -- The write at place k of circuit n is applied, at entry i of the log of server life l, to
 -- record r with this value.
 abbrev pub IsApplied : World → (n k l i r : ℕ) → Stored → Type 0
-IsApplied w n k l i r v = (y : List Entry) × (busies : Bool) × At w.servers l y × At y i (Applied n k r v busies)
+IsApplied w n k l i r v =
+    (y : List Entry) × (busies : Bool) × At w.servers l y × At y i (Applied n k r v busies)
 
 -- Entry i was made when the message at place k was handled; or after all that were, as the
 -- server's end closed on it.
 abbrev pub IsTaken : Circuit → (k i : ℕ) → Type 0
 IsTaken c k i =
     ((h : Step) × At c.handled k h × (h.logged ≤ i) × (i < h.after))
-    ⊎ ((k ≡ length c.handled) × (c.server_open ≡ false) × ((l : ℕ) (g : Step) → At c.handled l g → g.after ≤ i))
+    ⊎ ((k ≡ length c.handled) × (c.server_open ≡ false)
+    × ((l : ℕ) (g : Step) → At c.handled l g → g.after ≤ i))
 
 -- The put at place k of circuit n came to wait for record r when it was handled, before entry i,
 -- and was never withdrawn.
 abbrev pub HasWaited : (n : ℕ) → Circuit → List Entry → (k i r : ℕ) → Type 0
 HasWaited n c y k i r =
-    (e : ℕ) × (v : Stored) × At y e (Waits n k r v) × (e < i) × IsTaken c k e × (In y (Withdrawn n k) → ⊥)
+    (e : ℕ) × (v : Stored) × At y e (Waits n k r v) × (e < i) × IsTaken c k e
+    × (In y (Withdrawn n k) → ⊥)
 
 -- The put at place k of circuit n is dropped at entry i: it had come to wait before; and its record
 -- was removed, its channel was cleared, or the server's end of its circuit closed.
@@ -207,10 +225,12 @@ pub record IsDropped (w : World) (n k l i : ℕ) (y : List Entry) : Type 0 where
   pub waited : At y e (Waits n k r v) × (e < i)
   pub s : Sent
   pub at : At c.up k s
-  pub why : In (take i y) (Removed r) ⊎ (IsCleared c k (sid_in s.message) i ⊎ (c.server_open ≡ false))
+  pub why : In (take i y) (Removed r)
+      ⊎ (IsCleared c k (sid_in s.message) i ⊎ (c.server_open ≡ false))
 
 -- A write that is applied at entry i has the value that its caller gave, in the type of its record,
--- with no alarm; the record was there then, under the name of the caller's channel; and it was applied when it was
+-- with no alarm; the record was there then, under the name of the caller's channel; and it was
+-- applied when it was
 -- handled, or the server's end closed on it, or after it had waited.
 pub record IsOwnWrite (w : World) (n k l i r : ℕ) (v : Stored) : Type 0 where
   pub c : Circuit
@@ -222,7 +242,8 @@ pub record IsOwnWrite (w : World) (n k l i r : ℕ) (v : Stored) : Type 0 where
   pub given : Elements
   pub called : Meant c k (On channel ask) × In x (Called (On channel ask) (Some given))
   pub to : RecordState
-  pub there : In x (Opened channel to.name) × In (take i y) (Added r to) × (In (take i y) (Removed r) → ⊥)
+  pub there : In x (Opened channel to.name) × In (take i y) (Added r to)
+      × (In (take i y) (Removed r) → ⊥)
   pub value : converted given (base_of to.value) ≡ Ok v.value
   pub written : IsWritten v
   pub came : IsTaken c k i ⊎ HasWaited n c y k i r
@@ -237,14 +258,16 @@ IsBusyUntil y n k e =
 -- The put s at place k of circuit n was finished, before any CLEAR_CHANNEL of its
 -- channel was handled.
 abbrev pub IsFinished : (n : ℕ) → Circuit → List Entry → (k : ℕ) → Sent → Type 0
-IsFinished n c y k s = (e : ℕ) × At y e (Finished n k) × IsBusyUntil y n k e × IsUncleared c k (sid_in s.message) e
+IsFinished n c y k s =
+    (e : ℕ) × At y e (Finished n k) × IsBusyUntil y n k e × IsUncleared c k (sid_in s.message) e
 
 -- What was meant so is lost in line i: its client's end has ended, or its channel was cleared
 -- before, or in the step that told line i a SERVER_DISCONN was read for the creation of its channel
 -- after which it was sent.
 abbrev pub IsLost : World → (life : ℕ) → List Line → (i : ℕ) → Intent → Type 0
 IsLost w life x i intent =
-    (n k channel : ℕ) × (ask : Ask) × (c : Circuit) × At w.circuits n c × (c.client ≡ life) × (intent ≡ On channel ask)
+    (n k channel : ℕ) × (ask : Ask) × (c : Circuit) × At w.circuits n c × (c.client ≡ life)
+    × (intent ≡ On channel ask)
     × Meant c k intent
     × ((c.client_open ≡ false) ⊎ (In (take i x) (Called (On channel Clear) None)
     ⊎ ((j : ℕ) × (t : Told) × (h : Step) × At c.down j t × At c.heard j h × (t.cause ≡ Removal)

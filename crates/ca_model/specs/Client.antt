@@ -1,6 +1,8 @@
 -- Vocabulary: the state of a client, and the changes that its calls share (sections "Channels"
 -- and "Virtual Circuit").
-use Rattle.std.specs.Prelude.{ℕ, ◌==◌, ◌&&◌, ◌++◌, Bool, true, false, not, List, [], ◌∷◌, Option, Some, None, filter, filter_map, find, fold, if◌then◌else◌, map, max, option_and_then, option_map, unwrap_or}
+use Rattle.std.specs.Prelude.{ℕ, ◌==◌, ◌&&◌, ◌++◌, Bool, true, false, not, List, [], ◌∷◌, Option}
+use Rattle.std.specs.Prelude.{Some, None, filter, filter_map, find, fold, if◌then◌else◌, map, max}
+use Rattle.std.specs.Prelude.{option_and_then, option_map, unwrap_or}
 use Rattle.ca_dbr.specs.declared.value.Outcome.TheVariants as outcome
 use Rattle.ca_arena.specs.declared.handle.Handle.{Handle}
 use Rattle.ca_ids.specs.Table.{Table, by_wire, held, same_handle, under, with_changed, with_freed}
@@ -87,7 +89,8 @@ later now x = max x.moment now
 
 -- a circuit that is wanted, and not connected
 abbrev pub new_circuit : Address → ℕ → Bool → ClientCircuit
-new_circuit address priority is_name = record { address = address; priority = priority; is_name = is_name; connection = None }
+new_circuit address priority is_name =
+    record { address = address; priority = priority; is_name = is_name; connection = None }
 
 -- ---- what is where
 
@@ -99,7 +102,9 @@ phase_on c (On d p) = if same_handle d c then Some p else None
 -- the channel of a CID, and how far it is on this circuit
 abbrev pub channel_on : Client → Handle → ℕ → Option (Handle × Phase)
 channel_on x c cid =
-    option_and_then (λ (e : Handle × Channel). option_map (λ (p : Phase). (e.0, p)) (phase_on c e.1.standing)) (by_wire x.channels cid)
+    option_and_then
+    (λ (e : Handle × Channel). option_map (λ (p : Phase). (e.0, p)) (phase_on c e.1.standing))
+    (by_wire x.channels cid)
 
 -- its caller cleared it
 abbrev pub is_cleared : Phase → Bool
@@ -123,7 +128,8 @@ standing_unless_cleared (On c p) = if is_cleared p then None else Some (On c p)
 
 -- where the channel of this handle is; a stale handle names none
 abbrev pub standing_at : Client → Handle → Option Standing
-standing_at x h = option_and_then (λ (here : Channel). standing_unless_cleared here.standing) (under x.channels h)
+standing_at x h =
+    option_and_then (λ (here : Channel). standing_unless_cleared here.standing) (under x.channels h)
 
 -- the end of this circuit, if it is connected
 abbrev pub connection_at : Client → Handle → Option Connection
@@ -136,18 +142,24 @@ out_bytes x c = unwrap_or (option_map (λ (e : Connection). e.link.output) (conn
 -- the circuit to this address, under this priority
 abbrev pub circuit_to : Address → ℕ → Client → Option (Handle × ClientCircuit)
 circuit_to address priority x =
-    find (λ (e : Handle × ClientCircuit). same_address e.1.address address && e.1.priority == priority) (held x.circuits)
+    find (λ (e : Handle × ClientCircuit). same_address e.1.address address
+    && e.1.priority == priority) (held x.circuits)
 
 -- ---- changes
 
 -- the client with this done to the end of a circuit that is connected
 abbrev pub on_connection : (Connection → Connection) → Handle → Client → Client
 on_connection f c x =
-    record x { circuits = with_changed (λ (d : ClientCircuit). record d { connection = option_map f d.connection }) c x.circuits }
+    record x {
+      circuits = with_changed
+          (λ (d : ClientCircuit). record d { connection = option_map f d.connection }) c x.circuits;
+    }
 
 -- one more message waits on its circuit
 abbrev pub with_one_sent : Client → Sending → Client
-with_one_sent x s = on_connection (λ (e : Connection). record e { link = with_sent (s.message ∷ []) e.link }) s.circuit x
+with_one_sent x s =
+    on_connection
+    (λ (e : Connection). record e { link = with_sent (s.message ∷ []) e.link }) s.circuit x
 
 -- these messages wait on their circuits, after the others
 abbrev pub sending : List Sending → Client → Client
@@ -155,7 +167,11 @@ sending sent x = fold with_one_sent x sent
 
 -- the channel is there now
 abbrev pub with_standing : Standing → Handle → Client → Client
-with_standing s h x = record x { channels = with_changed (λ (here : Channel). record here { standing = s }) h x.channels }
+with_standing s h x =
+    record x {
+      channels = with_changed
+          (λ (here : Channel). record here { standing = s }) h x.channels;
+    }
 
 -- the channel was found, and is now on a circuit: it is not searched for
 abbrev pub found_on : Handle → Phase → Handle → Client → Client
@@ -171,16 +187,24 @@ searched_again x h =
 
 -- Nothing has the CID of this channel.
 abbrev pub without_channel : Client → Handle → Client
-without_channel x h = record x { channels = with_freed h x.channels; searches = without (wire_of h) x.searches }
+without_channel x h =
+    record x { channels = with_freed h x.channels; searches = without (wire_of h) x.searches }
 
 -- Nothing has the handle of this circuit.
 abbrev pub without_circuit : Handle → Client → Client
 without_circuit c x =
-    record x { circuits = with_freed c x.circuits; order = filter (λ (d : Handle). not (same_handle d c)) x.order }
+    record x {
+      circuits = with_freed c x.circuits;
+      order = filter (λ (d : Handle). not (same_handle d c)) x.order;
+    }
 
 -- this circuit is not connected any more
 abbrev pub disconnected : Handle → Client → Client
-disconnected c x = record x { circuits = with_changed (λ (d : ClientCircuit). record d { connection = None }) c x.circuits }
+disconnected c x =
+    record x {
+      circuits = with_changed
+          (λ (d : ClientCircuit). record d { connection = None }) c x.circuits;
+    }
 
 -- of a circuit that has ended nothing is kept, but a name server's is wanted again
 abbrev pub let_go : Handle → ClientCircuit → Client → Client
@@ -191,18 +215,22 @@ let_go c d x = if d.is_name then disconnected c x else without_circuit c x
 -- the client with these requests, of which those that were issued are still in their
 -- order while they are open
 abbrev pub with_requests : Table Request → Client → Client
-with_requests t x = record x { requests = t; issued = in_order_of_issue (λ (q : Request). true) t x.issued }
+with_requests t x =
+    record x { requests = t; issued = in_order_of_issue (λ (q : Request). true) t x.issued }
 
 -- ---- an end ends
 
 -- Disconnected, for each open request that the test names, in order of issue
 abbrev pub disconnections : (Request → Bool) → Client → List Notice
-disconnections which x = map (λ (q : Handle). notice.Completed q outcome.Disconnected) (in_order_of_issue which x.requests x.issued)
+disconnections which x =
+    map (λ (q : Handle). notice.Completed q outcome.Disconnected)
+    (in_order_of_issue which x.requests x.issued)
 
 -- the channels that are on this circuit in a phase that the test names, in order of index
 abbrev pub channels_on : (Phase → Bool) → Handle → Client → List Handle
 channels_on test c x =
-    filter_map (λ (e : Handle × Channel). if is_on_in test c e.1 then Some e.0 else None) (held x.channels)
+    filter_map (λ (e : Handle × Channel). if is_on_in test c e.1 then Some e.0 else None)
+    (held x.channels)
 
 -- What a client reports when its end of a circuit ends: its requests complete with Disconnected, in
 -- order of issue, and then each live channel is lost, in order of index.
@@ -215,15 +243,21 @@ closing why c x = record { why = why; notices = farewell c x; left = out_bytes x
 
 -- the IOIDs of a circuit's requests are free, and so are the subscription ids that drain on it
 abbrev pub without_ids : Handle → Client → Client
-without_ids c x = with_requests (request.circuit_gone c x.requests) (record x { subscriptions = monitor.circuit_gone c x.subscriptions })
+without_ids c x =
+    with_requests (request.circuit_gone c x.requests)
+    (record x { subscriptions = monitor.circuit_gone c x.subscriptions })
 
 -- The channels of a circuit that has ended: those that were cleared are gone, the others
 -- are searched for again.
 abbrev pub channels_ended : Handle → Client → Client
 channels_ended c x =
-    fold searched_again (fold without_channel x (channels_on is_cleared c x)) (channels_on (λ (p : Phase). not (is_cleared p)) c x)
+    fold searched_again (fold without_channel x (channels_on is_cleared c x))
+    (channels_on (λ (p : Phase). not (is_cleared p)) c x)
 
 -- The end of this circuit has ended: its channels are searched for again, its ids are free,
 -- and subscriptions stay.
 abbrev pub ended : Handle → Client → Client
-ended c x = unwrap_or (option_map (λ (d : ClientCircuit). let_go c d (channels_ended c (without_ids c x))) (under x.circuits c)) x
+ended c x =
+    unwrap_or
+    (option_map (λ (d : ClientCircuit). let_go c d (channels_ended c (without_ids c x)))
+    (under x.circuits c)) x

@@ -1,7 +1,10 @@
 -- Vocabulary: what the calls of a client's user answer and leave (section "Overall Client
 -- Operation"). Each definition by answer is the contract of the call that its comment names: from
 -- old, with this answer, it sent these messages and left new.
-use Rattle.std.specs.Prelude.{ℕ, ◌≡◌, ◌<◌, ◌≤◌, ◌==◌, ◌||◌, ◌++◌, Bool, true, false, not, List, [], ◌∷◌, Option, Some, None, Result, Ok, Err, find, if◌then◌else◌, filter_map, is_none, length, nat_le, nat_lt, option_and_then, option_map, unwrap_or}
+use Rattle.std.specs.Prelude.{ℕ, ◌≡◌, ◌<◌, ◌≤◌, ◌==◌, ◌||◌, ◌++◌, Bool, true, false, not, List, []}
+use Rattle.std.specs.Prelude.{◌∷◌, Option, Some, None, Result, Ok, Err, find, if◌then◌else◌}
+use Rattle.std.specs.Prelude.{filter_map, is_none, length, nat_le, nat_lt, option_and_then}
+use Rattle.std.specs.Prelude.{option_map, unwrap_or}
 use Rattle.ca_text.specs.declared.command.Command.TheVariants as command
 use Rattle.ca_text.specs.declared.refusal.Refusal.{Refusal}
 use Rattle.ca_text.specs.declared.refusal.Refusal.TheVariants as refusal
@@ -14,7 +17,8 @@ use Rattle.ca_ids.specs.Table.{IsFull, MayGive, is_full, under, with_freed, with
 use Rattle.ca_ids.specs.Wire.{wire_of}
 use Rattle.ca_search.specs.Clock.{fresh}
 use Rattle.ca_wire.specs.declared.requests.Wanted.{Wanted}
-use Rattle.ca_wire.specs.Messages.{clear_request, event_add_request, event_cancel_request, put_request, read_request}
+use Rattle.ca_wire.specs.Messages.{clear_request, event_add_request, event_cancel_request}
+use Rattle.ca_wire.specs.Messages.{put_request, read_request}
 use Rattle.ca_requests.specs.Calls.{new_request}
 use Rattle.ca_requests.specs.Requests.{Asked, Request, asks_on}
 use Rattle.ca_requests.specs.Requests as request
@@ -25,7 +29,10 @@ use Rattle.ca_model.specs.Ends.{Address}
 use Rattle.ca_model.specs.Faults.{type_of}
 use Rattle.ca_model.specs.Answers.{Notice, Sending}
 use Rattle.ca_model.specs.Answers as aim
-use Rattle.ca_model.specs.Client.{Channel, Client, ClientCircuit, Native, On, Phase, Searching, Standing, channels_on, disconnections, later, let_go, out_bytes, sending, standing_at, with_standing, without_channel, with_requests}
+use Rattle.ca_model.specs.Client.{Channel, Client, ClientCircuit, Native, On, Phase, Searching}
+use Rattle.ca_model.specs.Client.{Standing, channels_on, disconnections, later, let_go, out_bytes}
+use Rattle.ca_model.specs.Client.{sending, standing_at, with_standing, without_channel}
+use Rattle.ca_model.specs.Client.{with_requests}
 use Rattle.ca_model.specs.Client as phase
 
 -- Nothing was sent, and the client is as before.
@@ -52,17 +59,26 @@ MayOpen a = IsName channel_name_limit a.name × (a.priority ≤ priority_limit)
 abbrev pub opened : Opening → Handle → Client → Client
 opened a h x = record x {
   moment = later a.now x;
-  channels = with_held h (record { name = a.name; priority = a.priority; standing = Searching }) x.channels;
-  searches = x.searches ++ (wire_of h, record { name = a.name; clock = Some (fresh (later a.now x)) }) ∷ [];
+  channels =
+      with_held h
+      (record { name = a.name; priority = a.priority; standing = Searching }) x.channels;
+  searches =
+      x.searches ++
+      (wire_of h, record { name = a.name; clock = Some (fresh (later a.now x)) }) ∷ [];
 }
 
 -- `open`. A channel takes memory.
 abbrev pub ClientOpens : Client → Opening → Result Handle Refusal → List Sending → Client → Type 0
-ClientOpens old a (Ok h) sent new = MayOpen a × MayGive old.channels h × Does [] (opened a h old) sent new
-ClientOpens old a (Err refusal.NameLength) sent new = (IsName channel_name_limit a.name → ⊥) × IsUnchanged old sent new
-ClientOpens old a (Err refusal.BadPriority) sent new = IsName channel_name_limit a.name × (priority_limit < a.priority) × IsUnchanged old sent new
-ClientOpens old a (Err refusal.ArenaFull) sent new = MayOpen a × IsFull old.channels × IsUnchanged old sent new
-ClientOpens old a (Err refusal.OutOfMemory) sent new = MayOpen a × (is_full old.channels ≡ false) × IsUnchanged old sent new
+ClientOpens old a (Ok h) sent new =
+    MayOpen a × MayGive old.channels h × Does [] (opened a h old) sent new
+ClientOpens old a (Err refusal.NameLength) sent new =
+    (IsName channel_name_limit a.name → ⊥) × IsUnchanged old sent new
+ClientOpens old a (Err refusal.BadPriority) sent new =
+    IsName channel_name_limit a.name × (priority_limit < a.priority) × IsUnchanged old sent new
+ClientOpens old a (Err refusal.ArenaFull) sent new =
+    MayOpen a × IsFull old.channels × IsUnchanged old sent new
+ClientOpens old a (Err refusal.OutOfMemory) sent new =
+    MayOpen a × (is_full old.channels ≡ false) × IsUnchanged old sent new
 ClientOpens old a (Err _) sent new = ⊥
 
 -- ---- a live channel, and why a call on a channel is refused
@@ -79,13 +95,15 @@ IsLive x h l = standing_at x h ≡ Some (On l.circuit (phase.Live l.native l.rig
 
 -- the first of these refusals whose test is true
 abbrev pub first_refusal : List (Bool × Refusal) → Option Refusal
-first_refusal faults = option_map (λ (f : Bool × Refusal). f.1) (find (λ (f : Bool × Refusal). f.0) faults)
+first_refusal faults =
+    option_map (λ (f : Bool × Refusal). f.1) (find (λ (f : Bool × Refusal). f.0) faults)
 
 -- The first fault of a call on a channel: a stale handle, a channel that is not live, or one of
 -- those of a live one.
 abbrev pub fault_at : (LiveChannel → List (Bool × Refusal)) → Option Standing → Option Refusal
 fault_at faults None = Some refusal.StaleHandle
-fault_at faults (Some (On c (phase.Live n rights))) = first_refusal (faults (record { circuit = c; native = n; rights = rights }))
+fault_at faults (Some (On c (phase.Live n rights))) =
+    first_refusal (faults (record { circuit = c; native = n; rights = rights }))
 fault_at faults (Some s) = Some refusal.NotLive
 
 -- as many bytes wait on the circuit as may: no message of a caller is queued after them
@@ -112,7 +130,8 @@ ask_fault x full h a =
 
 -- a value with no element, with more than its channel takes, or with more bytes than a payload has
 abbrev pub is_misfit : Native → Elements → Bool
-is_misfit n e = count_of e == 0 || (nat_lt n.count (count_of e) || nat_lt payload_limit (length (bytes_of e)))
+is_misfit n e =
+    count_of e == 0 || (nat_lt n.count (count_of e) || nat_lt payload_limit (length (bytes_of e)))
 
 -- why a write is refused, while the table of its ids, if it takes one, is full or not
 abbrev pub put_fault : Client → (full : Bool) → Handle → Elements → Option Refusal
@@ -138,7 +157,9 @@ issued h l asked q x = record x {
 abbrev pub read_sent : Handle → LiveChannel → Shape → Handle → Sending
 read_sent h l a q = record {
   circuit = l.circuit;
-  message = read_request (record { sid = l.native.sid; id = wire_of q; data_type = a.data_type; count = a.count });
+  message =
+      read_request
+      (record { sid = l.native.sid; id = wire_of q; data_type = a.data_type; count = a.count });
   aim = aim.Read h q;
 }
 
@@ -147,44 +168,61 @@ abbrev pub read_fault : Client → Handle → Shape → Option Refusal
 read_fault x h a = ask_fault x (is_full x.requests) h a
 
 -- `read`. A request takes memory.
-abbrev pub ClientReads : Client → Handle → Shape → Result Handle Refusal → List Sending → Client → Type 0
+abbrev pub ClientReads : Client → Handle → Shape → Result Handle Refusal → List Sending → Client
+    → Type 0
 ClientReads old h a (Ok q) sent new =
     (l : LiveChannel) × IsLive old h l × (read_fault old h a ≡ None) × MayGive old.requests q
     × Does (read_sent h l a q ∷ []) (issued h l (request.Read a.data_type a.count) q old) sent new
-ClientReads old h a (Err refusal.OutOfMemory) sent new = (read_fault old h a ≡ None) × IsUnchanged old sent new
+ClientReads old h a (Err refusal.OutOfMemory) sent new =
+    (read_fault old h a ≡ None) × IsUnchanged old sent new
 ClientReads old h a (Err e) sent new = (read_fault old h a ≡ Some e) × IsUnchanged old sent new
 
 -- what a write of these elements names, under this id
 abbrev pub wanted_by_put : LiveChannel → Elements → ℕ → Wanted
-wanted_by_put l e id = record { sid = l.native.sid; id = id; data_type = base_number (base_of e); count = count_of e }
+wanted_by_put l e id =
+    record { sid = l.native.sid; id = id; data_type = base_number (base_of e); count = count_of e }
 
 -- the message of a plain write: its IOID is 0
 abbrev pub write_sent : Handle → LiveChannel → Elements → Sending
 write_sent h l e =
-    record { circuit = l.circuit; message = put_request command.Write (wanted_by_put l e 0) (bytes_of e); aim = aim.Write h }
+    record {
+      circuit = l.circuit;
+      message = put_request command.Write (wanted_by_put l e 0) (bytes_of e);
+      aim = aim.Write h;
+    }
 
 -- `write`. A message takes memory.
-abbrev pub ClientWrites : Client → Handle → Elements → Result (Unit {0}) Refusal → List Sending → Client → Type 0
+abbrev pub ClientWrites : Client → Handle → Elements → Result (Unit {0}) Refusal → List Sending
+    → Client → Type 0
 ClientWrites old h e (Ok _) sent new =
-    (l : LiveChannel) × IsLive old h l × (put_fault old false h e ≡ None) × Does (write_sent h l e ∷ []) old sent new
-ClientWrites old h e (Err refusal.OutOfMemory) sent new = (put_fault old false h e ≡ None) × IsUnchanged old sent new
-ClientWrites old h e (Err f) sent new = (put_fault old false h e ≡ Some f) × IsUnchanged old sent new
+    (l : LiveChannel) × IsLive old h l × (put_fault old false h e ≡ None)
+    × Does (write_sent h l e ∷ []) old sent new
+ClientWrites old h e (Err refusal.OutOfMemory) sent new =
+    (put_fault old false h e ≡ None) × IsUnchanged old sent new
+ClientWrites old h e (Err f) sent new =
+    (put_fault old false h e ≡ Some f) × IsUnchanged old sent new
 
 -- the message of a put with notification
 abbrev pub put_sent : Handle → LiveChannel → Elements → Handle → Sending
 put_sent h l e q =
-    record { circuit = l.circuit; message = put_request command.WriteNotify (wanted_by_put l e (wire_of q)) (bytes_of e); aim = aim.Put h q }
+    record {
+      circuit = l.circuit;
+      message = put_request command.WriteNotify (wanted_by_put l e (wire_of q)) (bytes_of e);
+      aim = aim.Put h q;
+    }
 
 -- why a put with notification is refused
 abbrev pub notify_fault : Client → Handle → Elements → Option Refusal
 notify_fault x h e = put_fault x (is_full x.requests) h e
 
 -- `write_notify`. A request takes memory.
-abbrev pub ClientPuts : Client → Handle → Elements → Result Handle Refusal → List Sending → Client → Type 0
+abbrev pub ClientPuts : Client → Handle → Elements → Result Handle Refusal → List Sending → Client
+    → Type 0
 ClientPuts old h e (Ok q) sent new =
     (l : LiveChannel) × IsLive old h l × (notify_fault old h e ≡ None) × MayGive old.requests q
     × Does (put_sent h l e q ∷ []) (issued h l request.Put q old) sent new
-ClientPuts old h e (Err refusal.OutOfMemory) sent new = (notify_fault old h e ≡ None) × IsUnchanged old sent new
+ClientPuts old h e (Err refusal.OutOfMemory) sent new =
+    (notify_fault old h e ≡ None) × IsUnchanged old sent new
 ClientPuts old h e (Err f) sent new = (notify_fault old h e ≡ Some f) × IsUnchanged old sent new
 
 -- ---- subscribe, unsubscribe
@@ -196,12 +234,20 @@ wanted_by sid s d = record { sid = sid; id = wire_of s; data_type = d.data_type;
 -- the EVENT_ADD of a subscription, on this circuit and under this SID
 abbrev pub event_add_sent : Handle → ℕ → Handle → Subscription → Sending
 event_add_sent c sid s d =
-    record { circuit = c; message = event_add_request (wanted_by sid s d) d.mask; aim = aim.Subscribe d.channel s }
+    record {
+      circuit = c;
+      message = event_add_request (wanted_by sid s d) d.mask;
+      aim = aim.Subscribe d.channel s;
+    }
 
 -- its EVENT_CANCEL
 abbrev pub event_cancel_sent : Handle → ℕ → Handle → Subscription → Sending
 event_cancel_sent c sid s d =
-    record { circuit = c; message = event_cancel_request (wanted_by sid s d); aim = aim.Cancel d.channel s }
+    record {
+      circuit = c;
+      message = event_cancel_request (wanted_by sid s d);
+      aim = aim.Cancel d.channel s;
+    }
 
 -- a subscription to this channel, which stands
 abbrev pub new_subscription : Handle → Shape → (mask : ℕ) → Subscription
@@ -212,13 +258,18 @@ abbrev pub subscribe_fault : Client → Handle → Shape → Option Refusal
 subscribe_fault x h a = ask_fault x (is_full x.subscriptions) h a
 
 -- `subscribe`. A subscription takes memory.
-abbrev pub ClientSubscribes : Client → Handle → Shape → (mask : ℕ) → Result Handle Refusal → List Sending → Client → Type 0
+abbrev pub ClientSubscribes : Client → Handle → Shape → (mask : ℕ) → Result Handle Refusal
+    → List Sending → Client → Type 0
 ClientSubscribes old h a mask (Ok s) sent new =
-    (l : LiveChannel) × IsLive old h l × (subscribe_fault old h a ≡ None) × MayGive old.subscriptions s
+    (l : LiveChannel) × IsLive old h l × (subscribe_fault old h a ≡ None)
+    × MayGive old.subscriptions s
     × (let d : Subscription = new_subscription h a mask in
-    Does (event_add_sent l.circuit l.native.sid s d ∷ []) (record old { subscriptions = with_held s d old.subscriptions }) sent new)
-ClientSubscribes old h a mask (Err refusal.OutOfMemory) sent new = (subscribe_fault old h a ≡ None) × IsUnchanged old sent new
-ClientSubscribes old h a mask (Err e) sent new = (subscribe_fault old h a ≡ Some e) × IsUnchanged old sent new
+    Does (event_add_sent l.circuit l.native.sid s d ∷ [])
+    (record old { subscriptions = with_held s d old.subscriptions }) sent new)
+ClientSubscribes old h a mask (Err refusal.OutOfMemory) sent new =
+    (subscribe_fault old h a ≡ None) × IsUnchanged old sent new
+ClientSubscribes old h a mask (Err e) sent new =
+    (subscribe_fault old h a ≡ Some e) × IsUnchanged old sent new
 
 -- What is sent to end a subscription: its EVENT_CANCEL, on a live channel.
 abbrev pub cancel_sent : Handle → Subscription → Option Standing → List Sending
@@ -230,7 +281,8 @@ cancel_sent s d there = []
 abbrev pub unsubscribed : Handle → Option Standing → Client → Client
 unsubscribed s (Some (On c (phase.Live n rights))) x =
     record x { subscriptions = with_stage (monitor.Cancelled c) s x.subscriptions }
-unsubscribed s (Some (On c phase.Leaving)) x = record x { subscriptions = with_stage (monitor.Ended c) s x.subscriptions }
+unsubscribed s (Some (On c phase.Leaving)) x =
+    record x { subscriptions = with_stage (monitor.Ended c) s x.subscriptions }
 unsubscribed s there x = record x { subscriptions = with_freed s x.subscriptions }
 
 -- a subscription that stands
@@ -245,23 +297,28 @@ is_over_at x there = false
 -- why a cancel is refused: a stale handle, or too much that waits for an EVENT_CANCEL
 abbrev pub cancel_fault : Client → Option Subscription → Option Refusal
 cancel_fault x None = Some refusal.StaleHandle
-cancel_fault x (Some d) = if is_over_at x (standing_at x d.channel) then Some refusal.OutputFull else None
+cancel_fault x (Some d) =
+    if is_over_at x (standing_at x d.channel) then Some refusal.OutputFull else None
 
 -- `unsubscribe`. Only an EVENT_CANCEL takes memory.
-abbrev pub ClientUnsubscribes : Client → Handle → Result (Unit {0}) Refusal → List Sending → Client → Type 0
+abbrev pub ClientUnsubscribes : Client → Handle → Result (Unit {0}) Refusal → List Sending → Client
+    → Type 0
 ClientUnsubscribes old s (Ok _) sent new =
     (d : Subscription) × StandsAs old s d × (cancel_fault old (Some d) ≡ None)
-    × Does (cancel_sent s d (standing_at old d.channel)) (unsubscribed s (standing_at old d.channel) old) sent new
+    × Does (cancel_sent s d (standing_at old d.channel))
+    (unsubscribed s (standing_at old d.channel) old) sent new
 ClientUnsubscribes old s (Err refusal.OutOfMemory) sent new =
     (d : Subscription) × (l : LiveChannel) × StandsAs old s d × (cancel_fault old (Some d) ≡ None)
     × IsLive old d.channel l × IsUnchanged old sent new
-ClientUnsubscribes old s (Err e) sent new = (cancel_fault old (standing_under s old.subscriptions) ≡ Some e) × IsUnchanged old sent new
+ClientUnsubscribes old s (Err e) sent new =
+    (cancel_fault old (standing_under s old.subscriptions) ≡ Some e) × IsUnchanged old sent new
 
 -- ---- clear
 
 -- the CLEAR_CHANNEL of a channel on this circuit, under this SID
 abbrev pub clear_sent : Handle → ℕ → Handle → Sending
-clear_sent c sid h = record { circuit = c; message = clear_request sid (wire_of h); aim = aim.Clear h }
+clear_sent c sid h =
+    record { circuit = c; message = clear_request sid (wire_of h); aim = aim.Clear h }
 
 -- What is sent to clear a channel: the CLEAR_CHANNEL of a live one.
 abbrev pub clearing_sent : Handle → Standing → List Sending
@@ -282,24 +339,29 @@ unsubscribed_all h x = record x { subscriptions = monitor.channel_gone h x.subsc
 -- the channel's requests and subscriptions are over, and their ids drain on this circuit
 abbrev pub all_over : Handle → Handle → Client → Client
 all_over c h x =
-    with_requests (request.channel_over h x.requests) (record x { subscriptions = monitor.channel_over c h x.subscriptions })
+    with_requests (request.channel_over h x.requests)
+    (record x { subscriptions = monitor.channel_over c h x.subscriptions })
 
 -- A cleared channel is gone if nothing of it is on the way. Else its CID drains, and if it was
 -- live its other ids too.
 abbrev pub cleared : Handle → Standing → Client → Client
 cleared h Searching x = without_channel (unsubscribed_all h x) h
 cleared h (On c phase.Connecting) x = unwanted c (without_channel (unsubscribed_all h x) h)
-cleared h (On c (phase.Creating rights)) x = with_standing (On c phase.Doomed) h (unsubscribed_all h x)
+cleared h (On c (phase.Creating rights)) x =
+    with_standing (On c phase.Doomed) h (unsubscribed_all h x)
 cleared h (On c p) x = with_standing (On c phase.Clearing) h (all_over c h x)
 
 -- `clear`. Its notices are Disconnected for each open request of the channel, in order of issue.
 -- Only a CLEAR_CHANNEL takes memory.
-abbrev pub ClientClears : Client → Handle → Result (List Notice) Refusal → List Sending → Client → Type 0
+abbrev pub ClientClears : Client → Handle → Result (List Notice) Refusal → List Sending → Client
+    → Type 0
 ClientClears old h (Ok notices) sent new =
     (s : Standing) × (standing_at old h ≡ Some s) × (notices ≡ disconnections (asks_on h) old)
     × Does (clearing_sent h s) (cleared h s old) sent new
-ClientClears old h (Err refusal.StaleHandle) sent new = (standing_at old h ≡ None) × IsUnchanged old sent new
-ClientClears old h (Err refusal.OutOfMemory) sent new = (l : LiveChannel) × IsLive old h l × IsUnchanged old sent new
+ClientClears old h (Err refusal.StaleHandle) sent new =
+    (standing_at old h ≡ None) × IsUnchanged old sent new
+ClientClears old h (Err refusal.OutOfMemory) sent new =
+    (l : LiveChannel) × IsLive old h l × IsUnchanged old sent new
 ClientClears old h (Err _) sent new = ⊥
 
 -- ---- wanted
@@ -312,7 +374,9 @@ pub record WantedCircuit : Type 0 where
 
 -- the circuit, unless it is connected
 abbrev pub wanted_as : Handle → ClientCircuit → Option WantedCircuit
-wanted_as c d = if is_none d.connection then Some (record { circuit = c; address = d.address; priority = d.priority }) else None
+wanted_as c d =
+    if is_none d.connection then Some
+    (record { circuit = c; address = d.address; priority = d.priority }) else None
 
 -- `wanted`: the circuits that are wanted, those of name servers first, and then in the order in
 -- which they came to be wanted

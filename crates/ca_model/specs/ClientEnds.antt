@@ -2,7 +2,10 @@
 -- datagrams (sections "Virtual Circuit" and "CA Search"). Each definition by answer is the
 -- contract of the call that its comment names: from old, with this answer, it sent these
 -- messages and left new.
-use Rattle.std.specs.Prelude.{ℕ, ◌≡◌, ◌≢◌, ◌<◌, ◌≤◌, ◌^◌, ◌==◌, ◌&&◌, ◌++◌, ◌⊎◌, Bool, true, false, not, List, [], ◌∷◌, Option, Some, None, Result, Ok, Err, filter, filter_map, flat_map, fold, if◌then◌else◌, is_none, is_some, length, map, nat_le, option_and_then, option_map, option_to_list, unwrap_or}
+use Rattle.std.specs.Prelude.{ℕ, ◌≡◌, ◌≢◌, ◌<◌, ◌≤◌, ◌^◌, ◌==◌, ◌&&◌, ◌++◌, ◌⊎◌, Bool, true, false}
+use Rattle.std.specs.Prelude.{not, List, [], ◌∷◌, Option, Some, None, Result, Ok, Err, filter}
+use Rattle.std.specs.Prelude.{filter_map, flat_map, fold, if◌then◌else◌, is_none, is_some, length}
+use Rattle.std.specs.Prelude.{map, nat_le, option_and_then, option_map, option_to_list, unwrap_or}
 use Rattle.std.specs.FinMap as finite
 use Rattle.ca_text.specs.declared.command.Command.{Command}
 use Rattle.ca_text.specs.declared.command.Command.TheVariants as command
@@ -26,8 +29,11 @@ use Rattle.ca_monitor.specs.ReadRun.{after_read, no_reads, sent_by_read}
 use Rattle.ca_model.specs.Ends.{Address, Cut, NamesFit, Peer, Why, same_address}
 use Rattle.ca_model.specs.Ends as why
 use Rattle.ca_model.specs.Speech.{Is}
-use Rattle.ca_model.specs.Answers.{Closed, Closing, Datagram, Left, NeedBytes, Notice, Notices, OfCircuit, Sending, Stepped, Ticked}
-use Rattle.ca_model.specs.Client.{Channel, Client, ClientCircuit, Connection, On, Phase, closing, connection_at, ended, is_on_in, later, new_circuit, on_connection, out_bytes, sending}
+use Rattle.ca_model.specs.Answers.{Closed, Closing, Datagram, Left, NeedBytes, Notice, Notices}
+use Rattle.ca_model.specs.Answers.{OfCircuit, Sending, Stepped, Ticked}
+use Rattle.ca_model.specs.Client.{Channel, Client, ClientCircuit, Connection, On, Phase, closing}
+use Rattle.ca_model.specs.Client.{connection_at, ended, is_on_in, later, new_circuit, on_connection}
+use Rattle.ca_model.specs.Client.{out_bytes, sending}
 use Rattle.ca_model.specs.Client as phase
 use Rattle.ca_model.specs.ClientCalls.{Does, IsUnchanged, is_over}
 use Rattle.ca_model.specs.Hears.{Effect, Finds, Hears, becomes, create_sent}
@@ -49,7 +55,9 @@ distinct (a ∷ addresses) = a ∷ filter (λ (b : Address). not (same_address b
 
 -- the circuits of name servers: each is wanted under the priority 0
 abbrev pub name_circuits : List Address → Table ClientCircuit
-name_circuits names = map (λ (a : Address). record { generation = 1; value = Some (new_circuit a 0 true) }) (distinct names)
+name_circuits names =
+    map (λ (a : Address). record { generation = 1; value = Some (new_circuit a 0 true) })
+    (distinct names)
 
 -- a client that did nothing yet
 abbrev pub new_client : ClientSetting → Client
@@ -70,10 +78,12 @@ new_client a = record {
 -- `new`: with this answer. There may be as many name servers as circuits. Memory is asked for
 -- their circuits alone.
 abbrev pub ClientBegins : ClientSetting → Result Client Refusal → Type 0
-ClientBegins a (Ok x) = NamesFit a.peer × (length (distinct a.names) ≤ arena_slots) × (x ≡ new_client a)
+ClientBegins a (Ok x) =
+    NamesFit a.peer × (length (distinct a.names) ≤ arena_slots) × (x ≡ new_client a)
 ClientBegins a (Err refusal.NameLength) = NamesFit a.peer → ⊥
 ClientBegins a (Err refusal.ArenaFull) = NamesFit a.peer × (arena_slots < length (distinct a.names))
-ClientBegins a (Err refusal.OutOfMemory) = NamesFit a.peer × (a.names ≢ []) × (length (distinct a.names) ≤ arena_slots)
+ClientBegins a (Err refusal.OutOfMemory) =
+    NamesFit a.peer × (a.names ≢ []) × (length (distinct a.names) ≤ arena_slots)
 ClientBegins a (Err _) = ⊥
 
 -- ---- connected
@@ -97,11 +107,15 @@ is_connecting p = false
 -- the CREATE_CHAN of each channel that waits for this circuit, in order of index
 abbrev pub creations : Handle → Client → List Sending
 creations c x =
-    filter_map (λ (e : Handle × Channel). if is_on_in is_connecting c e.1 then Some (create_sent c e.0 e.1) else None) (held x.channels)
+    filter_map
+    (λ (e : Handle × Channel). if is_on_in is_connecting c e.1 then Some (create_sent c e.0 e.1)
+    else None) (held x.channels)
 
 -- the channel is being created, if it waited for this circuit
 abbrev pub creating : Handle → Channel → Channel
-creating c here = if is_on_in is_connecting c here then record here { standing = On c (phase.Creating 0) } else here
+creating c here =
+    if is_on_in is_connecting c here then record here { standing = On c (phase.Creating 0) }
+    else here
 
 -- the client's end of a circuit that was connected at this moment
 abbrev pub new_connection : ℕ → Connection
@@ -111,7 +125,12 @@ new_connection now = record { link = new_link now; run = no_reads }
 abbrev pub begun : Handle → Client → Client
 begun c x = record x {
   channels = with_all (creating c) x.channels;
-  circuits = with_changed (λ (d : ClientCircuit). record d { connection = Some (new_connection x.moment) }) c x.circuits;
+  circuits =
+      with_changed
+      (λ (d : ClientCircuit). record d {
+        connection = Some
+            (new_connection x.moment);
+      }) c x.circuits;
 }
 
 -- The end of this circuit ended for this cause.
@@ -123,15 +142,19 @@ abbrev pub gone : Closing
 gone = record { why = Cut; notices = []; left = [] }
 
 -- a circuit that is wanted was connected; one that is not wanted, or is connected, is not there
-abbrev pub ConnectsOn : Client → Handle → Option ClientCircuit → Option Closing → List Sending → Client → Type 0
+abbrev pub ConnectsOn : Client → Handle → Option ClientCircuit → Option Closing → List Sending
+    → Client → Type 0
 ConnectsOn old c None None sent new = ⊥
 ConnectsOn old c None (Some k) sent new = (k ≡ gone) × IsUnchanged old sent new
-ConnectsOn old c (Some d) None sent new = Does (set_up old.peer c d ++ creations c old) (begun c old) sent new
+ConnectsOn old c (Some d) None sent new =
+    Does (set_up old.peer c d ++ creations c old) (begun c old) sent new
 ConnectsOn old c (Some d) (Some k) sent new = EndsFor why.OutOfMemory old c k sent new
 
 -- the circuit of this handle, if it is wanted and not connected
 abbrev pub unconnected : Client → Handle → Option ClientCircuit
-unconnected x c = option_and_then (λ (d : ClientCircuit). if is_none d.connection then Some d else None) (under x.circuits c)
+unconnected x c =
+    option_and_then (λ (d : ClientCircuit). if is_none d.connection then Some d else None)
+    (under x.circuits c)
 
 -- `connected`. The set-up takes memory. If there is none the end has ended at once,
 -- and no bytes are left.
@@ -142,37 +165,48 @@ ClientConnects old c answer sent new = ConnectsOn old c (unconnected old c) answ
 
 -- what a read makes the client send: EVENTS_OFF or EVENTS_ON, or nothing
 abbrev pub flow_sent : Handle → Bool → Connection → List Sending
-flow_sent c more e = map (λ (k : Command). of_circuit c (bare k)) (option_to_list (sent_by_read more e.run))
+flow_sent c more e =
+    map (λ (k : Command). of_circuit c (bare k)) (option_to_list (sent_by_read more e.run))
 
 -- the client to which these bytes came, while more wait or none
 abbrev pub given : Handle → List ℕ → Bool → Client → Client
 given c bytes more x =
-    on_connection (λ (e : Connection). record { link = with_given x.moment bytes e.link; run = after_read more e.run }) c x
+    on_connection
+    (λ (e : Connection). record {
+      link = with_given x.moment bytes e.link;
+      run = after_read more e.run;
+    }) c x
 
 -- a read on a circuit that is connected; on another it is refused
-abbrev pub GivesOn : Client → Handle → List ℕ → Bool → Option Connection → Result (Unit {0}) Refusal → List Sending → Client → Type 0
+abbrev pub GivesOn : Client → Handle → List ℕ → Bool → Option Connection → Result (Unit {0}) Refusal
+    → List Sending → Client → Type 0
 GivesOn old c bytes more None (Err refusal.CircuitClosed) sent new = IsUnchanged old sent new
-GivesOn old c bytes more (Some e) (Ok _) sent new = Does (flow_sent c more e) (given c bytes more old) sent new
+GivesOn old c bytes more (Some e) (Ok _) sent new =
+    Does (flow_sent c more e) (given c bytes more old) sent new
 GivesOn old c bytes more (Some e) (Err refusal.OutOfMemory) sent new =
     ((bytes ≢ []) ⊎ (flow_sent c more e ≢ [])) × IsUnchanged old sent new
 GivesOn old c bytes more there _ sent new = ⊥
 
 -- `give`: a read of these bytes, which left more waiting or not. Bytes take memory,
 -- and so does a message.
-abbrev pub ClientGives : Client → Handle → List ℕ → (more : Bool) → Result (Unit {0}) Refusal → List Sending → Client → Type 0
-ClientGives old c bytes more answer sent new = GivesOn old c bytes more (connection_at old c) answer sent new
+abbrev pub ClientGives : Client → Handle → List ℕ → (more : Bool) → Result (Unit {0}) Refusal
+    → List Sending → Client → Type 0
+ClientGives old c bytes more answer sent new =
+    GivesOn old c bytes more (connection_at old c) answer sent new
 
 -- `sent`: the first n of the bytes that waited (`out_bytes`) were handed over; on a circuit that is
 -- not connected none wait
 abbrev pub handed_over : Handle → ℕ → Client → Client
 handed_over c n x =
-    if is_some (connection_at x c) then on_connection (λ (e : Connection). record e { link = with_handed n e.link }) c x else x
+    if is_some (connection_at x c) then on_connection
+    (λ (e : Connection). record e { link = with_handed n e.link }) c x else x
 
 -- ---- step
 
 -- the client without the message that it takes: these bytes are left to be read
 abbrev pub after_taking : Handle → List ℕ → Client → Client
-after_taking c rest x = on_connection (λ (e : Connection). record e { link = with_rest rest e.link }) c x
+after_taking c rest x =
+    on_connection (λ (e : Connection). record e { link = with_rest rest e.link }) c x
 
 -- The first message of the circuit is taken, and has this effect.
 pub record Takes (old : Client) (c : Handle) (d : Connection) (e : Effect) : Type 0 where
@@ -183,7 +217,8 @@ pub record Takes (old : Client) (c : Handle) (d : Connection) (e : Effect) : Typ
 
 -- It takes memory if it has a payload, sends or reports something, or makes a circuit wanted.
 abbrev pub TakesMemory : Client → Fields → Effect → Type 0
-TakesMemory old m e = (m.payload ≢ []) ⊎ ((e.sent ≢ []) ⊎ ((e.notices ≢ []) ⊎ (e.core.order ≢ old.order)))
+TakesMemory old m e =
+    (m.payload ≢ []) ⊎ ((e.sent ≢ []) ⊎ ((e.notices ≢ []) ⊎ (e.core.order ≢ old.order)))
 
 -- Why a step may end a circuit: a bad header, or no memory for the first message.
 abbrev pub MayEnd : Client → Handle → Connection → Why → Type 0
@@ -195,8 +230,10 @@ MayEnd old c d cause = ⊥
 -- a step on a circuit that is connected; one that is not is not there
 abbrev pub StepsOn : Client → Handle → Option Connection → Stepped → List Sending → Client → Type 0
 StepsOn old c None (Closed k) sent new = (k ≡ gone) × IsUnchanged old sent new
-StepsOn old c (Some d) (Notices told) sent new = Takes old c d (record { core = new; sent = sent; notices = told })
-StepsOn old c (Some d) NeedBytes sent new = NoneBegins d.link.input.bytes × NotBad d.link.input.bytes × IsUnchanged old sent new
+StepsOn old c (Some d) (Notices told) sent new =
+    Takes old c d (record { core = new; sent = sent; notices = told })
+StepsOn old c (Some d) NeedBytes sent new =
+    NoneBegins d.link.input.bytes × NotBad d.link.input.bytes × IsUnchanged old sent new
 StepsOn old c (Some d) (Closed k) sent new = MayEnd old c d k.why × EndsFor k.why old c k sent new
 StepsOn old c None answer sent new = ⊥
 
@@ -230,7 +267,9 @@ with_sending s t = record t { core = sending (s ∷ []) t.core; sent = t.sent ++
 -- an ECHO goes out, once in a silence ("CA_PROTO_ECHO")
 abbrev pub echoes : Handle → Ticking → Ticking
 echoes c t =
-    let noted : Client = on_connection (λ (e : Connection). record e { link = record e.link { echoed = true } }) c t.core in
+    let noted : Client =
+    on_connection
+    (λ (e : Connection). record e { link = record e.link { echoed = true } }) c t.core in
     with_sending (of_circuit c (bare command.Echo)) (record t { core = noted })
 
 -- the end of a circuit that was silent too long has ended
@@ -252,7 +291,9 @@ ticks_as Close c t = falls_silent c t
 -- a circuit at the client's moment; one that is not connected is not asked
 abbrev pub ticks : Ticking → Handle → Ticking
 ticks t c =
-    unwrap_or (option_map (λ (e : Connection). ticks_as (kept t.core.moment e.link) c t) (connection_at t.core c)) t
+    unwrap_or
+    (option_map (λ (e : Connection). ticks_as (kept t.core.moment e.link) c t)
+    (connection_at t.core c)) t
 
 -- The datagrams of these searches: each in the last one, unless that has no room for it. The
 -- first is begun already.
@@ -270,7 +311,8 @@ to_server datagrams a = map (λ (bytes : List ℕ). record { to = a; bytes = byt
 
 -- a SEARCH on a name server's circuit, unless too much waits there
 abbrev pub searches_on : Handle → Ticking → search.Wanted → Ticking
-searches_on c t w = if is_over t.core c then t else with_sending (of_circuit c (search_request w.cid w.name)) t
+searches_on c t w =
+    if is_over t.core c then t else with_sending (of_circuit c (search_request w.cid w.name)) t
 
 -- these searches on a name server's circuit
 abbrev pub all_searched_on : List search.Wanted → Ticking → Handle → Ticking
@@ -279,7 +321,9 @@ all_searched_on ws t c = fold (searches_on c) t ws
 -- the circuit is a name server's, and connected
 abbrev pub is_name_connected : Client → Handle → Bool
 is_name_connected x c =
-    unwrap_or (option_map (λ (d : ClientCircuit). d.is_name && is_some d.connection) (under x.circuits c)) false
+    unwrap_or
+    (option_map (λ (d : ClientCircuit). d.is_name && is_some d.connection)
+    (under x.circuits c)) false
 
 -- the searches that are due at the client's moment, in the order in which their channels were added
 abbrev pub due : Client → List search.Wanted
@@ -288,13 +332,25 @@ due x = search.wanted_at x.moment x.searches
 -- the due searches go out on the circuits of name servers, and count as made
 abbrev pub searches_made : Ticking → Ticking
 searches_made t =
-    let u : Ticking = fold (all_searched_on (due t.core)) t (filter (is_name_connected t.core) t.core.order) in
-    record u { core = record u.core { searches = searcher.with_all (search.passed u.core.moment) u.core.searches } }
+    let u : Ticking =
+    fold (all_searched_on (due t.core)) t (filter (is_name_connected t.core) t.core.order) in
+    record u {
+      core = record u.core {
+        searches = searcher.with_all
+            (search.passed u.core.moment) u.core.searches;
+      };
+    }
 
 -- the circuits at this moment, in order
 abbrev pub circuits_ticked : ℕ → Client → Ticking
 circuits_ticked now x =
-    fold ticks (record { core = record x { moment = later now x }; sent = []; notices = []; closings = [] }) x.order
+    fold ticks
+    (record {
+      core = record x { moment = later now x };
+      sent = [];
+      notices = [];
+      closings = [];
+    }) x.order
 
 -- what the tick answers: the due searches go in datagrams to each listed server too
 abbrev pub ticked : Ticking → Ticked
@@ -335,8 +391,10 @@ beacon_heard from m x = record x {
 -- one that does nothing.
 pub data Receives (from : Address) (x : Client) (m : Fields) (e : Effect) : Type 0 where
   Search : Is command.Search m → Finds x from m e → Receives from x m e
-  Beacon : Is command.RsrvIsUp m → m.count < 2 ^ 16 → e ≡ becomes (beacon_heard from m x) → Receives from x m e
-  Other : (Is command.Search m → ⊥) → (Is command.RsrvIsUp m → m.count < 2 ^ 16 → ⊥) → e ≡ becomes x → Receives from x m e
+  Beacon : Is command.RsrvIsUp m → m.count < 2 ^ 16 → e ≡ becomes (beacon_heard from m x)
+      → Receives from x m e
+  Other : (Is command.Search m → ⊥) → (Is command.RsrvIsUp m → m.count < 2 ^ 16 → ⊥) → e ≡ becomes x
+      → Receives from x m e
 
 -- These messages were received one after another.
 abbrev pub ReceivesAll : Address → Client → List Fields → Effect → Type 0
@@ -352,9 +410,12 @@ pub record Arrival : Type 0 where
   pub bytes : List ℕ
 
 -- `datagram`: its messages were received as far as it is good. Only a message takes memory.
-abbrev pub ClientReceives : Client → Arrival → Result (Unit {0}) Refusal → List Sending → Client → Type 0
+abbrev pub ClientReceives : Client → Arrival → Result (Unit {0}) Refusal → List Sending → Client
+    → Type 0
 ClientReceives old a (Ok _) sent new =
     (ms : List Fields) × IsDatagram a.bytes ms
-    × ReceivesAll a.from (record old { moment = later a.now old }) ms (record { core = new; sent = sent; notices = [] })
-ClientReceives old a (Err refusal.OutOfMemory) sent new = (NoneBegins a.bytes → ⊥) × IsUnchanged old sent new
+    × ReceivesAll a.from (record old { moment = later a.now old }) ms
+    (record { core = new; sent = sent; notices = [] })
+ClientReceives old a (Err refusal.OutOfMemory) sent new =
+    (NoneBegins a.bytes → ⊥) × IsUnchanged old sent new
 ClientReceives old a (Err _) sent new = ⊥

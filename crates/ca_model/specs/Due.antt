@@ -1,6 +1,7 @@
 -- Vocabulary: the replies that are due for a message, and what it does, by cases on every command
 -- (section "CA Protocol Messages").
-use Rattle.std.specs.Prelude.{ℕ, ◌≡◌, ◌≢◌, ◌<◌, ◌^◌, ◌%◌, ◌⊎◌, ◌==◌, ◌&&◌, Bool, true, false, List, [], ◌∷◌, Option, Some, None, Ok, if◌then◌else◌, is_some, length}
+use Rattle.std.specs.Prelude.{ℕ, ◌≡◌, ◌≢◌, ◌<◌, ◌^◌, ◌%◌, ◌⊎◌, ◌==◌, ◌&&◌, Bool, true, false, List}
+use Rattle.std.specs.Prelude.{[], ◌∷◌, Option, Some, None, Ok, if◌then◌else◌, is_some, length}
 use Rattle.std.specs.List.{list_any}
 use Rattle.ca_text.specs.Command.{command_number}
 use Rattle.ca_text.specs.declared.command.Command.{Command}
@@ -19,9 +20,12 @@ use Rattle.ca_records.specs.Faults.{late_put_fault}
 use Rattle.ca_records.specs.Record.{RecordState}
 use Rattle.ca_records.specs.Rules.{Rule, rights}
 use Rattle.ca_wire.specs.Fields.{Fields}
-use Rattle.ca_wire.specs.Messages.{bare, cancel_reply, cleared_reply, created_reply, error_reply, failed_reply, mask_in, no_cid, not_found_reply, rights_reply, search_reply, status_reply, text_in, value_reply, version_reply}
+use Rattle.ca_wire.specs.Messages.{bare, cancel_reply, cleared_reply, created_reply, error_reply}
+use Rattle.ca_wire.specs.Messages.{failed_reply, mask_in, no_cid, not_found_reply, rights_reply}
+use Rattle.ca_wire.specs.Messages.{search_reply, status_reply, text_in, value_reply, version_reply}
 use Rattle.ca_model.specs.Ends.{Peer}
-use Rattle.ca_model.specs.Faults.{base_type_of, early_put_fault, read_fault, read_shown, subscription_fault, type_of}
+use Rattle.ca_model.specs.Faults.{base_type_of, early_put_fault, read_fault, read_shown}
+use Rattle.ca_model.specs.Faults.{subscription_fault, type_of}
 use Rattle.ca_model.specs.Server.{Subscription}
 use Rattle.ca_model.specs.Speech.{In}
 
@@ -93,7 +97,8 @@ rights_at k name = rights k.rules k.peer.user k.peer.host name
 -- that; else by nothing.
 abbrev pub search_due : Knows → Fields → List Fields
 search_due k m =
-    if is_some (k.record_of (text_in m.payload)) then search_reply k.port m ∷ [] else if m.data_type == 10 then not_found_reply m ∷ [] else []
+    if is_some (k.record_of (text_in m.payload)) then search_reply k.port m ∷ []
+    else if m.data_type == 10 then not_found_reply m ∷ [] else []
 
 -- ---- CREATE_CHAN ("CA_PROTO_CREATE_CHAN", "CA_PROTO_CREATE_CH_FAIL")
 
@@ -103,7 +108,8 @@ CidTaken k cid = (c : KnownChannel) × In k.channels c × (c.cid ≡ cid)
 
 -- A channel is created: a record has its name, its CID is not in use, and it gets a SID whose index
 -- no open channel has. Which one is the server's choice. ACCESS_RIGHTS goes before the reply.
-pub record IsCreated (k : Knows) (m : Fields) (replies : List Fields) (action : Action) : Type 0 where
+pub record IsCreated (k : Knows) (m : Fields) (replies : List Fields)
+    (action : Action) : Type 0 where
   pub known : KnownRecord
   pub named : k.record_of (text_in m.payload) ≡ Some known
   pub cid_free : CidTaken k m.p1 → ⊥
@@ -112,11 +118,14 @@ pub record IsCreated (k : Knows) (m : Fields) (replies : List Fields) (action : 
   pub sid_free : (c : KnownChannel) → In k.channels c → c.sid % 2 ^ 16 ≢ sid % 2 ^ 16
   pub are :
       let state : RecordState = known.state in
-      replies ≡ rights_reply m (rights_at k state.name) ∷ created_reply m (base_number (base_of state.value)) state.count sid ∷ []
-  pub does : action ≡ Opens (record { sid = sid; cid = m.p1; name = text_in m.payload; retired = false })
+      replies ≡ rights_reply m (rights_at k state.name) ∷ created_reply m
+      (base_number (base_of state.value)) state.count sid ∷ []
+  pub does : action ≡ Opens
+      (record { sid = sid; cid = m.p1; name = text_in m.payload; retired = false })
 
 -- A channel is not created: no record has its name, its CID is in use, or no SID may be given.
-pub record IsNotCreated (k : Knows) (m : Fields) (replies : List Fields) (action : Action) : Type 0 where
+pub record IsNotCreated (k : Knows) (m : Fields) (replies : List Fields)
+    (action : Action) : Type 0 where
   pub why : (k.record_of (text_in m.payload) ≡ None) ⊎ (CidTaken k m.p1 ⊎ (k.full ≡ true))
   pub are : replies ≡ failed_reply m ∷ []
   pub does : action ≡ Nothing
@@ -133,7 +142,8 @@ ReadDue k m replies action =
     (c : Serves k m.p1) × (action ≡ Nothing)
     × (((status : ℕ) × (fault_of_read k m c ≡ Some status) × (replies ≡ status_reply m status ∷ []))
     ⊎ ((fault_of_read k m c ≡ None)
-    × ((t : DataType) × (e : Elements) × (type_of m.data_type ≡ Some t) × (read_shown c.known.state m t ≡ Ok e)
+    × ((t : DataType) × (e : Elements) × (type_of m.data_type ≡ Some t)
+    × (read_shown c.known.state m t ≡ Ok e)
     × (replies ≡ value_reply m (count_of e) (image t e c.known.state.meta) ∷ []))))
 
 -- ---- WRITE and WRITE_NOTIFY ("CA_PROTO_WRITE", "CA_PROTO_WRITE_NOTIFY")
@@ -146,7 +156,8 @@ pub record PutReads (m : Fields) (e : Elements) : Type 0 where
 
 -- the first fault of a put, before its elements are read
 abbrev pub early_fault : (k : Knows) (m : Fields) → Serves k m.p1 → Option ℕ
-early_fault k m c = early_put_fault c.known.state (rights_at k c.channel.name) m (base_type_of m.data_type)
+early_fault k m c =
+    early_put_fault c.known.state (rights_at k c.channel.name) m (base_type_of m.data_type)
 
 -- a put with notification on this record has to wait
 abbrev pub must_wait : (k : Knows) (m : Fields) → Serves k m.p1 → Bool
@@ -159,7 +170,9 @@ late_fault k m c e = late_put_fault c.known.state (must_wait k m c) c.known.wait
 -- A put on an open channel is refused by this status.
 abbrev pub PutRefused : (k : Knows) (m : Fields) → Serves k m.p1 → ℕ → Type 0
 PutRefused k m c status =
-    (early_fault k m c ≡ Some status) ⊎ ((early_fault k m c ≡ None) × ((e : Elements) × PutReads m e × (late_fault k m c e ≡ Some status)))
+    (early_fault k m c ≡ Some status)
+    ⊎ ((early_fault k m c ≡ None)
+    × ((e : Elements) × PutReads m e × (late_fault k m c e ≡ Some status)))
 
 -- The value that a put without fault writes, in the type of its record.
 pub record PutTaken (k : Knows) (m : Fields) (c : Serves k m.p1) (value : Elements) : Type 0 where
@@ -173,8 +186,10 @@ pub record PutTaken (k : Knows) (m : Fields) (c : Serves k m.p1) (value : Elemen
 abbrev pub WriteDue : Knows → Fields → List Fields → Action → Type 0
 WriteDue k m replies action =
     (c : Serves k m.p1)
-    × (((status : ℕ) × PutRefused k m c status × (replies ≡ error_reply c.channel.cid status m ∷ []) × (action ≡ Nothing))
-    ⊎ ((value : Elements) × PutTaken k m c value × (replies ≡ []) × (action ≡ Applies c.channel.name value false)))
+    × (((status : ℕ) × PutRefused k m c status × (replies ≡ error_reply c.channel.cid status m ∷ [])
+    × (action ≡ Nothing))
+    ⊎ ((value : Elements) × PutTaken k m c value × (replies ≡ [])
+    × (action ≡ Applies c.channel.name value false)))
 
 -- A WRITE_NOTIFY is refused in its reply, or taken: it waits if the record is busy; else it
 -- is applied at once, and on a slow record it makes the record busy, and its reply is due
@@ -182,10 +197,13 @@ WriteDue k m replies action =
 abbrev pub PutDue : Knows → Fields → List Fields → Action → Type 0
 PutDue k m replies action =
     (c : Serves k m.p1)
-    × (((status : ℕ) × PutRefused k m c status × (replies ≡ status_reply m status ∷ []) × (action ≡ Nothing))
+    × (((status : ℕ) × PutRefused k m c status × (replies ≡ status_reply m status ∷ [])
+    × (action ≡ Nothing))
     ⊎ ((value : Elements) × PutTaken k m c value
     × (replies ≡ (if c.known.state.slow then [] else status_reply m normal ∷ []))
-    × (action ≡ (if must_wait k m c then Waits c.channel.name value else Applies c.channel.name value c.known.state.slow))))
+    × (action ≡
+    (if must_wait k m c then Waits c.channel.name value
+    else Applies c.channel.name value c.known.state.slow))))
 
 -- the reply that comes late, once its put is finished: for one that makes its record busy, or waits
 abbrev pub late_reply : Fields → Action → Option Fields
@@ -197,7 +215,12 @@ late_reply m action = None
 
 -- the subscription that an EVENT_ADD asks for, on a record
 abbrev pub subscription_in : Fields → List ℕ → Subscription
-subscription_in m name = record { wanted = record { sid = m.p1; id = m.p2; data_type = m.data_type; count = m.count }; name = name; mask = mask_in m }
+subscription_in m name =
+    record {
+      wanted = record { sid = m.p1; id = m.p2; data_type = m.data_type; count = m.count };
+      name = name;
+      mask = mask_in m;
+    }
 
 -- the SID and the subscription id of a message
 abbrev pub key_in : Fields → SubKey
@@ -206,14 +229,17 @@ key_in m = record { sid = m.p1; sub = m.p2 }
 -- the first fault of an EVENT_ADD
 abbrev pub fault_of_event : (k : Knows) (m : Fields) → Serves k m.p1 → Option ℕ
 fault_of_event k m c =
-    subscription_fault c.known.state (rights_at k c.channel.name) (is_among (key_in m) k.keys) (length k.keys) m (type_of m.data_type)
+    subscription_fault c.known.state (rights_at k c.channel.name) (is_among (key_in m) k.keys)
+    (length k.keys) m (type_of m.data_type)
 
 -- An EVENT_ADD is refused by ERROR, or its subscription begins, without a reply.
 abbrev pub EventDue : Knows → Fields → List Fields → Action → Type 0
 EventDue k m replies action =
     (c : Serves k m.p1)
-    × (((status : ℕ) × (fault_of_event k m c ≡ Some status) × (replies ≡ error_reply c.channel.cid status m ∷ []) × (action ≡ Nothing))
-    ⊎ ((fault_of_event k m c ≡ None) × (replies ≡ []) × (action ≡ Adds (subscription_in m c.channel.name))))
+    × (((status : ℕ) × (fault_of_event k m c ≡ Some status)
+    × (replies ≡ error_reply c.channel.cid status m ∷ []) × (action ≡ Nothing))
+    ⊎ ((fault_of_event k m c ≡ None) × (replies ≡ [])
+    × (action ≡ Adds (subscription_in m c.channel.name))))
 
 -- ---- a SID on which nothing is served
 
@@ -223,12 +249,15 @@ IsUnknown k sid cid = ((c : KnownChannel) → In k.channels c → c.sid ≢ sid)
 
 -- The SID is retired: its record was removed. An ERROR has its CID.
 abbrev pub IsRetired : Knows → ℕ → ℕ → Type 0
-IsRetired k sid cid = (c : KnownChannel) × In k.channels c × (c.sid ≡ sid) × (c.retired ≡ true) × (c.cid ≡ cid)
+IsRetired k sid cid =
+    (c : KnownChannel) × In k.channels c × (c.sid ≡ sid) × (c.retired ≡ true) × (c.cid ≡ cid)
 
 -- Nothing is served on the SID of the message: BADCHID, in its own reply or by an ERROR with this
 -- CID ("Status Codes").
 abbrev pub StrayDue : Knows → Fields → (ℕ → Fields) → List Fields → Action → Type 0
-StrayDue k m reply replies action = (cid : ℕ) × (IsUnknown k m.p1 cid ⊎ IsRetired k m.p1 cid) × (replies ≡ reply cid ∷ []) × (action ≡ Nothing)
+StrayDue k m reply replies action =
+    (cid : ℕ) × (IsUnknown k m.p1 cid ⊎ IsRetired k m.p1 cid) × (replies ≡ reply cid ∷ [])
+    × (action ≡ Nothing)
 
 -- ---- every command
 
@@ -249,18 +278,31 @@ is_known n =
 -- by its length; each EVENT_CANCEL is confirmed and each CLEAR_CHANNEL answered; of
 -- VERSIONs only the first is.
 pub record Due (k : Knows) (m : Fields) (replies : List Fields) (action : Action) : Type 0 where
-  pub version : m.command ≡ command_number command.Version → (replies ≡ (if k.greeted then [] else version_reply ∷ [])) × (action ≡ Greets)
-  pub user : m.command ≡ command_number command.ClientName → (replies ≡ []) × (action ≡ named k (record k.peer { user = text_in m.payload }))
-  pub host : m.command ≡ command_number command.HostName → (replies ≡ []) × (action ≡ named k (record k.peer { host = text_in m.payload }))
-  pub echo : m.command ≡ command_number command.Echo → (replies ≡ bare command.Echo ∷ []) × (action ≡ Nothing)
-  pub search : m.command ≡ command_number command.Search → (replies ≡ search_due k m) × (action ≡ Nothing)
-  pub create : m.command ≡ command_number command.CreateChannel → IsCreated k m replies action ⊎ IsNotCreated k m replies action
-  pub read : m.command ≡ command_number command.ReadNotify → ReadDue k m replies action ⊎ StrayDue k m (λ cid. status_reply m bad_channel) replies action
-  pub write : m.command ≡ command_number command.Write → WriteDue k m replies action ⊎ StrayDue k m (λ cid. error_reply cid bad_channel m) replies action
-  pub put : m.command ≡ command_number command.WriteNotify → PutDue k m replies action ⊎ StrayDue k m (λ cid. status_reply m bad_channel) replies action
-  pub subscribe : m.command ≡ command_number command.EventAdd → EventDue k m replies action ⊎ StrayDue k m (λ cid. error_reply cid bad_channel m) replies action
-  pub cancel : m.command ≡ command_number command.EventCancel → (replies ≡ cancel_reply m ∷ []) × (action ≡ Drops (key_in m))
-  pub off : m.command ≡ command_number command.EventsOff → (replies ≡ []) × (action ≡ Switches false)
+  pub version : m.command ≡ command_number command.Version
+      → (replies ≡ (if k.greeted then [] else version_reply ∷ [])) × (action ≡ Greets)
+  pub user : m.command ≡ command_number command.ClientName → (replies ≡ [])
+      × (action ≡ named k (record k.peer { user = text_in m.payload }))
+  pub host : m.command ≡ command_number command.HostName → (replies ≡ [])
+      × (action ≡ named k (record k.peer { host = text_in m.payload }))
+  pub echo : m.command ≡ command_number command.Echo → (replies ≡ bare command.Echo ∷ [])
+      × (action ≡ Nothing)
+  pub search : m.command ≡ command_number command.Search → (replies ≡ search_due k m)
+      × (action ≡ Nothing)
+  pub create : m.command ≡ command_number command.CreateChannel → IsCreated k m replies action
+      ⊎ IsNotCreated k m replies action
+  pub read : m.command ≡ command_number command.ReadNotify → ReadDue k m replies action
+      ⊎ StrayDue k m (λ cid. status_reply m bad_channel) replies action
+  pub write : m.command ≡ command_number command.Write → WriteDue k m replies action
+      ⊎ StrayDue k m (λ cid. error_reply cid bad_channel m) replies action
+  pub put : m.command ≡ command_number command.WriteNotify → PutDue k m replies action
+      ⊎ StrayDue k m (λ cid. status_reply m bad_channel) replies action
+  pub subscribe : m.command ≡ command_number command.EventAdd → EventDue k m replies action
+      ⊎ StrayDue k m (λ cid. error_reply cid bad_channel m) replies action
+  pub cancel : m.command ≡ command_number command.EventCancel → (replies ≡ cancel_reply m ∷ [])
+      × (action ≡ Drops (key_in m))
+  pub off : m.command ≡ command_number command.EventsOff → (replies ≡ [])
+      × (action ≡ Switches false)
   pub on : m.command ≡ command_number command.EventsOn → (replies ≡ []) × (action ≡ Switches true)
-  pub clear : m.command ≡ command_number command.ClearChannel → (replies ≡ cleared_reply m ∷ []) × (action ≡ Clears m.p1)
+  pub clear : m.command ≡ command_number command.ClearChannel → (replies ≡ cleared_reply m ∷ [])
+      × (action ≡ Clears m.p1)
   pub other : is_known m.command ≡ false → (replies ≡ []) × (action ≡ Nothing)

@@ -1,6 +1,8 @@
 -- Vocabulary: what a client makes of a message that it reads on a circuit (section "CA
 -- Protocol Messages").
-use Rattle.std.specs.Prelude.{ℕ, ◌≡◌, ◌≢◌, ◌-◌, ◌^◌, ◌==◌, ◌++◌, ◌⊎◌, Bool, true, false, List, [], ◌∷◌, Option, Some, None, if◌then◌else◌, map, option_and_then, option_map, unwrap_or}
+use Rattle.std.specs.Prelude.{ℕ, ◌≡◌, ◌≢◌, ◌-◌, ◌^◌, ◌==◌, ◌++◌, ◌⊎◌, Bool, true, false, List, []}
+use Rattle.std.specs.Prelude.{◌∷◌, Option, Some, None, if◌then◌else◌, map, option_and_then}
+use Rattle.std.specs.Prelude.{option_map, unwrap_or}
 use Rattle.std.specs.List.{list_any}
 use Rattle.ca_text.specs.Command.{command_number}
 use Rattle.ca_text.specs.declared.command.Command.{Command}
@@ -22,7 +24,11 @@ use Rattle.ca_model.specs.Ends.{Address}
 use Rattle.ca_model.specs.Speech.{Is}
 use Rattle.ca_model.specs.Answers.{Notice, Sending}
 use Rattle.ca_model.specs.Answers as notice
-use Rattle.ca_model.specs.Client.{Channel, Client, ClientCircuit, Connection, Native, On, Phase, Searching, Standing, channel_on, circuit_to, disconnections, found_on, is_live, is_on_in, new_circuit, phase_on, searched_again, sending, with_standing, without_channel, with_requests}
+use Rattle.ca_model.specs.Client.{Channel, Client, ClientCircuit, Connection, Native, On, Phase}
+use Rattle.ca_model.specs.Client.{Searching, Standing, channel_on, circuit_to, disconnections}
+use Rattle.ca_model.specs.Client.{found_on, is_live, is_on_in, new_circuit, phase_on}
+use Rattle.ca_model.specs.Client.{searched_again, sending, with_standing, without_channel}
+use Rattle.ca_model.specs.Client.{with_requests}
 use Rattle.ca_model.specs.Client as phase
 use Rattle.ca_model.specs.ClientCalls.{clear_sent, event_add_sent}
 
@@ -46,7 +52,8 @@ becomes x = doing [] [] x
 -- where the server of a search reply is: at the address in it, or where the reply came
 -- from ("CA_PROTO_SEARCH")
 abbrev pub found_at : Address → Fields → Address
-found_at from m = record { host = if m.p1 == 2 ^ 32 - 1 then from.host else m.p1; port = m.data_type }
+found_at from m =
+    record { host = if m.p1 == 2 ^ 32 - 1 then from.host else m.p1; port = m.data_type }
 
 -- the channel is searched for
 abbrev pub is_searched : Standing → Bool
@@ -56,16 +63,19 @@ is_searched (On c p) = false
 -- the channel of this CID, if it is searched for
 abbrev pub searched_by : ℕ → Client → Option (Handle × Channel)
 searched_by cid x =
-    option_and_then (λ (e : Handle × Channel). if is_searched e.1.standing then Some e else None) (by_wire x.channels cid)
+    option_and_then (λ (e : Handle × Channel). if is_searched e.1.standing then Some e else None)
+    (by_wire x.channels cid)
 
 -- the CREATE_CHAN of a channel, on this circuit ("CA_PROTO_CREATE_CHAN")
 abbrev pub create_sent : Handle → Handle → Channel → Sending
-create_sent c h here = record { circuit = c; message = create_request (wire_of h) here.name; aim = notice.Create h }
+create_sent c h here =
+    record { circuit = c; message = create_request (wire_of h) here.name; aim = notice.Create h }
 
 -- A channel that was found is created on its circuit at once if that is connected;
 -- else it waits for that.
 abbrev pub put_on : Handle → Option Connection → Handle → Channel → Client → Effect
-put_on c (Some e) h here x = doing (create_sent c h here ∷ []) [] (found_on c (phase.Creating 0) h x)
+put_on c (Some e) h here x =
+    doing (create_sent c h here ∷ []) [] (found_on c (phase.Creating 0) h x)
 put_on c None h here x = becomes (found_on c phase.Connecting h x)
 
 -- the client that wants this circuit too, after the others
@@ -74,7 +84,8 @@ with_circuit c d x = record x { circuits = with_held c d x.circuits; order = x.o
 
 -- The circuit on which a channel was found is there, or is wanted from now on. If no more circuits
 -- can be had, nothing happens.
-abbrev pub PutsOn : Client → Address → Handle → Channel → Option (Handle × ClientCircuit) → Effect → Type 0
+abbrev pub PutsOn : Client → Address → Handle → Channel → Option (Handle × ClientCircuit) → Effect
+    → Type 0
 PutsOn x a h here (Some (c, d)) e = e ≡ put_on c d.connection h here x
 PutsOn x a h here None e =
     ((c : Handle) × MayGive x.circuits c
@@ -94,14 +105,17 @@ Finds x from m e = FindsAt x (found_at from m) (searched_by m.p2 x) e
 
 -- ACCESS_RIGHTS ("CA_PROTO_ACCESS_RIGHTS")
 abbrev pub rights_told : Client → Handle → Fields → Option (Handle × Phase) → Effect
-rights_told x c m (Some (h, phase.Creating rights)) = becomes (with_standing (On c (phase.Creating m.p2)) h x)
-rights_told x c m (Some (h, phase.Live n rights)) = becomes (with_standing (On c (phase.Live n m.p2)) h x)
+rights_told x c m (Some (h, phase.Creating rights)) =
+    becomes (with_standing (On c (phase.Creating m.p2)) h x)
+rights_told x c m (Some (h, phase.Live n rights)) =
+    becomes (with_standing (On c (phase.Live n m.p2)) h x)
 rights_told x c m there = becomes x
 
 -- the EVENT_ADDs of a channel's subscriptions, in order of index
 abbrev pub event_adds : Handle → ℕ → Handle → Client → List Sending
 event_adds c sid h x =
-    map (λ (e : Handle × Subscription). event_add_sent c sid e.0 e.1) (standing_to h x.subscriptions)
+    map (λ (e : Handle × Subscription). event_add_sent c sid e.0 e.1)
+    (standing_to h x.subscriptions)
 
 -- what a CREATE_CHAN says of its channel
 abbrev pub native_in : Fields → Native
@@ -111,8 +125,10 @@ native_in m = record { sid = m.p2; data_type = m.data_type; count = m.count }
 -- caller cleared meanwhile is cleared now ("CA_PROTO_CREATE_CHAN")
 abbrev pub created : Client → Handle → Fields → Option (Handle × Phase) → Effect
 created x c m (Some (h, phase.Creating rights)) =
-    doing (event_adds c m.p2 h x) (notice.Live h ∷ []) (with_standing (On c (phase.Live (native_in m) rights)) h x)
-created x c m (Some (h, phase.Doomed)) = doing (clear_sent c m.p2 h ∷ []) [] (with_standing (On c phase.Clearing) h x)
+    doing (event_adds c m.p2 h x) (notice.Live h ∷ [])
+    (with_standing (On c (phase.Live (native_in m) rights)) h x)
+created x c m (Some (h, phase.Doomed)) =
+    doing (clear_sent c m.p2 h ∷ []) [] (with_standing (On c phase.Clearing) h x)
 created x c m there = becomes x
 
 -- CREATE_CH_FAIL: the channel is searched for again; one that its caller cleared meanwhile is gone
@@ -125,7 +141,8 @@ failed x there = becomes x
 -- the ids of a channel whose clear is answered no longer drain
 abbrev pub without_drained : Handle → Handle → Client → Client
 without_drained c h x =
-    with_requests (request.channel_gone h x.requests) (record x { subscriptions = monitor.channel_drained c h x.subscriptions })
+    with_requests (request.channel_gone h x.requests)
+    (record x { subscriptions = monitor.channel_drained c h x.subscriptions })
 
 -- CLEAR_CHANNEL: a channel that its caller cleared is gone; one that its record left is searched
 -- for again ("CA_PROTO_CLEAR_CHANNEL")
@@ -157,7 +174,8 @@ without_subscription s x = record x { subscriptions = with_freed s x.subscriptio
 -- A reply completes an open request with the outcome that it means, and ends the
 -- draining of an IOID.
 abbrev pub Completes : Client → Fields → Handle → Stage → Effect → Type 0
-Completes x m q request.Open e = (o : Outcome) × Means m o × (e ≡ doing [] (notice.Completed q o ∷ []) (without_request q x))
+Completes x m q request.Open e =
+    (o : Outcome) × Means m o × (e ≡ doing [] (notice.Completed q o ∷ []) (without_request q x))
 Completes x m q request.Draining e = e ≡ becomes (without_request q x)
 
 -- READ_NOTIFY and WRITE_NOTIFY ("CA_PROTO_READ_NOTIFY", "CA_PROTO_WRITE_NOTIFY")
@@ -190,18 +208,21 @@ Updates x m None e = e ≡ becomes x
 
 -- a plain write on a live channel failed
 abbrev pub write_failed : Client → Fields → Option (Handle × Phase) → Effect
-write_failed x m (Some (h, phase.Live n rights)) = doing [] (notice.WriteRefused h (record { number = m.p2 }) ∷ []) x
+write_failed x m (Some (h, phase.Live n rights)) =
+    doing [] (notice.WriteRefused h (record { number = m.p2 }) ∷ []) x
 write_failed x m there = becomes x
 
 -- a subscription failed: it is over, and its id is free
 abbrev pub subscription_failed : Client → Fields → Option Handle → Effect
-subscription_failed x m (Some s) = doing [] (notice.SubscriptionEnded s (record { number = m.p2 }) ∷ []) (without_subscription s x)
+subscription_failed x m (Some s) =
+    doing [] (notice.SubscriptionEnded s (record { number = m.p2 }) ∷ []) (without_subscription s x)
 subscription_failed x m None = becomes x
 
 -- A request failed; an IOID that drains goes on draining.
 abbrev pub request_failed : Client → Fields → Handle → Stage → Effect
 request_failed x m q request.Open =
-    doing [] (notice.Completed q (outcome.Failed (record { number = m.p2 })) ∷ []) (without_request q x)
+    doing [] (notice.Completed q (outcome.Failed (record { number = m.p2 })) ∷ [])
+    (without_request q x)
 request_failed x m q request.Draining = becomes x
 
 -- the read or put with notification, if there is one
@@ -223,7 +244,8 @@ failing x c m h =
 -- skipped ("CA_PROTO_ERROR").
 abbrev pub Fails : Client → Handle → Fields → Effect → Type 0
 Fails x c m e =
-    ((h : Header) × QuotesHeader m h × (e ≡ failing x c m h)) ⊎ (((h : Header) → QuotesHeader m h → ⊥) × (e ≡ becomes x))
+    ((h : Header) × QuotesHeader m h × (e ≡ failing x c m h))
+    ⊎ (((h : Header) → QuotesHeader m h → ⊥) × (e ≡ becomes x))
 
 -- ---- all messages
 
@@ -236,14 +258,24 @@ understood =
 -- A message that was read on this circuit has this effect. One of another command is skipped, and
 -- so is one that is about nothing here.
 pub data Hears (x : Client) (c : Handle) (m : Fields) (e : Effect) : Type 0 where
-  Search : Is command.Search m → (d : ClientCircuit) → under x.circuits c ≡ Some d → Finds x d.address m e → Hears x c m e
-  AccessRights : Is command.AccessRights m → e ≡ rights_told x c m (channel_on x c m.p1) → Hears x c m e
-  CreateChannel : Is command.CreateChannel m → e ≡ created x c m (channel_on x c m.p1) → Hears x c m e
-  CreateChannelFail : Is command.CreateChannelFail m → e ≡ failed x (channel_on x c m.p1) → Hears x c m e
-  ClearChannel : Is command.ClearChannel m → e ≡ clear_answered x c (channel_on x c m.p2) → Hears x c m e
-  ServerDisconnect : Is command.ServerDisconnect m → e ≡ left x c (channel_on x c m.p1) → Hears x c m e
-  Reply : Is command.ReadNotify m ⊎ Is command.WriteNotify m → Answers x m (answered_by c m.command m.p2 x.requests) e → Hears x c m e
-  Confirmation : Is command.EventAdd m → m.payload ≡ [] → e ≡ confirmed x (confirmed_by c m.p2 x.subscriptions) → Hears x c m e
-  Update : Is command.EventAdd m → m.payload ≢ [] → Updates x m (heard_by x c m.p2) e → Hears x c m e
+  Search : Is command.Search m → (d : ClientCircuit) → under x.circuits c ≡ Some d
+      → Finds x d.address m e → Hears x c m e
+  AccessRights : Is command.AccessRights m → e ≡ rights_told x c m (channel_on x c m.p1)
+      → Hears x c m e
+  CreateChannel : Is command.CreateChannel m → e ≡ created x c m (channel_on x c m.p1)
+      → Hears x c m e
+  CreateChannelFail : Is command.CreateChannelFail m → e ≡ failed x (channel_on x c m.p1)
+      → Hears x c m e
+  ClearChannel : Is command.ClearChannel m → e ≡ clear_answered x c (channel_on x c m.p2)
+      → Hears x c m e
+  ServerDisconnect : Is command.ServerDisconnect m → e ≡ left x c (channel_on x c m.p1)
+      → Hears x c m e
+  Reply : Is command.ReadNotify m ⊎ Is command.WriteNotify m
+      → Answers x m (answered_by c m.command m.p2 x.requests) e → Hears x c m e
+  Confirmation : Is command.EventAdd m → m.payload ≡ []
+      → e ≡ confirmed x (confirmed_by c m.p2 x.subscriptions) → Hears x c m e
+  Update : Is command.EventAdd m → m.payload ≢ [] → Updates x m (heard_by x c m.p2) e
+      → Hears x c m e
   Error : Is command.Error m → Fails x c m e → Hears x c m e
-  Other : list_any (λ (k : Command). m.command == command_number k) understood ≡ false → e ≡ becomes x → Hears x c m e
+  Other : list_any (λ (k : Command). m.command == command_number k) understood ≡ false
+      → e ≡ becomes x → Hears x c m e

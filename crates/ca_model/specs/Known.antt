@@ -1,6 +1,7 @@
 -- Statement: what a server knew when it handled a message, read off the lists; and with that,
 -- when a world is safe.
-use Rattle.std.specs.Prelude.{ℕ, ◌≡◌, ◌<◌, ◌≤◌, ◌%◌, ◌==◌, ◌&&◌, ◌++◌, ◌⊎◌, Bool, true, false, not, List, [], ◌∷◌, count_by}
+use Rattle.std.specs.Prelude.{ℕ, ◌≡◌, ◌<◌, ◌≤◌, ◌%◌, ◌==◌, ◌&&◌, ◌++◌, ◌⊎◌, Bool, true, false, not}
+use Rattle.std.specs.Prelude.{List, [], ◌∷◌, count_by}
 use Rattle.std.specs.Prelude.{Option, Some, None, filter, filter_map, if◌then◌else◌, length, take}
 use Rattle.std.specs.List.{fold, list_any}
 use Rattle.ca_text.specs.Command.{command_number}
@@ -14,10 +15,12 @@ use Rattle.ca_records.specs.Record.{RecordState}
 use Rattle.ca_records.specs.Rules.{Rule}
 use Rattle.ca_wire.specs.Fields.{Fields}
 use Rattle.ca_wire.specs.Messages.{text_in}
-use Rattle.ca_model.specs.Due.{Action, Applies, Clears, Due, KnownChannel, KnownRecord, Knows, late_reply}
+use Rattle.ca_model.specs.Due.{Action, Applies, Clears, Due, KnownChannel, KnownRecord, Knows}
+use Rattle.ca_model.specs.Due.{late_reply}
 use Rattle.ca_model.specs.Due as action
 use Rattle.ca_model.specs.Speech.{In, Is, IsWritten, Stored, name_in, sid_in}
-use Rattle.ca_model.specs.History.{Sent, Told, Step, Circuit, Entry, Added, Removed, Waits, Applied, Finished}
+use Rattle.ca_model.specs.History.{Sent, Told, Step, Circuit, Entry, Added, Removed, Waits, Applied}
+use Rattle.ca_model.specs.History.{Finished}
 use Rattle.ca_model.specs.History.{Withdrawn, World}
 use Rattle.ca_model.specs.Updates.{Shows}
 use Rattle.ca_model.specs.Channels.{Has, IsOpen, Lasts}
@@ -66,7 +69,8 @@ IsRecordOf y name None = (r : ℕ) → Has y r name → ⊥
 
 -- a channel was created by these messages
 abbrev pub has_created : List Told → Bool
-has_created down = list_any (λ (t : Told). t.message.command == command_number command.CreateChannel) down
+has_created down =
+    list_any (λ (t : Told). t.message.command == command_number command.CreateChannel) down
 
 -- The message at place k was handled before a channel was created.
 abbrev pub IsEarly : Circuit → (k : ℕ) → Fields → Type 0
@@ -85,14 +89,16 @@ NamesItself c name text =
 -- The channel is one that is open: its ids and its name, and whether its record was removed.
 abbrev pub IsChannel : Circuit → List Entry → KnownChannel → Type 0
 IsChannel c y channel =
-    (j k r : ℕ) × (s : Sent) × IsOpen c y j k channel.sid r × At c.up k s × (channel.cid ≡ s.message.p1)
+    (j k r : ℕ) × (s : Sent) × IsOpen c y j k channel.sid r × At c.up k s
+    × (channel.cid ≡ s.message.p1)
     × (channel.name ≡ name_in s.message)
     × (channel.retired ≡ true → In y (Removed r)) × (In y (Removed r) → channel.retired ≡ true)
 
 -- The key is that of a subscription that lasts.
 abbrev pub IsKey : Circuit → List Entry → SubKey → Type 0
 IsKey c y key =
-    (k r : ℕ) × (s : Sent) × (h : Step) × Accepted c y k r s h × Lasts c y k r s × (key.sid ≡ s.message.p1)
+    (k r : ℕ) × (s : Sent) × (h : Step) × Accepted c y k r s h × Lasts c y k r s
+    × (key.sid ≡ s.message.p1)
     × (key.sub ≡ s.message.p2)
 
 -- What is in a list is just what is so, each once.
@@ -103,22 +109,26 @@ pub record AreJust {A : Type 0} (xs : List A) (IsSo : A → Type 0) : Type 0 whe
 
 -- a channel was created under a SID of this index
 abbrev pub creates_at : (index : ℕ) → Told → Bool
-creates_at index t = t.message.command == command_number command.CreateChannel && t.message.p2 % arena_slots == index
+creates_at index t =
+    t.message.command == command_number command.CreateChannel && t.message.p2 % arena_slots == index
 
 -- No SID may be given: each index is an open channel's, or was given as often as
 -- there are generations.
 abbrev pub IsFull : Circuit → Knows → Type 0
 IsFull c k =
-    (i : ℕ) → i < arena_slots → ((channel : KnownChannel) × In k.channels channel × (channel.sid % arena_slots ≡ i))
+    (i : ℕ) → i < arena_slots
+    → ((channel : KnownChannel) × In k.channels channel × (channel.sid % arena_slots ≡ i))
     ⊎ (last_generation ≤ count_by (creates_at i) c.down)
 
 -- What a server on this port, with these rules, knows on a circuit whose messages it handled, all
 -- of them, and by its log.
-pub record Knew (port : ℕ) (rules : List Rule) (c : Circuit) (y : List Entry) (k : Knows) : Type 0 where
+pub record Knew (port : ℕ) (rules : List Rule) (c : Circuit) (y : List Entry)
+    (k : Knows) : Type 0 where
   pub on_port : k.port ≡ port
   pub by_rules : k.rules ≡ rules
   pub records : (name : List ℕ) → IsRecordOf y name (k.record_of name)
-  pub greeted : k.greeted ≡ list_any (λ (s : Sent). s.message.command == command_number command.Version) c.up
+  pub greeted : k.greeted ≡ list_any
+      (λ (s : Sent). s.message.command == command_number command.Version) c.up
   pub user : NamesItself c command.ClientName k.peer.user
   pub host : NamesItself c command.HostName k.peer.host
   pub settled : k.settled ≡ has_created c.down
@@ -130,14 +140,17 @@ pub record Knew (port : ℕ) (rules : List Rule) (c : Circuit) (y : List Entry) 
 
 -- This put of the circuit waits, on the channel under this SID, and the entry withdraws it.
 abbrev pub IsWithdrawal : (n : ℕ) → Circuit → List Entry → (sid : ℕ) → Entry → Type 0
-IsWithdrawal n c y sid e = (k r : ℕ) × (s : Sent) × In (waiting y r) (n, k) × At c.up k s × (sid_in s.message ≡ sid)
+IsWithdrawal n c y sid e =
+    (k r : ℕ) × (s : Sent) × In (waiting y r) (n, k) × At c.up k s × (sid_in s.message ≡ sid)
     × (e ≡ Withdrawn n k)
 
 -- The write at place k is logged, with no alarm and some stamp.
 abbrev pub IsLogged : (n k : ℕ) → List Entry → Action → List Entry → Type 0
-IsLogged n k y (Applies name value busies) logs = (r : ℕ) × (v : Stored) × Has y r name × (v.value ≡ value)
+IsLogged n k y (Applies name value busies) logs =
+    (r : ℕ) × (v : Stored) × Has y r name × (v.value ≡ value)
     × IsWritten v × (logs ≡ Applied n k r v busies ∷ [])
-IsLogged n k y (action.Waits name value) logs = (r : ℕ) × (v : Stored) × Has y r name × (v.value ≡ value)
+IsLogged n k y (action.Waits name value) logs =
+    (r : ℕ) × (v : Stored) × Has y r name × (v.value ≡ value)
     × IsWritten v × (logs ≡ Waits n k r v ∷ [])
 IsLogged n k y did logs = logs ≡ []
 
@@ -152,9 +165,11 @@ Logs n c y did logs = IsLogged n (length c.handled) y did logs
 -- The ports and the rules of the servers, life by life.
 module _ (ports : ℕ → ℕ) (rules : ℕ → List Rule) where
   -- What is due for a message, by what its server knew.
-  abbrev pub IsDue : ℕ → Circuit → List Entry → Fields → List Fields → Option Fields → List Entry → Type 0
+  abbrev pub IsDue : ℕ → Circuit → List Entry → Fields → List Fields → Option Fields → List Entry
+      → Type 0
   IsDue n c y m replies late logs =
-      (k : Knows) × (did : Action) × Knew (ports c.server) (rules c.server) c y k × Due k m replies did
+      (k : Knows) × (did : Action) × Knew (ports c.server) (rules c.server) c y k
+      × Due k m replies did
       × (late ≡ late_reply m did) × Logs n c y did logs
 
   -- A world is safe.

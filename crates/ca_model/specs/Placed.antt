@@ -5,7 +5,8 @@ use Rattle.ca_arena.specs.Arena.{place_at}
 use Rattle.ca_ids.specs.Table.{Table, under}
 use Rattle.ca_requests.specs.Requests.{Request}
 use Rattle.ca_monitor.specs.Subscriptions.{Subscription, drains_in}
-use Rattle.ca_model.specs.Client.{Channel, Clearing, Client, ClientCircuit, Leaving, Live, On, Phase, is_on_in}
+use Rattle.ca_model.specs.Client.{Channel, Clearing, Client, ClientCircuit, Leaving, Live, On}
+use Rattle.ca_model.specs.Client.{Phase, is_on_in}
 use Rattle.ca_model.specs.ClientEnds.{is_connecting}
 
 -- the channel was live on its circuit, and its clear is not answered
@@ -17,7 +18,8 @@ was_live p = false
 
 -- A channel is in the table, and was live on this circuit.
 abbrev pub WasLiveIn : Table Channel → (channel on : Handle) → Type 0
-WasLiveIn channels channel on = (ch : Channel) × (under channels channel ≡ Some ch) × (is_on_in was_live on ch ≡ true)
+WasLiveIn channels channel on =
+    (ch : Channel) × (under channels channel ≡ Some ch) × (is_on_in was_live on ch ≡ true)
 
 -- the same of a client's channel
 abbrev pub WasLive : Client → (channel on : Handle) → Type 0
@@ -25,9 +27,12 @@ WasLive x channel on = WasLiveIn x.channels channel on
 
 -- Requests are on circuits on which their channels were live, and there alone ids of
 -- subscriptions drain.
-pub record AreAttached (channels : Table Channel) (asked : Table Request) (subscribed : Table Subscription) : Type 0 where
-  pub requests : (q : Handle) (r : Request) → under asked q ≡ Some r → WasLiveIn channels r.channel r.circuit
-  pub subscriptions : (g : Handle) (d : Subscription) (on : Handle) → under subscribed g ≡ Some d → drains_in on d.stage ≡ true
+pub record AreAttached (channels : Table Channel) (asked : Table Request)
+    (subscribed : Table Subscription) : Type 0 where
+  pub requests : (q : Handle) (r : Request) → under asked q ≡ Some r
+      → WasLiveIn channels r.channel r.circuit
+  pub subscriptions : (g : Handle) (d : Subscription) (on : Handle) → under subscribed g ≡ Some d
+      → drains_in on d.stage ≡ true
       → WasLiveIn channels d.channel on
 
 -- a client's are
@@ -36,8 +41,11 @@ Attached x = AreAttached x.channels x.requests x.subscriptions
 
 -- A channel on a circuit waits for it if that is not connected, and only then.
 abbrev pub AreWaitingIn : Table Channel → Table ClientCircuit → Type 0
-AreWaitingIn channels circuits = (h : Handle) (ch : Channel) (c : Handle) (p : Phase) → under channels h ≡ Some ch → ch.standing ≡ On c p
-    → is_connecting p ≡ is_none (option_and_then (λ (d : ClientCircuit). d.connection) (under circuits c))
+AreWaitingIn channels circuits =
+    (h : Handle) (ch : Channel) (c : Handle) (p : Phase) → under channels h ≡ Some ch
+    → ch.standing ≡ On c p
+    → is_connecting p ≡ is_none
+    (option_and_then (λ (d : ClientCircuit). d.connection) (under circuits c))
 
 -- a client's do
 abbrev pub AreWaiting : Client → Type 0
@@ -45,7 +53,8 @@ AreWaiting x = AreWaitingIn x.channels x.circuits
 
 -- Requests and subscriptions are where their channels are, and channels are on circuits that are
 -- connected or wanted.
-pub record ArePlaced (channels : Table Channel) (asked : Table Request) (subscribed : Table Subscription) (circuits : Table ClientCircuit) : Type 0 where
+pub record ArePlaced (channels : Table Channel) (asked : Table Request)
+    (subscribed : Table Subscription) (circuits : Table ClientCircuit) : Type 0 where
   pub attached : AreAttached channels asked subscribed
   pub waiting : AreWaitingIn channels circuits
 
@@ -54,9 +63,11 @@ abbrev pub IsPlaced : Client → Type 0
 IsPlaced x = ArePlaced x.channels x.requests x.subscriptions x.circuits
 
 -- No request is on the channel, and no id of a subscription to it drains.
-pub record IsBareIn (h : Handle) (asked : Table Request) (subscribed : Table Subscription) : Type 0 where
+pub record IsBareIn (h : Handle) (asked : Table Request)
+    (subscribed : Table Subscription) : Type 0 where
   pub requests : (q : Handle) (r : Request) → under asked q ≡ Some r → r.channel ≡ h → ⊥
-  pub subscriptions : (g : Handle) (d : Subscription) (on : Handle) → under subscribed g ≡ Some d → drains_in on d.stage ≡ true → d.channel ≡ h → ⊥
+  pub subscriptions : (g : Handle) (d : Subscription) (on : Handle) → under subscribed g ≡ Some d
+      → drains_in on d.stage ≡ true → d.channel ≡ h → ⊥
 
 -- a client's channel is so
 abbrev pub IsBare : Handle → Client → Type 0

@@ -9,10 +9,17 @@ use Rattle.ca_text.specs.Mask.{HasEvent}
 use Rattle.ca_text.specs.Place.{At}
 use Rattle.ca_model.specs.ClientEnds.{ClientTicks}
 use Rattle.ca_model.specs.History.{Collected, GaveUp, Intent}
-use Rattle.ca_model.specs.ClientEvents.{HappensAccept, HappensClear, HappensClientDatagram, HappensClientRestart, HappensClientStep, HappensCutClient, HappensDown, HappensHandingOut, HappensOpen, HappensRead, HappensSubscribe, HappensUnsubscribe, HappensUp, HappensWrite, HappensWriteNotify, TicksOne, WantsFirst, waiting_down, waiting_up}
+use Rattle.ca_model.specs.ClientEvents.{HappensAccept, HappensClear, HappensClientDatagram}
+use Rattle.ca_model.specs.ClientEvents.{HappensClientRestart, HappensClientStep, HappensCutClient}
+use Rattle.ca_model.specs.ClientEvents.{HappensDown, HappensHandingOut, HappensOpen, HappensRead}
+use Rattle.ca_model.specs.ClientEvents.{HappensSubscribe, HappensUnsubscribe, HappensUp}
+use Rattle.ca_model.specs.ClientEvents.{HappensWrite, HappensWriteNotify, TicksOne, WantsFirst}
+use Rattle.ca_model.specs.ClientEvents.{waiting_down, waiting_up}
 use Rattle.ca_model.specs.Events.{Event}
 use Rattle.ca_model.specs.Events as event
-use Rattle.ca_model.specs.ServerEvents.{HappensAdd, HappensCutServer, HappensFinish, HappensPost, HappensPump, HappensRemove, HappensServerDatagram, HappensServerRestart, HappensServerStep}
+use Rattle.ca_model.specs.ServerEvents.{HappensAdd, HappensCutServer, HappensFinish, HappensPost}
+use Rattle.ca_model.specs.ServerEvents.{HappensPump, HappensRemove, HappensServerDatagram}
+use Rattle.ca_model.specs.ServerEvents.{HappensServerRestart, HappensServerStep}
 use Rattle.ca_model.specs.World.{ClientSide, Joined, Joins, ServerSide, Setting, World, opening}
 
 -- ---- what has to be there
@@ -111,7 +118,8 @@ Leaves w (event.Clear i c) at new = HappensClear w i at.x c at.h new
 Leaves w (event.Read i c data_type count) at new = HappensRead w i at.x c at.h data_type count new
 Leaves w (event.Write i c e) at new = HappensWrite w i at.x c at.h e new
 Leaves w (event.WriteNotify i c e) at new = HappensWriteNotify w i at.x c at.h e new
-Leaves w (event.Subscribe i c data_type count mask) at new = HappensSubscribe w i at.x c at.h data_type count mask new
+Leaves w (event.Subscribe i c data_type count mask) at new =
+    HappensSubscribe w i at.x c at.h data_type count mask new
 Leaves w (event.Unsubscribe i n) at new = HappensUnsubscribe w i at.x at.s new
 Leaves w (event.Collect i r) at new = HappensHandingOut w at.x r at.q.1 (Collected r) new
 Leaves w (event.GiveUp i r) at new = HappensHandingOut w at.x r at.q.1 (GaveUp r) new
@@ -132,7 +140,8 @@ Leaves w (event.Finish i name) at new = HappensFinish w i at.y name new
 Leaves w (event.Remove i name) at new = HappensRemove w i at.y name new
 Leaves w (event.Add i r) at new = HappensAdd w i at.y r new
 Leaves w (event.Tick moment) at new =
-    (mid : World) × TicksAll moment w (clients_below (length w.clients)) mid × (new ≡ record mid { moment = moment })
+    (mid : World) × TicksAll moment w (clients_below (length w.clients)) mid
+    × (new ≡ record mid { moment = moment })
 
 -- From w, this event may leave new.
 abbrev pub Happens : World → Event → World → Type 0
@@ -143,7 +152,8 @@ Happens w e new = (at : CanBe w e) × Leaves w e at new
 -- A tick was handed to a beginning of the clients, and the next one refused it out of memory.
 abbrev pub TicksBefore : (moment : ℕ) → World → World → Type 0
 TicksBefore moment mid w =
-    (n : ℕ) × (x : ClientSide) × (mid.moment ≤ moment) × TicksAll moment mid (clients_below n) w × At mid.clients n x
+    (n : ℕ) × (x : ClientSide) × (mid.moment ≤ moment) × TicksAll moment mid (clients_below n) w
+    × At mid.clients n x
     × ClientTicks x.core moment (Err OutOfMemory) [] x.core
 
 -- What the event at which a run stopped left, if there was one: nothing, or the
@@ -155,7 +165,8 @@ StopsAt mid stopped w = w ≡ mid
 -- From the opening world, these events in a row lead to this one, with the event at which the run
 -- stopped, if there was one.
 abbrev pub Runs : Setting → List Event → (stopped : Option Event) → World → Type 0
-Runs setting es stopped w = (mid : World) × FoldsTo Happens (opening setting) es mid × StopsAt mid stopped w
+Runs setting es stopped w =
+    (mid : World) × FoldsTo Happens (opening setting) es mid × StopsAt mid stopped w
 
 -- The values in these events are values, a record that is added has no alarm and no stamp yet, and
 -- masks have a bit. All this follows from the types of the program.

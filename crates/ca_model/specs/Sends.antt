@@ -26,14 +26,16 @@ ReadsBetween e i k j m = (b : ℕ) × At e.came j m × At e.read j b × (i < b) 
 abbrev pub IsOnChannel : Fields → Type 0
 IsOnChannel m =
     Is command.ReadNotify m
-    ⊎ (Is command.WriteNotify m ⊎ (Is command.Write m ⊎ (Is command.EventAdd m ⊎ (Is command.EventCancel m
+    ⊎ (Is command.WriteNotify m
+    ⊎ (Is command.Write m ⊎ (Is command.EventAdd m ⊎ (Is command.EventCancel m
     ⊎ Is command.ClearChannel m))))
 
 -- When the client sends message k it has a channel with this CID and SID: it asked for it at place
 -- i, it read the reply at place j, and has sent no CLEAR_CHANNEL of it since.
 abbrev pub HasChannel : Conduct → (k i j cid sid : ℕ) → Type 0
 HasChannel e k i j cid sid =
-    (s m : Fields) × At e.sent i s × Gives s (Cid cid) × ReadsBetween e i k j m × Creates m sid × (m.p1 ≡ cid)
+    (s m : Fields) × At e.sent i s × Gives s (Cid cid) × ReadsBetween e i k j m × Creates m sid
+    × (m.p1 ≡ cid)
     × ((l : ℕ) (r : Fields) → i < l → l < k → At e.sent l r → Clears r sid → r.p2 ≢ cid)
 
 -- a SERVER_DISCONN for this CID
@@ -50,7 +52,8 @@ Quotes request m =
 -- No EVENT_CANCEL for the EVENT_ADD at place l was among the first b messages.
 abbrev pub IsUncancelled : Conduct → (l b : ℕ) → Fields → Type 0
 IsUncancelled e l b add =
-    (i : ℕ) (s : Fields) → l < i → i < b → At e.sent i s → Is command.EventCancel s → s.p1 ≡ add.p1 → s.p2 ≢ add.p2
+    (i : ℕ) (s : Fields) → l < i → i < b → At e.sent i s → Is command.EventCancel s → s.p1 ≡ add.p1
+    → s.p2 ≢ add.p2
 
 -- After b messages, message m frees the id that the request at place l gave. A CID: CREATE_CH_FAIL,
 -- or the reply to its CLEAR_CHANNEL. An IOID: the reply or an ERROR. A subscription id: the
@@ -59,19 +62,22 @@ IsUncancelled e l b add =
 abbrev pub Frees : Conduct → (l b : ℕ) → (request m : Fields) → Type 0
 Frees e l b request m =
     (Is command.CreateChannel request
-    × ((Is command.CreateChannelFail m × (m.p1 ≡ request.p1)) ⊎ (Is command.ClearChannel m × (m.p2 ≡ request.p1))))
+    × ((Is command.CreateChannelFail m × (m.p1 ≡ request.p1))
+    ⊎ (Is command.ClearChannel m × (m.p2 ≡ request.p1))))
     ⊎ (((Is command.ReadNotify request ⊎ Is command.WriteNotify request)
     × (((m.command ≡ request.command) × (m.p2 ≡ request.p2)) ⊎ Quotes request m))
     ⊎ ((Is command.EventAdd request
     × ((Is command.EventAdd m × (m.payload ≡ []) × (m.p2 ≡ request.p2)) ⊎ (Quotes request m
     × IsUncancelled e l b request)))
-    ⊎ ((i j cid : ℕ) × HasChannel e l i j cid (sid_in request) × Is command.ClearChannel m × (m.p2 ≡ cid))))
+    ⊎ ((i j cid : ℕ) × HasChannel e l i j cid (sid_in request) × Is command.ClearChannel m
+    × (m.p2 ≡ cid))))
 
 -- Before the client sent message k it read a message that freed the id that its
 -- message at place l gave.
 abbrev pub IsFree : Conduct → (l k : ℕ) → Type 0
 IsFree e l k =
-    (j b : ℕ) × (request m : Fields) × At e.sent l request × At e.came j m × At e.read j b × (l < b) × (b ≤ k)
+    (j b : ℕ) × (request m : Fields) × At e.sent l request × At e.came j m × At e.read j b × (l < b)
+    × (b ≤ k)
     × Frees e l b request m
 
 -- Two ids of one kind have one index.
@@ -89,12 +95,15 @@ pub record LegalClient (e : Conduct) : Type 0 where
   pub on_channel : (k : ℕ) (m : Fields) → At e.sent k m → IsOnChannel m
       → (i j cid : ℕ) × HasChannel e k i j cid (sid_in m)
       × ((Is command.ClearChannel m × (m.p2 ≡ cid))
-      ⊎ ((Is command.ClearChannel m → ⊥) × ((l : ℕ) (r : Fields) → j < l → ReadsBetween e i k l r → IsDisconnect cid r
+      ⊎ ((Is command.ClearChannel m → ⊥)
+      × ((l : ℕ) (r : Fields) → j < l → ReadsBetween e i k l r → IsDisconnect cid r
       → ⊥)))
   pub cancels : (k : ℕ) (m : Fields) → At e.sent k m → Is command.EventCancel m
-      → (l : ℕ) × (add : Fields) × At e.sent l add × Is command.EventAdd add × (l < k) × (add.p1 ≡ m.p1)
+      → (l : ℕ) × (add : Fields) × At e.sent l add × Is command.EventAdd add × (l < k)
+      × (add.p1 ≡ m.p1)
       × (add.p2 ≡ m.p2) × IsUncancelled e l k add
-  pub ids : (l k : ℕ) (r m : Fields) (a b : Id) → l < k → At e.sent l r → At e.sent k m → Gives r a → Gives m b
+  pub ids : (l k : ℕ) (r m : Fields) (a b : Id) → l < k → At e.sent l r → At e.sent k m → Gives r a
+      → Gives m b
       → SameIndex a b → IsFree e l k
 
 -- ---- a server
@@ -108,22 +117,27 @@ IsOpenAt e k i cid sid =
 
 -- It has sent no SERVER_DISCONN for this CID between its messages i and k.
 abbrev pub IsConnected : Conduct → (i k cid : ℕ) → Type 0
-IsConnected e i k cid = (l : ℕ) (m : Fields) → i < l → l < k → At e.sent l m → IsDisconnect cid m → ⊥
+IsConnected e i k cid =
+    (l : ℕ) (m : Fields) → i < l → l < k → At e.sent l m → IsDisconnect cid m → ⊥
 
 -- What a server sends on a circuit. A SID is given only if no open channel has its index. An update
 -- is for an EVENT_ADD that was read on a channel that is open, and neither was its record removed
 -- nor the subscription cancelled. A confirmation answers the EVENT_CANCEL that was read just
 -- before. Each open channel has one SERVER_DISCONN at most.
 pub record LegalServer (e : Conduct) : Type 0 where
-  pub sids : (i k a b : ℕ) (m r : Fields) → i < k → At e.sent i m → At e.sent k r → Creates m a → Creates r b
-      → a % arena_slots ≡ b % arena_slots → (j : ℕ) × (c : Fields) × ReadsBetween e i k j c × Clears c a
+  pub sids : (i k a b : ℕ) (m r : Fields) → i < k → At e.sent i m → At e.sent k r → Creates m a
+      → Creates r b
+      → a % arena_slots ≡ b % arena_slots → (j : ℕ) × (c : Fields) × ReadsBetween e i k j c
+      × Clears c a
   pub updates : (k : ℕ) (m : Fields) → At e.sent k m → Is command.EventAdd m → m.payload ≢ []
       → (i j cid : ℕ) × (add : Fields) × IsOpenAt e k i cid (sid_in add) × IsConnected e i k cid
       × ReadsBetween e i k j add × Gives add (SubId m.p2)
-      × ((l : ℕ) (r : Fields) → j < l → ReadsBetween e i k l r → Is command.EventCancel r → r.p1 ≡ add.p1
+      × ((l : ℕ) (r : Fields) → j < l → ReadsBetween e i k l r → Is command.EventCancel r
+      → r.p1 ≡ add.p1
       → r.p2 ≢ add.p2)
   pub confirmations : (k : ℕ) (m : Fields) → At e.sent k m → Is command.EventAdd m → m.payload ≡ []
-      → (j : ℕ) × (r : Fields) × At e.came j r × At e.read j k × Is command.EventCancel r × (r.p1 ≡ m.p1)
+      → (j : ℕ) × (r : Fields) × At e.came j r × At e.read j k × Is command.EventCancel r
+      × (r.p1 ≡ m.p1)
       × (r.p2 ≡ m.p2)
   pub disconnects : (k : ℕ) (m : Fields) → At e.sent k m → Is command.ServerDisconnect m
       → (i sid : ℕ) × IsOpenAt e k i m.p1 sid × IsConnected e i k m.p1

@@ -102,13 +102,17 @@ concerns name mask s = bytes_eq s.name name && share_bit mask s.mask
 abbrev pub with_post : (name : List ℕ) → (mask : ℕ) → Stored → ServerEnd → ServerEnd
 with_post name mask v e = record e {
   queues =
-      fold (λ (qs : List (Queue Stored)) (s : Subscription). map (queue_posted (key_of s) v) qs) e.queues (filter (concerns name mask) e.subscriptions);
+      fold (λ (qs : List (Queue Stored)) (s : Subscription). map
+      (queue_posted (key_of s) v) qs) e.queues (filter (concerns name mask) e.subscriptions);
 }
 
 -- the end without the subscriptions that a test names ("CA_PROTO_EVENT_CANCEL")
 abbrev pub without_subscriptions : (SubKey → Bool) → ServerEnd → ServerEnd
 without_subscriptions gone e =
-    record e { subscriptions = filter (λ (s : Subscription). not (gone (key_of s))) e.subscriptions; queues = without_each gone e.queues }
+    record e {
+      subscriptions = filter (λ (s : Subscription). not (gone (key_of s))) e.subscriptions;
+      queues = without_each gone e.queues;
+    }
 
 -- updates may be taken again, or only while some subscription has two ("CA_PROTO_EVENTS_OFF",
 -- "CA_PROTO_EVENTS_ON")

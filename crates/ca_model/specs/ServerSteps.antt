@@ -1,10 +1,13 @@
 -- Vocabulary: the calls of a server on one circuit, by answer (sections "Virtual Circuit" and "CA
 -- Protocol Messages"). Each is the contract of the call of `ServerCore` that its comment names.
-use Rattle.std.specs.Prelude.{ℕ, ◌≡◌, ◌≢◌, ◌<◌, ◌≤◌, ◌+◌, ◌==◌, ◌&&◌, ◌++◌, ◌⊎◌, Bool, true, false, List, [], ◌∷◌, Option, Some, None, Ok, Err, Result, if◌then◌else◌, is_some, length, map, min, option_map, slice_set, unwrap_or}
+use Rattle.std.specs.Prelude.{ℕ, ◌≡◌, ◌≢◌, ◌<◌, ◌≤◌, ◌+◌, ◌==◌, ◌&&◌, ◌++◌, ◌⊎◌, Bool, true, false}
+use Rattle.std.specs.Prelude.{List, [], ◌∷◌, Option, Some, None, Ok, Err, Result, if◌then◌else◌}
+use Rattle.std.specs.Prelude.{is_some, length, map, min, option_map, slice_set, unwrap_or}
 use Rattle.std.specs.List.{FoldsTo, list_any}
 use Rattle.ca_arena.specs.declared.handle.Handle.{Handle}
 use Rattle.ca_dbr.specs.Elements.{Elements}
-use Rattle.ca_ids.specs.Table.{MayGive, by_wire, held, is_full, same_handle, under, with_changed, with_each, with_freed, with_held}
+use Rattle.ca_ids.specs.Table.{MayGive, by_wire, held, is_full, same_handle, under, with_changed}
+use Rattle.ca_ids.specs.Table.{with_each, with_freed, with_held}
 use Rattle.ca_ids.specs.Wire.{wire_of}
 use Rattle.ca_link.specs.Link.{TakesFirst, with_given, with_handed, with_rest, with_sent}
 use Rattle.ca_queue.specs.declared.entry.SubKey.{SubKey}
@@ -12,17 +15,21 @@ use Rattle.ca_queue.specs.Keys.{same}
 use Rattle.ca_queue.specs.Queue.{Queue, added, posted, with_front_taken}
 use Rattle.ca_queue.specs.Waiting.{taken}
 use Rattle.ca_records.specs.declared.puts.Put.{Put}
-use Rattle.ca_records.specs.Puts.{Record, record_named, with_record, with_value, with_waiting, withdrawn, written_meta}
+use Rattle.ca_records.specs.Puts.{Record, record_named, with_record, with_value, with_waiting}
+use Rattle.ca_records.specs.Puts.{withdrawn, written_meta}
 use Rattle.ca_text.specs.declared.refusal.Refusal.{Refusal}
 use Rattle.ca_text.specs.declared.refusal.Refusal.TheVariants as refusal
 use Rattle.ca_text.specs.Limits.{applied_limit, output_limit, queue_subscriptions}
 use Rattle.ca_text.specs.Place.{At}
 use Rattle.ca_wire.specs.Fields.{Fields}
 use Rattle.ca_wire.specs.Stream.{BadAt, NoneBegins, NotBad}
-use Rattle.ca_model.specs.Due.{Action, Adds, Applies, Clears, Drops, Due, Greets, KnownChannel, KnownRecord, Knows, Names, Opens, Switches, Waits}
+use Rattle.ca_model.specs.Due.{Action, Adds, Applies, Clears, Drops, Due, Greets, KnownChannel}
+use Rattle.ca_model.specs.Due.{KnownRecord, Knows, Names, Opens, Switches, Waits}
 use Rattle.ca_model.specs.Ends.{Why, why_of}
 use Rattle.ca_model.specs.Ends as why
-use Rattle.ca_model.specs.Server.{Ended, Open, OpenChannel, Server, ServerCircuit, ServerEnd, Subscription, concerns, key_of, new_end, with_events, with_post, without_subscriptions}
+use Rattle.ca_model.specs.Server.{Ended, Open, OpenChannel, Server, ServerCircuit, ServerEnd}
+use Rattle.ca_model.specs.Server.{Subscription, concerns, key_of, new_end, with_events, with_post}
+use Rattle.ca_model.specs.Server.{without_subscriptions}
 use Rattle.ca_model.specs.Speech.{In, Stored}
 use Rattle.ca_model.specs.Updates.{ShowsTo}
 
@@ -39,16 +46,22 @@ with_end h e y = record y { circuits = with_changed (λ (c : ServerCircuit). Ope
 -- `accept`: a circuit is made, under a handle that may be given; refused by
 -- ArenaFull if there is none.
 abbrev pub Accepts : Server → Result Handle Refusal → Server → Type 0
-Accepts old (Ok h) new = MayGive old.circuits h × (new ≡ record old { circuits = with_held h (Open (new_end old.moment)) old.circuits })
+Accepts old (Ok h) new =
+    MayGive old.circuits h
+    × (new ≡ record old { circuits = with_held h (Open (new_end old.moment)) old.circuits })
 Accepts old (Err refusal.ArenaFull) new = (is_full old.circuits ≡ true) × (new ≡ old)
 Accepts old (Err refusal.OutOfMemory) new = (is_full old.circuits ≡ false) × (new ≡ old)
 Accepts old (Err _) new = ⊥
 
 -- `give`: these bytes came on a circuit; refused by CircuitClosed if its end is not open.
 abbrev pub Gives : Server → Handle → List ℕ → Result (Unit {0}) Refusal → Server → Type 0
-Gives old h bytes (Ok _) new = (e : ServerEnd) × HasEnd old h e × (new ≡ with_end h (record e { link = with_given old.moment bytes e.link }) old)
-Gives old h bytes (Err refusal.CircuitClosed) new = ((e : ServerEnd) → HasEnd old h e → ⊥) × (new ≡ old)
-Gives old h bytes (Err refusal.OutOfMemory) new = ((e : ServerEnd) × HasEnd old h e) × (bytes ≢ []) × (new ≡ old)
+Gives old h bytes (Ok _) new =
+    (e : ServerEnd) × HasEnd old h e
+    × (new ≡ with_end h (record e { link = with_given old.moment bytes e.link }) old)
+Gives old h bytes (Err refusal.CircuitClosed) new =
+    ((e : ServerEnd) → HasEnd old h e → ⊥) × (new ≡ old)
+Gives old h bytes (Err refusal.OutOfMemory) new =
+    ((e : ServerEnd) × HasEnd old h e) × (bytes ≢ []) × (new ≡ old)
 Gives old h bytes (Err _) new = ⊥
 
 -- `out_bytes`: what waits to be sent on a circuit whose end is open
@@ -60,7 +73,8 @@ output_of c = []
 -- whose end is not open.
 abbrev pub Sends : Server → Handle → ℕ → Server → Type 0
 Sends old h n new =
-    ((e : ServerEnd) × HasEnd old h e × (n ≤ length e.link.output) × (new ≡ with_end h (record e { link = with_handed n e.link }) old))
+    ((e : ServerEnd) × HasEnd old h e × (n ≤ length e.link.output)
+    × (new ≡ with_end h (record e { link = with_handed n e.link }) old))
     ⊎ (((e : ServerEnd) → HasEnd old h e → ⊥) × (n ≡ 0) × (new ≡ old))
 
 -- ---- circuits end
@@ -68,7 +82,8 @@ Sends old h n new =
 -- the server without the waiting puts of a circuit: they are never applied
 -- ("CA_PROTO_WRITE_NOTIFY")
 abbrev pub without_puts_of : Handle → Server → Server
-without_puts_of h y = record y { records = withdrawn (λ (p : Put). same_handle p.circuit h) y.records }
+without_puts_of h y =
+    record y { records = withdrawn (λ (p : Put). same_handle p.circuit h) y.records }
 
 -- The end of a circuit has ended, and that was reported: nothing of it is kept.
 abbrev pub closed : Handle → Server → Server
@@ -76,12 +91,15 @@ closed h y = without_puts_of h (record y { circuits = with_freed h y.circuits })
 
 -- The end of a circuit has ended, and left these bytes; a step is to report it.
 abbrev pub ended : Handle → Why → (left : List ℕ) → Server → Server
-ended h why left y = without_puts_of h (record y { circuits = with_changed (λ (c : ServerCircuit). Ended why left) h y.circuits })
+ended h why left y =
+    without_puts_of h
+    (record y { circuits = with_changed (λ (c : ServerCircuit). Ended why left) h y.circuits })
 
 -- `cut`: the end of a circuit ends, if it is open.
 abbrev pub Cuts : Server → Handle → Server → Type 0
 Cuts old h new =
-    ((e : ServerEnd) × HasEnd old h e × (new ≡ ended h why.Cut e.link.output old)) ⊎ (((e : ServerEnd) → HasEnd old h e → ⊥) × (new ≡ old))
+    ((e : ServerEnd) × HasEnd old h e × (new ≡ ended h why.Cut e.link.output old))
+    ⊎ (((e : ServerEnd) → HasEnd old h e → ⊥) × (new ≡ old))
 
 -- ---- posts reach circuits
 
@@ -92,17 +110,25 @@ is_concerned name mask (Ended w left) = false
 
 -- Circuits may end out of memory for a post only if it concerns them.
 abbrev pub MayEnd : Server → (name : List ℕ) → (mask : ℕ) → (gone : Handle → Bool) → Type 0
-MayEnd y name mask gone = (h : Handle) → gone h ≡ true → (c : ServerCircuit) × (under y.circuits h ≡ Some c) × (is_concerned name mask c ≡ true)
+MayEnd y name mask gone =
+    (h : Handle) → gone h ≡ true → (c : ServerCircuit) × (under y.circuits h ≡ Some c)
+    × (is_concerned name mask c ≡ true)
 
 -- A circuit after a post: it got its updates, or ended out of memory for them.
-abbrev pub reached : (name : List ℕ) → (mask : ℕ) → Stored → (gone : Handle → Bool) → Handle → ServerCircuit → ServerCircuit
-reached name mask v gone h (Open e) = if gone h then Ended why.OutOfMemory e.link.output else Open (with_post name mask v e)
+abbrev pub reached : (name : List ℕ) → (mask : ℕ) → Stored → (gone : Handle → Bool) → Handle
+    → ServerCircuit → ServerCircuit
+reached name mask v gone h (Open e) =
+    if gone h then Ended why.OutOfMemory e.link.output else Open (with_post name mask v e)
 reached name mask v gone h (Ended w left) = Ended w left
 
 -- The server after a post to a record, by which these circuits ended out of memory.
-abbrev pub after_post : (name : List ℕ) → (mask : ℕ) → Stored → (gone : Handle → Bool) → Server → Server
+abbrev pub after_post : (name : List ℕ) → (mask : ℕ) → Stored → (gone : Handle → Bool) → Server
+    → Server
 after_post name mask v gone y =
-    record y { circuits = with_each (reached name mask v gone) y.circuits; records = withdrawn (λ (p : Put). gone p.circuit) y.records }
+    record y {
+      circuits = with_each (reached name mask v gone) y.circuits;
+      records = withdrawn (λ (p : Put). gone p.circuit) y.records;
+    }
 
 -- the mask of an applied write: VALUE and LOG ("CA_PROTO_EVENT_ADD")
 abbrev pub write_mask : ℕ
@@ -124,7 +150,8 @@ known_record r = record { state = r.state; busy = is_some r.busy; waits = length
 
 -- an open channel as the server knows it
 abbrev pub known_channel : Handle × OpenChannel → KnownChannel
-known_channel c = record { sid = wire_of c.0; cid = c.1.cid; name = c.1.name; retired = c.1.retired }
+known_channel c =
+    record { sid = wire_of c.0; cid = c.1.cid; name = c.1.name; retired = c.1.retired }
 
 -- what a server knows on a circuit
 abbrev pub knows : Server → ServerEnd → Knows
@@ -149,22 +176,32 @@ pub record TakesIn (s : Subscription) (v : Stored) (e new : ServerEnd) : Type 0 
   pub q : Queue Stored
   pub at : At e.queues place q
   pub room : length q.subscriptions < queue_subscriptions
-  pub first : (i : ℕ) (r : Queue Stored) → i < place → At e.queues i r → queue_subscriptions ≤ length r.subscriptions
+  pub first : (i : ℕ) (r : Queue Stored) → i < place → At e.queues i r
+      → queue_subscriptions ≤ length r.subscriptions
   pub leaves :
-      new ≡ record e { subscriptions = e.subscriptions ++ s ∷ []; queues = slice_set e.queues place (posted (key_of s) v (added (key_of s) q)) }
+      new ≡ record e {
+        subscriptions = e.subscriptions ++ s ∷ [];
+        queues = slice_set e.queues place (posted (key_of s) v (added (key_of s) q));
+      }
 
 -- The channel that a message creates is held under a handle whose SID it is
 -- ("CA_PROTO_CREATE_CHAN").
 abbrev pub Creates : ServerEnd → KnownChannel → ServerEnd → Type 0
 Creates e c new =
     (h : Handle) × MayGive e.channels h × (wire_of h ≡ c.sid)
-    × (new ≡ record e { settled = true; channels = with_held h (record { cid = c.cid; name = c.name; retired = false }) e.channels })
+    × (new ≡ record e {
+      settled = true;
+      channels = with_held h (record { cid = c.cid; name = c.name; retired = false }) e.channels;
+    })
 
 -- the end without the channel of this SID and its subscriptions ("CA_PROTO_CLEAR_CHANNEL")
 abbrev pub without_channel : ℕ → ServerEnd → ServerEnd
 without_channel sid e =
     without_subscriptions (λ (k : SubKey). k.sid == sid) (record e {
-      channels = unwrap_or (option_map (λ (c : Handle × OpenChannel). with_freed c.0 e.channels) (by_wire e.channels sid)) e.channels;
+      channels =
+          unwrap_or
+          (option_map (λ (c : Handle × OpenChannel). with_freed c.0 e.channels)
+          (by_wire e.channels sid)) e.channels;
     })
 
 -- What a message makes of the end that handles it. A write leaves it as it is.
@@ -173,7 +210,9 @@ Acts y e Greets new = new ≡ record e { greeted = true }
 Acts y e (Names p) new = new ≡ record e { peer = p }
 Acts y e (Opens c) new = Creates e c new
 Acts y e (Clears sid) new = new ≡ without_channel sid e
-Acts y e (Adds s) new = (r : Record) × (record_named y.records s.name ≡ Some r) × TakesIn s (record { value = r.state.value; meta = r.state.meta }) e new
+Acts y e (Adds s) new =
+    (r : Record) × (record_named y.records s.name ≡ Some r)
+    × TakesIn s (record { value = r.state.value; meta = r.state.meta }) e new
 Acts y e (Drops key) new = new ≡ without_subscriptions (same key) e
 Acts y e (Switches on) new = new ≡ with_events on e
 Acts y e action new = new ≡ e
@@ -183,24 +222,45 @@ Acts y e action new = new ≡ e
 abbrev pub IsPut : Handle → ServerEnd → Fields → Put → Type 0
 IsPut h e m p =
     (c : Handle × OpenChannel) × (by_wire e.channels m.p1 ≡ Some c)
-    × (p ≡ record { circuit = h; channel = c.0; data_type = m.data_type; count = m.count; ioid = m.p2 })
+    × (p ≡ record {
+      circuit = h;
+      channel = c.0;
+      data_type = m.data_type;
+      count = m.count;
+      ioid = m.p2;
+    })
 
 -- What a message makes of the server's records ("CA_PROTO_WRITE", "CA_PROTO_WRITE_NOTIFY",
 -- "CA_PROTO_CLEAR_CHANNEL").
 abbrev pub Records : Server → Handle → ServerEnd → Fields → Action → Server → Type 0
-Records y h e m (Applies name value false) new = new ≡ counted (record y { records = with_record name (with_value value (written_meta y.stamp)) y.records })
+Records y h e m (Applies name value false) new =
+    new ≡ counted
+    (record y { records = with_record name (with_value value (written_meta y.stamp)) y.records })
 Records y h e m (Applies name value true) new =
     (p : Put) × IsPut h e m p
-    × (new ≡ counted (record y { records = with_record name (λ (r : Record). record (with_value value (written_meta y.stamp) r) { busy = Some p }) y.records }))
+    × (new ≡ counted
+    (record y {
+      records = with_record name
+          (λ (r : Record). record
+          (with_value value (written_meta y.stamp) r) { busy = Some p }) y.records;
+    }))
 Records y h e m (Waits name value) new =
-    (p : Put) × IsPut h e m p × (new ≡ record y { records = with_record name (with_waiting (record { put = p; value = value })) y.records })
+    (p : Put) × IsPut h e m p
+    × (new ≡ record y {
+      records = with_record name
+          (with_waiting (record { put = p; value = value })) y.records;
+    })
 Records y h e m (Clears sid) new =
-    new ≡ record y { records = withdrawn (λ (p : Put). same_handle p.circuit h && wire_of p.channel == sid) y.records }
+    new ≡ record y {
+      records = withdrawn
+          (λ (p : Put). same_handle p.circuit h && wire_of p.channel == sid) y.records;
+    }
 Records y h e m action new = new ≡ y
 
 -- The message is handled on this circuit: these replies are due, this is done, and so the server
 -- and the circuit's end are after it. A write has not reached the subscriptions yet.
-pub record Handles (y : Server) (h : Handle) (e : ServerEnd) (m : Fields) (replies : List Fields) (action : Action) (new : Server) : Type 0 where
+pub record Handles (y : Server) (h : Handle) (e : ServerEnd) (m : Fields) (replies : List Fields)
+    (action : Action) (new : Server) : Type 0 where
   pub due : Due (knows y e) m replies action
   pub acted : ServerEnd
   pub acts : Acts y e action acted
@@ -211,7 +271,8 @@ pub record Handles (y : Server) (h : Handle) (e : ServerEnd) (m : Fields) (repli
 -- The write of a message, if it is one, reaches all subscriptions of its record; circuits that it
 -- concerns may end out of memory for it.
 abbrev pub Reaches : Action → (gone : Handle → Bool) → Server → Server → Type 0
-Reaches (Applies name value busies) gone y new = MayEnd y name write_mask gone × (new ≡ after_post name write_mask (stored_now y value) gone y)
+Reaches (Applies name value busies) gone y new =
+    MayEnd y name write_mask gone × (new ≡ after_post name write_mask (stored_now y value) gone y)
 Reaches action gone y new = ((h : Handle) → gone h ≡ false) × (new ≡ y)
 
 -- ---- steps
@@ -247,9 +308,11 @@ is_write action = false
 
 -- What is left of the next message of an end that closes on it: nothing; or its write, which
 -- reaches all but these circuits.
-abbrev pub LeftOf : {y : Server} {h : Handle} {e : ServerEnd} → Next y h e → (written : Option (Handle → Bool)) → Server → Type 0
+abbrev pub LeftOf : {y : Server} {h : Handle} {e : ServerEnd} → Next y h e
+    → (written : Option (Handle → Bool)) → Server → Type 0
 LeftOf {y} {h} {e} next None new = new ≡ y
-LeftOf {y} {h} {e} next (Some gone) new = (is_write next.action ≡ true) × Reaches next.action gone next.after new
+LeftOf {y} {h} {e} next (Some gone) new =
+    (is_write next.action ≡ true) × Reaches next.action gone next.after new
 
 -- The end closes out of memory for the next message: its replies are not sent, and its
 -- write is applied or not.
@@ -264,11 +327,18 @@ pub record LacksMemory (y : Server) (h : Handle) (e : ServerEnd) (new : Server) 
 -- A step of an open end.
 abbrev pub StepsOpen : Server → Handle → ServerEnd → Stepped → Server → Type 0
 StepsOpen old h e OutputFull new = (output_limit ≤ length e.link.output) × (new ≡ old)
-StepsOpen old h e NeedBytes new = (length e.link.output < output_limit) × NoneBegins e.link.input.bytes × NotBad e.link.input.bytes × (new ≡ old)
-StepsOpen old h e Handled new = (next : Next old h e) × (gone : Handle → Bool) × (gone h ≡ false) × Reaches next.action gone next.after new
-StepsOpen old h e (Closed why.OutOfMemory left) new = (left ≡ e.link.output) × LacksMemory old h e new
+StepsOpen old h e NeedBytes new =
+    (length e.link.output < output_limit) × NoneBegins e.link.input.bytes
+    × NotBad e.link.input.bytes × (new ≡ old)
+StepsOpen old h e Handled new =
+    (next : Next old h e) × (gone : Handle → Bool) × (gone h ≡ false)
+    × Reaches next.action gone next.after new
+StepsOpen old h e (Closed why.OutOfMemory left) new =
+    (left ≡ e.link.output) × LacksMemory old h e new
 StepsOpen old h e (Closed w left) new =
-    (length e.link.output < output_limit) × ((r : Refusal) × BadAt e.link.input.bytes r × (w ≡ why_of r)) × (left ≡ e.link.output) × (new ≡ closed h old)
+    (length e.link.output < output_limit)
+    × ((r : Refusal) × BadAt e.link.input.bytes r × (w ≡ why_of r)) × (left ≡ e.link.output)
+    × (new ≡ closed h old)
 
 -- A step of what is under a handle: an open end; one that ended in another call, which is
 -- reported now; or no circuit.
@@ -297,11 +367,16 @@ pub record Leaves (e : ServerEnd) (u : Update) (new : ServerEnd) : Type 0 where
   pub room : length e.link.output < output_limit
   pub q : Queue Stored
   pub at : At e.queues u.queue q
-  pub first : (i : ℕ) (r : Queue Stored) → i < u.queue → At e.queues i r → taken r.events_on r.waiting ≡ None
+  pub first : (i : ℕ) (r : Queue Stored) → i < u.queue → At e.queues i r
+      → taken r.events_on r.waiting ≡ None
   pub stands : In e.subscriptions u.of
   pub taken_is : taken q.events_on q.waiting ≡ Some (key_of u.of, u.carries)
   pub shows : ShowsTo u.of.wanted u.carries u.message
-  pub leaves : new ≡ record e { link = with_sent (u.message ∷ []) e.link; queues = slice_set e.queues u.queue (with_front_taken q) }
+  pub leaves : new
+      ≡ record e {
+        link = with_sent (u.message ∷ []) e.link;
+        queues = slice_set e.queues u.queue (with_front_taken q);
+      }
 
 -- no update may leave now
 abbrev pub Rests : ServerEnd → Type 0
@@ -313,5 +388,6 @@ abbrev pub Pumps : Server → Handle → List Update → Server → Type 0
 Pumps old h updates new =
     ((e : ServerEnd) × HasEnd old h e
     × ((after : ServerEnd) × FoldsTo Leaves e updates after
-    × ((Rests after × (new ≡ with_end h after old)) ⊎ ((Rests after → ⊥) × (new ≡ ended h why.OutOfMemory after.link.output old)))))
+    × ((Rests after × (new ≡ with_end h after old))
+    ⊎ ((Rests after → ⊥) × (new ≡ ended h why.OutOfMemory after.link.output old)))))
     ⊎ (((e : ServerEnd) → HasEnd old h e → ⊥) × (updates ≡ []) × (new ≡ old))

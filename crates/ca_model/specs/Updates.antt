@@ -21,12 +21,17 @@ update_count w v = if w.count == 0 then count_of v.value else w.count
 -- none in the wanted type
 abbrev pub update_in : Wanted → Stored → DataType → Result Elements Refusal → Fields
 update_in w v t (Ok e) = update w.data_type (update_count w v) normal w.id (image t e v.meta)
-update_in w v t (Err r) = update w.data_type (update_count w v) get_fail w.id (replicate (size_of_image t (update_count w v)) 0)
+update_in w v t (Err r) =
+    update w.data_type (update_count w v) get_fail w.id
+    (replicate (size_of_image t (update_count w v)) 0)
 
 -- The message is the update that shows this value to a subscription that asked so.
 abbrev pub ShowsTo : Wanted → Stored → Fields → Type 0
-ShowsTo w v m = (t : DataType) × (type_of w.data_type ≡ Some t) × (m ≡ update_in w v t (shown v.value (update_count w v) t.base))
+ShowsTo w v m =
+    (t : DataType) × (type_of w.data_type ≡ Some t)
+    × (m ≡ update_in w v t (shown v.value (update_count w v) t.base))
 
 -- The message is the update that shows this value to the subscription of this EVENT_ADD.
 abbrev pub Shows : Fields → Stored → Fields → Type 0
-Shows add v m = ShowsTo (record { sid = add.p1; id = add.p2; data_type = add.data_type; count = add.count }) v m
+Shows add v m =
+    ShowsTo (record { sid = add.p1; id = add.p2; data_type = add.data_type; count = add.count }) v m

@@ -1,5 +1,7 @@
 -- Statement: a world of clients and servers, the circuits that join them, and what happened.
-use Rattle.std.specs.Prelude.{ℕ, ◌≡◌, ◌<◌, ◌≤◌, ◌^◌, ◌+◌, ◌==◌, ◌++◌, List, [], ◌∷◌, Option, None, find, length, map, option_and_then, option_map, slice_get, slice_set, unwrap_or}
+use Rattle.std.specs.Prelude.{ℕ, ◌≡◌, ◌<◌, ◌≤◌, ◌^◌, ◌+◌, ◌==◌, ◌++◌, List, [], ◌∷◌, Option, None}
+use Rattle.std.specs.Prelude.{find, length, map, option_and_then, option_map, slice_get, slice_set}
+use Rattle.std.specs.Prelude.{unwrap_or}
 use Rattle.std.specs.List.{flat_map}
 use Rattle.ca_arena.specs.declared.handle.Handle.{Handle}
 use Rattle.ca_queue.specs.declared.entry.SubKey.{SubKey}
@@ -37,11 +39,15 @@ pub record Setting : Type 0 where
 -- records, and have different names; ports are ports, and the servers have different addresses.
 pub record IsSetting (s : Setting) : Type 0 where
   pub fit : (i : ℕ) (c : ClientSetting) → At s.clients i c → NamesFit c.peer
-  pub few : (i : ℕ) (c : ClientSetting) → At s.clients i c → length (distinct c.name_servers) ≤ arena_slots
-  pub records : (i j : ℕ) (y : ServerSetting) (r : RecordState) → At s.servers i y → At y.records j r → IsRecord r
-  pub names : (i j k : ℕ) (y : ServerSetting) (r q : RecordState) → At s.servers i y → At y.records j r → At y.records k q → r.name ≡ q.name → j ≡ k
+  pub few : (i : ℕ) (c : ClientSetting) → At s.clients i c
+      → length (distinct c.name_servers) ≤ arena_slots
+  pub records : (i j : ℕ) (y : ServerSetting) (r : RecordState) → At s.servers i y
+      → At y.records j r → IsRecord r
+  pub names : (i j k : ℕ) (y : ServerSetting) (r q : RecordState) → At s.servers i y
+      → At y.records j r → At y.records k q → r.name ≡ q.name → j ≡ k
   pub ports : (i : ℕ) (y : ServerSetting) → At s.servers i y → y.address.port < 2 ^ 16
-  pub addresses : (i j : ℕ) (y z : ServerSetting) → At s.servers i y → At s.servers j z → y.address ≡ z.address → i ≡ j
+  pub addresses : (i j : ℕ) (y z : ServerSetting) → At s.servers i y → At s.servers j z
+      → y.address ≡ z.address → i ≡ j
 
 -- ---- a world
 
@@ -123,7 +129,8 @@ pub record World : Type 0 where
 
 -- what waits in the queues of a circuit, queue by queue
 abbrev pub waiting_in : List (Queue (ℕ × Cause)) → List (ℕ × Cause)
-waiting_in queues = flat_map (λ (q : Queue (ℕ × Cause)). map (λ (w : SubKey × (ℕ × Cause)). w.1) q.waiting) queues
+waiting_in queues =
+    flat_map (λ (q : Queue (ℕ × Cause)). map (λ (w : SubKey × (ℕ × Cause)). w.1) q.waiting) queues
 
 -- a circuit as what happened on it
 abbrev pub circuit_of : Joined → Circuit
@@ -131,7 +138,11 @@ circuit_of j = record j.lists { queued = waiting_in j.queues }
 
 -- what happened in a world, of which the statement speaks
 abbrev pub told : World → history.World
-told w = record { circuits = map circuit_of w.circuits; clients = w.client_logs; servers = w.server_logs }
+told w = record {
+  circuits = map circuit_of w.circuits;
+  clients = w.client_logs;
+  servers = w.server_logs;
+}
 
 -- as what the server was given whose life this is, by a circuit that joins it
 abbrev pub setting_of : World → (life : ℕ) → Option ServerSetting
@@ -142,7 +153,8 @@ setting_of w life =
 
 -- its port, and its rules
 abbrev pub port_of : World → (life : ℕ) → ℕ
-port_of w life = unwrap_or (option_map (λ (s : ServerSetting). s.address.port) (setting_of w life)) 0
+port_of w life =
+    unwrap_or (option_map (λ (s : ServerSetting). s.address.port) (setting_of w life)) 0
 
 abbrev pub rules_of : World → (life : ℕ) → List Rule
 rules_of w life = unwrap_or (option_map (λ (s : ServerSetting). s.rules) (setting_of w life)) []
@@ -161,7 +173,13 @@ no_names = record { channels = []; requests = []; subscriptions = []; writes = 0
 -- a client that begins this life now
 abbrev pub client_begun : (servers : List Address) → (moment life : ℕ) → ClientSetting → ClientSide
 client_begun servers moment life s =
-    record { setting = s; core = new_client (record { peer = s.peer; servers = servers; names = s.name_servers; now = moment }); life = life; names = no_names }
+    record {
+      setting = s;
+      core = new_client
+          (record { peer = s.peer; servers = servers; names = s.name_servers; now = moment });
+      life = life;
+      names = no_names;
+    }
 
 -- a record that a server begins with
 abbrev pub record_begun : ℕ → RecordState → RecordSide

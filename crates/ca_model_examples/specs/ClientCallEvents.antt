@@ -1,4 +1,5 @@
--- Vocabulary's examples: what calls of a client leave of a small world: the core by its calls, and lines, messages and names as plain data.
+-- Vocabulary's examples: what calls of a client leave of a small world: the core by its calls, and
+-- lines, messages and names as plain data.
 use Rattle.std.specs.Prelude.{ℕ, ◌++◌, pos, Bool, true, false, List, [], ◌∷◌, Some, None}
 use Rattle.ca_arena.specs.declared.handle.Handle.{Handle}
 use Rattle.ca_dbr.specs.Elements.{Elements, longs}
@@ -7,11 +8,13 @@ use Rattle.ca_text.specs.declared.command.Command.TheVariants as command
 use Rattle.ca_text.specs.declared.refusal.Refusal.{Refusal}
 use Rattle.ca_text.specs.declared.refusal.Refusal.TheVariants as refusal
 use Rattle.ca_wire.specs.declared.requests.Wanted.{Wanted}
-use Rattle.ca_wire.specs.Messages.{clear_request, event_add_request, event_cancel_request, put_request, read_request}
+use Rattle.ca_wire.specs.Messages.{clear_request, event_add_request, event_cancel_request}
+use Rattle.ca_wire.specs.Messages.{put_request, read_request}
 use Rattle.ca_model.specs.Answers.{Sending}
 use Rattle.ca_model.specs.Client.{Client, sending}
 use Rattle.ca_model.specs.ClientCalls.{issued, opened, put_sent, write_sent}
-use Rattle.ca_model.specs.History.{Ask, Cancel, Clear, Create, Intent, Line, Put, Read, Request, Sent, Subscribe, Write}
+use Rattle.ca_model.specs.History.{Ask, Cancel, Clear, Create, Intent, Line, Put, Read, Request}
+use Rattle.ca_model.specs.History.{Sent, Subscribe, Write}
 use Rattle.ca_model.specs.History as history
 use Rattle.ca_requests.specs.Requests as request
 use Rattle.ca_model.specs.Events.{Event}
@@ -19,7 +22,8 @@ use Rattle.ca_model.specs.Events as event
 use Rattle.ca_model.specs.Runs.{CanBe, Happens}
 use Rattle.ca_model.specs.World.{ClientSide, Joined, Names, ServerSide, World, server_begun}
 use Rattle.ca_model_examples.specs.Worlds as worlds
-use Rattle.ca_model_examples.specs.ClientRows.{alive, anna, first, home, live_temp, reading, second, subscribed, cancelled, cleared_live, temp}
+use Rattle.ca_model_examples.specs.ClientRows.{alive, anna, first, home, live_temp, reading, second}
+use Rattle.ca_model_examples.specs.ClientRows.{subscribed, cancelled, cleared_live, temp}
 
 -- ---- a world
 
@@ -27,10 +31,16 @@ use Rattle.ca_model_examples.specs.ClientRows.{alive, anna, first, home, live_te
 abbrev pub old : Handle
 old = record { index = 5; generation = 1 }
 
--- anna, in its second life: TEMP is its channel 1; its channel 0, its request 0 and its subscription 0 are over, and it wrote three times
+-- anna, in its second life: TEMP is its channel 1; its channel 0, its request 0 and its
+-- subscription 0 are over, and it wrote three times
 abbrev pub anna_side : Client → Names → ClientSide
 anna_side core names =
-    record { setting = record { peer = core.peer; name_servers = [] }; core = core; life = 1; names = names }
+    record {
+      setting = record { peer = core.peer; name_servers = [] };
+      core = core;
+      life = 1;
+      names = names;
+    }
 
 abbrev pub names : Names
 names = record {
@@ -48,7 +58,17 @@ joined client h is_open up = record {
   at_client = h;
   at_server = first;
   lists =
-      record { client = 1; server = 0; up = up; down = []; handled = []; heard = []; queued = []; client_open = is_open; server_open = true };
+      record {
+        client = 1;
+        server = 0;
+        up = up;
+        down = [];
+        handled = [];
+        heard = [];
+        queued = [];
+        client_open = is_open;
+        server_open = true;
+      };
   left_up = [];
   left_down = [];
   creations = [];
@@ -60,13 +80,15 @@ joined client h is_open up = record {
 abbrev pub server : ServerSide
 server = server_begun 0 0 (record { address = home; rules = []; records = worlds.temp ∷ [] })
 
--- A world of anna, whose circuit is the last: on it this went up. Another client's has the same handle, and so has one of anna's that ended;
+-- A world of anna, whose circuit is the last: on it this went up. Another client's has the same
+-- handle, and so has one of anna's that ended;
 -- one more of anna's has another.
 abbrev pub world : ClientSide → List Line → List Sent → World
 world x lines up = record {
   clients = x ∷ anna_side (anna []) names ∷ [];
   servers = server ∷ [];
-  circuits = joined 1 first true [] ∷ joined 0 first false [] ∷ joined 0 second true [] ∷ joined 0 first true up ∷ [];
+  circuits =
+      joined 1 first true [] ∷ joined 0 first false [] ∷ joined 0 second true [] ∷ joined 0 first true up ∷ [];
   client_logs = [] ∷ lines ∷ [];
   server_logs = [] ∷ [];
   moment = 7;
@@ -108,19 +130,27 @@ two_channels = opened (record { name = temp; priority = 9; now = 7 }) second ali
 
 abbrev pub OpenLeaves : Type 0
 OpenLeaves =
-    Leaves (event.Open 0 temp 9) two_channels (record names { channels = old ∷ first ∷ second ∷ [] }) (history.Opened 2 temp ∷ []) []
-    × IsRefused (event.Open 0 temp 100) refusal.BadPriority × IsRefused (event.Open 0 [] 100) refusal.NameLength
+    Leaves (event.Open 0 temp 9) two_channels
+    (record names { channels = old ∷ first ∷ second ∷ [] }) (history.Opened 2 temp ∷ []) []
+    × IsRefused (event.Open 0 temp 100) refusal.BadPriority
+    × IsRefused (event.Open 0 [] 100) refusal.NameLength
     × CanNot live (event.Open 2 temp 0)
 
 abbrev pub with_read : Names
-with_read = record names { requests = (old, history.On 0 (Request Put 0)) ∷ (first, on_temp (Request Read 1)) ∷ [] }
+with_read =
+    record names {
+      requests = (old, history.On 0 (Request Put 0)) ∷
+          (first, on_temp (Request Read 1)) ∷ [];
+    }
 
 abbrev pub ReadLeaves : Type 0
 ReadLeaves =
-    Leaves (event.Read 0 1 5 1) reading with_read (history.Called (on_temp (Request Read 1)) None ∷ []) (
+    Leaves (event.Read 0 1 5 1) reading with_read
+    (history.Called (on_temp (Request Read 1)) None ∷ []) (
     record { message = read_request (temp_wanted 65536); intent = on_temp (Request Read 1) } ∷ []
     )
-    × IsRefused (event.Read 0 1 21 2) refusal.BadType × IsRefused (event.Read 0 0 5 1) refusal.StaleHandle × CanNot live (event.Read 0 2 5 1)
+    × IsRefused (event.Read 0 1 21 2) refusal.BadType
+    × IsRefused (event.Read 0 0 5 1) refusal.StaleHandle × CanNot live (event.Read 0 2 5 1)
 
 abbrev pub written : Client
 written = sending (write_sent first live_temp forty_two ∷ []) alive.core
@@ -130,31 +160,52 @@ WriteLeaves =
     Leaves (event.Write 0 1 forty_two) written (record names { writes = 4 }) (
     history.Called (on_temp (Request Write 3)) (Some forty_two) ∷ []
     ) (
-    record { message = put_request command.Write (temp_wanted 0) (0 ∷ 0 ∷ 0 ∷ 42 ∷ []); intent = on_temp (Request Write 3) } ∷ []
+    record {
+      message = put_request command.Write (temp_wanted 0) (0 ∷ 0 ∷ 0 ∷ 42 ∷ []);
+      intent = on_temp (Request Write 3);
+    } ∷ []
     )
-    × IsRefused (event.Write 0 1 (longs [])) refusal.BadCount × CanNot live (event.Write 0 2 forty_two)
+    × IsRefused (event.Write 0 1 (longs [])) refusal.BadCount
+    × CanNot live (event.Write 0 2 forty_two)
 
 abbrev pub put : Client
-put = sending (put_sent first live_temp forty_two first ∷ []) (issued first live_temp request.Put first alive.core)
+put = sending (put_sent first live_temp forty_two first ∷ [])
+    (issued first live_temp request.Put first alive.core)
 
 abbrev pub PutLeaves : Type 0
 PutLeaves =
     Leaves (event.WriteNotify 0 1 forty_two) put (
-    record names { requests = (old, history.On 0 (Request Put 0)) ∷ (first, on_temp (Request Put 1)) ∷ [] }
+    record names {
+      requests = (old, history.On 0 (Request Put 0)) ∷
+          (first, on_temp (Request Put 1)) ∷ [];
+    }
     ) (history.Called (on_temp (Request Put 1)) (Some forty_two) ∷ []) (
-    record { message = put_request command.WriteNotify (temp_wanted 65536) (0 ∷ 0 ∷ 0 ∷ 42 ∷ []); intent = on_temp (Request Put 1) } ∷ []
+    record {
+      message = put_request command.WriteNotify (temp_wanted 65536) (0 ∷ 0 ∷ 0 ∷ 42 ∷ []);
+      intent = on_temp (Request Put 1);
+    } ∷ []
     )
-    × IsRefused (event.WriteNotify 0 1 (longs [])) refusal.BadCount × CanNot live (event.WriteNotify 0 2 forty_two)
+    × IsRefused (event.WriteNotify 0 1 (longs [])) refusal.BadCount
+    × CanNot live (event.WriteNotify 0 2 forty_two)
 
 abbrev pub with_subscription : Names
-with_subscription = record names { subscriptions = (old, history.On 0 (Subscribe 0)) ∷ (first, on_temp (Subscribe 1)) ∷ [] }
+with_subscription =
+    record names {
+      subscriptions = (old, history.On 0 (Subscribe 0)) ∷
+          (first, on_temp (Subscribe 1)) ∷ [];
+    }
 
 abbrev pub SubscribeLeaves : Type 0
 SubscribeLeaves =
-    Leaves (event.Subscribe 0 1 5 1 1) subscribed with_subscription (history.Called (on_temp (Subscribe 1)) None ∷ []) (
-    record { message = event_add_request (temp_wanted 65536) 1; intent = on_temp (Subscribe 1) } ∷ []
+    Leaves (event.Subscribe 0 1 5 1 1) subscribed with_subscription
+    (history.Called (on_temp (Subscribe 1)) None ∷ []) (
+    record {
+      message = event_add_request (temp_wanted 65536) 1;
+      intent = on_temp (Subscribe 1);
+    } ∷ []
     )
-    × IsRefused (event.Subscribe 0 1 5 2 1) refusal.BadCount × CanNot live (event.Subscribe 0 2 5 1 1)
+    × IsRefused (event.Subscribe 0 1 5 2 1) refusal.BadCount
+    × CanNot live (event.Subscribe 0 2 5 1 1)
 
 -- ---- what ends
 
@@ -172,7 +223,8 @@ cancel_sending = record {
 abbrev pub UnsubscribeLeaves : Type 0
 UnsubscribeLeaves =
     Happens watched (event.Unsubscribe 0 1) (
-    world (anna_side (sending (cancel_sending ∷ []) cancelled) with_subscription) (history.Called (on_temp (Cancel 1)) None ∷ []) (
+    world (anna_side (sending (cancel_sending ∷ []) cancelled) with_subscription)
+    (history.Called (on_temp (Cancel 1)) None ∷ []) (
     record { message = event_cancel_request (temp_wanted 65536); intent = on_temp (Cancel 1) } ∷ []
     )
     )
@@ -183,14 +235,19 @@ asked = world (anna_side reading with_read) [] []
 
 abbrev pub clear_sending : Sending
 clear_sending =
-    record { circuit = first; message = clear_request 65536 65536; aim = Rattle.ca_model.specs.Answers.Clear first }
+    record {
+      circuit = first;
+      message = clear_request 65536 65536;
+      aim = Rattle.ca_model.specs.Answers.Clear first;
+    }
 
 -- The call comes first, and then the request that it disconnects.
 abbrev pub ClearLeaves : Type 0
 ClearLeaves =
     Happens asked (event.Clear 0 1) (
     world (anna_side (sending (clear_sending ∷ []) cleared_live) with_read) (
-    history.Called (on_temp Clear) None ∷ history.Noticed (on_temp (Request Read 1)) outcome.Disconnected ∷ []
+    history.Called (on_temp Clear) None ∷ history.Noticed
+    (on_temp (Request Read 1)) outcome.Disconnected ∷ []
     ) (record { message = clear_request 65536 65536; intent = on_temp Clear } ∷ [])
     )
     × IsRefused (event.Clear 0 0) refusal.StaleHandle × CanNot live (event.Clear 0 2)
@@ -213,9 +270,11 @@ abbrev pub Collects : Type 0
 Collects =
     HandsOut (opened_line ∷ read_done ∷ []) (event.Collect 0 1) (history.Collected 1 (Some 1))
     × HandsOut (opened_line ∷ []) (event.Collect 0 1) (history.Collected 1 None)
-    × HandsOut (read_done ∷ history.Collected 1 (Some 0) ∷ []) (event.Collect 0 1) (history.Collected 1 None)
+    × HandsOut (read_done ∷ history.Collected 1 (Some 0) ∷ []) (event.Collect 0 1)
+    (history.Collected 1 None)
     × HandsOut (read_done ∷ []) (event.Collect 0 0) (history.Collected 0 None)
-    × HandsOut (history.Collected 1 None ∷ history.GaveUp 0 None ∷ read_done ∷ []) (event.Collect 0 1) (history.Collected 1 (Some 2))
+    × HandsOut (history.Collected 1 None ∷ history.GaveUp 0 None ∷ read_done ∷ [])
+    (event.Collect 0 1) (history.Collected 1 (Some 2))
     × CanNot live (event.Collect 0 1)
 
 -- To give up hands out the same and ends it, also before it is there.
@@ -223,5 +282,6 @@ abbrev pub GivesUp : Type 0
 GivesUp =
     HandsOut (opened_line ∷ read_done ∷ []) (event.GiveUp 0 1) (history.GaveUp 1 (Some 1))
     × HandsOut (opened_line ∷ []) (event.GiveUp 0 1) (history.GaveUp 1 None)
-    × HandsOut (history.GaveUp 1 None ∷ read_done ∷ []) (event.Collect 0 1) (history.Collected 1 None)
+    × HandsOut (history.GaveUp 1 None ∷ read_done ∷ []) (event.Collect 0 1)
+    (history.Collected 1 None)
     × CanNot live (event.GiveUp 0 1)

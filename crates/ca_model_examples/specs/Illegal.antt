@@ -1,9 +1,13 @@
--- Vocabulary: small histories in which one part of what is legal is broken, and no other, beside legal ones that differ in one place.
+-- Vocabulary: small histories in which one part of what is legal is broken, and no other, beside
+-- legal ones that differ in one place.
 use Rattle.std.specs.Prelude.{ℕ, false, List, [], ◌∷◌, None}
 use Rattle.ca_text.specs.declared.command.Command.TheVariants as command
-use Rattle.ca_wire.specs.Messages.{cancel_reply, create_request, created_reply, event_add_request, put_request, rights_reply}
-use Rattle.ca_model.specs.History.{Cancel, Request, Write, Create, Subscribe, On, Sent, Told, Step, Circuit, Line, Called, Opened, World}
-use Rattle.ca_model_examples.specs.Worlds.{adding, circuit, created_told, creating, reading, reply, step, temp_name, wanted, world}
+use Rattle.ca_wire.specs.Messages.{cancel_reply, create_request, created_reply, event_add_request}
+use Rattle.ca_wire.specs.Messages.{put_request, rights_reply}
+use Rattle.ca_model.specs.History.{Cancel, Request, Write, Create, Subscribe, On, Sent, Told, Step}
+use Rattle.ca_model.specs.History.{Circuit, Line, Called, Opened, World}
+use Rattle.ca_model_examples.specs.Worlds.{adding, circuit, created_told, creating, reading, reply}
+use Rattle.ca_model_examples.specs.Worlds.{step, temp_name, wanted, world}
 use Rattle.ca_model_examples.specs.Unsafe.{cancelling, echo, opened, temp_there, updated}
 
 -- the client read the creation's reply after it had sent its CREATE_CHAN
@@ -28,7 +32,11 @@ alone m = circuit (m ∷ []) [] [] []
 
 -- a WRITE of 22
 abbrev pub writing : Sent
-writing = record { message = put_request command.Write (wanted 0) (0 ∷ 0 ∷ 0 ∷ 22 ∷ []); intent = On 0 (Request Write 0) }
+writing =
+    record {
+      message = put_request command.Write (wanted 0) (0 ∷ 0 ∷ 0 ∷ 22 ∷ []);
+      intent = On 0 (Request Write 0);
+    }
 
 -- Another channel is asked for with this CID.
 abbrev pub asked_with : ℕ → Sent
@@ -40,20 +48,27 @@ both_asked cid = circuit (creating ∷ asked_with cid ∷ []) [] [] []
 -- Another read goes out, with this IOID, after ACCESS_RIGHTS came and no reply to the first.
 abbrev pub reads_out : ℕ → Circuit
 reads_out ioid =
-    circuit (creating ∷ reading 0 7 ∷ reading 1 ioid ∷ []) (created_told ∷ reply 0 (rights_reply (create_request 1 temp_name) 1) ∷ []) [] (created_read ∷ step 2 0 0 ∷ [])
+    circuit (creating ∷ reading 0 7 ∷ reading 1 ioid ∷ [])
+    (created_told ∷ reply 0 (rights_reply (create_request 1 temp_name) 1) ∷ []) []
+    (created_read ∷ step 2 0 0 ∷ [])
 
 -- Two channels are created, the other one under this SID.
 abbrev pub both_created : ℕ → Circuit
-both_created sid = circuit (creating ∷ asked_with 2 ∷ []) (created_told ∷ reply 1 (created_reply (create_request 2 temp_name) 5 1 sid) ∷ []) [] []
+both_created sid =
+    circuit (creating ∷ asked_with 2 ∷ [])
+    (created_told ∷ reply 1 (created_reply (create_request 2 temp_name) 5 1 sid) ∷ []) [] []
 
 -- An update is sent, and the server took these steps.
 abbrev pub update_out : List Step → Circuit
-update_out handled = circuit (creating ∷ adding 0 9 ∷ []) (created_told ∷ updated 0 21 ∷ []) handled (created_read ∷ [])
+update_out handled =
+    circuit (creating ∷ adding 0 9 ∷ []) (created_told ∷ updated 0 21 ∷ []) handled
+    (created_read ∷ [])
 
 -- A cancel is confirmed, and the server took these steps.
 abbrev pub confirm_out : List Step → Circuit
 confirm_out handled =
-    circuit (creating ∷ adding 0 9 ∷ cancelling ∷ []) (created_told ∷ reply 2 (cancel_reply cancelling.message) ∷ []) handled (created_read ∷ [])
+    circuit (creating ∷ adding 0 9 ∷ cancelling ∷ [])
+    (created_told ∷ reply 2 (cancel_reply cancelling.message) ∷ []) handled (created_read ∷ [])
 
 -- These messages are sent to a client that asked for a channel.
 abbrev pub told_so : List Told → Circuit
@@ -68,7 +83,8 @@ abbrev pub subscribe_called : List Line
 subscribe_called = Opened 0 temp_name ∷ Called (On 0 (Subscribe 1)) None ∷ []
 
 abbrev pub cancel_called : List Line
-cancel_called = Opened 0 temp_name ∷ Called (On 0 (Subscribe 1)) None ∷ Called (On 0 (Cancel 1)) None ∷ []
+cancel_called =
+    Opened 0 temp_name ∷ Called (On 0 (Subscribe 1)) None ∷ Called (On 0 (Cancel 1)) None ∷ []
 
 -- The channel becomes live when the client's log has so many lines, and these messages go out.
 abbrev pub called_at : ℕ → List Sent → Circuit
@@ -82,11 +98,17 @@ abbrev pub created_again : Told
 created_again = reply 2 (created_reply (create_request 2 temp_name) 5 1 6)
 
 abbrev pub live_again : List Sent → Circuit
-live_again more = circuit (creating ∷ adding 1 9 ∷ asked_again ∷ more) (created_told ∷ created_again ∷ []) [] (step 1 2 2 ∷ step 3 2 2 ∷ [])
+live_again more =
+    circuit (creating ∷ adding 1 9 ∷ asked_again ∷ more) (created_told ∷ created_again ∷ []) []
+    (step 1 2 2 ∷ step 3 2 2 ∷ [])
 
 -- its EVENT_ADD on that SID
 abbrev pub added_again : Sent
-added_again = record { message = event_add_request (record (wanted 10) { sid = 6 }) 1; intent = On 0 (Subscribe 1) }
+added_again =
+    record {
+      message = event_add_request (record (wanted 10) { sid = 6 }) 1;
+      intent = On 0 (Subscribe 1);
+    }
 
 -- TEMP is there, and its channel was opened, or subscribed too.
 abbrev pub sent_in : Circuit → World

@@ -1,20 +1,26 @@
--- Vocabulary: small histories in which what is owed is not done, or what is done is not what is owed.
+-- Vocabulary: small histories in which what is owed is not done, or what is done is not what is
+-- owed.
 use Rattle.std.specs.Prelude.{ℕ, ◌≡◌, List, [], ◌∷◌, Option, Some, None, pos, true, false}
 use Rattle.ca_text.specs.declared.command.Command.TheVariants as command
 use Rattle.ca_text.specs.Status.{normal}
 use Rattle.ca_dbr.specs.declared.value.Outcome.TheVariants as outcome
 use Rattle.ca_dbr.specs.Elements.{longs}
 use Rattle.ca_wire.specs.Fields.{Fields}
-use Rattle.ca_wire.specs.Messages.{bare, error_reply, failed_reply, put_request, status_reply, value_reply}
+use Rattle.ca_wire.specs.Messages.{bare, error_reply, failed_reply, put_request, status_reply}
+use Rattle.ca_wire.specs.Messages.{value_reply}
 use Rattle.ca_model.specs.Speech.{Is}
 use Rattle.ca_records.specs.Record.{RecordState}
 use Rattle.ca_model.specs.Updates.{Shows}
-use Rattle.ca_model.specs.History.{Clear, Create, Request, Subscribe, Read, Put, Write, On, Sent, Told, Step, Circuit, Entry, Added, Applied, Finished, Waits, Withdrawn, Line, Called, Noticed, Opened, World}
+use Rattle.ca_model.specs.History.{Clear, Create, Request, Subscribe, Read, Put, Write, On, Sent}
+use Rattle.ca_model.specs.History.{Told, Step, Circuit, Entry, Added, Applied, Finished, Waits}
+use Rattle.ca_model.specs.History.{Withdrawn, Line, Called, Noticed, Opened, World}
 use Rattle.ca_model.specs.Headline.{Safe}
 use Rattle.ca_model.specs.Known.{IsSafe}
 use Rattle.ca_requests.specs.Meaning.{Means}
 use Rattle.ca_model_examples.specs.Unsafe.{opened, temp_there}
-use Rattle.ca_model_examples.specs.Worlds.{circuit, clearing, created_told, creating, long, ports, put_told, putting, reading, reply, rights_told, rules, step, temp, temp_name, wanted, world}
+use Rattle.ca_model_examples.specs.Worlds.{circuit, clearing, created_told, creating, long, ports}
+use Rattle.ca_model_examples.specs.Worlds.{put_told, putting, reading, reply, rights_told, rules}
+use Rattle.ca_model_examples.specs.Worlds.{step, temp, temp_name, wanted, world}
 
 -- A channel to TEMP was opened and became live.
 abbrev pub live_lines : List Line → List Line
@@ -22,28 +28,40 @@ live_lines more = Opened 0 temp_name ∷ Noticed (On 0 Create) outcome.Done ∷ 
 
 -- the client sent this after its CREATE_CHAN, and the server this after its reply, which is read
 abbrev pub live_circuit : List Sent → List Told → List Step → Circuit
-live_circuit up down handled = circuit (creating ∷ up) (created_told ∷ down) (step 0 1 1 ∷ handled) (step 1 1 2 ∷ [])
+live_circuit up down handled =
+    circuit (creating ∷ up) (created_told ∷ down) (step 0 1 1 ∷ handled) (step 1 1 2 ∷ [])
 
 -- ---- notices
 
 -- A subscription was reported as ended, by the ERROR that refused a write.
 abbrev pub writing : Sent
-writing = record { message = put_request command.Write (wanted 0) (0 ∷ 0 ∷ 0 ∷ 22 ∷ []); intent = On 0 (Request Write 0) }
+writing =
+    record {
+      message = put_request command.Write (wanted 0) (0 ∷ 0 ∷ 0 ∷ 22 ∷ []);
+      intent = On 0 (Request Write 0);
+    }
 
 abbrev pub refused_write : Circuit
 refused_write =
-    record (live_circuit (writing ∷ []) (reply 1 (error_reply 1 160 writing.message) ∷ []) (step 1 1 1 ∷ [])) { heard = step 1 1 2 ∷ step 2 2 3 ∷ [] }
+    record (live_circuit (writing ∷ []) (reply 1 (error_reply 1 160 writing.message) ∷ [])
+    (step 1 1 1 ∷ [])) { heard = step 1 1 2 ∷ step 2 2 3 ∷ [] }
 
 abbrev pub foreign_refusal : World
 foreign_refusal =
-    world (refused_write ∷ []) (live_lines (Noticed (On 0 (Subscribe 0)) (outcome.Failed (record { number = 160 })) ∷ [])) temp_there
+    world (refused_write ∷ [])
+    (live_lines
+    (Noticed (On 0 (Subscribe 0)) (outcome.Failed (record { number = 160 })) ∷ [])) temp_there
 
--- A read was reported as disconnected; its circuit and its channel are there, and no SERVER_DISCONN came.
+-- A read was reported as disconnected; its circuit and its channel are there, and no SERVER_DISCONN
+-- came.
 abbrev pub unanswered_read : Circuit
 unanswered_read = live_circuit (reading 0 7 ∷ []) [] []
 
 abbrev pub lost_lines : List Line
-lost_lines = live_lines (Called (On 0 (Request Read 0)) None ∷ Noticed (On 0 (Request Read 0)) outcome.Disconnected ∷ [])
+lost_lines =
+    live_lines
+    (Called (On 0 (Request Read 0)) None ∷ Noticed
+    (On 0 (Request Read 0)) outcome.Disconnected ∷ [])
 
 abbrev pub lost_for_nothing : World
 lost_for_nothing = world (unanswered_read ∷ []) lost_lines temp_there
@@ -51,8 +69,10 @@ lost_for_nothing = world (unanswered_read ∷ []) lost_lines temp_there
 -- ---- replies to puts on a slow record
 
 -- For a put with notification nothing is due at once, and NORMAL once it is finished.
-abbrev pub SlowDue : ℕ → Circuit → List Entry → Fields → List Fields → Option Fields → List Entry → Type 0
-SlowDue n c y m replies late logs = Is command.WriteNotify m → (replies ≡ []) × (late ≡ Some (status_reply m normal))
+abbrev pub SlowDue : ℕ → Circuit → List Entry → Fields → List Fields → Option Fields → List Entry
+    → Type 0
+SlowDue n c y m replies late logs =
+    Is command.WriteNotify m → (replies ≡ []) × (late ≡ Some (status_reply m normal))
 
 -- A world is unsafe if no put with notification is done at once.
 abbrev pub UnsafeSlow : World → Type 0
@@ -86,12 +106,14 @@ finished_entries = Added 0 temp ∷ Applied 0 1 0 (long 22) true ∷ Finished 0 
 
 abbrev pub cleared : Circuit
 cleared =
-    live_circuit (putting 0 8 22 ∷ clearing ∷ []) (reply 2 clearing.message ∷ put_told 1 8 22 ∷ []) (step 1 1 2 ∷ step 1 2 2 ∷ [])
+    live_circuit (putting 0 8 22 ∷ clearing ∷ []) (reply 2 clearing.message ∷ put_told 1 8 22 ∷ [])
+    (step 1 1 2 ∷ step 1 2 2 ∷ [])
 
 abbrev pub cleared_lines : List Line
 cleared_lines =
     live_lines (
-    Called (On 0 (Request Put 0)) (Some (longs (pos 22 ∷ []))) ∷ Called (On 0 Clear) None ∷ Noticed (On 0 (Request Put 0)) outcome.Disconnected ∷ []
+    Called (On 0 (Request Put 0)) (Some (longs (pos 22 ∷ []))) ∷ Called (On 0 Clear) None ∷ Noticed
+    (On 0 (Request Put 0)) outcome.Disconnected ∷ []
     )
 
 abbrev pub answered_cleared : World
@@ -99,7 +121,12 @@ answered_cleared = world (cleared ∷ []) cleared_lines finished_entries
 
 -- It was finished, and the reply has another status; the server's end closed then.
 abbrev pub otherwise : Circuit
-otherwise = record (live_circuit (putting 0 8 22 ∷ []) (reply 1 (status_reply (putting 0 8 22).message 160) ∷ []) (step 1 1 2 ∷ [])) { server_open = false }
+otherwise =
+    record (live_circuit (putting 0 8 22 ∷ [])
+    (reply 1 (status_reply (putting 0 8 22).message 160) ∷ []) (step 1 1 2 ∷ [])) {
+      server_open =
+          false;
+    }
 
 abbrev pub answered_otherwise : World
 answered_otherwise = world (otherwise ∷ []) put_lines finished_entries
@@ -122,9 +149,11 @@ logs_put e = world (answered ∷ []) put_lines (logged_put e)
 
 -- ---- a creation that is refused for nothing
 
--- TEMP was asked for and refused, and nothing else happened: a record has the name, the CID is free, and no SID is given.
+-- TEMP was asked for and refused, and nothing else happened: a record has the name, the CID is
+-- free, and no SID is given.
 abbrev pub creation_refused : Circuit
-creation_refused = circuit (creating ∷ []) (reply 0 (failed_reply creating.message) ∷ []) (step 0 1 1 ∷ []) []
+creation_refused =
+    circuit (creating ∷ []) (reply 0 (failed_reply creating.message) ∷ []) (step 0 1 1 ∷ []) []
 
 abbrev pub refused_creation : World
 refused_creation = world (creation_refused ∷ []) (Opened 0 temp_name ∷ []) temp_there
@@ -148,7 +177,8 @@ value_told value = reply 1 (value_reply (reading 0 7).message 1 (0 ∷ 0 ∷ 0 �
 
 abbrev pub temp_read : ℕ → Circuit
 temp_read value =
-    circuit (creating ∷ reading 0 7 ∷ []) (rights_told ∷ created_told ∷ value_told value ∷ []) (step 0 2 2 ∷ step 2 2 2 ∷ []) []
+    circuit (creating ∷ reading 0 7 ∷ []) (rights_told ∷ created_told ∷ value_told value ∷ [])
+    (step 0 2 2 ∷ step 2 2 2 ∷ []) []
 
 abbrev pub answered_by_value : ℕ → World
 answered_by_value value = world (temp_read value ∷ []) opened temp_and_setp
@@ -156,15 +186,18 @@ answered_by_value value = world (temp_read value ∷ []) opened temp_and_setp
 -- ---- what is due for a message
 
 -- An ECHO is due for each message.
-abbrev pub EchoDue : ℕ → Circuit → List Entry → Fields → List Fields → Option Fields → List Entry → Type 0
+abbrev pub EchoDue : ℕ → Circuit → List Entry → Fields → List Fields → Option Fields → List Entry
+    → Type 0
 EchoDue n c y m replies late logs = replies ≡ bare command.Echo ∷ []
 
 -- An entry is due.
-abbrev pub EntryDue : ℕ → Circuit → List Entry → Fields → List Fields → Option Fields → List Entry → Type 0
+abbrev pub EntryDue : ℕ → Circuit → List Entry → Fields → List Fields → Option Fields → List Entry
+    → Type 0
 EntryDue n c y m replies late logs = logs ≡ Finished 0 0 ∷ []
 
 -- No entry is due.
-abbrev pub NoneDue : ℕ → Circuit → List Entry → Fields → List Fields → Option Fields → List Entry → Type 0
+abbrev pub NoneDue : ℕ → Circuit → List Entry → Fields → List Fields → Option Fields → List Entry
+    → Type 0
 NoneDue n c y m replies late logs = logs ≡ []
 
 -- A CREATE_CHAN was handled, and answered by its own reply alone.
@@ -180,7 +213,8 @@ UnsafeUnlogged = Safe EntryDue Shows Means (created_alone temp_there) → ⊥
 
 abbrev pub in_long_step : World
 in_long_step =
-    world (record (live_circuit [] [] []) { handled = step 0 1 2 ∷ [] } ∷ []) (live_lines []) (Added 0 temp ∷ Finished 0 0 ∷ [])
+    world (record (live_circuit [] [] []) { handled = step 0 1 2 ∷ [] } ∷ []) (live_lines [])
+    (Added 0 temp ∷ Finished 0 0 ∷ [])
 
 abbrev pub UnsafeBesides : Type 0
 UnsafeBesides = Safe NoneDue Shows Means in_long_step → ⊥

@@ -1,11 +1,13 @@
--- Vocabulary: the parts of the statement, one by one, and what it is for a history to break one of them and no other.
+-- Vocabulary: the parts of the statement, one by one, and what it is for a history to break one of
+-- them and no other.
 use Rattle.std.specs.Prelude.{ℕ, ◌≡◌, List, Option}
 use Rattle.ca_wire.specs.Fields.{Fields}
 use Rattle.ca_wire.specs.Messages.{mask_in}
 use Rattle.ca_requests.specs.Meaning.{Means}
 use Rattle.ca_model.specs.History.{Circuit, Entry, Line, Sent, Step, World}
 use Rattle.ca_model.specs.Channels.{OfCircuits, OfClients}
-use Rattle.ca_model.specs.Headline.{Accepted, ActsOnRecord, AnswersOwn, CompletesOnce, Follows, NotTwice, Safe, Sees}
+use Rattle.ca_model.specs.Headline.{Accepted, ActsOnRecord, AnswersOwn, CompletesOnce, Follows}
+use Rattle.ca_model.specs.Headline.{NotTwice, Safe, Sees}
 use Rattle.ca_model.specs.Legal.{IsSent, LegalCircuit}
 use Rattle.ca_model.specs.Posts.{matching}
 use Rattle.ca_model.specs.Updates.{Shows}
@@ -28,7 +30,8 @@ abbrev pub FieldOf : {R T : Type 0} → (R → T) → Type 0
 FieldOf {R} {T} field = T
 
 -- What is due for a message is left open.
-module _ (Due : ℕ → Circuit → List Entry → Fields → List Fields → Option Fields → List Entry → Type 0) where
+module _ (Due : ℕ → Circuit → List Entry → Fields → List Fields → Option Fields → List Entry
+    → Type 0) where
   abbrev OfActs : ℕ → Circuit → List Line → List Entry → Type 0
   OfActs n c x y = ActsOnRecord Due Shows Means n c x y
 
@@ -36,7 +39,8 @@ module _ (Due : ℕ → Circuit → List Entry → Fields → List Fields → Op
   OfAnswers n c x y = AnswersOwn Due Shows Means n c x y
 
   abbrev OfFollows : Circuit → List Entry → (k r : ℕ) → Sent → Step → Type 0
-  OfFollows c y k r s h = Follows Due Shows Means c y k r s (matching y h.logged r (mask_in s.message))
+  OfFollows c y k r s h =
+      Follows Due Shows Means c y k r s (matching y h.logged r (mask_in s.message))
 
   abbrev Completes : World → ℕ → List Line → Type 0
   Completes w life x = CompletesOnce Due Shows Means w life x
@@ -65,10 +69,18 @@ module _ (Due : ℕ → Circuit → List Entry → Fields → List Fields → Op
   InCircuit HeardEach n c x y = FieldOf (λ (p : OfAnswers n c x y). p.in_order.1.one_each)
   InCircuit HeardWithin n c x y = FieldOf (λ (p : OfAnswers n c x y). p.in_order.1.within)
   InCircuit HeardRise n c x y = FieldOf (λ (p : OfAnswers n c x y). p.in_order.1.rise)
-  InCircuit Rising n c x y = (k r : ℕ) (s : Sent) (h : Step) → Accepted c y k r s h → FieldOf (λ (p : OfFollows c y k r s h). p.rising)
-  InCircuit Matches n c x y = (k r : ℕ) (s : Sent) (h : Step) → Accepted c y k r s h → FieldOf (λ (p : OfFollows c y k r s h). p.matches)
-  InCircuit ShowsPost n c x y = (k r : ℕ) (s : Sent) (h : Step) → Accepted c y k r s h → FieldOf (λ (p : OfFollows c y k r s h). p.shows)
-  InCircuit Newest n c x y = (k r : ℕ) (s : Sent) (h : Step) → Accepted c y k r s h → FieldOf (λ (p : OfFollows c y k r s h). p.newest)
+  InCircuit Rising n c x y =
+      (k r : ℕ) (s : Sent) (h : Step) → Accepted c y k r s h
+      → FieldOf (λ (p : OfFollows c y k r s h). p.rising)
+  InCircuit Matches n c x y =
+      (k r : ℕ) (s : Sent) (h : Step) → Accepted c y k r s h
+      → FieldOf (λ (p : OfFollows c y k r s h). p.matches)
+  InCircuit ShowsPost n c x y =
+      (k r : ℕ) (s : Sent) (h : Step) → Accepted c y k r s h
+      → FieldOf (λ (p : OfFollows c y k r s h). p.shows)
+  InCircuit Newest n c x y =
+      (k r : ℕ) (s : Sent) (h : Step) → Accepted c y k r s h
+      → FieldOf (λ (p : OfFollows c y k r s h). p.newest)
   InCircuit part n c x y = Unit {0}
 
   abbrev pub InLife : Part → World → ℕ → List Line → Type 0

@@ -6,24 +6,37 @@ use Rattle.ca_dbr.specs.Elements.{longs}
 use Rattle.ca_wire.specs.Fields.{Fields}
 use Rattle.ca_wire.specs.Messages.{create_request, update, value_reply}
 use Rattle.ca_text.specs.Status.{normal}
-use Rattle.ca_model.specs.History.{Create, Request, Subscribe, Read, Put, On, Update, Told, Circuit, Entry, Added, Applied, Removed, Line, Called, Noticed, Opened, Updated, World}
+use Rattle.ca_model.specs.History.{Create, Request, Subscribe, Read, Put, On, Update, Told, Circuit}
+use Rattle.ca_model.specs.History.{Entry, Added, Applied, Removed, Line, Called, Noticed, Opened}
+use Rattle.ca_model.specs.History.{Updated, World}
 use Rattle.ca_model.specs.Updates.{Shows}
 use Rattle.ca_model.specs.Headline.{Sees}
-use Rattle.ca_model_examples.specs.Worlds.{AnyDue, adding, circuit, clearing, created_told, creating, disconnected, long, put_told, putting, reading, reply, rights_told, step, temp, temp_name, world}
+use Rattle.ca_model_examples.specs.Worlds.{AnyDue, adding, circuit, clearing, created_told}
+use Rattle.ca_model_examples.specs.Worlds.{creating, disconnected, long, put_told, putting, reading}
+use Rattle.ca_model_examples.specs.Worlds.{reply, rights_told, step, temp, temp_name, world}
 
--- A channel to TEMP is created; a put of 22 is done, and its caller knows; a read is answered with 22, and an update that shows 22 is
+-- A channel to TEMP is created; a put of 22 is done, and its caller knows; a read is answered with
+-- 22, and an update that shows 22 is
 -- sent. Both are unread.
 abbrev pub used : Circuit
 used =
     circuit (creating ∷ putting 0 8 22 ∷ reading 1 7 ∷ adding 0 9 ∷ []) (
-    rights_told ∷ created_told ∷ put_told 1 8 22 ∷ reply 2 (value_reply (reading 1 7).message 1 (0 ∷ 0 ∷ 0 ∷ 22 ∷ []))
-    ∷ record { message = update 5 1 normal 9 (0 ∷ 0 ∷ 0 ∷ 22 ∷ []); place = 3; cause = Update 0 } ∷ []
-    ) (step 0 1 1 ∷ step 2 1 2 ∷ step 3 2 2 ∷ step 4 2 2 ∷ []) (step 1 1 1 ∷ step 1 1 2 ∷ step 4 5 6 ∷ [])
+    rights_told ∷ created_told ∷ put_told 1 8 22 ∷ reply 2
+    (value_reply (reading 1 7).message 1 (0 ∷ 0 ∷ 0 ∷ 22 ∷ []))
+    ∷ record {
+      message = update 5 1 normal 9 (0 ∷ 0 ∷ 0 ∷ 22 ∷ []);
+      place = 3;
+      cause = Update 0;
+    } ∷ []
+    ) (step 0 1 1 ∷ step 2 1 2 ∷ step 3 2 2 ∷ step 4 2 2 ∷ [])
+    (step 1 1 1 ∷ step 1 1 2 ∷ step 4 5 6 ∷ [])
 
 abbrev pub used_lines : List Line
 used_lines =
-    Opened 0 temp_name ∷ Noticed (On 0 Create) outcome.Done ∷ Called (On 0 (Request Put 0)) (Some (longs (pos 22 ∷ [])))
-    ∷ Called (On 0 (Request Read 1)) None ∷ Called (On 0 (Subscribe 0)) None ∷ Noticed (On 0 (Request Put 0)) outcome.Done ∷ []
+    Opened 0 temp_name ∷ Noticed (On 0 Create) outcome.Done ∷ Called (On 0 (Request Put 0))
+    (Some (longs (pos 22 ∷ [])))
+    ∷ Called (On 0 (Request Read 1)) None ∷ Called (On 0 (Subscribe 0)) None ∷ Noticed
+    (On 0 (Request Put 0)) outcome.Done ∷ []
 
 abbrev pub used_entries : List Entry
 used_entries = Added 0 temp ∷ Applied 0 1 0 (long 22) false ∷ []
@@ -36,7 +49,8 @@ used_world = world (used ∷ []) used_lines used_entries
 -- an EVENT_ADD whose update was read, and told in this line
 abbrev pub told_at : Fields → ℕ → Circuit
 told_at m line =
-    circuit (adding 0 9 ∷ []) (record { message = m; place = 0; cause = Update 0 } ∷ []) (step 0 0 0 ∷ []) (step 1 line (line + 1) ∷ [])
+    circuit (adding 0 9 ∷ []) (record { message = m; place = 0; cause = Update 0 } ∷ [])
+    (step 0 0 0 ∷ []) (step 1 line (line + 1) ∷ [])
 
 -- The update of circuit 1 was told in line 0, that of circuit 0 in line 1.
 abbrev pub crossed_lines : Outcome → Outcome → List Line
@@ -56,7 +70,8 @@ SeesCrossed m o p = Sees AnyDue Shows AnyMeans (crossed m o p) 0 (crossed_lines 
 
 -- Two channels are asked for under one CID, and neither request was handled.
 abbrev pub shared : Circuit
-shared = circuit (creating ∷ record { message = create_request 1 temp_name; intent = On 1 Create } ∷ []) [] [] []
+shared = circuit
+    (creating ∷ record { message = create_request 1 temp_name; intent = On 1 Create } ∷ []) [] [] []
 
 abbrev pub shared_lines : List Line
 shared_lines = Opened 0 temp_name ∷ Opened 1 temp_name ∷ []
@@ -68,9 +83,15 @@ shared_id = world (shared ∷ []) shared_lines (Added 0 temp ∷ [])
 
 -- the update of the EVENT_ADD at this place that carries its first post
 abbrev pub first_update : (place value : ℕ) → Told
-first_update place value = record { message = update 5 1 normal 9 (0 ∷ 0 ∷ 0 ∷ value ∷ []); place = place; cause = Update 0 }
+first_update place value =
+    record {
+      message = update 5 1 normal 9 (0 ∷ 0 ∷ 0 ∷ value ∷ []);
+      place = place;
+      cause = Update 0;
+    }
 
--- A channel is live and subscribed; its record is removed, and the client clears it; the record is added again, the channel is created
+-- A channel is live and subscribed; its record is removed, and the client clears it; the record is
+-- added again, the channel is created
 -- on the same circuit under the same SID, and its subscription goes out again.
 abbrev pub reopened : Circuit
 reopened =
@@ -84,7 +105,8 @@ reopened =
 -- The outcome is that of the first update, which was read.
 abbrev pub reopened_lines : Outcome → List Line
 reopened_lines o =
-    Opened 0 temp_name ∷ Noticed (On 0 Create) outcome.Done ∷ Called (On 0 (Subscribe 0)) None ∷ Updated (On 0 (Subscribe 0)) o
+    Opened 0 temp_name ∷ Noticed (On 0 Create) outcome.Done ∷ Called
+    (On 0 (Subscribe 0)) None ∷ Updated (On 0 (Subscribe 0)) o
     ∷ Noticed (On 0 Create) outcome.Disconnected ∷ Noticed (On 0 Create) outcome.Done ∷ []
 
 -- TEMP is 5 when it is added again.
@@ -98,7 +120,8 @@ reopened_world o = world (reopened ∷ []) (reopened_lines o) reopened_entries
 
 -- TEMP was removed while its channel was live, and the client did not read that yet.
 abbrev pub unread : Circuit
-unread = circuit (creating ∷ []) (created_told ∷ disconnected ∷ []) (step 0 1 1 ∷ []) (step 1 1 2 ∷ [])
+unread = circuit (creating ∷ []) (created_told ∷ disconnected ∷ []) (step 0 1 1 ∷ [])
+    (step 1 1 2 ∷ [])
 
 abbrev pub unread_lines : List Line
 unread_lines = Opened 0 temp_name ∷ Noticed (On 0 Create) outcome.Done ∷ []

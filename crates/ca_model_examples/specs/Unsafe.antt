@@ -1,4 +1,5 @@
--- Vocabulary: small histories, of which each breaks one part of what is safe and no other, beside safe ones that differ in one place.
+-- Vocabulary: small histories, of which each breaks one part of what is safe and no other, beside
+-- safe ones that differ in one place.
 use Rattle.std.specs.Prelude.{ℕ, Bool, true, false, pos, List, [], ◌∷◌, Some, None}
 use Rattle.ca_text.specs.declared.command.Command.TheVariants as command
 use Rattle.ca_text.specs.Status.{bad_channel, normal}
@@ -6,9 +7,16 @@ use Rattle.ca_dbr.specs.declared.value.Outcome.{Outcome}
 use Rattle.ca_dbr.specs.declared.value.Outcome.TheVariants as outcome
 use Rattle.ca_wire.specs.Fields.{Fields}
 use Rattle.ca_dbr.specs.Elements.{longs}
-use Rattle.ca_wire.specs.Messages.{bare, cancel_reply, create_request, created_reply, disconnect, event_cancel_request, put_request, rights_reply, status_reply, update, value_reply}
-use Rattle.ca_model.specs.History.{Cancel, Cause, Removal, Create, Posted, Request, Subscribe, Update, Updated, Read, Put, On, OfCircuit, Sent, Told, Step, Circuit, Entry, Added, Removed, Waits, Applied, Finished, Withdrawn, Line, Opened, Called, Noticed, World}
-use Rattle.ca_model_examples.specs.Worlds.{adding, alarmed, circuit, created_told, creating, long, putting, reading, reply, step, temp, temp_name, wanted, world}
+use Rattle.ca_wire.specs.Messages.{bare, cancel_reply, create_request, created_reply, disconnect}
+use Rattle.ca_wire.specs.Messages.{event_cancel_request, put_request, rights_reply, status_reply}
+use Rattle.ca_wire.specs.Messages.{update, value_reply}
+use Rattle.ca_model.specs.History.{Cancel, Cause, Removal, Create, Posted, Request, Subscribe}
+use Rattle.ca_model.specs.History.{Update, Updated, Read, Put, On, OfCircuit, Sent, Told, Step}
+use Rattle.ca_model.specs.History.{Circuit, Entry, Added, Removed, Waits, Applied, Finished}
+use Rattle.ca_model.specs.History.{Withdrawn, Line, Opened, Called, Noticed, World}
+use Rattle.ca_model_examples.specs.Worlds.{adding, alarmed, circuit, created_told, creating, long}
+use Rattle.ca_model_examples.specs.Worlds.{putting, reading, reply, step, temp, temp_name, wanted}
+use Rattle.ca_model_examples.specs.Worlds.{world}
 
 -- TEMP is there, or was removed.
 abbrev pub temp_there : List Entry
@@ -38,11 +46,17 @@ read_called = Opened 0 temp_name ∷ Called (On 0 (Request Read 0)) None ∷ []
 
 -- a WRITE that was meant as that read
 abbrev pub misasked : Sent
-misasked = record { message = put_request command.Write (wanted 7) (0 ∷ 0 ∷ 0 ∷ 22 ∷ []); intent = On 0 (Request Read 0) }
+misasked =
+    record {
+      message = put_request command.Write (wanted 7) (0 ∷ 0 ∷ 0 ∷ 22 ∷ []);
+      intent = On 0 (Request Read 0);
+    }
 
 -- A read was sent, and the client's end closed; the read was told as disconnected so often.
 abbrev pub disconnected : List Line → World
-disconnected more = world (record (circuit (reading 0 7 ∷ []) [] [] []) { client_open = false } ∷ []) (Opened 0 temp_name ∷ Called (On 0 (Request Read 0)) None ∷ more) temp_there
+disconnected more =
+    world (record (circuit (reading 0 7 ∷ []) [] [] []) { client_open = false } ∷ [])
+    (Opened 0 temp_name ∷ Called (On 0 (Request Read 0)) None ∷ more) temp_there
 
 abbrev pub read_lost : Line
 read_lost = Noticed (On 0 (Request Read 0)) outcome.Disconnected
@@ -81,7 +95,9 @@ abbrev pub two_of_a_name : List Entry
 two_of_a_name = Added 0 temp ∷ Added 1 temp ∷ []
 
 abbrev pub called_again : List Line
-called_again = Opened 0 temp_name ∷ Called (On 0 (Request Read 0)) None ∷ Called (On 0 (Request Read 0)) None ∷ []
+called_again =
+    Opened 0 temp_name ∷ Called (On 0 (Request Read 0)) None ∷ Called
+    (On 0 (Request Read 0)) None ∷ []
 
 abbrev pub made_once : List Entry
 made_once = Added 0 temp ∷ made ∷ []
@@ -142,13 +158,16 @@ gone = record { message = disconnect 1; place = 0; cause = Removal }
 -- Two channels are asked for, and ACCESS_RIGHTS for the first have this CID.
 abbrev pub rights_for : ℕ → Circuit
 rights_for cid =
-    circuit (creating ∷ record { message = create_request 2 temp_name; intent = On 1 Create } ∷ []) (reply 0 (rights_reply (create_request cid temp_name) 3) ∷ []) (step 0 1 1 ∷ []) []
+    circuit (creating ∷ record { message = create_request 2 temp_name; intent = On 1 Create } ∷ [])
+    (reply 0 (rights_reply (create_request cid temp_name) 3) ∷ []) (step 0 1 1 ∷ []) []
 
 -- ---- a message on the channel
 
--- This message is handled on the channel, in this step, and these messages follow the reply to the creation.
+-- This message is handled on the channel, in this step, and these messages follow the reply to the
+-- creation.
 abbrev pub used : Sent → List Told → Step → Circuit
-used m down handled = circuit (creating ∷ m ∷ []) (created_told ∷ down) (step 0 1 1 ∷ handled ∷ []) []
+used m down handled =
+    circuit (creating ∷ m ∷ []) (created_told ∷ down) (step 0 1 1 ∷ handled ∷ []) []
 
 -- no record has it
 abbrev pub other_name : List ℕ
@@ -171,7 +190,11 @@ uncreated_read = circuit (creating ∷ reading 0 7 ∷ []) [] (step 0 1 1 ∷ st
 -- A SID is given to another channel, and a read of the first is handled.
 abbrev pub taken_over : Circuit
 taken_over =
-    circuit (creating ∷ record { message = create_request 2 other_name; intent = On 1 Create } ∷ reading 0 7 ∷ []) (created_told ∷ reply 1 (created_reply (create_request 2 other_name) 5 1 5) ∷ []) (
+    circuit (creating ∷ record {
+      message = create_request 2 other_name;
+      intent = On 1 Create;
+    } ∷ reading 0 7 ∷ [])
+    (created_told ∷ reply 1 (created_reply (create_request 2 other_name) 5 1 5) ∷ []) (
     step 0 2 2 ∷ step 1 2 2 ∷ step 2 2 2 ∷ []
     ) []
 
@@ -187,10 +210,13 @@ sid_given_again = world (taken_over ∷ []) both_opened both_there
 -- A put is called and handled; its reply is read, and its caller is told this.
 abbrev pub put_read : Fields → ℕ → Circuit
 put_read m after =
-    record (used (putting 0 8 22) (reply 1 m ∷ []) (step 1 1 after)) { heard = step 1 1 1 ∷ step 2 2 3 ∷ []; client_open = false }
+    record (used (putting 0 8 22) (reply 1 m ∷ [])
+    (step 1 1 after)) { heard = step 1 1 1 ∷ step 2 2 3 ∷ []; client_open = false }
 
 abbrev pub put_told : Outcome → List Line
-put_told o = Opened 0 temp_name ∷ Called (On 0 (Request Put 0)) (Some (longs (pos 22 ∷ []))) ∷ Noticed (On 0 (Request Put 0)) o ∷ []
+put_told o =
+    Opened 0 temp_name ∷ Called (On 0 (Request Put 0)) (Some (longs (pos 22 ∷ []))) ∷ Noticed
+    (On 0 (Request Put 0)) o ∷ []
 
 abbrev pub put_made : List Entry
 put_made = Added 0 temp ∷ Applied 0 1 0 (long 22) false ∷ []
@@ -206,7 +232,12 @@ status_of status = status_reply (putting 0 8 22).message status
 
 -- the update of the EVENT_ADD at place 1 that carries the post of this number
 abbrev pub updated : (item value : ℕ) → Told
-updated item value = record { message = update 5 1 normal 9 (0 ∷ 0 ∷ 0 ∷ value ∷ []); place = 1; cause = Update item }
+updated item value =
+    record {
+      message = update 5 1 normal 9 (0 ∷ 0 ∷ 0 ∷ value ∷ []);
+      place = 1;
+      cause = Update item;
+    }
 
 -- An EVENT_ADD is handled; these messages follow, and these updates wait.
 abbrev pub subscribed : List Told → List (ℕ × Cause) → Circuit
@@ -226,7 +257,8 @@ posted = Added 0 temp ∷ Posted 0 1 (long 22) ∷ []
 
 -- Both updates of it are read.
 abbrev pub both_updated : Circuit
-both_updated = subscriber (updated 0 21 ∷ updated 1 22 ∷ []) (step 1 1 1 ∷ step 2 1 2 ∷ step 2 2 3 ∷ [])
+both_updated =
+    subscriber (updated 0 21 ∷ updated 1 22 ∷ []) (step 1 1 1 ∷ step 2 1 2 ∷ step 2 2 3 ∷ [])
 
 -- An EVENT_ADD is cancelled, and the confirmation has this id.
 abbrev pub cancelling : Sent
@@ -237,4 +269,5 @@ confirmed id = reply 2 (record (cancel_reply cancelling.message) { p2 = id })
 
 abbrev pub cancelled : ℕ → Circuit
 cancelled id =
-    circuit (creating ∷ adding 0 9 ∷ cancelling ∷ []) (created_told ∷ confirmed id ∷ []) (step 0 1 1 ∷ step 1 1 1 ∷ step 1 1 1 ∷ []) []
+    circuit (creating ∷ adding 0 9 ∷ cancelling ∷ []) (created_told ∷ confirmed id ∷ [])
+    (step 0 1 1 ∷ step 1 1 1 ∷ step 1 1 1 ∷ []) []

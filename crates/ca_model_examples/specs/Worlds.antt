@@ -1,4 +1,5 @@
--- Vocabulary: what the examples are made of: TEMP, a channel to it under the SID 5 and the CID 1, and its messages.
+-- Vocabulary: what the examples are made of: TEMP, a channel to it under the SID 5 and the CID 1,
+-- and its messages.
 use Rattle.std.specs.Prelude.{ℕ, pos, true, false, List, [], ◌∷◌, Option}
 use Rattle.ca_text.specs.declared.command.Command.TheVariants as command
 use Rattle.ca_text.specs.Status.{normal}
@@ -7,15 +8,19 @@ use Rattle.ca_records.specs.Record.{RecordState, unset}
 use Rattle.ca_records.specs.Rules.{Rule}
 use Rattle.ca_wire.specs.Fields.{Fields}
 use Rattle.ca_wire.specs.declared.requests.Wanted.{Wanted}
-use Rattle.ca_wire.specs.Messages.{clear_request, create_request, created_reply, disconnect, event_add_request, put_request, read_request, rights_reply, status_reply}
+use Rattle.ca_wire.specs.Messages.{clear_request, create_request, created_reply, disconnect}
+use Rattle.ca_wire.specs.Messages.{event_add_request, put_request, read_request, rights_reply}
+use Rattle.ca_wire.specs.Messages.{status_reply}
 use Rattle.ca_model.specs.Speech.{Stored}
-use Rattle.ca_model.specs.History.{Create, Clear, Request, Subscribe, Read, Put, On, Reply, Removal, Sent, Told, Step, Circuit, Entry, Line, World}
+use Rattle.ca_model.specs.History.{Create, Clear, Request, Subscribe, Read, Put, On, Reply, Removal}
+use Rattle.ca_model.specs.History.{Sent, Told, Step, Circuit, Entry, Line, World}
 use Rattle.ca_model.specs.Headline.{Safe}
 use Rattle.ca_requests.specs.Meaning.{Means}
 use Rattle.ca_model.specs.Updates.{Shows}
 
 -- Any replies may be due for a message, now and late, and anything may be logged for it.
-abbrev pub AnyDue : ℕ → Circuit → List Entry → Fields → List Fields → Option Fields → List Entry → Type 0
+abbrev pub AnyDue : ℕ → Circuit → List Entry → Fields → List Fields → Option Fields → List Entry
+    → Type 0
 AnyDue n c y m replies late logs = Unit {0}
 
 -- A world is unsafe, whatever is due.
@@ -29,7 +34,13 @@ abbrev pub temp_name : List ℕ
 temp_name = 84 ∷ 69 ∷ 77 ∷ 80 ∷ []
 
 abbrev pub temp : RecordState
-temp = record { name = temp_name; count = 1; slow = false; value = longs (pos 21 ∷ []); meta = unset }
+temp = record {
+  name = temp_name;
+  count = 1;
+  slow = false;
+  value = longs (pos 21 ∷ []);
+  meta = unset;
+}
 
 -- one LONG element
 abbrev pub long : ℕ → Stored
@@ -50,15 +61,21 @@ wanted id = record { sid = 5; id = id; data_type = 5; count = 1 }
 
 -- the read of this number, with this IOID
 abbrev pub reading : (number ioid : ℕ) → Sent
-reading number ioid = record { message = read_request (wanted ioid); intent = On 0 (Request Read number) }
+reading number ioid =
+    record { message = read_request (wanted ioid); intent = On 0 (Request Read number) }
 
 -- the put of this number, with this IOID, of a byte's value
 abbrev pub putting : (number ioid value : ℕ) → Sent
-putting number ioid value = record { message = put_request command.WriteNotify (wanted ioid) (0 ∷ 0 ∷ 0 ∷ value ∷ []); intent = On 0 (Request Put number) }
+putting number ioid value =
+    record {
+      message = put_request command.WriteNotify (wanted ioid) (0 ∷ 0 ∷ 0 ∷ value ∷ []);
+      intent = On 0 (Request Put number);
+    }
 
 -- the EVENT_ADD of this subscription, with this id, for VALUE
 abbrev pub adding : (number id : ℕ) → Sent
-adding number id = record { message = event_add_request (wanted id) 1; intent = On 0 (Subscribe number) }
+adding number id =
+    record { message = event_add_request (wanted id) 1; intent = On 0 (Subscribe number) }
 
 abbrev pub clearing : Sent
 clearing = record { message = clear_request 5 1; intent = On 0 Clear }
@@ -91,7 +108,17 @@ step sent logged after = record { sent = sent; logged = logged; after = after }
 -- a circuit between the first lives, both ends open and nothing queued
 abbrev pub circuit : List Sent → List Told → List Step → List Step → Circuit
 circuit up down handled heard =
-    record { client = 0; server = 0; up = up; down = down; handled = handled; heard = heard; queued = []; client_open = true; server_open = true }
+    record {
+      client = 0;
+      server = 0;
+      up = up;
+      down = down;
+      handled = handled;
+      heard = heard;
+      queued = [];
+      client_open = true;
+      server_open = true;
+    }
 
 -- one life of a client and one of a server
 abbrev pub world : List Circuit → List Line → List Entry → World

@@ -1,4 +1,7 @@
-ghost use Rattle.ca_model_examples.specs.Limits.{AcceptIsLast, AllBytes, CancelWaits, CountsPresent, DatagramMoment, DisconnectsOnce, LastPriority, LateReplyDrains, NameComesFirst, PostsNotSo, SameMoment, UpdateElsewhere};
+ghost use Rattle.ca_model_examples.specs.Limits.{AcceptIsLast, AllBytes, CancelWaits};
+ghost use Rattle.ca_model_examples.specs.Limits.{CountsPresent, DatagramMoment, DisconnectsOnce};
+ghost use Rattle.ca_model_examples.specs.Limits.{LastPriority, LateReplyDrains, NameComesFirst};
+ghost use Rattle.ca_model_examples.specs.Limits.{PostsNotSo, SameMoment, UpdateElsewhere};
 
 /// A tick may have the moment of the last one; all bytes that wait may move, and no more; a circuit
 /// is made after the others; and a datagram comes at the moment of the world.
@@ -9,8 +12,10 @@ pub fn events_have_their_limits()
     ensures datagram { DatagramMoment }
 {}
 
-/// A name that is none is refused before a priority that is none, 99 is one, and a cancel is refused
-/// while too much waits; an update counts on its circuit, and a late reply ends the draining of its id.
+/// A name that is none is refused before a priority that is none, 99 is one, and a cancel is
+/// refused
+/// while too much waits; an update counts on its circuit, and a late reply ends the draining of its
+/// id.
 pub fn a_clients_calls_have_their_limits()
     ensures name { NameComesFirst }
     ensures priority { LastPriority }

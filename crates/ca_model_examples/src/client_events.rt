@@ -1,5 +1,11 @@
-ghost use Rattle.ca_model_examples.specs.ClientCallEvents.{ClearLeaves, Collects, GivesUp, OpenLeaves, PutLeaves, ReadLeaves, SubscribeLeaves, UnsubscribeLeaves, WriteLeaves};
-ghost use Rattle.ca_model_examples.specs.ClientEndEvents.{AboutPlace, AcceptMakes, CutEnds, DatagramFinds, DownMoves, NoticeLines, RestartForgets, StepHears, TickEnds, TickStops, UpMoves};
+ghost use Rattle.ca_model_examples.specs.ClientCallEvents.{ClearLeaves, Collects, GivesUp};
+ghost use Rattle.ca_model_examples.specs.ClientCallEvents.{OpenLeaves, PutLeaves, ReadLeaves};
+ghost use Rattle.ca_model_examples.specs.ClientCallEvents.{SubscribeLeaves, UnsubscribeLeaves};
+ghost use Rattle.ca_model_examples.specs.ClientCallEvents.{WriteLeaves};
+ghost use Rattle.ca_model_examples.specs.ClientEndEvents.{AboutPlace, AcceptMakes, CutEnds};
+ghost use Rattle.ca_model_examples.specs.ClientEndEvents.{DatagramFinds, DownMoves, NoticeLines};
+ghost use Rattle.ca_model_examples.specs.ClientEndEvents.{RestartForgets, StepHears, TickEnds};
+ghost use Rattle.ca_model_examples.specs.ClientEndEvents.{TickStops, UpMoves};
 
 /// A channel is opened under the next number; a priority or a name that is none is refused.
 pub fn a_call_opens()
@@ -46,7 +52,8 @@ pub fn a_request_is_given_up()
     ensures { GivesUp }
 {}
 
-/// The first bytes that wait reach the server, also those of an end that has ended; no more than wait.
+/// The first bytes that wait reach the server, also those of an end that has ended; no more than
+/// wait.
 pub fn bytes_go_up()
     ensures { UpMoves }
 {}
@@ -86,7 +93,8 @@ pub fn a_step_hears()
     ensures { StepHears }
 {}
 
-/// A moment comes to each client in turn, and ends a silence that was too long. If memory lacks at a client, those before it
+/// A moment comes to each client in turn, and ends a silence that was too long. If memory lacks at
+/// a client, those before it
 /// had the moment.
 pub fn a_tick_ends_a_silence()
     ensures ends { TickEnds }

@@ -1,4 +1,8 @@
-ghost use Rattle.ca_model_examples.specs.ClientHears.{ClearedWhileWaiting, ConfirmedThere, CreationFails, Errors, Found, LastFaults, NoneFree, OutOfTurn, PauseIsSent, RepliesByCommand, Skipped, SubscribedAgain, Unsubscribes};
+ghost use Rattle.ca_model_examples.specs.ClientHears.{ClearedWhileWaiting, ConfirmedThere};
+ghost use Rattle.ca_model_examples.specs.ClientHears.{CreationFails, Errors, Found, LastFaults};
+ghost use Rattle.ca_model_examples.specs.ClientHears.{NoneFree, OutOfTurn, PauseIsSent};
+ghost use Rattle.ca_model_examples.specs.ClientHears.{RepliesByCommand, Skipped, SubscribedAgain};
+ghost use Rattle.ca_model_examples.specs.ClientHears.{Unsubscribes};
 
 /// A creation that failed is searched again at once, unless it was cleared.
 pub fn a_creation_fails()

@@ -1,6 +1,13 @@
-ghost use Rattle.ca_model_examples.specs.DueReplies.{AreDue, AreNotDue, RepliesLate, creations_due, creations_not_due, greetings_due, greetings_not_due, others_due, others_not_due, puts_due, puts_not_due, reads_due, reads_not_due, searches_due, searches_not_due, subscriptions_due, subscriptions_not_due, writes_due, writes_not_due};
+ghost use Rattle.ca_model_examples.specs.DueReplies.{AreDue, AreNotDue, RepliesLate, creations_due};
+ghost use Rattle.ca_model_examples.specs.DueReplies.{creations_not_due, greetings_due};
+ghost use Rattle.ca_model_examples.specs.DueReplies.{greetings_not_due, others_due, others_not_due};
+ghost use Rattle.ca_model_examples.specs.DueReplies.{puts_due, puts_not_due, reads_due};
+ghost use Rattle.ca_model_examples.specs.DueReplies.{reads_not_due, searches_due, searches_not_due};
+ghost use Rattle.ca_model_examples.specs.DueReplies.{subscriptions_due, subscriptions_not_due};
+ghost use Rattle.ca_model_examples.specs.DueReplies.{writes_due, writes_not_due};
 
-/// VERSION, CLIENT_NAME, HOST_NAME and ECHO: the first VERSION is answered, and names count until a channel was created.
+/// VERSION, CLIENT_NAME, HOST_NAME and ECHO: the first VERSION is answered, and names count until a
+/// channel was created.
 pub fn greetings_are_due()
     ensures due { AreDue greetings_due }
     ensures not_due { AreNotDue greetings_not_due }

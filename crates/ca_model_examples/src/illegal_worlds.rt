@@ -1,10 +1,17 @@
 ghost use Rattle.std.specs.Prelude.{◌∷◌, []};
 ghost use Rattle.ca_model.specs.History.{World};
 ghost use Rattle.ca_model.specs.Legal.{Legal};
-ghost use Rattle.ca_model_examples.specs.Worlds.{putting, clearing, adding, created_told, disconnected, step, world};
-ghost use Rattle.ca_model_examples.specs.Parts.{Anew, Apart, Cancels, Confirmations, Disconnects, Ended, HasAdd, Ids, MaySend, OnChannel, Sending, SendsWrong, Sids, ToldRemoved, Updates};
+ghost use Rattle.ca_model_examples.specs.Worlds.{putting, clearing, adding, created_told};
+ghost use Rattle.ca_model_examples.specs.Worlds.{disconnected, step, world};
+ghost use Rattle.ca_model_examples.specs.Parts.{Anew, Apart, Cancels, Confirmations, Disconnects};
+ghost use Rattle.ca_model_examples.specs.Parts.{Ended, HasAdd, Ids, MaySend, OnChannel, Sending};
+ghost use Rattle.ca_model_examples.specs.Parts.{SendsWrong, Sids, ToldRemoved, Updates};
 ghost use Rattle.ca_model_examples.specs.Unsafe.{cancelling, opened, temp_removed, temp_there};
-ghost use Rattle.ca_model_examples.specs.Illegal.{added_again, both_asked, both_created, called_at, cancel_called, confirm_out, created_read, goes_out, live_again, read_out, reads_out, alone, writing, unasked, sent_in, subscribed_in, told_closed, told_so, update_out};
+ghost use Rattle.ca_model_examples.specs.Illegal.{added_again, both_asked, both_created, called_at};
+ghost use Rattle.ca_model_examples.specs.Illegal.{cancel_called, confirm_out, created_read};
+ghost use Rattle.ca_model_examples.specs.Illegal.{goes_out, live_again, read_out, reads_out, alone};
+ghost use Rattle.ca_model_examples.specs.Illegal.{writing, unasked, sent_in, subscribed_in};
+ghost use Rattle.ca_model_examples.specs.Illegal.{told_closed, told_so, update_out};
 
 /// The parts are those of what is legal, and no more.
 pub fn the_parts_are_all_that_is_legal()

@@ -1,4 +1,5 @@
-//! Small histories for each part of the statement, some safe, and others of which each is unsafe by one part; and what calls and
+//! Small histories for each part of the statement, some safe, and others of which each is unsafe by
+//! one part; and what calls and
 //! events leave on worked rows.
 #![tactic(auto)]
 

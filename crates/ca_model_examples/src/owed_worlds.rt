@@ -2,7 +2,12 @@ ghost use Rattle.std.specs.Prelude.{false};
 ghost use Rattle.ca_model.specs.History.{Applied, Waits};
 ghost use Rattle.ca_model.specs.Known.{IsSafe};
 ghost use Rattle.ca_model_examples.specs.Worlds.{Unsafe, alarmed, ports, rules};
-ghost use Rattle.ca_model_examples.specs.Owed.{logs_put, UnsafeAsDue, UnsafeBesides, UnsafeSlow, UnsafeUnlogged, UnsafeUnsent, answered_by_value, answered_cleared, answered_otherwise, answered_unfinished, answered_withdrawn, foreign_refusal, lost_for_nothing, refused_creation, unanswered_put};
+ghost use Rattle.ca_model_examples.specs.Owed.{logs_put, UnsafeAsDue, UnsafeBesides, UnsafeSlow};
+ghost use Rattle.ca_model_examples.specs.Owed.{UnsafeUnlogged, UnsafeUnsent, answered_by_value};
+ghost use Rattle.ca_model_examples.specs.Owed.{answered_cleared, answered_otherwise};
+ghost use Rattle.ca_model_examples.specs.Owed.{answered_unfinished, answered_withdrawn};
+ghost use Rattle.ca_model_examples.specs.Owed.{foreign_refusal, lost_for_nothing, refused_creation};
+ghost use Rattle.ca_model_examples.specs.Owed.{unanswered_put};
 
 /// The reply that is due for a message is sent and its entry logged, and its step logs no other.
 pub fn what_is_not_as_due_is_unsafe()

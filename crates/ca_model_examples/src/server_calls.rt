@@ -1,4 +1,12 @@
-ghost use Rattle.ca_model_examples.specs.ServerAnswers.{AcceptsFirst, AcceptsNotSo, AddsNotSo, AddsToFirst, AnnouncesItself, AnswersSearches, AnswersVersions, ClearsItsOwn, ClosesOnBadHeader, EndsNoOther, FinishKeepsOpen, FinishesNotSo, FinishesUnawaited, GivesBytes, IsFullAt, LeavesNotSo, NeedsBytes, PacksReplies, PumpsOn, ReportsOnce, SendsBytes};
+ghost use Rattle.ca_model_examples.specs.ServerAnswers.{AcceptsFirst, AcceptsNotSo, AddsNotSo};
+ghost use Rattle.ca_model_examples.specs.ServerAnswers.{AddsToFirst, AnnouncesItself};
+ghost use Rattle.ca_model_examples.specs.ServerAnswers.{AnswersSearches, AnswersVersions};
+ghost use Rattle.ca_model_examples.specs.ServerAnswers.{ClearsItsOwn, ClosesOnBadHeader};
+ghost use Rattle.ca_model_examples.specs.ServerAnswers.{EndsNoOther, FinishKeepsOpen};
+ghost use Rattle.ca_model_examples.specs.ServerAnswers.{FinishesNotSo, FinishesUnawaited};
+ghost use Rattle.ca_model_examples.specs.ServerAnswers.{GivesBytes, IsFullAt, LeavesNotSo};
+ghost use Rattle.ca_model_examples.specs.ServerAnswers.{NeedsBytes, PacksReplies, PumpsOn};
+ghost use Rattle.ca_model_examples.specs.ServerAnswers.{ReportsOnce, SendsBytes};
 
 /// Circuits are accepted under a free index, and bytes move while their ends are open.
 pub fn circuits_come_and_get_bytes()
@@ -8,7 +16,8 @@ pub fn circuits_come_and_get_bytes()
     ensures sends { SendsBytes }
 {}
 
-/// A step takes no message while the output is full or none has come whole, and closes the end on a bad header.
+/// A step takes no message while the output is full or none has come whole, and closes the end on a
+/// bad header.
 pub fn a_step_answers_why_it_takes_none()
     ensures is_full { IsFullAt }
     ensures needs_bytes { NeedsBytes }
@@ -16,7 +25,8 @@ pub fn a_step_answers_why_it_takes_none()
     ensures reports_once { ReportsOnce }
 {}
 
-/// A cleared channel takes its own puts with it, and a subscription goes to the first queue with room.
+/// A cleared channel takes its own puts with it, and a subscription goes to the first queue with
+/// room.
 pub fn messages_act_on_their_own()
     ensures clears { ClearsItsOwn }
     ensures adds { AddsToFirst }
@@ -36,7 +46,8 @@ pub fn a_server_is_found()
     ensures packs { PacksReplies }
 {}
 
-/// The finish of a put whose channel was cleared is not answered, and a circuit whose put was answered ends for nothing but an update.
+/// The finish of a put whose channel was cleared is not answered, and a circuit whose put was
+/// answered ends for nothing but an update.
 pub fn a_finish_is_answered_if_awaited()
     ensures unawaited { FinishesUnawaited }
     ensures not_so { FinishesNotSo }

@@ -1,12 +1,18 @@
-ghost use Rattle.ca_model_examples.specs.ServerHappens.{AddHappens, AddsRefused, CannotBe, CutHappens, DatagramHappens, FinishHappens, FinishesRefused, LackHappens, PostHappens, PostsRefused, PumpHappens, RemoveHappens, RestartHappens, UpHappens, WriteHappens};
+ghost use Rattle.ca_model_examples.specs.ServerHappens.{AddHappens, AddsRefused, CannotBe};
+ghost use Rattle.ca_model_examples.specs.ServerHappens.{CutHappens, DatagramHappens, FinishHappens};
+ghost use Rattle.ca_model_examples.specs.ServerHappens.{FinishesRefused, LackHappens, PostHappens};
+ghost use Rattle.ca_model_examples.specs.ServerHappens.{PostsRefused, PumpHappens, RemoveHappens};
+ghost use Rattle.ca_model_examples.specs.ServerHappens.{RestartHappens, UpHappens, WriteHappens};
 
-/// A write is applied and reaches two subscriptions on two circuits; their updates leave in the order of the entries.
+/// A write is applied and reaches two subscriptions on two circuits; their updates leave in the
+/// order of the entries.
 pub fn a_write_reaches_its_subscriptions()
     ensures step { WriteHappens }
     ensures pump { PumpHappens }
 {}
 
-/// A circuit is cut, and a server begins again: puts that wait are withdrawn, and what waited to be sent may still come.
+/// A circuit is cut, and a server begins again: puts that wait are withdrawn, and what waited to be
+/// sent may still come.
 pub fn ends_leave_what_waited()
     ensures cut { CutHappens }
     ensures restart { RestartHappens }

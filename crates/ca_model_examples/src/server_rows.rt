@@ -1,6 +1,23 @@
-ghost use Rattle.ca_model_examples.specs.ServerRows.{BigSubscription, CancelSpelled, CancelledEntries, ClearSpelled, Converts, CreationSpelled, DisconnectSpelled, EarlyPutFaults, EarlyPutFaultsInOrder, EchoSpelled, ErrorSpelled, FinishedPuts, GainAsTimeDouble, LatePutFaults, LatePutFaultsInOrder, ManyPosts, MasksShareBits, NoCid, NotFoundSpelled, PausedPosts, PausedTakes, PutSpelled, ReadFaults, ReadFaultsInOrder, ReadSpelled, ReadsUpToTheLimit, RightsAreBits, RulesDecide, SearchSpelled, ShortSubscription, SixteenWait, SubscriptionFaults, SubscriptionFaultsInOrder, TempAsStatusChar, TempAsString, TempAsTimeLong, UpdateSpelled, VersionSpelled, WaitingAfterCut, WaveAsChars, WrittenAsTimeLong};
+ghost use Rattle.ca_model_examples.specs.ServerRows.{BigSubscription, CancelSpelled};
+ghost use Rattle.ca_model_examples.specs.ServerRows.{CancelledEntries, ClearSpelled, Converts};
+ghost use Rattle.ca_model_examples.specs.ServerRows.{CreationSpelled, DisconnectSpelled};
+ghost use Rattle.ca_model_examples.specs.ServerRows.{EarlyPutFaults, EarlyPutFaultsInOrder};
+ghost use Rattle.ca_model_examples.specs.ServerRows.{EchoSpelled, ErrorSpelled, FinishedPuts};
+ghost use Rattle.ca_model_examples.specs.ServerRows.{GainAsTimeDouble, LatePutFaults};
+ghost use Rattle.ca_model_examples.specs.ServerRows.{LatePutFaultsInOrder, ManyPosts};
+ghost use Rattle.ca_model_examples.specs.ServerRows.{MasksShareBits, NoCid, NotFoundSpelled};
+ghost use Rattle.ca_model_examples.specs.ServerRows.{PausedPosts, PausedTakes, PutSpelled};
+ghost use Rattle.ca_model_examples.specs.ServerRows.{ReadFaults, ReadFaultsInOrder, ReadSpelled};
+ghost use Rattle.ca_model_examples.specs.ServerRows.{ReadsUpToTheLimit, RightsAreBits, RulesDecide};
+ghost use Rattle.ca_model_examples.specs.ServerRows.{SearchSpelled, ShortSubscription, SixteenWait};
+ghost use Rattle.ca_model_examples.specs.ServerRows.{SubscriptionFaults, SubscriptionFaultsInOrder};
+ghost use Rattle.ca_model_examples.specs.ServerRows.{TempAsStatusChar, TempAsString};
+ghost use Rattle.ca_model_examples.specs.ServerRows.{TempAsTimeLong, UpdateSpelled, VersionSpelled};
+ghost use Rattle.ca_model_examples.specs.ServerRows.{WaitingAfterCut, WaveAsChars};
+ghost use Rattle.ca_model_examples.specs.ServerRows.{WrittenAsTimeLong};
 
-/// Images: TEMP, which is 21, as TIME_LONG, STRING and STS_CHAR; GAIN, which is 1.0, as TIME_DOUBLE; elements of WAVE, which has one,
+/// Images: TEMP, which is 21, as TIME_LONG, STRING and STS_CHAR; GAIN, which is 1.0, as
+/// TIME_DOUBLE; elements of WAVE, which has one,
 /// as CHAR; and TEMP after a write, with its stamp.
 pub fn images_are_as_worked()
     ensures temp_as_time_long { TempAsTimeLong }

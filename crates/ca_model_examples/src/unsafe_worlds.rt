@@ -6,8 +6,28 @@ ghost use Rattle.ca_requests.specs.Meaning.{Means};
 ghost use Rattle.ca_model.specs.History.{GaveUp, Opened, Update, World};
 ghost use Rattle.ca_model.specs.History as history;
 ghost use Rattle.ca_model_examples.specs.Worlds.{AnyDue, reading, reply, step, temp_name, world};
-ghost use Rattle.ca_model_examples.specs.Parts.{BreaksOnly, Holds, IsSafeNow, Part, Acts, Answered, AppliedOnce, Asked, AtOne, Caused, CompletedOnce, DisconnectedOnce, Done, Dropped, Failed, Finished, HandledEach, HandledRise, HandledWithin, HeardEach, HeardRise, HeardWithin, Live, Lost, Matches, Newest, OneAtOnce, OneCall, OneName, OneRecord, Own, OwnWrite, Refused, Retired, Rising, SeesInOrder, SeesOwn, SentOnce, ShowsPost, Told, WasThere};
-ghost use Rattle.ca_model_examples.specs.Unsafe.{sid_given_again, cancelled, added_again, both_updated, called_again, closing, created, created_closed, disconnected, dropped, echo, echoed, echoes, fails, finished, gone, live, lost, made_23, made_alarmed, made_gone, made_once, made_twice, misasked, no_channel, of_created, opened, other_name, posted, put_called, put_closing, put_made, put_read, put_told, read_at, read_called, read_lost, removed_again, rights_for, saw, silent, status_of, subscribed, subscriber, temp_removed, temp_there, two_of_a_name, unhandled, unread, uncreated_read, updated, value_21};
+ghost use Rattle.ca_model_examples.specs.Parts.{BreaksOnly, Holds, IsSafeNow, Part, Acts, Answered};
+ghost use Rattle.ca_model_examples.specs.Parts.{AppliedOnce, Asked, AtOne, Caused, CompletedOnce};
+ghost use Rattle.ca_model_examples.specs.Parts.{DisconnectedOnce, Done, Dropped, Failed, Finished};
+ghost use Rattle.ca_model_examples.specs.Parts.{HandledEach, HandledRise, HandledWithin, HeardEach};
+ghost use Rattle.ca_model_examples.specs.Parts.{HeardRise, HeardWithin, Live, Lost, Matches};
+ghost use Rattle.ca_model_examples.specs.Parts.{Newest, OneAtOnce, OneCall, OneName, OneRecord};
+ghost use Rattle.ca_model_examples.specs.Parts.{Own, OwnWrite, Refused, Retired, Rising};
+ghost use Rattle.ca_model_examples.specs.Parts.{SeesInOrder, SeesOwn, SentOnce, ShowsPost, Told};
+ghost use Rattle.ca_model_examples.specs.Parts.{WasThere};
+ghost use Rattle.ca_model_examples.specs.Unsafe.{sid_given_again, cancelled, added_again};
+ghost use Rattle.ca_model_examples.specs.Unsafe.{both_updated, called_again, closing, created};
+ghost use Rattle.ca_model_examples.specs.Unsafe.{created_closed, disconnected, dropped, echo};
+ghost use Rattle.ca_model_examples.specs.Unsafe.{echoed, echoes, fails, finished, gone, live, lost};
+ghost use Rattle.ca_model_examples.specs.Unsafe.{made_23, made_alarmed, made_gone, made_once};
+ghost use Rattle.ca_model_examples.specs.Unsafe.{made_twice, misasked, no_channel, of_created};
+ghost use Rattle.ca_model_examples.specs.Unsafe.{opened, other_name, posted, put_called};
+ghost use Rattle.ca_model_examples.specs.Unsafe.{put_closing, put_made, put_read, put_told};
+ghost use Rattle.ca_model_examples.specs.Unsafe.{read_at, read_called, read_lost, removed_again};
+ghost use Rattle.ca_model_examples.specs.Unsafe.{rights_for, saw, silent, status_of, subscribed};
+ghost use Rattle.ca_model_examples.specs.Unsafe.{subscriber, temp_removed, temp_there};
+ghost use Rattle.ca_model_examples.specs.Unsafe.{two_of_a_name, unhandled, unread, uncreated_read};
+ghost use Rattle.ca_model_examples.specs.Unsafe.{updated, value_21};
 
 /// The parts are those of what is safe, and no more. That the server takes a step only for a
 /// message that came is in `Answered` already, so no history breaks it alone.

@@ -1,5 +1,6 @@
 -- Vocabulary: the queues of a circuit. Each of its subscriptions is in one of them.
-use Rattle.std.specs.Prelude.{ℕ, ◌≡◌, ◌<◌, ◌≤◌, Bool, true, false, if◌then◌else◌, List, [], Option, Some, None, Result, Ok, Err, length, map, slice_set}
+use Rattle.std.specs.Prelude.{ℕ, ◌≡◌, ◌<◌, ◌≤◌, Bool, true, false, if◌then◌else◌, List, [], Option}
+use Rattle.std.specs.Prelude.{Some, None, Result, Ok, Err, length, map, slice_set}
 use Rattle.std.specs.List.{fold}
 use Rattle.ca_text.specs.declared.refusal.Refusal.{Refusal}
 use Rattle.ca_text.specs.declared.refusal.Refusal.TheVariants as refusal
@@ -19,7 +20,8 @@ module _ {E : Type 0} where
 
   -- a queue without the subscriptions that a test names, and without their entries
   abbrev pub queue_without : (SubKey → Bool) → Queue E → Queue E
-  queue_without gone q = fold (λ (r : Queue E) (k : SubKey). if gone k then cancelled k r else r) q q.subscriptions
+  queue_without gone q =
+      fold (λ (r : Queue E) (k : SubKey). if gone k then cancelled k r else r) q q.subscriptions
 
   -- the queues without the subscriptions that a test names, and without their entries
   abbrev pub without_each : (SubKey → Bool) → List (Queue E) → List (Queue E)
@@ -49,7 +51,8 @@ module _ {E : Type 0} where
   abbrev pub IsFirstWithRoom : List (Queue E) → ℕ → Queue E → Type 0
   IsFirstWithRoom qs place q =
       At qs place q × (length q.subscriptions < queue_subscriptions)
-      × ((i : ℕ) (r : Queue E) → i < place → At qs i r → queue_subscriptions ≤ length r.subscriptions)
+      × ((i : ℕ) (r : Queue E) → i < place → At qs i r
+      → queue_subscriptions ≤ length r.subscriptions)
 
   -- no queue has room
   abbrev pub AreFull : List (Queue E) → Type 0
@@ -59,20 +62,24 @@ module _ {E : Type 0} where
   -- refused if no queue has room. Memory is asked for only by a queue that has no subscription.
   abbrev pub Begins : List (Queue E) → SubKey → E → Result ℕ Refusal → List (Queue E) → Type 0
   Begins old key entry (Ok place) new =
-      (q : Queue E) × IsFirstWithRoom old place q × (new ≡ slice_set old place (posted key entry (added key q)))
+      (q : Queue E) × IsFirstWithRoom old place q
+      × (new ≡ slice_set old place (posted key entry (added key q)))
   Begins old key entry (Err refusal.TooManySubscriptions) new =
       AreFull old × (new ≡ old)
   Begins old key entry (Err refusal.OutOfMemory) new =
-      ((place : ℕ) × (q : Queue E) × IsFirstWithRoom old place q × (q.subscriptions ≡ [])) × (new ≡ old)
+      ((place : ℕ) × (q : Queue E) × IsFirstWithRoom old place q × (q.subscriptions ≡ []))
+      × (new ≡ old)
   Begins old key entry (Err _) new = ⊥
 
   -- no queue before this place has an entry that may be taken
   abbrev pub RestBefore : List (Queue E) → ℕ → Type 0
-  RestBefore qs place = (i : ℕ) (r : Queue E) → i < place → At qs i r → taken r.events_on r.waiting ≡ None
+  RestBefore qs place =
+      (i : ℕ) (r : Queue E) → i < place → At qs i r → taken r.events_on r.waiting ≡ None
 
   -- An entry is taken from the first queue that has one that may be taken.
   abbrev pub Takes : List (Queue E) → Option (ℕ × SubKey × E) → List (Queue E) → Type 0
   Takes old None new = RestBefore old (length old) × (new ≡ old)
   Takes old (Some (place, key, entry)) new =
-      (q : Queue E) × At old place q × RestBefore old place × (taken q.events_on q.waiting ≡ Some (key, entry))
+      (q : Queue E) × At old place q × RestBefore old place
+      × (taken q.events_on q.waiting ≡ Some (key, entry))
       × (new ≡ slice_set old place (with_front_taken q))

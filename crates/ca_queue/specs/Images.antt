@@ -13,4 +13,9 @@ module _ {E F : Type 0} (f : E → F) where
   image_if (Some w) = Some (w.0, f w.1)
 
   abbrev pub queue_images : Queue E → Queue F
-  queue_images q = record { waiting = images q.waiting; subscriptions = q.subscriptions; events_on = q.events_on }
+  queue_images q =
+      record {
+        waiting = images q.waiting;
+        subscriptions = q.subscriptions;
+        events_on = q.events_on;
+      }

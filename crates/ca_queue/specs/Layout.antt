@@ -1,5 +1,6 @@
 -- What the fields of an event queue stand for. No clause of a caller needs it.
-use Rattle.std.specs.Prelude.{ℕ, ◌≡◌, ◌≤◌, ◌<◌, ◌&&◌, nat_le, Bool, if◌then◌else◌, List, [], ◌∷◌, length, map}
+use Rattle.std.specs.Prelude.{ℕ, ◌≡◌, ◌≤◌, ◌<◌, ◌&&◌, nat_le, Bool, if◌then◌else◌, List, [], ◌∷◌}
+use Rattle.std.specs.Prelude.{length, map}
 use Rattle.ca_text.specs.Limits.{queue_places, queue_subscriptions}
 use Rattle.ca_queue.specs.declared.entry.SubKey.{SubKey}
 use Rattle.ca_queue.specs.declared.list_queue.Subscription.{Subscription}
@@ -27,18 +28,21 @@ is_roomy places room = nat_le queue_places places && nat_le queue_subscriptions 
 
 -- it was made before the first subscription was added
 abbrev pub HasRoom : List Subscription → ℕ → ℕ → Type 0
-HasRoom subscriptions places room = 0 < length subscriptions → (queue_places ≤ places) × (queue_subscriptions ≤ room)
+HasRoom subscriptions places room =
+    0 < length subscriptions → (queue_places ≤ places) × (queue_subscriptions ≤ room)
 
 module _ {E : Type 0} where
   abbrev pub queue_of : List (SubKey × E) → List Subscription → Bool → Queue E
-  queue_of entries subscriptions on = record { waiting = entries; subscriptions = keys_of subscriptions; events_on = on }
+  queue_of entries subscriptions on =
+      record { waiting = entries; subscriptions = keys_of subscriptions; events_on = on }
 
   -- each subscription with the number of its entries
   abbrev pub counts : List SubKey → List (SubKey × E) → List Subscription
   counts keys entries = map (λ key. record { key = key; waiting = count_of key entries }) keys
 
   -- the fields stand for something sound, the counts are right, and what comes finds room
-  pub record IsLaidOut (entries : List (SubKey × E)) (subscriptions : List Subscription) (on : Bool) (places room : ℕ) : Type 0 where
+  pub record IsLaidOut (entries : List (SubKey × E)) (subscriptions : List Subscription) (on : Bool)
+      (places room : ℕ) : Type 0 where
     pub sound : IsSound (queue_of entries subscriptions on)
     pub counted : subscriptions ≡ counts (keys_of subscriptions) entries
     pub roomy : HasRoom subscriptions places room

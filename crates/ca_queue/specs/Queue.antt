@@ -1,7 +1,8 @@
 -- Vocabulary: what a queue is: the updates that wait, the subscriptions that were added, and
 -- whether events are on.
 use Rattle.std.specs.Coded.{Coded, code_by, coded×, coded_bool, coded_list, coded_ℕ}
-use Rattle.std.specs.Prelude.{ℕ, refl, ◌≡◌, ◌<◌, Bool, true, not, List, [], ◌∷◌, ◌++◌, length, filter, Result, Ok, Err}
+use Rattle.std.specs.Prelude.{ℕ, refl, ◌≡◌, ◌<◌, Bool, true, not, List, [], ◌∷◌, ◌++◌, length}
+use Rattle.std.specs.Prelude.{filter, Result, Ok, Err}
 use Rattle.ca_text.specs.declared.refusal.Refusal.{Refusal}
 use Rattle.ca_text.specs.declared.refusal.Refusal.TheVariants.{OutOfMemory, TooManySubscriptions}
 use Rattle.ca_text.specs.Limits.{queue_subscriptions}
@@ -11,7 +12,9 @@ use Rattle.ca_queue.specs.Waiting.{after_post, after_take, after_cancel}
 
 -- a key is stored as the pair of its fields
 abbrev pub key_code : Coded SubKey
-key_code = code_by (ℕ × ℕ) (coded× coded_ℕ coded_ℕ) (λ k. (k.sid, k.sub)) (λ p. record { sid = p.0; sub = p.1 }) (λ _. refl)
+key_code =
+    code_by (ℕ × ℕ) (coded× coded_ℕ coded_ℕ) (λ k. (k.sid, k.sub))
+    (λ p. record { sid = p.0; sub = p.1 }) (λ _. refl)
 
 pub record Queue (E : Type 0) : Type 0 where
   pub waiting : List (SubKey × E)
@@ -34,15 +37,28 @@ module _ {E : Type 0} where
   no_queue = record { waiting = []; subscriptions = []; events_on = true }
 
   abbrev pub added : SubKey → Queue E → Queue E
-  added key q = record { waiting = q.waiting; subscriptions = q.subscriptions ++ key ∷ []; events_on = q.events_on }
+  added key q =
+      record {
+        waiting = q.waiting;
+        subscriptions = q.subscriptions ++ key ∷ [];
+        events_on = q.events_on;
+      }
 
   abbrev pub posted : SubKey → E → Queue E → Queue E
   posted key entry q =
-      record { waiting = after_post q.events_on key entry q.waiting; subscriptions = q.subscriptions; events_on = q.events_on }
+      record {
+        waiting = after_post q.events_on key entry q.waiting;
+        subscriptions = q.subscriptions;
+        events_on = q.events_on;
+      }
 
   abbrev pub with_front_taken : Queue E → Queue E
   with_front_taken q =
-      record { waiting = after_take q.events_on q.waiting; subscriptions = q.subscriptions; events_on = q.events_on }
+      record {
+        waiting = after_take q.events_on q.waiting;
+        subscriptions = q.subscriptions;
+        events_on = q.events_on;
+      }
 
   -- the subscription's room is free again
   abbrev pub cancelled : SubKey → Queue E → Queue E

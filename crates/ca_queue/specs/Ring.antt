@@ -1,5 +1,7 @@
 -- What the fields of an event queue stand for that is a ring. No clause of a caller needs it.
-use Rattle.std.specs.Prelude.{ℕ, ◌≡◌, ◌≤◌, ◌<◌, ◌+◌, ◌-◌, ◌%◌, ◌^◌, ◌&&◌, nat_le, Bool, true, false, List, [], ◌∷◌, ◌++◌, length, map, drop, count_by, slice_set, get_or, is_some, Option, Some, None, IfSome}
+use Rattle.std.specs.Prelude.{ℕ, ◌≡◌, ◌≤◌, ◌<◌, ◌+◌, ◌-◌, ◌%◌, ◌^◌, ◌&&◌, nat_le, Bool, true, false}
+use Rattle.std.specs.Prelude.{List, [], ◌∷◌, ◌++◌, length, map, drop, count_by, slice_set, get_or}
+use Rattle.std.specs.Prelude.{is_some, Option, Some, None, IfSome}
 use Rattle.circular_buffer.specs.Buffer.{Buffer, buffer}
 use Rattle.ca_text.specs.Limits.{queue_places, queue_subscriptions}
 use Rattle.ca_queue.specs.declared.entry.SubKey.{SubKey}
@@ -86,11 +88,13 @@ IsAt key keys number = (key ≡ get_or keys number no_key) × (number < length k
 
 -- there is room for all subscriptions that come
 abbrev pub has_room_for_all : ℕ → ℕ → ℕ → Bool
-has_room_for_all room indexed spare = nat_le queue_subscriptions room && nat_le queue_subscriptions (indexed + spare)
+has_room_for_all room indexed spare =
+    nat_le queue_subscriptions room && nat_le queue_subscriptions (indexed + spare)
 
 -- the index has the subscriptions' keys, none of which stands twice, and room was made
 -- before the first was added
-pub record IsIndexed (lasts : List Last) (keys : List SubKey) (room indexed spare : ℕ) : Type 0 where
+pub record IsIndexed (lasts : List Last) (keys : List SubKey)
+    (room indexed spare : ℕ) : Type 0 where
   pub keyed : keys ≡ keys_of_lasts lasts
   pub counted : indexed ≡ length lasts
   pub apart : AreApart (keys_of_lasts lasts)
@@ -107,7 +111,8 @@ later None false = None
 
 module _ {E : Type 0} where
   abbrev pub ring_queue : List (SubKey × E) → List Last → Bool → Queue E
-  ring_queue entries lasts on = record { waiting = entries; subscriptions = keys_of_lasts lasts; events_on = on }
+  ring_queue entries lasts on =
+      record { waiting = entries; subscriptions = keys_of_lasts lasts; events_on = on }
 
   -- where the last entry of a subscription is among those that wait
   abbrev pub last_index : SubKey → List (SubKey × E) → Option ℕ
@@ -117,7 +122,8 @@ module _ {E : Type 0} where
   -- The number that is with a subscription is that of its last put, if it has an entry: there were
   -- as many puts after it as entries wait after that entry.
   abbrev pub IsNoted : ℕ → List (SubKey × E) → Last → Type 0
-  IsNoted puts entries l = (i : ℕ) → last_index l.key entries ≡ Some i → i + 1 + puts_after puts l.put ≡ length entries
+  IsNoted puts entries l =
+      (i : ℕ) → last_index l.key entries ≡ Some i → i + 1 + puts_after puts l.put ≡ length entries
 
   abbrev pub AreNoted : ℕ → List (SubKey × E) → List Last → Type 0
   AreNoted puts entries [] = Unit {0}
@@ -129,7 +135,8 @@ module _ {E : Type 0} where
 
   -- The fields stand for something sound, and the numbers are right. While events are off, so are
   -- those entries counted that wait besides one of each subscription that has one.
-  pub record IsRound (entries : List (SubKey × E)) (lasts : List Last) (on : Bool) (puts extra : ℕ) : Type 0 where
+  pub record IsRound (entries : List (SubKey × E)) (lasts : List Last) (on : Bool)
+      (puts extra : ℕ) : Type 0 where
     pub sound : IsSound (ring_queue entries lasts on)
     pub goes_round : puts < 2 ^ 64
     pub noted : AreNoted puts entries lasts
@@ -137,11 +144,13 @@ module _ {E : Type 0} where
 
   -- The ring has a place for each entry. It was made before the first subscription was added, and
   -- all other room before it.
-  pub record IsMade (ring : Option (Buffer (SubKey × E))) (lasts : List Last) (room : Bool) : Type 0 where
+  pub record IsMade (ring : Option (Buffer (SubKey × E))) (lasts : List Last)
+      (room : Bool) : Type 0 where
     pub places : HasPlaces ring
     pub made : 0 < length lasts → is_some ring ≡ true
     pub roomy : is_some ring ≡ true → room ≡ true
 
-  pub record IsRing (ring : Option (Buffer (SubKey × E))) (lasts : List Last) (room on : Bool) (puts extra : ℕ) : Type 0 where
+  pub record IsRing (ring : Option (Buffer (SubKey × E))) (lasts : List Last) (room on : Bool)
+      (puts extra : ℕ) : Type 0 where
     pub round : IsRound (waits ring) lasts on puts extra
     pub made : IsMade ring lasts room

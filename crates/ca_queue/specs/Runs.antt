@@ -1,5 +1,6 @@
 -- Whole runs of a queue. Refused calls are left out, since they change nothing.
-use Rattle.std.specs.Prelude.{◌≡◌, ◌<◌, Bool, true, false, if◌then◌else◌, List, [], ◌∷◌, ◌++◌, length, Option, Some, None}
+use Rattle.std.specs.Prelude.{◌≡◌, ◌<◌, Bool, true, false, if◌then◌else◌, List, [], ◌∷◌, ◌++◌}
+use Rattle.std.specs.Prelude.{length, Option, Some, None}
 use Rattle.ca_text.specs.Limits.{queue_subscriptions}
 use Rattle.ca_queue.specs.declared.entry.SubKey.{SubKey}
 use Rattle.ca_queue.specs.Keys.{same, is_among}
@@ -21,9 +22,12 @@ module _ {E : Type 0} where
   abbrev pub Leads : Queue E → List (Call E) → Queue E → Type 0
   Leads old [] new = new ≡ old
   Leads old (Added key ∷ calls) new =
-      (is_among key old.subscriptions ≡ false) × (length old.subscriptions < queue_subscriptions) × Leads (added key old) calls new
-  Leads old (Posted key entry ∷ calls) new = (is_among key old.subscriptions ≡ true) × Leads (posted key entry old) calls new
-  Leads old (Took given ∷ calls) new = (given ≡ taken old.events_on old.waiting) × Leads (with_front_taken old) calls new
+      (is_among key old.subscriptions ≡ false) × (length old.subscriptions < queue_subscriptions)
+      × Leads (added key old) calls new
+  Leads old (Posted key entry ∷ calls) new =
+      (is_among key old.subscriptions ≡ true) × Leads (posted key entry old) calls new
+  Leads old (Took given ∷ calls) new =
+      (given ≡ taken old.events_on old.waiting) × Leads (with_front_taken old) calls new
   Leads old (Cancelled key ∷ calls) new = Leads (cancelled key old) calls new
   Leads old (Switched on ∷ calls) new = Leads (switched on old) calls new
 
@@ -32,7 +36,8 @@ module _ {E : Type 0} where
   abbrev pub posts_to : SubKey → List E → List (Call E) → List E
   posts_to key before [] = before
   posts_to key before (Added k ∷ calls) = posts_to key before calls
-  posts_to key before (Posted k entry ∷ calls) = posts_to key (if same key k then before ++ entry ∷ [] else before) calls
+  posts_to key before (Posted k entry ∷ calls) =
+      posts_to key (if same key k then before ++ entry ∷ [] else before) calls
   posts_to key before (Took given ∷ calls) = posts_to key before calls
   posts_to key before (Cancelled k ∷ calls) = posts_to key (if same key k then [] else before) calls
   posts_to key before (Switched on ∷ calls) = posts_to key before calls

@@ -18,5 +18,6 @@ module _ {E : Type 0} where
     pub fits : length q.waiting ≤ queue_places
     pub few : length q.subscriptions ≤ queue_subscriptions
     pub apart : AreApart q.subscriptions
-    pub known : (key : SubKey) → IsTrue (has_entry key q.waiting) → IsTrue (is_among key q.subscriptions)
+    pub known : (key : SubKey) → IsTrue (has_entry key q.waiting)
+        → IsTrue (is_among key q.subscriptions)
     pub roomy : queue_low_places ≤ free_places q.waiting + occupied q

@@ -1,7 +1,8 @@
 -- The updates that wait: entries, each with its subscription, the front first. The protocol
 -- specification leaves a server's event queue open; the rule is our own. Events are off from a
 -- client's EVENTS_OFF to its EVENTS_ON (section "CA Protocol Messages").
-use Rattle.std.specs.Prelude.{ℕ, Bool, ◌&&◌, ◌||◌, not, nat_lt, nat_le, ◌-◌, if◌then◌else◌, List, [], ◌∷◌, ◌++◌, length, count_by, drop, filter, Option, Some, None}
+use Rattle.std.specs.Prelude.{ℕ, Bool, ◌&&◌, ◌||◌, not, nat_lt, nat_le, ◌-◌, if◌then◌else◌, List}
+use Rattle.std.specs.Prelude.{[], ◌∷◌, ◌++◌, length, count_by, drop, filter, Option, Some, None}
 use Rattle.std.specs.List.{list_any}
 use Rattle.ca_text.specs.Limits.{queue_places, queue_low_places}
 use Rattle.ca_queue.specs.declared.entry.SubKey.{SubKey}
@@ -32,16 +33,19 @@ module _ {E : Type 0} where
   -- A post to this subscription takes the place of its last entry: there is one, and either free
   -- places are few or events are off.
   abbrev pub replaces : Bool → SubKey → List (SubKey × E) → Bool
-  replaces events_on key q = has_entry key q && (nat_le (free_places q) queue_low_places || not events_on)
+  replaces events_on key q =
+      has_entry key q && (nat_le (free_places q) queue_low_places || not events_on)
 
   -- this entry in place of the last one of its subscription
   abbrev pub with_last : SubKey → E → List (SubKey × E) → List (SubKey × E)
   with_last key entry [] = []
-  with_last key entry (w ∷ q) = if is_of key w && not (has_entry key q) then (key, entry) ∷ q else w ∷ with_last key entry q
+  with_last key entry (w ∷ q) =
+      if is_of key w && not (has_entry key q) then (key, entry) ∷ q else w ∷ with_last key entry q
 
   -- A post takes the place of its subscription's last entry, or goes to the back.
   abbrev pub after_post : Bool → SubKey → E → List (SubKey × E) → List (SubKey × E)
-  after_post events_on key entry q = if replaces events_on key q then with_last key entry q else q ++ (key, entry) ∷ []
+  after_post events_on key entry q =
+      if replaces events_on key q then with_last key entry q else q ++ (key, entry) ∷ []
 
   -- some subscription has two or more entries
   abbrev pub is_crowded : List (SubKey × E) → Bool

@@ -1,6 +1,7 @@
 ghost use Rattle.std.specs.Prelude.{◌≡◌, ◌≤◌, IfOk, MatchOption, map, replicate};
 ghost use Rattle.ca_text.specs.Limits.{circuit_queues};
-ghost use Rattle.ca_queue.specs.Circuit.{AreFull, Begins, IsFirstWithRoom, HasAt, HasNone, Takes, queue_posted, without_each};
+ghost use Rattle.ca_queue.specs.Circuit.{AreFull, Begins, IsFirstWithRoom, HasAt, HasNone, Takes};
+ghost use Rattle.ca_queue.specs.Circuit.{queue_posted, without_each};
 ghost use Rattle.ca_queue.specs.Keys.{same};
 ghost use Rattle.ca_queue.specs.Queue.{Queue, no_queue, switched};
 

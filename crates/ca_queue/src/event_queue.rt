@@ -1,9 +1,12 @@
-ghost use Rattle.std.specs.Prelude.{ℕ, ◌≡◌, ◌<◌, ◌≤◌, ◌+◌, ◌-◌, ◌^◌, [], true, Some, None, IsTrue, length, is_some, nat_le, slice_set, not, ◌||◌, if◌then◌else◌};
+ghost use Rattle.std.specs.Prelude.{ℕ, ◌≡◌, ◌<◌, ◌≤◌, ◌+◌, ◌-◌, ◌^◌, [], true, Some, None, IsTrue};
+ghost use Rattle.std.specs.Prelude.{length, is_some, nat_le, slice_set, not, ◌||◌, if◌then◌else◌};
 ghost use Rattle.std.specs.Option.{option_map};
 ghost use Rattle.ca_text.specs.Limits.{queue_low_places, queue_places};
 ghost use Rattle.ca_queue.specs.Keys.{AreApart, is_among};
 ghost use Rattle.ca_queue.specs.Waiting.{after_cancel, has_entry};
-ghost use Rattle.ca_queue.specs.Ring.{AreInPlaces, AreNoted, HasPlace, IsAt, having, keys_of_lasts, last_index, next_put, puts_after, waits, with_back, with_items};
+ghost use Rattle.ca_queue.specs.Ring.{AreInPlaces, AreNoted, HasPlace, IsAt, having, keys_of_lasts};
+ghost use Rattle.ca_queue.specs.Ring.{last_index, next_put, puts_after, waits, with_back};
+ghost use Rattle.ca_queue.specs.Ring.{with_items};
 
 use crate::entry::{SubKey, is_same};
 use crate::lasts::Lasts;

@@ -1,4 +1,5 @@
-ghost use Rattle.std.specs.Prelude.{◌≡◌, ◌<◌, ◌≤◌, ◌+◌, ◌++◌, ◌∷◌, [], true, false, Some, OnOk, OnErr, length, filter, not, position, slice_set, vec_capacity};
+ghost use Rattle.std.specs.Prelude.{◌≡◌, ◌<◌, ◌≤◌, ◌+◌, ◌++◌, ◌∷◌, [], true, false, Some, OnOk};
+ghost use Rattle.std.specs.Prelude.{OnErr, length, filter, not, position, slice_set, vec_capacity};
 ghost use Rattle.ca_text.specs.Limits.{queue_subscriptions};
 ghost use Rattle.indexmap.specs.IndexSet.{index_set_len, spare, IsEmpty};
 ghost use Rattle.ca_queue.specs.Keys.{AreApart, same, is_among};

@@ -1,4 +1,6 @@
-ghost use Rattle.std.specs.Prelude.{◌≡◌, ◌<◌, ◌≤◌, ◌++◌, ◌∷◌, [], IsTrue, OnOk, OnErr, length, map, filter, not, vec_capacity, nat_lt, nat_le, true, false, ◌-◌, ◌&&◌, ◌||◌};
+ghost use Rattle.std.specs.Prelude.{◌≡◌, ◌<◌, ◌≤◌, ◌++◌, ◌∷◌, [], IsTrue, OnOk, OnErr, length, map};
+ghost use Rattle.std.specs.Prelude.{filter, not, vec_capacity, nat_lt, nat_le, true, false, ◌-◌};
+ghost use Rattle.std.specs.Prelude.{◌&&◌, ◌||◌};
 ghost use Rattle.std.specs.VecDeque.{deque_capacity};
 ghost use Rattle.std.specs.List.{list_any};
 ghost use Rattle.ca_text.specs.Limits.{queue_low_places, queue_places, queue_subscriptions};

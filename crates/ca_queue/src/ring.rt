@@ -1,7 +1,8 @@
 ghost use Rattle.std.specs.Prelude.{◌≡◌, ◌<◌, true, None, OnOk, OnErr, is_some, length, slice_get};
 ghost use Rattle.std.specs.Option.{option_map};
 ghost use Rattle.ca_text.specs.Place.{At};
-ghost use Rattle.ca_queue.specs.Ring.{HasPlace, made, waits, with_back, with_entry_at, without_front};
+ghost use Rattle.ca_queue.specs.Ring.{HasPlace, made, waits, with_back, with_entry_at};
+ghost use Rattle.ca_queue.specs.Ring.{without_front};
 
 use crate::entry::SubKey;
 use ca_text::QUEUE_PLACES;

@@ -12,24 +12,32 @@ use Rattle.ca_records.specs.Record.{HoldsValue, RecordState, unset}
 -- or more than the greatest count
 abbrev pub PostFault : List Record → List ℕ → Elements → Refusal → Type 0
 PostFault records name e refusal.UnknownRecord = record_named records name ≡ None
-PostFault records name e refusal.BadType = (r : Record) × (record_named records name ≡ Some r) × (base_of e ≢ base_of r.state.value)
+PostFault records name e refusal.BadType =
+    (r : Record) × (record_named records name ≡ Some r) × (base_of e ≢ base_of r.state.value)
 PostFault records name e refusal.BadCount =
-    (r : Record) × (record_named records name ≡ Some r) × (base_of e ≡ base_of r.state.value) × ((count_of e ≡ 0) ⊎ (r.state.count < count_of e))
+    (r : Record) × (record_named records name ≡ Some r) × (base_of e ≡ base_of r.state.value)
+    × ((count_of e ≡ 0) ⊎ (r.state.count < count_of e))
 PostFault records name e other = ⊥
 
 -- the value is one that the record may have
 abbrev pub PostFits : List Record → List ℕ → Elements → Type 0
 PostFits records name e =
-    (r : Record) × (record_named records name ≡ Some r) × (base_of e ≡ base_of r.state.value) × (0 < count_of e) × (count_of e ≤ r.state.count)
+    (r : Record) × (record_named records name ≡ Some r) × (base_of e ≡ base_of r.state.value)
+    × (0 < count_of e) × (count_of e ≤ r.state.count)
 
 -- why a record is not added: a name that is none, one that is served now, or a
 -- value that does not fit
 abbrev pub AddFault : List Record → RecordState → Refusal → Type 0
 AddFault records s refusal.NameLength = IsName record_name_limit s.name → ⊥
-AddFault records s refusal.RecordExists = IsName record_name_limit s.name × (is_some (record_named records s.name) ≡ true)
-AddFault records s refusal.BadCount = IsName record_name_limit s.name × (record_named records s.name ≡ None) × (HoldsValue s.count s.value → ⊥)
+AddFault records s refusal.RecordExists =
+    IsName record_name_limit s.name × (is_some (record_named records s.name) ≡ true)
+AddFault records s refusal.BadCount =
+    IsName record_name_limit s.name × (record_named records s.name ≡ None)
+    × (HoldsValue s.count s.value → ⊥)
 AddFault records s e = ⊥
 
 -- a record may be added as this
 abbrev pub MayAdd : List Record → RecordState → Type 0
-MayAdd records s = IsName record_name_limit s.name × (record_named records s.name ≡ None) × HoldsValue s.count s.value × (s.meta ≡ unset)
+MayAdd records s =
+    IsName record_name_limit s.name × (record_named records s.name ≡ None)
+    × HoldsValue s.count s.value × (s.meta ≡ unset)

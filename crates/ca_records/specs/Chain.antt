@@ -21,10 +21,12 @@ IsFull (Free next) = ⊥
 abbrev pub Chain : List Slot → (first : Option ℕ) → List ℕ → Type 0
 Chain slots first [] = first ≡ None
 Chain slots first (i ∷ rest) =
-    (first ≡ Some i) × ((k : ℕ) → At rest k i → ⊥) × ((next : Option ℕ) × At slots i (Free next) × Chain slots next rest)
+    (first ≡ Some i) × ((k : ℕ) → At rest k i → ⊥)
+    × ((next : Option ℕ) × At slots i (Free next) × Chain slots next rest)
 
 -- The index leads to the records, what is chained is free, and the puts that wait are counted.
-pub record IsStored (slots : List Slot) (free : Option ℕ) (places : List ℕ → Option ℕ) (waiting : ℕ) : Type 0 where
+pub record IsStored (slots : List Slot) (free : Option ℕ) (places : List ℕ → Option ℕ)
+    (waiting : ℕ) : Type 0 where
   pub index : IsIndexOf (map record_in slots) places
   pub freed : List ℕ
   pub chain : Chain slots free freed

@@ -1,6 +1,7 @@
 -- Vocabulary: which fault of a write is answered by which status, once its elements were read
 -- (section "Status Codes"). The first that is there decides.
-use Rattle.std.specs.Prelude.{ℕ, Bool, true, false, not, List, [], ◌∷◌, Option, Result, Ok, Err, find, if◌then◌else◌, nat_lt, option_map}
+use Rattle.std.specs.Prelude.{ℕ, Bool, true, false, not, List, [], ◌∷◌, Option, Result, Ok, Err}
+use Rattle.std.specs.Prelude.{find, if◌then◌else◌, nat_lt, option_map}
 use Rattle.ca_text.specs.declared.refusal.Refusal.{Refusal}
 use Rattle.ca_text.specs.declared.refusal.Refusal.TheVariants as refusal
 use Rattle.ca_text.specs.Limits.{waiting_puts}
@@ -28,9 +29,12 @@ has_misfit (Ok e) = false
 -- The first fault by what the conversion answers: none possible NOCONVERT; a text or a range
 -- PUTFAIL; and no place to wait PUTFAIL.
 abbrev pub put_fault : Result Elements Refusal → (crowded : Bool) → Option ℕ
-put_fault c crowded = first_fault ((lacks_conversion c, no_convert) ∷ (has_misfit c, put_fail) ∷ (crowded, put_fail) ∷ [])
+put_fault c crowded =
+    first_fault
+    ((lacks_conversion c, no_convert) ∷ (has_misfit c, put_fail) ∷ (crowded, put_fail) ∷ [])
 
 -- the same for a record: a WRITE_NOTIFY that would wait finds no place while 16 wait already
 abbrev pub late_put_fault : RecordState → (must_wait : Bool) → (others : ℕ) → Elements → Option ℕ
 late_put_fault r must_wait others e =
-    put_fault (converted e (base_of r.value)) (if must_wait then not (nat_lt others waiting_puts) else false)
+    put_fault (converted e (base_of r.value))
+    (if must_wait then not (nat_lt others waiting_puts) else false)

@@ -20,4 +20,5 @@ place_in bytes entries name = lookup (λ k. bytes_eq name (bytes k)) entries
 -- each record is led to.
 pub record IsIndex (records : List RecordState) (places : List ℕ → Option ℕ) : Type 0 where
   pub found : (name : List ℕ) (place : ℕ) → places name ≡ Some place → Names records name place
-  pub listed : (place : ℕ) (state : RecordState) → At records place state → places state.name ≡ Some place
+  pub listed : (place : ℕ) (state : RecordState) → At records place state
+      → places state.name ≡ Some place

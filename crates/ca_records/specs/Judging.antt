@@ -14,7 +14,8 @@ use Rattle.ca_records.specs.Faults.{put_fault}
 
 -- the answer that these elements are to have for this type
 abbrev pub Judges : Elements → BaseType → Bool → Judged → Type 0
-Judges e b crowded (Fits v) = (converted e b ≡ Ok (elements v)) × (put_fault (converted e b) crowded ≡ None)
+Judges e b crowded (Fits v) =
+    (converted e b ≡ Ok (elements v)) × (put_fault (converted e b) crowded ≡ None)
 Judges e b crowded (Refused s) = put_fault (converted e b) crowded ≡ Some s.number
 Judges e b crowded NoMemory = (put_fault (converted e b) crowded ≡ None) × (base_of e ≢ b)
 

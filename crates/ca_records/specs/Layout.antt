@@ -27,7 +27,8 @@ AreFit s waiting = AllByRecursion (λ (w : WaitingPut). IsFit s w.value) waiting
 
 -- the map leads from the name of each record to its place, and nowhere else
 pub record IsIndexOf (slots : List (Option Record)) (places : List ℕ → Option ℕ) : Type 0 where
-  pub found : (name : List ℕ) (place : ℕ) → places name ≡ Some place → (r : Record) × At slots place (Some r) × (r.state.name ≡ name)
+  pub found : (name : List ℕ) (place : ℕ) → places name ≡ Some place → (r : Record)
+      × At slots place (Some r) × (r.state.name ≡ name)
   pub listed : (place : ℕ) (r : Record) → At slots place (Some r) → places r.state.name ≡ Some place
 
 -- the record may have this value by a post
@@ -40,5 +41,6 @@ pub record MayHave (s : RecordState) (e : Elements) : Type 0 where
 -- why it may not
 abbrev pub MayNotHave : RecordState → Elements → Refusal → Type 0
 MayNotHave s e refusal.BadType = base_of e ≢ base_of s.value
-MayNotHave s e refusal.BadCount = (base_of e ≡ base_of s.value) × ((count_of e ≡ 0) ⊎ (s.count < count_of e))
+MayNotHave s e refusal.BadCount =
+    (base_of e ≡ base_of s.value) × ((count_of e ≡ 0) ⊎ (s.count < count_of e))
 MayNotHave s e other = ⊥

@@ -1,5 +1,6 @@
 -- Working: one element that is read over the value of a record.
-use Rattle.std.specs.Prelude.{ℕ, ◌≡◌, ◌≤◌, ◌&&◌, Bool, true, false, List, None, Some, is_some, length}
+use Rattle.std.specs.Prelude.{ℕ, ◌≡◌, ◌≤◌, ◌&&◌, Bool, true, false, List, None, Some, is_some}
+use Rattle.std.specs.Prelude.{length}
 use Rattle.ca_dbr.specs.declared.value.Meta.{Meta}
 use Rattle.ca_dbr.specs.Elements.{Elements, base_of}
 use Rattle.ca_dbr.specs.Reading.{CanReadOver, ReadsElements, least_size}
@@ -18,18 +19,24 @@ pub record IsOne (s : RecordState) (number : ℕ) (bytes : List ℕ) (e : Elemen
 
 -- the record's value is that element, with this metadata; or that cannot be, and all stays
 abbrev pub TakesOver : (number : ℕ) → List ℕ → Meta → RecordState → Bool → RecordState → Type 0
-TakesOver number bytes meta old true new = (e : Elements) × IsOne old number bytes e × (new ≡ record old { value = e; meta = meta })
+TakesOver number bytes meta old true new =
+    (e : Elements) × IsOne old number bytes e × (new ≡ record old { value = e; meta = meta })
 TakesOver number bytes meta old false new = (CanReadOver number bytes old.value → ⊥) × (new ≡ old)
 
 -- the same by a write, which neither waits nor makes the record busy
-abbrev pub WritesOver : Stamp → Record → (is_put : Bool) → (number : ℕ) → List ℕ → Bool → Record → Type 0
+abbrev pub WritesOver : Stamp → Record → (is_put : Bool) → (number : ℕ) → List ℕ → Bool → Record
+    → Type 0
 WritesOver s r is_put number bytes true next =
-    (e : Elements) × IsOne r.state number bytes e × ((is_put && is_some r.busy) ≡ false) × ((is_put && r.state.slow) ≡ false) × (next ≡ with_value e (written_meta s) r)
+    (e : Elements) × IsOne r.state number bytes e × ((is_put && is_some r.busy) ≡ false)
+    × ((is_put && r.state.slow) ≡ false) × (next ≡ with_value e (written_meta s) r)
 WritesOver s r is_put number bytes false next =
-    ((is_put && is_some r.busy) ≡ false → (is_put && r.state.slow) ≡ false → CanReadOver number bytes r.state.value → ⊥) × (next ≡ r)
+    ((is_put && is_some r.busy) ≡ false → (is_put && r.state.slow) ≡ false
+    → CanReadOver number bytes r.state.value → ⊥) × (next ≡ r)
 
 -- the same by a put with notification, which makes a slow record busy
 abbrev pub PutsOver : Stamp → Record → Put → (number : ℕ) → List ℕ → Bool → Record → Type 0
 PutsOver s r p number bytes true next =
-    (e : Elements) × IsOne r.state number bytes e × (r.busy ≡ None) × (r.state.slow ≡ true) × (next ≡ record (with_value e (written_meta s) r) { busy = Some p })
-PutsOver s r p number bytes false next = (r.busy ≡ None → r.state.slow ≡ true → CanReadOver number bytes r.state.value → ⊥) × (next ≡ r)
+    (e : Elements) × IsOne r.state number bytes e × (r.busy ≡ None) × (r.state.slow ≡ true)
+    × (next ≡ record (with_value e (written_meta s) r) { busy = Some p })
+PutsOver s r p number bytes false next =
+    (r.busy ≡ None → r.state.slow ≡ true → CanReadOver number bytes r.state.value → ⊥) × (next ≡ r)

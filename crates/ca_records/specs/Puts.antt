@@ -1,6 +1,7 @@
 -- Vocabulary: the records of a server with the puts that make them busy or wait (section
 -- "CA_PROTO_WRITE_NOTIFY").
-use Rattle.std.specs.Prelude.{ℕ, Bool, not, List, [], ◌∷◌, ◌++◌, Option, Some, None, filter, find, if◌then◌else◌, length, map}
+use Rattle.std.specs.Prelude.{ℕ, Bool, not, List, [], ◌∷◌, ◌++◌, Option, Some, None, filter, find}
+use Rattle.std.specs.Prelude.{if◌then◌else◌, length, map}
 use Rattle.std.specs.List.{sum_by}
 use Rattle.std.specs.Str.{bytes_eq}
 use Rattle.ca_dbr.specs.declared.value.Meta.{Meta}
@@ -30,7 +31,8 @@ record_named records name = find (λ (r : Record). bytes_eq r.state.name name) r
 
 -- the records with the one of this name changed
 abbrev pub with_record : List ℕ → (Record → Record) → List Record → List Record
-with_record name f records = map (λ (r : Record). if bytes_eq r.state.name name then f r else r) records
+with_record name f records =
+    map (λ (r : Record). if bytes_eq r.state.name name then f r else r) records
 
 -- the metadata of an applied write: no alarm, and the stamp
 abbrev pub written_meta : Stamp → Meta
@@ -48,11 +50,13 @@ with_waiting p r = record r { waiting = r.waiting ++ p ∷ [] }
 -- busy, or the record is free.
 abbrev pub finished : Stamp → Record → List WaitingPut → Record
 finished s r [] = record r { busy = None; waiting = [] }
-finished s r (p ∷ ps) = record (with_value p.value (written_meta s) r) { busy = Some p.put; waiting = ps }
+finished s r (p ∷ ps) =
+    record (with_value p.value (written_meta s) r) { busy = Some p.put; waiting = ps }
 
 -- the record without the waiting puts that the test names
 abbrev pub without_puts : (Put → Bool) → Record → Record
-without_puts which r = record r { waiting = filter (λ (p : WaitingPut). not (which p.put)) r.waiting }
+without_puts which r =
+    record r { waiting = filter (λ (p : WaitingPut). not (which p.put)) r.waiting }
 
 -- the records without the waiting puts that the test names
 abbrev pub withdrawn : (Put → Bool) → List Record → List Record

@@ -28,13 +28,18 @@ pub record Holds (records : List RecordState) (name : List ℕ) (value : Element
 
 -- no two records have one name
 abbrev pub AreApart : List RecordState → Type 0
-AreApart records = (i j : ℕ) (a b : RecordState) → At records i a → At records j b → a.name ≡ b.name → i ≡ j
+AreApart records =
+    (i j : ℕ) (a b : RecordState) → At records i a → At records j b → a.name ≡ b.name → i ≡ j
 
 -- From old, this record was defined, with this answer, and left new. The name is
 -- judged before the value.
-abbrev pub Defines : List RecordState → RecordState → Result (Unit {0}) Refusal → List RecordState → Type 0
-Defines old r (Ok _) new = IsName record_name_limit r.name × HoldsValue r.count r.value × (new ≡ old ++ r ∷ [])
+abbrev pub Defines : List RecordState → RecordState → Result (Unit {0}) Refusal → List RecordState
+    → Type 0
+Defines old r (Ok _) new =
+    IsName record_name_limit r.name × HoldsValue r.count r.value × (new ≡ old ++ r ∷ [])
 Defines old r (Err NameLength) new = (IsName record_name_limit r.name → ⊥) × (new ≡ old)
-Defines old r (Err BadCount) new = IsName record_name_limit r.name × (HoldsValue r.count r.value → ⊥) × (new ≡ old)
-Defines old r (Err OutOfMemory) new = IsName record_name_limit r.name × HoldsValue r.count r.value × (new ≡ old)
+Defines old r (Err BadCount) new =
+    IsName record_name_limit r.name × (HoldsValue r.count r.value → ⊥) × (new ≡ old)
+Defines old r (Err OutOfMemory) new =
+    IsName record_name_limit r.name × HoldsValue r.count r.value × (new ≡ old)
 Defines old r (Err _) new = ⊥

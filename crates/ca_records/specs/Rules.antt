@@ -1,5 +1,6 @@
 -- Vocabulary: who may read and write a record (section "CA_PROTO_ACCESS_RIGHTS").
-use Rattle.std.specs.Prelude.{ℕ, ◌+◌, ◌/◌, ◌%◌, ◌==◌, ◌&&◌, Bool, true, cond, List, Option, Some, None, find, option_map, unwrap_or}
+use Rattle.std.specs.Prelude.{ℕ, ◌+◌, ◌/◌, ◌%◌, ◌==◌, ◌&&◌, Bool, true, cond, List, Option, Some}
+use Rattle.std.specs.Prelude.{None, find, option_map, unwrap_or}
 use Rattle.std.specs.Str.{bytes_eq}
 
 -- A rule on access rights: whom and what it meets, where none stands for everything, and whether it
@@ -27,7 +28,8 @@ rule_bits r = cond r.reads 1 0 + cond r.writes 2 0
 -- The access rights, the bits 1 to read and 2 to write: by the first rule that meets,
 -- and both if none does.
 abbrev pub rights : List Rule → (user host name : List ℕ) → ℕ
-rights rules user host name = unwrap_or (option_map rule_bits (find (rule_meets user host name) rules)) 3
+rights rules user host name =
+    unwrap_or (option_map rule_bits (find (rule_meets user host name) rules)) 3
 
 -- the right to read: the bit 1
 abbrev pub may_read : ℕ → Bool

@@ -1,5 +1,6 @@
 -- Vocabulary: the records that a server keeps, each at a place of its own while it is there.
-use Rattle.std.specs.Prelude.{ℕ, ◌≡◌, ◌<◌, ◌≤◌, ◌⊎◌, ◌++◌, List, [], ◌∷◌, Option, Some, None, length, map, option_to_list, slice_set}
+use Rattle.std.specs.Prelude.{ℕ, ◌≡◌, ◌<◌, ◌≤◌, ◌⊎◌, ◌++◌, List, [], ◌∷◌, Option, Some, None}
+use Rattle.std.specs.Prelude.{length, map, option_to_list, slice_set}
 use Rattle.std.specs.List.{flat_map}
 use Rattle.ca_text.specs.Place.{At}
 use Rattle.ca_dbr.specs.Elements.{Elements, count_of}
@@ -65,12 +66,14 @@ pub record Becomes (old : Store) (place : ℕ) (r next : Record) (new : Store) :
   pub name : next.state.name ≡ r.state.name
   pub leaves : new ≡ with_slot place (Some next) old
   -- to the list of records this is whatever makes the one of the other
-  pub records : (f : Record → Record) → f r ≡ next → records_of new ≡ with_record r.state.name f (records_of old)
+  pub records : (f : Record → Record) → f r ≡ next
+      → records_of new ≡ with_record r.state.name f (records_of old)
   pub same : next ≡ r → new ≡ old
 
 -- A record came to a place: one that was free, or a new one. It is somewhere among the others.
 pub record Enters (old : Store) (place : ℕ) (r : Record) (new : Store) : Type 0 where
-  pub leaves : (At old.slots place None × (new ≡ with_slot place (Some r) old)) ⊎ ((place ≡ length old.slots) × (new ≡ with_place r old))
+  pub leaves : (At old.slots place None × (new ≡ with_slot place (Some r) old))
+      ⊎ ((place ≡ length old.slots) × (new ≡ with_place r old))
   pub at : HasAt new place r
   -- the others keep their places
   pub stay : (other : ℕ) (q : Record) → HasAt old other q → HasAt new other q

@@ -1,4 +1,5 @@
-ghost use Rattle.std.specs.Prelude.{◌≡◌, ◌+◌, ◌<◌, ◌≤◌, IfOk, OnErr, Ok, false, if◌then◌else◌, is_some, length, map, nat_lt, not, true};
+ghost use Rattle.std.specs.Prelude.{◌≡◌, ◌+◌, ◌<◌, ◌≤◌, IfOk, OnErr, Ok, false, if◌then◌else◌};
+ghost use Rattle.std.specs.Prelude.{is_some, length, map, nat_lt, not, true};
 ghost use Rattle.ca_text.specs.Limits.{waiting_puts};
 ghost use Rattle.ca_dbr.specs.Elements.{count_of, elements};
 ghost use Rattle.ca_records.specs.Puts.{new_record, with_value, with_waiting, without_puts};

@@ -1,5 +1,6 @@
 -- What a datagram begins with, and what is handed on of it (section "CA Repeater").
-use Rattle.std.specs.Prelude.{ℕ, ◌≡◌, ◌⊎◌, ◌≤◌, ◌++◌, Bool, true, false, List, [], length, take, drop}
+use Rattle.std.specs.Prelude.{ℕ, ◌≡◌, ◌⊎◌, ◌≤◌, ◌++◌, Bool, true, false, List, [], length, take}
+use Rattle.std.specs.Prelude.{drop}
 use Rattle.ca_text.specs.declared.command.Command.TheVariants.{RsrvIsUp, RepeaterRegister}
 use Rattle.ca_text.specs.Command.{command_number}
 use Rattle.ca_wire.specs.Header.{number32}
@@ -16,11 +17,15 @@ pub record StandsFirst (bytes : List ℕ) (m : Fields) (behind : List ℕ) : Typ
 
 -- no byte, or a complete REPEATER_REGISTER and this after it
 abbrev pub Registers : List ℕ → List ℕ → Type 0
-Registers bytes behind = ((bytes ≡ []) × (behind ≡ [])) ⊎ ((m : Fields) × StandsFirst bytes m behind × (m.command ≡ command_number RepeaterRegister))
+Registers bytes behind =
+    ((bytes ≡ []) × (behind ≡ []))
+    ⊎ ((m : Fields) × StandsFirst bytes m behind × (m.command ≡ command_number RepeaterRegister))
 
 -- a complete RSRV_IS_UP stands first, and the address in it is zero
 abbrev pub IsBlank : List ℕ → Type 0
-IsBlank bytes = (m : Fields) × (behind : List ℕ) × StandsFirst bytes m behind × (m.command ≡ command_number RsrvIsUp) × (m.p2 ≡ 0)
+IsBlank bytes =
+    (m : Fields) × (behind : List ℕ) × StandsFirst bytes m behind
+    × (m.command ≡ command_number RsrvIsUp) × (m.p2 ≡ 0)
 
 abbrev pub IsFirst : List ℕ → First → Type 0
 IsFirst bytes (Registration end) = (end ≤ length bytes) × Registers bytes (drop end bytes)

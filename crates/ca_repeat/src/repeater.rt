@@ -1,4 +1,5 @@
-ghost use Rattle.std.specs.Prelude.{◌≡◌, ◌≢◌, ◌++◌, ◌&&◌, ◌||◌, [], nat_lt, not, filter, IfOk, OnOk, OnErr};
+ghost use Rattle.std.specs.Prelude.{◌≡◌, ◌≢◌, ◌++◌, ◌&&◌, ◌||◌, [], nat_lt, not, filter, IfOk};
+ghost use Rattle.std.specs.Prelude.{OnOk, OnErr};
 ghost use Rattle.ca_repeat.specs.Addresses.{is_member, loopback, same};
 ghost use Rattle.ca_repeat.specs.Fan.{Receives, confirmed, enrolled, handed};
 ghost use Rattle.ca_repeat.specs.First.{IsFirst, passed, registers};

@@ -26,13 +26,15 @@ pub record IsDrawn (w : World) (drawn : ℕ) (e : Event) : Type 0 where
 -- An event that was drawn happens, and is one of the events from then on; or it cannot be
 -- done, and is left out.
 abbrev pub Takes : World → Event → List Event → List Event → World → Type 0
-Takes w e es es' new = (Happens w e new × (es' ≡ es ++ e ∷ [])) ⊎ ((CanBe w e → ⊥) × (es' ≡ es) × (new ≡ w))
+Takes w e es es' new =
+    (Happens w e new × (es' ≡ es ++ e ∷ [])) ⊎ ((CanBe w e → ⊥) × (es' ≡ es) × (new ≡ w))
 
 -- what a number that was drawn makes of a world and of the events so far: it acts nowhere,
 -- or its event is taken
 abbrev pub DrawsAt : World → (drawn : ℕ) → List Event → List Event → World → Type 0
 DrawsAt w drawn es es' new =
-    ((circuit_drawn drawn (length w.circuits) ≡ None) × (es' ≡ es) × (new ≡ w)) ⊎ ((e : Event) × IsDrawn w drawn e × Takes w e es es' new)
+    ((circuit_drawn drawn (length w.circuits) ≡ None) × (es' ≡ es) × (new ≡ w))
+    ⊎ ((e : Event) × IsDrawn w drawn e × Takes w e es es' new)
 
 -- how far a drawing is: the world, the numbers that are left, and the events so far
 pub record Drawn : Type 0 where
@@ -42,11 +44,14 @@ pub record Drawn : Type 0 where
 
 -- the next number is drawn
 abbrev pub DrawsNext : Drawn → Drawn → Type 0
-DrawsNext old new = (drawn : ℕ) × ((drawn, new.left) ≡ next_u32 old.left) × DrawsAt old.world drawn old.events new.events new.world
+DrawsNext old new =
+    (drawn : ℕ) × ((drawn, new.left) ≡ next_u32 old.left)
+    × DrawsAt old.world drawn old.events new.events new.world
 
 -- n numbers are drawn, one after another
 abbrev pub DrawsSome : Drawn → (n : ℕ) → Drawn → Type 0
-DrawsSome old n new = FoldsTo (λ (d : Drawn) (i : ℕ) (d' : Drawn). DrawsNext d d') old (range_with_len 0 n) new
+DrawsSome old n new =
+    FoldsTo (λ (d : Drawn) (i : ℕ) (d' : Drawn). DrawsNext d d') old (range_with_len 0 n) new
 
 -- how far a drawing along a script is: the world is there until an event of the
 -- script cannot be done
@@ -56,7 +61,8 @@ pub record Along : Type 0 where
   pub events : List Event
 
 -- an event of the script happens, and the numbers after it are drawn
-pub record HappensThenDraws (w : World) (left : Stream) (es : List Event) (e : Event) (new : Along) : Type 0 where
+pub record HappensThenDraws (w : World) (left : Stream) (es : List Event) (e : Event)
+    (new : Along) : Type 0 where
   pub mid : World
   pub last : Drawn
   pub happens : Happens w e mid
@@ -68,7 +74,8 @@ pub record HappensThenDraws (w : World) (left : Stream) (es : List Event) (e : E
 abbrev pub GoesOn : Option World → Stream → List Event → Event → Along → Type 0
 GoesOn None left es e new = new ≡ record { world = None; left = left; events = es ++ e ∷ [] }
 GoesOn (Some w) left es e new =
-    HappensThenDraws w left es e new ⊎ ((CanBe w e → ⊥) × (new ≡ record { world = None; left = left; events = es ++ e ∷ [] }))
+    HappensThenDraws w left es e new
+    ⊎ ((CanBe w e → ⊥) × (new ≡ record { world = None; left = left; events = es ++ e ∷ [] }))
 
 abbrev pub GoesAlong : Along → Event → Along → Type 0
 GoesAlong old e new = GoesOn old.world old.left old.events e new
@@ -79,4 +86,5 @@ outset s seed = record { world = Some (opening s); left = numbers (seeded seed);
 
 -- The events of a script with those that a seed draws, in a world of this setting.
 abbrev pub DrawsAlong : Setting → (seed : ℕ) → List Event → List Event → Type 0
-DrawsAlong s seed script es = (last : Along) × FoldsTo GoesAlong (outset s seed) script last × (es ≡ last.events)
+DrawsAlong s seed script es =
+    (last : Along) × FoldsTo GoesAlong (outset s seed) script last × (es ≡ last.events)

@@ -18,14 +18,16 @@ AreRun s (Some seed) script es = DrawsAlong s seed script es
 
 -- Events were run in a world of this setting, to the end or up to this refusal. Whatever they are,
 -- the world that they leave is safe, and legal (`HasRun`); and this is its report.
-pub record Reports (s : Setting) (es : List Event) (stop : Option Refusal) (report : List ℕ) : Type 0 where
+pub record Reports (s : Setting) (es : List Event) (stop : Option Refusal)
+    (report : List ℕ) : Type 0 where
   pub done : ℕ
   pub w : World
   pub runs : HasRun s es done stop w
   pub is : report ≡ report_text (length w.clients) (take done es) w.client_logs
 
 -- The text says a script, whose events were run with those of the seed.
-pub record Reported (text : List ℕ) (seed : Option ℕ) (stop : Option Refusal) (report : List ℕ) : Type 0 where
+pub record Reported (text : List ℕ) (seed : Option ℕ) (stop : Option Refusal)
+    (report : List ℕ) : Type 0 where
   pub s : Script
   pub es : List Event
   pub says : SaysScript text s

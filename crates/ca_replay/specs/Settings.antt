@@ -11,4 +11,5 @@ setting_of s = record { clients = s.clients.items; servers = s.servers.items }
 
 -- none of these servers has the address of one before it
 abbrev pub AreFresh : List ServerSetting → Type 0
-AreFresh servers = (i : ℕ) (y : ServerSetting) → At servers i y → is_taken y.address (take i servers) ≡ false
+AreFresh servers =
+    (i : ℕ) (y : ServerSetting) → At servers i y → is_taken y.address (take i servers) ≡ false

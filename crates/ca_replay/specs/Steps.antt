@@ -11,4 +11,5 @@ abbrev pub drawn_so : World → Lcg → List Event → Drawn
 drawn_so w generator all = record { world = w; left = numbers generator; events = map event_of all }
 
 abbrev pub along : Option World → Lcg → List Event → Along
-along here generator all = record { world = here; left = numbers generator; events = map event_of all }
+along here generator all =
+    record { world = here; left = numbers generator; events = map event_of all }

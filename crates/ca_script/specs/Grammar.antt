@@ -1,5 +1,6 @@
 -- How the lines of a script are read.
-use Rattle.std.specs.Prelude.{ℕ, ◌≡◌, ◌<◌, ◌^◌, ◌==◌, if◌then◌else◌, ⊤, List, [], ◌∷◌, Option, Some, None}
+use Rattle.std.specs.Prelude.{ℕ, ◌≡◌, ◌<◌, ◌^◌, ◌==◌, if◌then◌else◌, ⊤, List, [], ◌∷◌, Option, Some}
+use Rattle.std.specs.Prelude.{None}
 use Rattle.std.specs.Str.Parse.{IsNumeral, digits_value}
 use Rattle.ca_text.specs.declared.refusal.Refusal.{Refusal}
 use Rattle.ca_text.specs.declared.refusal.Refusal.TheVariants.{BadText, OutOfMemory}
@@ -12,7 +13,8 @@ longer x (piece ∷ pieces) = (x ∷ piece) ∷ pieces
 -- the pieces of a text between separators: one more than there are separators
 unfoldable pub parted : ℕ → List ℕ → List (List ℕ)
 parted separator [] = [] ∷ []
-parted separator (x ∷ xs) = if x == separator then [] ∷ parted separator xs else longer x (parted separator xs)
+parted separator (x ∷ xs) =
+    if x == separator then [] ∷ parted separator xs else longer x (parted separator xs)
 
 -- the pieces of what is left, if something is
 abbrev pub pieces_left : ℕ → Option (List ℕ) → List (List ℕ)
@@ -46,7 +48,8 @@ AreNumbers (w ∷ ws) (n ∷ ns) = IsNumber w n × AreNumbers ws ns
 -- Lines in a row lead from old to new, each as the relation says of its words.
 abbrev pub Lead : {S : Type 0} → (S → List (List ℕ) → S → Type 0) → S → List (List ℕ) → S → Type 0
 Lead Adds old [] new = new ≡ old
-Lead {S} Adds old (line ∷ lines) new = (mid : S) × Adds old (parted 32 line) mid × Lead Adds mid lines new
+Lead {S} Adds old (line ∷ lines) new =
+    (mid : S) × Adds old (parted 32 line) mid × Lead Adds mid lines new
 
 -- Why a text is refused: as one that says nothing of this kind, or as out of memory.
 abbrev pub Refuses : {A : Type 0} → (A → Type 0) → Refusal → Type 0

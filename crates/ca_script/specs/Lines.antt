@@ -1,12 +1,15 @@
 -- Vocabulary: the lines of a script's head and of a record file, after their first words.
-use Rattle.std.specs.Prelude.{ℕ, ℤ, pos, ◌≡◌, ◌<◌, ◌≤◌, ◌-◌, ◌^◌, ⊤, Bool, true, false, Option, Some, None, List, [], ◌∷◌, ◌++◌, length, replicate, codes, slice_index, FitsSigned, Ok}
+use Rattle.std.specs.Prelude.{ℕ, ℤ, pos, ◌≡◌, ◌<◌, ◌≤◌, ◌-◌, ◌^◌, ⊤, Bool, true, false, Option}
+use Rattle.std.specs.Prelude.{Some, None, List, [], ◌∷◌, ◌++◌, length, replicate, codes}
+use Rattle.std.specs.Prelude.{slice_index, FitsSigned, Ok}
 use Rattle.std.specs.Int.{from_be_bytes, w16, w32}
 use Rattle.std.specs.Str.Parse.{IsNumeral, signed_digits_value, without_leading_sign}
 use Rattle.hex.specs.Hex.{decode_of}
 use Rattle.ca_text.specs.Limits.{payload_limit}
 use Rattle.ca_dbr.specs.declared.data_type.BaseType.{BaseType}
 use Rattle.ca_dbr.specs.declared.data_type.BaseType.TheVariants as base
-use Rattle.ca_dbr.specs.Elements.{Elements, strings, ints, floats, enums, chars, longs, doubles, base_of, bytes_4, bytes_8}
+use Rattle.ca_dbr.specs.Elements.{Elements, strings, ints, floats, enums, chars, longs, doubles}
+use Rattle.ca_dbr.specs.Elements.{base_of, bytes_4, bytes_8}
 use Rattle.ca_records.specs.Record.{IsRecord, RecordState, unset}
 use Rattle.ca_records.specs.Records.{IsServed}
 use Rattle.ca_records.specs.Rules.{Rule}
@@ -65,7 +68,9 @@ IsDouble word n = IsHex word (bytes_8 n)
 
 -- a word is the digits of the text's first bytes; zeros are after them
 abbrev pub IsString : List ℕ → List ℕ → Type 0
-IsString word text = (bytes : List ℕ) × IsHex word bytes × (length bytes ≤ 40) × (text ≡ bytes ++ replicate (40 - length bytes) 0)
+IsString word text =
+    (bytes : List ℕ) × IsHex word bytes × (length bytes ≤ 40)
+    × (text ≡ bytes ++ replicate (40 - length bytes) 0)
 
 -- these words are these elements, one each; no word is empty
 abbrev pub AreEach : {A : Type 0} → (List ℕ → A → Type 0) → List (List ℕ) → List A → Type 0

@@ -19,7 +19,8 @@ abbrev pub no_lines : FileReading
 no_lines = record { records = []; rules = [] }
 
 -- a record of a new name, after the others
-pub record TakesRecord (old : FileReading) (words : List (List ℕ)) (new : FileReading) : Type 0 where
+pub record TakesRecord (old : FileReading) (words : List (List ℕ))
+    (new : FileReading) : Type 0 where
   pub rest : List (List ℕ)
   pub records : List RecordState
   pub are : words ≡ codes "record" ∷ rest

@@ -13,7 +13,9 @@ counted word n = word ++ decimal n
 
 -- a value: the number of its type, how many elements it has, and their bytes
 abbrev pub value_text : Elements → List ℕ
-value_text e = counted (codes " value ") (base_number (base_of e)) ++ (counted (codes " ") (count_of e) ++ (codes " " ++ encode_lower (bytes_of e)))
+value_text e =
+    counted (codes " value ") (base_number (base_of e)) ++
+    (counted (codes " ") (count_of e) ++ (codes " " ++ encode_lower (bytes_of e)))
 
 -- what became of a request
 abbrev pub outcome_text : Outcome → List ℕ

@@ -4,7 +4,8 @@ ghost use Rattle.ca_text.specs.declared.refusal.Refusal.TheVariants.{BadText};
 ghost use Rattle.ca_dbr.specs.Elements.{Elements, bytes_4, bytes_8, base_of, elements};
 ghost use Rattle.ca_dbr.specs.declared.data_type.BaseType.{BaseType};
 ghost use Rattle.ca_script.specs.Grammar.{Refuses};
-ghost use Rattle.ca_script.specs.Lines.{AreEach, AreElements, IsChar, IsDouble, IsEnum, IsFloat, IsHex, IsInt, IsLong, IsString, IsWhole, type_word};
+ghost use Rattle.ca_script.specs.Lines.{AreEach, AreElements, IsChar, IsDouble, IsEnum, IsFloat};
+ghost use Rattle.ca_script.specs.Lines.{IsHex, IsInt, IsLong, IsString, IsWhole, type_word};
 
 use crate::words::{Words, is_word};
 use ca_dbr::{BaseType, Value};

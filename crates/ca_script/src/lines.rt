@@ -1,7 +1,9 @@
-ghost use Rattle.std.specs.Prelude.{◌≡◌, ◌↔◌, ◌<◌, ◌∷◌, ℕ, Bool, List, IfErr, IfOk, IsTrue, OnOk, option_map};
+ghost use Rattle.std.specs.Prelude.{◌≡◌, ◌↔◌, ◌<◌, ◌∷◌, ℕ, Bool, List, IfErr, IfOk, IsTrue, OnOk};
+ghost use Rattle.std.specs.Prelude.{option_map};
 ghost use Rattle.ca_text.specs.declared.refusal.Refusal.TheVariants.{BadText};
 ghost use Rattle.ca_script.specs.Grammar.{IsNumber, Refuses};
-ghost use Rattle.ca_script.specs.Lines.{IsAddress, IsNamed, IsPattern, SaysRecord, SaysRule, SaysServer, rights_word, slow_word};
+ghost use Rattle.ca_script.specs.Lines.{IsAddress, IsNamed, IsPattern, SaysRecord, SaysRule};
+ghost use Rattle.ca_script.specs.Lines.{SaysServer, rights_word, slow_word};
 
 use crate::element::{base_in, read_value};
 use crate::words::{Pieces, Words, is_word};

@@ -1,4 +1,5 @@
-ghost use Rattle.std.specs.Prelude.{◌≡◌, ◌↔◌, IsTrue, ◌<◌, ◌∷◌, [], ℕ, List, IfErr, IfOk, IfSome, MatchResult, length, option_map};
+ghost use Rattle.std.specs.Prelude.{◌≡◌, ◌↔◌, IsTrue, ◌<◌, ◌∷◌, [], ℕ, List, IfErr, IfOk, IfSome};
+ghost use Rattle.std.specs.Prelude.{MatchResult, length, option_map};
 ghost use Rattle.ca_text.specs.declared.refusal.Refusal.TheVariants.{BadText};
 ghost use Rattle.ca_script.specs.Grammar.{IsNumber, parted, pieces_left};
 

@@ -1,5 +1,6 @@
 -- One channel that is searched (section "CA Search").
-use Rattle.std.specs.Prelude.{ℕ, Bool, false, nat_le, if◌then◌else◌, List, map, filter, Option, None, Some}
+use Rattle.std.specs.Prelude.{ℕ, Bool, false, nat_le, if◌then◌else◌, List, map, filter, Option}
+use Rattle.std.specs.Prelude.{None, Some}
 use Rattle.std.specs.Option.{option_map}
 use Rattle.ca_search.specs.Clock.{Clock, fresh, searched_at}
 
@@ -29,7 +30,11 @@ is_due now c = due_by now c.clock
 
 -- after the search that was made now, if one was due
 abbrev pub passed : ℕ → Channel → Channel
-passed now c = record c { clock = option_map (λ clock. if nat_le clock.due now then searched_at clock now else clock) c.clock }
+passed now c =
+    record c {
+      clock = option_map
+          (λ clock. if nat_le clock.due now then searched_at clock now else clock) c.clock;
+    }
 
 -- a search: for this name, under this CID
 pub record Wanted : Type 0 where

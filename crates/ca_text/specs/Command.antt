@@ -1,7 +1,14 @@
 -- The commands of messages.
 use Rattle.std.specs.Prelude.{ℕ}
 use Rattle.ca_text.specs.declared.command.Command.{Command}
-use Rattle.ca_text.specs.declared.command.Command.TheVariants.{Version, EventAdd, EventCancel, Write, Search, EventsOff, EventsOn, Error, ClearChannel, RsrvIsUp, NotFound, ReadNotify, RepeaterConfirm, CreateChannel, WriteNotify, ClientName, HostName, AccessRights, Echo, RepeaterRegister, CreateChannelFail, ServerDisconnect}
+use Rattle.ca_text.specs.declared.command.Command.TheVariants.{Version, EventAdd, EventCancel}
+use Rattle.ca_text.specs.declared.command.Command.TheVariants.{Write, Search, EventsOff, EventsOn}
+use Rattle.ca_text.specs.declared.command.Command.TheVariants.{Error, ClearChannel, RsrvIsUp}
+use Rattle.ca_text.specs.declared.command.Command.TheVariants.{NotFound, ReadNotify}
+use Rattle.ca_text.specs.declared.command.Command.TheVariants.{RepeaterConfirm, CreateChannel}
+use Rattle.ca_text.specs.declared.command.Command.TheVariants.{WriteNotify, ClientName, HostName}
+use Rattle.ca_text.specs.declared.command.Command.TheVariants.{AccessRights, Echo, RepeaterRegister}
+use Rattle.ca_text.specs.declared.command.Command.TheVariants.{CreateChannelFail, ServerDisconnect}
 
 -- the number of a command in a header (section "CA Protocol Messages")
 abbrev pub command_number : Command → ℕ

@@ -1,7 +1,17 @@
 -- The numbers and names of refusals.
 use Rattle.std.specs.Prelude.{ℕ, List, [], ◌++◌, codes, decimal}
 use Rattle.ca_text.specs.declared.refusal.Refusal.{Refusal}
-use Rattle.ca_text.specs.declared.refusal.Refusal.TheVariants.{OutOfMemory, Misaligned, TooLarge, BadType, Short, NoConvert, OutOfRange, BadText, ArenaFull, StaleHandle, Draining, NameLength, NotLive, NoAccess, BadCount, Disconnected, CircuitClosed, TooManySubscriptions, DatagramTooLong, UnknownRecord, NotBusy, BadEvent, Device, NoCell, BadPriority, OutputFull, ServerRefused, RecordExists}
+use Rattle.ca_text.specs.declared.refusal.Refusal.TheVariants.{OutOfMemory, Misaligned, TooLarge}
+use Rattle.ca_text.specs.declared.refusal.Refusal.TheVariants.{BadType, Short, NoConvert}
+use Rattle.ca_text.specs.declared.refusal.Refusal.TheVariants.{OutOfRange, BadText, ArenaFull}
+use Rattle.ca_text.specs.declared.refusal.Refusal.TheVariants.{StaleHandle, Draining, NameLength}
+use Rattle.ca_text.specs.declared.refusal.Refusal.TheVariants.{NotLive, NoAccess, BadCount}
+use Rattle.ca_text.specs.declared.refusal.Refusal.TheVariants.{Disconnected, CircuitClosed}
+use Rattle.ca_text.specs.declared.refusal.Refusal.TheVariants.{TooManySubscriptions}
+use Rattle.ca_text.specs.declared.refusal.Refusal.TheVariants.{DatagramTooLong, UnknownRecord}
+use Rattle.ca_text.specs.declared.refusal.Refusal.TheVariants.{NotBusy, BadEvent, Device, NoCell}
+use Rattle.ca_text.specs.declared.refusal.Refusal.TheVariants.{BadPriority, OutputFull}
+use Rattle.ca_text.specs.declared.refusal.Refusal.TheVariants.{ServerRefused, RecordExists}
 
 -- the number that a program prints first
 abbrev pub refusal_number : Refusal → ℕ

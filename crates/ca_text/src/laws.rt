@@ -1,9 +1,35 @@
 //! The constants of the code are the numbers that definitions cite.
 ghost use Rattle.std.specs.Prelude.{◌≡◌, ◌∷◌, [], List, ℕ};
-ghost use Rattle.ca_text.specs.declared.limits.TheConstants.{APPLIED_LIMIT, ARENA_SLOTS, BEACON_SERVERS, BOARD_CELLS, CHANNEL_LIMIT, CHANNEL_NAME_LIMIT, CIRCUIT_QUEUES, CLOSE_SILENCE, DATAGRAM_LIMIT, DATAGRAM_REPLIES, ECHO_SILENCE, ELEMENT_LIMIT, ENGINE_TURNS, FLOW_READS, LAST_GENERATION, MINOR_VERSION, OUTPUT_LIMIT, PAYLOAD_LIMIT, PRIORITY_LIMIT, QUEUE_LOW_PLACES, QUEUE_PLACES, QUEUE_SUBSCRIPTIONS, RECORD_NAME_LIMIT, REPEATER_MEMBERS, REPEATER_PORT, SERVER_PORT, WAITING_PUTS};
-ghost use Rattle.ca_text.specs.Limits.{applied_limit, arena_slots, beacon_servers, board_cells, channel_limit, channel_name_limit, circuit_queues, close_silence, datagram_limit, datagram_replies, echo_silence, element_limit, engine_turns, flow_reads, last_generation, minor_version, output_limit, payload_limit, priority_limit, queue_low_places, queue_places, queue_subscriptions, record_name_limit, repeater_members, repeater_port, server_port, waiting_puts};
-ghost use Rattle.ca_text.specs.declared.status.TheConstants.Status.{ADDFAIL, ALLOCMEM, BADCHID, BADCOUNT, BADTYPE, DISCONN, GETFAIL, INTERNAL, NOCONVERT, NORDACCESS, NORMAL, NOWTACCESS, PUTFAIL};
-ghost use Rattle.ca_text.specs.Status.{add_fail, alloc_mem, bad_channel, bad_count, bad_type, disconn, get_fail, internal, no_convert, no_read_access, no_write_access, normal, put_fail};
+ghost use Rattle.ca_text.specs.declared.limits.TheConstants.{APPLIED_LIMIT, ARENA_SLOTS};
+ghost use Rattle.ca_text.specs.declared.limits.TheConstants.{BEACON_SERVERS, BOARD_CELLS};
+ghost use Rattle.ca_text.specs.declared.limits.TheConstants.{CHANNEL_LIMIT, CHANNEL_NAME_LIMIT};
+ghost use Rattle.ca_text.specs.declared.limits.TheConstants.{CIRCUIT_QUEUES, CLOSE_SILENCE};
+ghost use Rattle.ca_text.specs.declared.limits.TheConstants.{DATAGRAM_LIMIT, DATAGRAM_REPLIES};
+ghost use Rattle.ca_text.specs.declared.limits.TheConstants.{ECHO_SILENCE, ELEMENT_LIMIT};
+ghost use Rattle.ca_text.specs.declared.limits.TheConstants.{ENGINE_TURNS, FLOW_READS};
+ghost use Rattle.ca_text.specs.declared.limits.TheConstants.{LAST_GENERATION, MINOR_VERSION};
+ghost use Rattle.ca_text.specs.declared.limits.TheConstants.{OUTPUT_LIMIT, PAYLOAD_LIMIT};
+ghost use Rattle.ca_text.specs.declared.limits.TheConstants.{PRIORITY_LIMIT, QUEUE_LOW_PLACES};
+ghost use Rattle.ca_text.specs.declared.limits.TheConstants.{QUEUE_PLACES, QUEUE_SUBSCRIPTIONS};
+ghost use Rattle.ca_text.specs.declared.limits.TheConstants.{RECORD_NAME_LIMIT, REPEATER_MEMBERS};
+ghost use Rattle.ca_text.specs.declared.limits.TheConstants.{REPEATER_PORT, SERVER_PORT};
+ghost use Rattle.ca_text.specs.declared.limits.TheConstants.{WAITING_PUTS};
+ghost use Rattle.ca_text.specs.Limits.{applied_limit, arena_slots, beacon_servers, board_cells};
+ghost use Rattle.ca_text.specs.Limits.{channel_limit, channel_name_limit, circuit_queues};
+ghost use Rattle.ca_text.specs.Limits.{close_silence, datagram_limit, datagram_replies};
+ghost use Rattle.ca_text.specs.Limits.{echo_silence, element_limit, engine_turns, flow_reads};
+ghost use Rattle.ca_text.specs.Limits.{last_generation, minor_version, output_limit, payload_limit};
+ghost use Rattle.ca_text.specs.Limits.{priority_limit, queue_low_places, queue_places};
+ghost use Rattle.ca_text.specs.Limits.{queue_subscriptions, record_name_limit, repeater_members};
+ghost use Rattle.ca_text.specs.Limits.{repeater_port, server_port, waiting_puts};
+ghost use Rattle.ca_text.specs.declared.status.TheConstants.Status.{ADDFAIL, ALLOCMEM, BADCHID};
+ghost use Rattle.ca_text.specs.declared.status.TheConstants.Status.{BADCOUNT, BADTYPE, DISCONN};
+ghost use Rattle.ca_text.specs.declared.status.TheConstants.Status.{GETFAIL, INTERNAL, NOCONVERT};
+ghost use Rattle.ca_text.specs.declared.status.TheConstants.Status.{NORDACCESS, NORMAL, NOWTACCESS};
+ghost use Rattle.ca_text.specs.declared.status.TheConstants.Status.{PUTFAIL};
+ghost use Rattle.ca_text.specs.Status.{add_fail, alloc_mem, bad_channel, bad_count, bad_type};
+ghost use Rattle.ca_text.specs.Status.{disconn, get_fail, internal, no_convert, no_read_access};
+ghost use Rattle.ca_text.specs.Status.{no_write_access, normal, put_fail};
 
 /// Each limit of the code is the one of the table.
 pub fn limits_are_these()

@@ -1,5 +1,6 @@
 -- Working: a record is added at a server, as what becomes of the server and of the logs.
-use Rattle.std.specs.Prelude.{ℕ, ◌≡◌, ◌≢◌, ◌≤◌, ◌⊎◌, ◌+◌, ◌++◌, List, [], ◌∷◌, Ok, Err, Result, drop, length, map, take}
+use Rattle.std.specs.Prelude.{ℕ, ◌≡◌, ◌≢◌, ◌≤◌, ◌⊎◌, ◌+◌, ◌++◌, List, [], ◌∷◌, Ok, Err, Result}
+use Rattle.std.specs.Prelude.{drop, length, map, take}
 use Rattle.ca_records.specs.Puts.{Record}
 use Rattle.ca_records.specs.Record.{RecordState}
 use Rattle.ca_text.specs.declared.refusal.Refusal.{Refusal}
@@ -22,7 +23,8 @@ pub record AreInOrder (cs : List Record) (rs : List RecordSide) : Type 0 where
 
 -- Among the core's records the one of this name is after the first n of those beside it;
 -- no two have one name.
-pub record StandsBehind (n : ℕ) (cs : List Record) (rs : List RecordSide) (name : List ℕ) : Type 0 where
+pub record StandsBehind (n : ℕ) (cs : List Record) (rs : List RecordSide)
+    (name : List ℕ) : Type 0 where
   pub old : List Record
   pub r : Record
   pub named : r.state.name ≡ name
@@ -32,13 +34,19 @@ pub record StandsBehind (n : ℕ) (cs : List Record) (rs : List RecordSide) (nam
   pub apart : AreNamedApart cs
 
 -- The record is there, with the next number; or the core refuses it, and nothing changes.
-abbrev pub AddsAt : RecordState → ServerSide → List (List Entry) → Result (Unit {0}) Refusal → ServerSide → List (List Entry) → Type 0
+abbrev pub AddsAt : RecordState → ServerSide → List (List Entry) → Result (Unit {0}) Refusal
+    → ServerSide → List (List Entry) → Type 0
 AddsAt s y logs (Ok _) y' logs' =
     (core : Server) × (behind : ℕ)
     × ((AddsRecord y.core s behind (Ok tt) core
-    × (y' ≡ record y { core = core; records = take behind y.records ++ record_begun y.added s ∷ drop behind y.records; added = y.added + 1 })
+    × (y' ≡ record y {
+      core = core;
+      records = take behind y.records ++ record_begun y.added s ∷ drop behind y.records;
+      added = y.added + 1;
+    })
     × (logs' ≡ grown y.life (entry.Added y.added s ∷ []) logs))
-    ⊎ ((e : Refusal) × (e ≢ OutOfMemory) × AddsRecord y.core s behind (Err e) core × (y' ≡ y) × (logs' ≡ logs)))
+    ⊎ ((e : Refusal) × (e ≢ OutOfMemory) × AddsRecord y.core s behind (Err e) core × (y' ≡ y)
+    × (logs' ≡ logs)))
 AddsAt s y logs (Err OutOfMemory) y' logs' = (y' ≡ y) × (logs' ≡ logs)
 AddsAt s y logs (Err _) y' logs' = ⊥
 

@@ -19,4 +19,6 @@ halted w = record {
 
 -- a run of well-formed events from a well-formed setting ended in it
 abbrev pub HasStopped : World → Type 0
-HasStopped w = (s : Setting) × (es : List Event) × (stopped : Option Event) × IsSetting s × AreEvents es × Runs s es stopped w
+HasStopped w =
+    (s : Setting) × (es : List Event) × (stopped : Option Event) × IsSetting s × AreEvents es
+    × Runs s es stopped w

@@ -17,7 +17,8 @@ EndsBefore w next refusal = ⊥
 
 -- A run of these events from this setting did n of them, in order, and ended in this world, at the
 -- next one if there is one. Whatever the events are, the world is safe, and legal.
-pub record HasRun (s : Setting) (es : List Event) (done : ℕ) (refusal : Option Refusal) (w : World) : Type 0 where
+pub record HasRun (s : Setting) (es : List Event) (done : ℕ) (refusal : Option Refusal)
+    (w : World) : Type 0 where
   pub within : done ≤ length es
   pub runs : Runs s (take done es) (slice_get es done) w
   pub why : EndsBefore w (slice_get es done) refusal

@@ -1,5 +1,6 @@
 -- Working: updates leave the queues of a server's end.
-use Rattle.std.specs.Prelude.{ℕ, ◌≡◌, ◌+◌, ◌==◌, ◌⊎◌, List, drop, Option, Some, None, Ok, Err, Result, map}
+use Rattle.std.specs.Prelude.{ℕ, ◌≡◌, ◌+◌, ◌==◌, ◌⊎◌, List, drop, Option, Some, None, Ok, Err}
+use Rattle.std.specs.Prelude.{Result, map}
 use Rattle.std.specs.List.{FoldsTo}
 use Rattle.ca_arena.specs.declared.handle.Handle.{Handle}
 use Rattle.ca_text.specs.declared.refusal.Refusal.{Refusal}
@@ -7,7 +8,8 @@ use Rattle.ca_text.specs.declared.refusal.Refusal.TheVariants.{OutOfMemory}
 use Rattle.ca_model.specs.Ends as why
 use Rattle.ca_model.specs.History as history
 use Rattle.ca_model.specs.Server.{Server, ServerEnd}
-use Rattle.ca_model.specs.ServerSteps.{HasEnd, Leaves, Pumps, Rests, Update, closed, ended, with_end}
+use Rattle.ca_model.specs.ServerSteps.{HasEnd, Leaves, Pumps, Rests, Update, closed, ended}
+use Rattle.ca_model.specs.ServerSteps.{with_end}
 use Rattle.ca_model.specs.ServerEvents.{server_closed, without_puts}
 use Rattle.ca_model.specs.World.{grown}
 use Rattle.ca_model.specs.World as model
@@ -24,10 +26,12 @@ shown_by updates = map (λ (u : Update). u.message) updates
 
 -- all updates that a pump of this end sends are messages
 abbrev pub UpdatesFit : Server → Handle → Type 0
-UpdatesFit y h = (updates : List Update) (new : Server) → Pumps y h updates new → AreGood (shown_by updates)
+UpdatesFit y h =
+    (updates : List Update) (new : Server) → Pumps y h updates new → AreGood (shown_by updates)
 
 -- Bytes after the n that waited: their updates went down.
-pub record TellsBehind (waited : ℕ) (bytes : List ℕ) (j : model.Joined) (read : ℕ) (new : model.Joined) : Type 0 where
+pub record TellsBehind (waited : ℕ) (bytes : List ℕ) (j : model.Joined) (read : ℕ)
+    (new : model.Joined) : Type 0 where
   pub n : ℕ
   pub is : read ≡ waited + n
   pub tells : TellsUpdates (drop waited bytes) j n new
@@ -48,17 +52,27 @@ over_core h left y = closed h (ended h why.OutOfMemory left y)
 -- The end was pumped until it rests; or it ended out of memory for the next update,
 -- and left these bytes.
 abbrev pub PumpsUntil : Server → model.Joined → Option (List ℕ) → Server → model.Joined → Type 0
-PumpsUntil y j None y' new = (p : Pumped y j new) × Rests p.after × (y' ≡ with_end j.at_server p.after y)
+PumpsUntil y j None y' new =
+    (p : Pumped y j new) × Rests p.after × (y' ≡ with_end j.at_server p.after y)
 PumpsUntil y j (Some left) y' new =
-    (p : Pumped y j new) × (Rests p.after → ⊥) × (left ≡ p.after.link.output) × (y' ≡ over_core j.at_server left y)
+    (p : Pumped y j new) × (Rests p.after → ⊥) × (left ≡ p.after.link.output)
+    × (y' ≡ over_core j.at_server left y)
 
 -- The end at the server of circuit k is pumped. If it ended, its puts that wait are withdrawn.
-abbrev pub PumpsServer : (k : ℕ) → ServerSide → Joined → List (List history.Entry) → Result (Unit {0}) Refusal → ServerSide → Joined → List (List history.Entry) → Type 0
+abbrev pub PumpsServer : (k : ℕ) → ServerSide → Joined → List (List history.Entry)
+    → Result (Unit {0}) Refusal → ServerSide → Joined → List (List history.Entry) → Type 0
 PumpsServer k y j logs (Ok _) y' j' logs' =
     (y'.circuits.items ≡ y.circuits.items)
-    × ((PumpsUntil y.core (joined_of j) None y'.core (joined_of j') × (server_of y' ≡ record (server_of y) { core = y'.core }) × (logs' ≡ logs))
-    ⊎ ((left : List ℕ) × (mid : model.Joined) × PumpsUntil y.core (joined_of j) (Some left) y'.core mid × (joined_of j' ≡ server_closed left mid)
-    × (server_of y' ≡ record (server_of y) { core = y'.core; records = map (without_puts (λ n. n == k)) (map record_of y.records.items) })
+    × ((PumpsUntil y.core (joined_of j) None y'.core (joined_of j')
+    × (server_of y' ≡ record (server_of y) { core = y'.core }) × (logs' ≡ logs))
+    ⊎ ((left : List ℕ) × (mid : model.Joined)
+    × PumpsUntil y.core (joined_of j) (Some left) y'.core mid
+    × (joined_of j' ≡ server_closed left mid)
+    × (server_of y' ≡ record
+    (server_of y) {
+      core = y'.core;
+      records = map (without_puts (λ n. n == k)) (map record_of y.records.items);
+    })
     × (logs' ≡ grown y.life (all_withdrawn k y.records.items) logs)))
 PumpsServer k y j logs (Err OutOfMemory) y' j' logs' = (y' ≡ y) × (j' ≡ j) × (logs' ≡ logs)
 PumpsServer k y j logs (Err _) y' j' logs' = ⊥

@@ -1,5 +1,6 @@
 -- Working: a step of a server's end, function by function.
-use Rattle.std.specs.Prelude.{ℕ, ◌≡◌, ◌+◌, ◌++◌, ◌<◌, ◌≤◌, Bool, true, false, List, [], Option, Ok, Err, Result, length, map, slice_set, vec_capacity, vec_len}
+use Rattle.std.specs.Prelude.{ℕ, ◌≡◌, ◌+◌, ◌++◌, ◌<◌, ◌≤◌, Bool, true, false, List, [], Option, Ok}
+use Rattle.std.specs.Prelude.{Err, Result, length, map, slice_set, vec_capacity, vec_len}
 use Rattle.ca_arena.specs.declared.handle.Handle.{Handle}
 use Rattle.ca_text.specs.declared.refusal.Refusal.{Refusal}
 use Rattle.ca_text.specs.declared.refusal.Refusal.TheVariants.{OutOfMemory}
@@ -35,7 +36,9 @@ use Rattle.ca_world_servers.specs.Parting.{AreBeside}
 
 -- what is known of the message of a circuit that is handled next, if it came
 abbrev pub IsAheadOf : Server → Joined → List RecordSide → Ahead → Type 0
-IsAheadOf core j rs a = (t : history.Sent) → At j.lists.up (length j.lists.handled) t → IsAhead core j.at_server rs t.message a
+IsAheadOf core j rs a =
+    (t : history.Sent) → At j.lists.up (length j.lists.handled) t
+    → IsAhead core j.at_server rs t.message a
 
 -- The step is of the end under this handle: how much waited there, and how much was
 -- applied, as the core was.
@@ -46,7 +49,8 @@ pub record IsTurn (core : Server) (h : Handle) (e : ServerEnd) (t : Turn) : Type
   pub few : core.applied < applied_limit
 
 -- What holds of the end of a circuit whose step it is, before that.
-pub record MayStep (t : Turn) (core : Server) (j : Joined) (ks : List Joined) (rs : List RecordSide) (a : Ahead) : Type 0 where
+pub record MayStep (t : Turn) (core : Server) (j : Joined) (ks : List Joined) (rs : List RecordSide)
+    (a : Ahead) : Type 0 where
   pub mine : j.server ≡ t.server
   pub opened : j.lists.server_open ≡ true
   pub e : ServerEnd
@@ -63,12 +67,14 @@ pub record MayStep (t : Turn) (core : Server) (j : Joined) (ks : List Joined) (r
   pub reported : HasReported core
 
 -- The same before anything is looked at.
-pub record MayBegin (i : ℕ) (core : Server) (j : Joined) (ks : List Joined) (rs : List RecordSide) : Type 0 where
+pub record MayBegin (i : ℕ) (core : Server) (j : Joined) (ks : List Joined)
+    (rs : List RecordSide) : Type 0 where
   pub mine : j.server ≡ i
   pub opened : j.lists.server_open ≡ true
   pub e : ServerEnd
   pub has : HasEnd core j.at_server e
-  pub takes : (next : Next core j.at_server e) → (t : history.Sent) × At j.lists.up (length j.lists.handled) t × (t.message ≡ next.m)
+  pub takes : (next : Next core j.at_server e) → (t : history.Sent)
+      × At j.lists.up (length j.lists.handled) t × (t.message ≡ next.m)
   pub good : (next : Next core j.at_server e) → AreGood next.replies
   pub alike : AllAlike i core ks
   pub own : AreAlike e j
@@ -82,7 +88,8 @@ pub record MayBegin (i : ℕ) (core : Server) (j : Joined) (ks : List Joined) (r
 
 -- The end handled a message, which had this effect; its write, if it is one, reached the
 -- subscriptions of its record.
-pub record IsHandled (before core : Server) (h : Handle) (e : ServerEnd) (did : Effect) : Type 0 where
+pub record IsHandled (before core : Server) (h : Handle) (e : ServerEnd)
+    (did : Effect) : Type 0 where
   pub next : Next before h e
   pub gone : Handle → Bool
   pub stays : gone h ≡ false
@@ -98,7 +105,8 @@ pub record StandBehind (waited : ℕ) (bytes : List ℕ) (ms : List Fields) : Ty
 
 -- What the message did is begun on its circuit, whose lists are held aside with room for its
 -- replies and its step.
-pub record IsPrepared (before : Server) (e : ServerEnd) (j : Joined) (next : Next before j.at_server e) (r : Prepared) (new : Joined) : Type 0 where
+pub record IsPrepared (before : Server) (e : ServerEnd) (j : Joined)
+    (next : Next before j.at_server e) (r : Prepared) (new : Joined) : Type 0 where
   pub told : map told_of r.told.items ≡ about (length j.lists.handled) history.Reply next.replies
   pub circuit : new ≡ with_lists [] [] (numbers_after (length j.lists.handled) next.action j)
 
@@ -111,34 +119,55 @@ pub record AreAside (j : Joined) (r : Prepared) : Type 0 where
 
 -- What a message did is told, ends that ended by its write are reported, and it is noted on its
 -- circuit. The circuits are those with the lists of circuit k aside.
-pub record NotesAt (k i : ℕ) (did : Effect) (a : Ahead) (r : Prepared) (y : ServerSide) (ks : List Joined) (logs : List (List history.Entry)) (y' : ServerSide) (ks' : List Joined) (logs' : List (List history.Entry)) : Type 0 where
+pub record NotesAt (k i : ℕ) (did : Effect) (a : Ahead) (r : Prepared) (y : ServerSide)
+    (ks : List Joined) (logs : List (List history.Entry)) (y' : ServerSide) (ks' : List Joined)
+    (logs' : List (List history.Entry)) : Type 0 where
   pub mid : ServerSide
   pub circuits : List Joined
   pub told : List (List history.Entry)
-  pub done : TellsMessage i (record { circuit = k; place = length r.handled.items }) did a.write a.parting y ks logs mid circuits told
+  pub done : TellsMessage i
+      (record {
+        circuit = k;
+        place = length r.handled.items;
+      }) did a.write a.parting y ks logs mid circuits told
   pub over : List Joined
   pub reports : Reports i mid circuits told y' over logs'
   pub x : Joined
   pub at : At over k x
   pub noted :
-      let step : history.Step = record { sent = length r.down.items; logged = log_length y.life logs; after = log_length y.life logs' } in
-      ks' ≡ slice_set over k (with_handled step (map told_of r.told.items) (with_lists (map told_of r.down.items) (map step_of r.handled.items) x))
+      let step : history.Step =
+      record {
+        sent = length r.down.items;
+        logged = log_length y.life logs;
+        after = log_length y.life logs';
+      } in
+      ks' ≡ slice_set over k
+      (with_handled step (map told_of r.told.items)
+      (with_lists (map told_of r.down.items) (map step_of r.handled.items) x))
 
 -- A write is told, if the message wrote, and then the end that closed and those
 -- that ended beside it.
-pub record ClosesWith (k i : ℕ) (h : Handle) (place : ℕ) (wrote : Option Bool) (write : Option Coming) (left : List ℕ) (y : ServerSide) (ks : List Joined) (logs : List (List history.Entry)) (y' : ServerSide) (ks' : List Joined) (logs' : List (List history.Entry)) : Type 0 where
+pub record ClosesWith (k i : ℕ) (h : Handle) (place : ℕ) (wrote : Option Bool)
+    (write : Option Coming) (left : List ℕ) (y : ServerSide) (ks : List Joined)
+    (logs : List (List history.Entry)) (y' : ServerSide) (ks' : List Joined)
+    (logs' : List (List history.Entry)) : Type 0 where
   pub mid : ServerSide
   pub circuits : List Joined
   pub told : List (List history.Entry)
-  pub done : TellsWrite i (record { circuit = k; place = place }) wrote write y ks logs mid circuits told
+  pub done : TellsWrite i
+      (record { circuit = k; place = place }) wrote write y ks logs mid circuits told
   pub reports : ReportsWith h left i mid circuits told y' ks' logs'
 
 -- ---- the whole
 
 -- A step of the server's end of circuit k, with the numbers of the server's circuits; without
 -- memory all is as it was.
-abbrev pub StepsServer : (k : ℕ) → ServerSide → List Joined → List (List history.Entry) → Result (Unit {0}) Refusal → ServerSide → List Joined → List (List history.Entry) → Type 0
+abbrev pub StepsServer : (k : ℕ) → ServerSide → List Joined → List (List history.Entry)
+    → Result (Unit {0}) Refusal → ServerSide → List Joined → List (List history.Entry) → Type 0
 StepsServer k y ks logs (Ok _) y' ks' logs' =
-    (y'.circuits.items ≡ y.circuits.items) × ((j : Joined) → At ks k j → StepsAt k j (server_of y) ks logs (server_of y') ks' logs')
-StepsServer k y ks logs (Err OutOfMemory) y' ks' logs' = (server_of y' ≡ server_of y) × (y'.circuits.items ≡ y.circuits.items) × (ks' ≡ ks) × (logs' ≡ logs)
+    (y'.circuits.items ≡ y.circuits.items)
+    × ((j : Joined) → At ks k j → StepsAt k j (server_of y) ks logs (server_of y') ks' logs')
+StepsServer k y ks logs (Err OutOfMemory) y' ks' logs' =
+    (server_of y' ≡ server_of y) × (y'.circuits.items ≡ y.circuits.items) × (ks' ≡ ks)
+    × (logs' ≡ logs)
 StepsServer k y ks logs (Err _) y' ks' logs' = ⊥

@@ -29,13 +29,16 @@ IsReached w = (s : Setting) × (es : List Event) × IsSetting s × FoldsTo Happe
 
 -- well-formed events lead to this world from a well-formed setting
 abbrev pub CameAbout : World → Type 0
-CameAbout w = (s : Setting) × (es : List Event) × IsSetting s × AreEvents es × FoldsTo Happens (opening s) es w
+CameAbout w =
+    (s : Setting) × (es : List Event) × IsSetting s × AreEvents es
+    × FoldsTo Happens (opening s) es w
 
 -- What holds of a world at each moment: circuits are found by their handles; events lead to it,
 -- which are well-formed; its clients stand, what they sent is as their tables are, as in every run,
 -- and each handle means what is beside it; what its servers send are messages.
 pub record Stands (w : Inside) : Type 0 where
-  pub indexed : AreIndexed (client_numbers w.clients.items) (server_numbers w.servers.items) (map joined_of w.circuits.items)
+  pub indexed : AreIndexed (client_numbers w.clients.items) (server_numbers w.servers.items)
+      (map joined_of w.circuits.items)
   pub reached : IsReached (seen w)
   pub came_about : CameAbout (seen w)
   pub clients : ClientsStand (seen w)

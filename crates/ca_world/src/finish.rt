@@ -1,4 +1,5 @@
-ghost use Rattle.std.specs.Prelude.{ℕ, ◌≡◌, ◌+◌, ◌<◌, ◌++◌, [], ◌∷◌, List, Ok, OnOk, map, option_map, vec_capacity, vec_len};
+ghost use Rattle.std.specs.Prelude.{ℕ, ◌≡◌, ◌+◌, ◌<◌, ◌++◌, [], ◌∷◌, List, Ok, OnOk, map};
+ghost use Rattle.std.specs.Prelude.{option_map, vec_capacity, vec_len};
 ghost use Rattle.ca_dbr.specs.Elements.{elements};
 ghost use Rattle.ca_records.specs.declared.puts.Put as puts;
 ghost use Rattle.ca_server_core.specs.ForHistories.{bytes_under};
@@ -10,7 +11,9 @@ ghost use Rattle.ca_model.specs.ServerCalls.{Finishes};
 ghost use Rattle.ca_model.specs.Events as event;
 ghost use Rattle.ca_model.specs.ServerEvents.{about, finish_entry};
 ghost use Rattle.ca_model.specs.World.{grown};
-ghost use Rattle.ca_world.specs.Finishing.{AreBehind, Finished, FinishesAt, HasRoomOn, IsBusy, IsBusyOn, IsFound, MayFinish, TellsFinish, applied_of, numbered, with_down};
+ghost use Rattle.ca_world.specs.Finishing.{AreBehind, Finished, FinishesAt, HasRoomOn, IsBusy};
+ghost use Rattle.ca_world.specs.Finishing.{IsBusyOn, IsFound, MayFinish, TellsFinish, applied_of};
+ghost use Rattle.ca_world.specs.Finishing.{numbered, with_down};
 ghost use Rattle.ca_world_data.specs.Does.{Does};
 ghost use Rattle.ca_world_data.specs.Numbering.{AllAlike, AllMayCount};
 ghost use Rattle.ca_world_data.specs.Opening.{entries_in};

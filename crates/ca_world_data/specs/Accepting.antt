@@ -1,5 +1,7 @@
 -- Working: a circuit is accepted.
-use Rattle.std.specs.Prelude.{ℕ, ◌≡◌, ◌<◌, ◌≤◌, ◌+◌, ◌⊎◌, ◌++◌, true, List, [], ◌∷◌, Option, Some, None, Ok, Err, Result, Vec, if◌then◌else◌, length, map, nat_lt, replicate, slice_set, vec_capacity, vec_len}
+use Rattle.std.specs.Prelude.{ℕ, ◌≡◌, ◌<◌, ◌≤◌, ◌+◌, ◌⊎◌, ◌++◌, true, List, [], ◌∷◌, Option, Some}
+use Rattle.std.specs.Prelude.{None, Ok, Err, Result, Vec, if◌then◌else◌, length, map, nat_lt}
+use Rattle.std.specs.Prelude.{replicate, slice_set, vec_capacity, vec_len}
 use Rattle.std.specs.declared.alloc.Global.{Global}
 use Rattle.ca_arena.specs.declared.handle.Handle.{Handle}
 use Rattle.ca_queue.specs.Queue.{no_queue}
@@ -34,7 +36,8 @@ server_at ys a = place_of (λ (y : ServerSide). same_address y.setting.address a
 
 -- a circuit that is wanted with the number of its server, if one is at its address
 abbrev pub served : List ServerSide → WantedCircuit → Option (WantedCircuit × ℕ)
-served ys v = if nat_lt (server_at ys v.address) (length ys) then Some (v, server_at ys v.address) else None
+served ys v =
+    if nat_lt (server_at ys v.address) (length ys) then Some (v, server_at ys v.address) else None
 
 -- the first of two that is there
 abbrev pub first_there : {A : Type 0} → Option A → Option A → Option A
@@ -62,13 +65,24 @@ pub record GainsNumber (old : List ℕ) (index number : ℕ) (new : List ℕ) : 
 -- ---- the new circuit
 
 -- a circuit on which nothing was sent, of these lives of a client and of a server
-abbrev pub begun_circuit : (client life : ℕ) → Handle → (server server_life : ℕ) → Handle → model.Joined
+abbrev pub begun_circuit : (client life : ℕ) → Handle → (server server_life : ℕ) → Handle
+    → model.Joined
 begun_circuit client life at_client server server_life at_server = record {
   client = client;
   server = server;
   at_client = at_client;
   at_server = at_server;
-  lists = record { client = life; server = server_life; up = []; down = []; handled = []; heard = []; queued = []; client_open = true; server_open = true };
+  lists = record {
+    client = life;
+    server = server_life;
+    up = [];
+    down = [];
+    handled = [];
+    heard = [];
+    queued = [];
+    client_open = true;
+    server_open = true;
+  };
   left_up = [];
   left_down = [];
   creations = [];
@@ -77,7 +91,8 @@ begun_circuit client life at_client server server_life at_server = record {
 }
 
 -- What the client makes of a circuit on which nothing was sent.
-pub record ConnectsSide (x : model.ClientSide) (logs : List (List history.Line)) (j : model.Joined) (x' : model.ClientSide) (logs' : List (List history.Line)) (j' : model.Joined) : Type 0 where
+pub record ConnectsSide (x : model.ClientSide) (logs : List (List history.Line)) (j : model.Joined)
+    (x' : model.ClientSide) (logs' : List (List history.Line)) (j' : model.Joined) : Type 0 where
   pub k : Option Closing
   pub sent : List Sending
   pub connects : ClientConnects x.core j.at_client k sent x'.core
@@ -99,14 +114,17 @@ RefusedAs e r = r ≡ Err refusal.OutOfMemory
 -- ---- the event
 
 -- there is room for all that it leaves
-pub record HasRoomToAccept (c : Handle) (x : ClientSide) (y : ServerSide) (ks : Vec Joined Global) (logs : List (Vec Line Global)) : Type 0 where
+pub record HasRoomToAccept (c : Handle) (x : ClientSide) (y : ServerSide) (ks : Vec Joined Global)
+    (logs : List (Vec Line Global)) : Type 0 where
   pub client : c.index < length x.circuits.items
   pub server : arena_slots ≤ length y.circuits.items
   pub circuits : vec_len ks + 1 ≤ vec_capacity ks
   pub lines : HasRoom (length (farewell c x.core)) x.life logs
 
 -- nothing changed but the room for numbers
-pub record StaysAs (x : ClientSide) (y : ServerSide) (ks : List Joined) (logs : List (Vec Line Global)) (x' : ClientSide) (y' : ServerSide) (ks' : List Joined) (logs' : List (Vec Line Global)) : Type 0 where
+pub record StaysAs (x : ClientSide) (y : ServerSide) (ks : List Joined)
+    (logs : List (Vec Line Global)) (x' : ClientSide) (y' : ServerSide) (ks' : List Joined)
+    (logs' : List (Vec Line Global)) : Type 0 where
   pub client : client_of x' ≡ client_of x
   pub server : server_of y' ≡ server_of y
   pub circuits : ks' ≡ ks
@@ -115,19 +133,27 @@ pub record StaysAs (x : ClientSide) (y : ServerSide) (ks : List Joined) (logs : 
   pub at_server : Extends y.circuits.items y'.circuits.items
 
 -- Server s accepted the circuit that client i has under this handle.
-pub record AcceptsDone (i s : ℕ) (c : Handle) (x : ClientSide) (y : ServerSide) (ks : List Joined) (logs : List (Vec Line Global)) (x' : ClientSide) (y' : ServerSide) (ks' : List Joined) (logs' : List (Vec Line Global)) : Type 0 where
+pub record AcceptsDone (i s : ℕ) (c : Handle) (x : ClientSide) (y : ServerSide) (ks : List Joined)
+    (logs : List (Vec Line Global)) (x' : ClientSide) (y' : ServerSide) (ks' : List Joined)
+    (logs' : List (Vec Line Global)) : Type 0 where
   pub h : Handle
   pub accepts : Accepts y.core (Ok h) y'.core
   pub j : Joined
-  pub connects : ConnectsSide (client_of x) (lines_in logs) (new_circuit i (client_of x) c s (server_of y) h) (client_of x') (lines_in logs') (joined_of j)
+  pub connects : ConnectsSide (client_of x) (lines_in logs)
+      (new_circuit i (client_of x) c s (server_of y) h) (client_of x') (lines_in logs')
+      (joined_of j)
   pub server : server_of y' ≡ record (server_of y) { core = y'.core }
   pub circuits : ks' ≡ ks ++ j ∷ []
   pub at_client : GainsNumber x.circuits.items c.index (length ks) x'.circuits.items
   pub at_server : GainsNumber y.circuits.items h.index (length ks) y'.circuits.items
 
 -- It was accepted; or the server has no room for it; or there was no memory.
-abbrev pub AcceptsOn : (i s : ℕ) → Handle → ClientSide → ServerSide → List Joined → List (Vec Line Global) → Result (Unit {0}) Refusal → ClientSide → ServerSide → List Joined → List (Vec Line Global) → Type 0
+abbrev pub AcceptsOn : (i s : ℕ) → Handle → ClientSide → ServerSide → List Joined
+    → List (Vec Line Global) → Result (Unit {0}) Refusal → ClientSide → ServerSide → List Joined
+    → List (Vec Line Global) → Type 0
 AcceptsOn i s c x y ks logs (Ok _) x' y' ks' logs' =
-    AcceptsDone i s c x y ks logs x' y' ks' logs' ⊎ (Accepts y.core (Err refusal.ArenaFull) y.core × StaysAs x y ks logs x' y' ks' logs')
-AcceptsOn i s c x y ks logs (Err refusal.OutOfMemory) x' y' ks' logs' = StaysAs x y ks logs x' y' ks' logs'
+    AcceptsDone i s c x y ks logs x' y' ks' logs'
+    ⊎ (Accepts y.core (Err refusal.ArenaFull) y.core × StaysAs x y ks logs x' y' ks' logs')
+AcceptsOn i s c x y ks logs (Err refusal.OutOfMemory) x' y' ks' logs' =
+    StaysAs x y ks logs x' y' ks' logs'
 AcceptsOn i s c x y ks logs (Err _) x' y' ks' logs' = ⊥

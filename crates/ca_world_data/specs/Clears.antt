@@ -32,7 +32,8 @@ IsClearWay x ks i h w = ClearsAs ks i w (standing_at x h)
 
 -- the channel of this number has this handle, and there is room for what its end leaves, if it
 -- reports each request at most once
-pub record IsReadyToClear (i c : ℕ) (x : real.ClientSide) (ks : List Opened) (logs : List (Vec Written Global)) (p : Handle × Way) : Type 0 where
+pub record IsReadyToClear (i c : ℕ) (x : real.ClientSide) (ks : List Opened)
+    (logs : List (Vec Written Global)) (p : Handle × Way) : Type 0 where
   pub named : At x.names.channels.items c p.0
   pub way : IsClearWay x.core (map joined_of ks) i p.0 p.1
   pub numbered : AreNumbered x.circuits.items (map joined_of ks) i
@@ -43,7 +44,8 @@ pub record IsReadyToClear (i c : ℕ) (x : real.ClientSide) (ks : List Opened) (
 abbrev pub clear_lines : (c : ℕ) → ClientSide → List Notice → List Line
 clear_lines c x notices = call_lines (Called (history.On c history.Clear) None) x.names notices
 
-abbrev pub ClearsOn : (i c : ℕ) → ClientSide → List (List Line) → List Joined → Result (Unit {0}) Refusal → ClientSide → List (List Line) → List Joined → Type 0
+abbrev pub ClearsOn : (i c : ℕ) → ClientSide → List (List Line) → List Joined
+    → Result (Unit {0}) Refusal → ClientSide → List (List Line) → List Joined → Type 0
 ClearsOn i c x logs ks result x' logs' ks' =
     CallsOn i
     (At x.names.channels c)

@@ -10,10 +10,12 @@ use Rattle.ca_model.specs.World.{Joined}
 
 -- what the open end of a circuit at client i leaves, or at server i
 abbrev pub client_left : (i : ℕ) → Client → Joined → List ℕ
-client_left i core j = if j.client == i && j.lists.client_open then out_bytes core j.at_client else []
+client_left i core j =
+    if j.client == i && j.lists.client_open then out_bytes core j.at_client else []
 
 abbrev pub server_left : (i : ℕ) → Server → Joined → List ℕ
-server_left i core j = if j.server == i && j.lists.server_open then output_of (under core.circuits j.at_server) else []
+server_left i core j =
+    if j.server == i && j.lists.server_open then output_of (under core.circuits j.at_server) else []
 
 -- the circuit, whose open end at client i, or at server i, has ended and left these bytes
 abbrev pub client_over : (i : ℕ) → List ℕ → Joined → Joined

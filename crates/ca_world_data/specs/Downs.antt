@@ -1,5 +1,6 @@
 -- Working: bytes reach a client.
-use Rattle.std.specs.Prelude.{ℕ, ◌≡◌, ◌≤◌, ◌++◌, ◌∷◌, Bool, List, [], Option, Some, None, Ok, Err, Result, drop, length, nat_lt, take}
+use Rattle.std.specs.Prelude.{ℕ, ◌≡◌, ◌≤◌, ◌++◌, ◌∷◌, Bool, List, [], Option, Some, None, Ok, Err}
+use Rattle.std.specs.Prelude.{Result, drop, length, nat_lt, take}
 use Rattle.ca_arena.specs.declared.handle.Handle.{Handle}
 use Rattle.ca_text.specs.declared.command.Command.{Command}
 use Rattle.ca_text.specs.declared.refusal.Refusal.{Refusal}
@@ -28,33 +29,47 @@ with_said more j = record j { lists = record j.lists { up = j.lists.up ++ more }
 
 -- The client takes these bytes, after which more wait or none, under this handle:
 -- what it sent goes up.
-abbrev pub TakesDown : ClientSide → Handle → List ℕ → Bool → List Sent → Result (Unit {0}) Refusal → ClientSide → List Sent → Type 0
+abbrev pub TakesDown : ClientSide → Handle → List ℕ → Bool → List Sent → Result (Unit {0}) Refusal
+    → ClientSide → List Sent → Type 0
 TakesDown x c bytes more up (Ok _) x' up' =
-    ((sent : List Sending) × ClientGives x.core c bytes more (Ok tt) sent x'.core) × (x' ≡ record x { core = x'.core }) × (up' ≡ up ++ flow_said (flow_at more x.core c))
+    ((sent : List Sending) × ClientGives x.core c bytes more (Ok tt) sent x'.core)
+    × (x' ≡ record x { core = x'.core }) × (up' ≡ up ++ flow_said (flow_at more x.core c))
 TakesDown x c bytes more up (Err refusal.OutOfMemory) x' up' = (x' ≡ x) × (up' ≡ up)
 TakesDown x c bytes more up (Err _) x' up' = ⊥
 
 -- The client takes these bytes on this circuit, after which more wait or none.
-pub record GoesDown (x : ClientSide) (j : Joined) (bytes : List ℕ) (more : Bool) (x' : ClientSide) : Type 0 where
+pub record GoesDown (x : ClientSide) (j : Joined) (bytes : List ℕ) (more : Bool)
+    (x' : ClientSide) : Type 0 where
   pub sent : List Sending
   pub gives : ClientGives x.core j.at_client bytes more (Ok tt) sent x'.core
   pub side : x' ≡ record x { core = x'.core }
 
 -- The first n bytes that wait at the server reach the client.
-abbrev pub HandsDown : ClientSide → ServerSide → Joined → (n : ℕ) → Result (Unit {0}) Refusal → ClientSide → ServerSide → Joined → Type 0
+abbrev pub HandsDown : ClientSide → ServerSide → Joined → (n : ℕ) → Result (Unit {0}) Refusal
+    → ClientSide → ServerSide → Joined → Type 0
 HandsDown x y j n (Ok _) x' y' j' =
     (let bytes : List ℕ = output_of (under y.core.circuits j.at_server) in
     (n ≤ length bytes) × GoesDown x j (take n bytes) (nat_lt n (length bytes)) x'
-    × (joined_of j' ≡ with_said (flow_said (flow_at (nat_lt n (length bytes)) x.core j.at_client)) (joined_of j)) × Sends y.core j.at_server n y'.core × (y' ≡ record y { core = y'.core }))
-HandsDown x y j n (Err refusal.OutOfMemory) x' y' j' = (n ≤ length (output_of (under y.core.circuits j.at_server))) × (x' ≡ x) × (y' ≡ y) × (joined_of j' ≡ joined_of j)
-HandsDown x y j n (Err refusal.BadEvent) x' y' j' = (n ≤ length (output_of (under y.core.circuits j.at_server)) → ⊥) × (x' ≡ x) × (y' ≡ y) × (joined_of j' ≡ joined_of j)
+    × (joined_of j' ≡ with_said (flow_said (flow_at (nat_lt n (length bytes)) x.core j.at_client))
+    (joined_of j)) × Sends y.core j.at_server n y'.core × (y' ≡ record y { core = y'.core }))
+HandsDown x y j n (Err refusal.OutOfMemory) x' y' j' =
+    (n ≤ length (output_of (under y.core.circuits j.at_server))) × (x' ≡ x) × (y' ≡ y)
+    × (joined_of j' ≡ joined_of j)
+HandsDown x y j n (Err refusal.BadEvent) x' y' j' =
+    (n ≤ length (output_of (under y.core.circuits j.at_server)) → ⊥) × (x' ≡ x) × (y' ≡ y)
+    × (joined_of j' ≡ joined_of j)
 HandsDown x y j n (Err _) x' y' j' = ⊥
 
 -- The first n bytes that the server left reach the client.
-abbrev pub LeavesDown : ClientSide → Joined → (n : ℕ) → Result (Unit {0}) Refusal → ClientSide → Joined → Type 0
+abbrev pub LeavesDown : ClientSide → Joined → (n : ℕ) → Result (Unit {0}) Refusal → ClientSide
+    → Joined → Type 0
 LeavesDown x j n (Ok _) x' j' =
     (n ≤ length j.left_down) × GoesDown x j (take n j.left_down) (nat_lt n (length j.left_down)) x'
-    × (joined_of j' ≡ record (with_said (flow_said (flow_at (nat_lt n (length j.left_down)) x.core j.at_client)) (joined_of j)) { left_down = drop n j.left_down })
-LeavesDown x j n (Err refusal.OutOfMemory) x' j' = (n ≤ length j.left_down) × (x' ≡ x) × (joined_of j' ≡ joined_of j)
-LeavesDown x j n (Err refusal.BadEvent) x' j' = (n ≤ length j.left_down → ⊥) × (x' ≡ x) × (joined_of j' ≡ joined_of j)
+    × (joined_of j' ≡ record
+    (with_said (flow_said (flow_at (nat_lt n (length j.left_down)) x.core j.at_client))
+    (joined_of j)) { left_down = drop n j.left_down })
+LeavesDown x j n (Err refusal.OutOfMemory) x' j' =
+    (n ≤ length j.left_down) × (x' ≡ x) × (joined_of j' ≡ joined_of j)
+LeavesDown x j n (Err refusal.BadEvent) x' j' =
+    (n ≤ length j.left_down → ⊥) × (x' ≡ x) × (joined_of j' ≡ joined_of j)
 LeavesDown x j n (Err _) x' j' = ⊥

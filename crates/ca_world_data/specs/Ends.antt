@@ -25,4 +25,5 @@ pub record AreEnds (clients servers : ℕ) (circuits : List Joined) (k : ℕ) (e
 
 -- no circuit of this place joins some of these numbers of clients and servers
 abbrev pub NoEnds : (clients servers : ℕ) → List Joined → (k : ℕ) → Type 0
-NoEnds clients servers circuits k = (j : Joined) → At circuits k j → j.client < clients → j.server < servers → ⊥
+NoEnds clients servers circuits k =
+    (j : Joined) → At circuits k j → j.client < clients → j.server < servers → ⊥

@@ -7,7 +7,8 @@ use Rattle.ca_model.specs.World.{Joined}
 -- by the index of its handle the client has the number of each circuit that is open at its end
 abbrev pub AreNumbered : List ℕ → List Joined → (client : ℕ) → Type 0
 AreNumbered numbers circuits client =
-    (k : ℕ) (j : Joined) → At circuits k j → j.client ≡ client → j.lists.client_open ≡ true → At numbers j.at_client.index k
+    (k : ℕ) (j : Joined) → At circuits k j → j.client ≡ client → j.lists.client_open ≡ true
+    → At numbers j.at_client.index k
 
 -- it is this one
 pub record IsAt (circuits : List Joined) (client : ℕ) (handle : Handle) (k : ℕ) : Type 0 where
@@ -20,4 +21,5 @@ pub record IsAt (circuits : List Joined) (client : ℕ) (handle : Handle) (k : �
 -- there is none
 abbrev pub IsNowhere : List Joined → (client : ℕ) → Handle → Type 0
 IsNowhere circuits client handle =
-    (k : ℕ) (j : Joined) → At circuits k j → j.client ≡ client → j.lists.client_open ≡ true → j.at_client ≡ handle → ⊥
+    (k : ℕ) (j : Joined) → At circuits k j → j.client ≡ client → j.lists.client_open ≡ true
+    → j.at_client ≡ handle → ⊥

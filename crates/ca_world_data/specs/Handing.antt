@@ -1,5 +1,6 @@
 -- Working: what became of a request is handed out.
-use Rattle.std.specs.Prelude.{ℕ, ◌≡◌, Bool, true, false, List, [], ◌∷◌, Option, Some, None, Ok, Err, Result, Vec, slice_get, unwrap_or}
+use Rattle.std.specs.Prelude.{ℕ, ◌≡◌, Bool, true, false, List, [], ◌∷◌, Option, Some, None, Ok, Err}
+use Rattle.std.specs.Prelude.{Result, Vec, slice_get, unwrap_or}
 use Rattle.std.specs.declared.alloc.Global.{Global}
 use Rattle.ca_arena.specs.declared.handle.Handle.{Handle}
 use Rattle.ca_dbr.specs.declared.value.Outcome.{Outcome}
@@ -37,7 +38,8 @@ log_of life logs = unwrap_or (slice_get logs life) []
 
 -- the request of this number has this line that may be handed out, or none, and there is
 -- room for a line more
-pub record IsReadyToHand (n : ℕ) (x : real.ClientSide) (logs : List (Vec Line Global)) (place : Option ℕ) : Type 0 where
+pub record IsReadyToHand (n : ℕ) (x : real.ClientSide) (logs : List (Vec Line Global))
+    (place : Option ℕ) : Type 0 where
   pub q : Handle × Intent
   pub named : At x.names.requests.items n q
   pub hands : HandsOut (log_of x.life (lines_in logs)) n (intent_of q.1) place
@@ -50,9 +52,13 @@ IsUnasked n x BadEvent = (q : Handle × Intent) → At x.names.requests.items n 
 IsUnasked n x e = ⊥
 
 -- What became of the request of this number is in the log, as this line.
-abbrev pub HandsOver : (n : ℕ) → (Option ℕ → history.Line) → ClientSide → List (List history.Line) → Result (Unit {0}) Refusal → List (List history.Line) → Type 0
+abbrev pub HandsOver : (n : ℕ) → (Option ℕ → history.Line) → ClientSide → List (List history.Line)
+    → Result (Unit {0}) Refusal → List (List history.Line) → Type 0
 HandsOver n says x logs (Ok _) logs' =
-    (q : Handle × history.Intent) × At x.names.requests n q × (place : Option ℕ) × HandsOut (log_of x.life logs) n q.1 place × (logs' ≡ grown x.life (says place ∷ []) logs)
-HandsOver n says x logs (Err OutOfMemory) logs' = ((q : Handle × history.Intent) × At x.names.requests n q) × (logs' ≡ logs)
-HandsOver n says x logs (Err BadEvent) logs' = ((q : Handle × history.Intent) → At x.names.requests n q → ⊥) × (logs' ≡ logs)
+    (q : Handle × history.Intent) × At x.names.requests n q × (place : Option ℕ)
+    × HandsOut (log_of x.life logs) n q.1 place × (logs' ≡ grown x.life (says place ∷ []) logs)
+HandsOver n says x logs (Err OutOfMemory) logs' =
+    ((q : Handle × history.Intent) × At x.names.requests n q) × (logs' ≡ logs)
+HandsOver n says x logs (Err BadEvent) logs' =
+    ((q : Handle × history.Intent) → At x.names.requests n q → ⊥) × (logs' ≡ logs)
 HandsOver n says x logs (Err _) logs' = ⊥

@@ -9,8 +9,10 @@ use Rattle.ca_world_data.specs.Speaking.{sent_up}
 
 -- Client i took the datagram, and what it sent went up its circuits; or it had no memory for it,
 -- and nothing is changed.
-abbrev pub HearsDatagram : (i : ℕ) → Arrival → ClientSide → List Joined → Result (Unit {0}) Refusal → ClientSide → List Joined → Type 0
+abbrev pub HearsDatagram : (i : ℕ) → Arrival → ClientSide → List Joined → Result (Unit {0}) Refusal
+    → ClientSide → List Joined → Type 0
 HearsDatagram i a x ks (Ok _) x' ks' =
-    (sent : List Sending) × ClientReceives x.core a (Ok tt) sent x'.core × (x' ≡ record x { core = x'.core }) × (ks' ≡ map (sent_up i x.names sent) ks)
+    (sent : List Sending) × ClientReceives x.core a (Ok tt) sent x'.core
+    × (x' ≡ record x { core = x'.core }) × (ks' ≡ map (sent_up i x.names sent) ks)
 HearsDatagram i a x ks (Err OutOfMemory) x' ks' = (x' ≡ x) × (ks' ≡ ks)
 HearsDatagram i a x ks (Err _) x' ks' = ⊥

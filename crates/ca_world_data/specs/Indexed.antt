@@ -14,8 +14,10 @@ pub record HasNumber (numbers : List (List ℕ)) (i : ℕ) (h : Handle) (k : ℕ
 
 -- each circuit that is open at an end has its number there, by the index of its handle
 pub record AreIndexed (cs ss : List (List ℕ)) (ks : List Joined) : Type 0 where
-  pub clients : (k : ℕ) (j : Joined) → At ks k j → j.lists.client_open ≡ true → HasNumber cs j.client j.at_client k
-  pub servers : (k : ℕ) (j : Joined) → At ks k j → j.lists.server_open ≡ true → HasNumber ss j.server j.at_server k
+  pub clients : (k : ℕ) (j : Joined) → At ks k j → j.lists.client_open ≡ true
+      → HasNumber cs j.client j.at_client k
+  pub servers : (k : ℕ) (j : Joined) → At ks k j → j.lists.server_open ≡ true
+      → HasNumber ss j.server j.at_server k
 
 -- the numbers that clients have, and servers
 abbrev pub client_numbers : List ClientSide → List (List ℕ)

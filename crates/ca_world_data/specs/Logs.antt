@@ -1,5 +1,6 @@
 -- Working: the logs of clients, by life.
-use Rattle.std.specs.Prelude.{ℕ, ◌≡◌, ◌≢◌, ◌+◌, ◌≤◌, List, [], ◌∷◌, Ok, Err, Result, map, Vec, vec_capacity, vec_len}
+use Rattle.std.specs.Prelude.{ℕ, ◌≡◌, ◌≢◌, ◌+◌, ◌≤◌, List, [], ◌∷◌, Ok, Err, Result, map, Vec}
+use Rattle.std.specs.Prelude.{vec_capacity, vec_len}
 use Rattle.std.specs.declared.alloc.Global.{Global}
 use Rattle.ca_text.specs.declared.refusal.Refusal.{Refusal}
 use Rattle.ca_text.specs.declared.refusal.Refusal.TheVariants.{OutOfMemory}
@@ -15,9 +16,11 @@ lines_in logs = map (λ (log : Vec Line Global). map line_of log.items) logs
 
 -- there is room for n lines in the log of a life, if it has one
 abbrev pub HasRoom : (lines life : ℕ) → List (Vec Line Global) → Type 0
-HasRoom lines life logs = (log : Vec Line Global) → At logs life log → vec_len log + lines ≤ vec_capacity log
+HasRoom lines life logs =
+    (log : Vec Line Global) → At logs life log → vec_len log + lines ≤ vec_capacity log
 
 -- a call was refused, which is in the log; or there was no memory for it, and nothing changed
-abbrev pub Notes : (life : ℕ) → Refusal → List (List history.Line) → Result (Unit {0}) Refusal → List (List history.Line) → Type 0
+abbrev pub Notes : (life : ℕ) → Refusal → List (List history.Line) → Result (Unit {0}) Refusal
+    → List (List history.Line) → Type 0
 Notes life e old (Ok _) new = (e ≢ OutOfMemory) × (new ≡ grown life (history.Refused e ∷ []) old)
 Notes life e old (Err r) new = (e ≡ OutOfMemory) × (r ≡ OutOfMemory) × (new ≡ old)

@@ -1,5 +1,6 @@
 -- Working: posts to a record reach the circuits that they concern, as numbers.
-use Rattle.std.specs.Prelude.{ℕ, ◌≡◌, ◌<◌, ◌+◌, Bool, true, List, [], Option, Some, filter, map, option_to_list, slice_get, slice_set, take}
+use Rattle.std.specs.Prelude.{ℕ, ◌≡◌, ◌<◌, ◌+◌, Bool, true, List, [], Option, Some, filter, map}
+use Rattle.std.specs.Prelude.{option_to_list, slice_get, slice_set, take}
 use Rattle.ca_ids.specs.Table.{under}
 use Rattle.ca_queue.specs.declared.entry.SubKey.{SubKey}
 use Rattle.ca_queue.specs.Keys.{AreApart, is_among}
@@ -35,7 +36,9 @@ IsAlike c j = Unit {0}
 
 -- so is each circuit that is open at server i
 abbrev pub AllAlike : (i : ℕ) → Server → List Joined → Type 0
-AllAlike i core ks = (k : ℕ) (j : Joined) → At ks k j → j.server ≡ i → j.lists.server_open ≡ true → IsAlike (under core.circuits j.at_server) j
+AllAlike i core ks =
+    (k : ℕ) (j : Joined) → At ks k j → j.server ≡ i → j.lists.server_open ≡ true
+    → IsAlike (under core.circuits j.at_server) j
 
 -- ---- counts
 
@@ -53,12 +56,14 @@ AllMayCount ks = (k : ℕ) (j : Opened) → At ks k j → MayCount j.standing.it
 
 -- the keys of the subscriptions that a post concerns, among the first p of an end
 abbrev pub keys_to : (name : List ℕ) → (mask : ℕ) → (p : ℕ) → Option ServerCircuit → List SubKey
-keys_to name mask p (Some (Open e)) = map key_of (filter (concerns name mask) (take p e.subscriptions))
+keys_to name mask p (Some (Open e)) =
+    map key_of (filter (concerns name mask) (take p e.subscriptions))
 keys_to name mask p c = []
 
 -- the key of the one at place p, if the post concerns it
 abbrev pub keys_at : (name : List ℕ) → (mask : ℕ) → (p : ℕ) → Option ServerCircuit → List SubKey
-keys_at name mask p (Some (Open e)) = map key_of (filter (concerns name mask) (option_to_list (slice_get e.subscriptions p)))
+keys_at name mask p (Some (Open e)) =
+    map key_of (filter (concerns name mask) (option_to_list (slice_get e.subscriptions p)))
 keys_at name mask p c = []
 
 -- a subscription is at this place, whose key the queue at that place has, and one
@@ -80,4 +85,5 @@ with_counted {p} {n} {j} h = record j {
 
 -- the queue at this place has this subscription
 abbrev pub HasKeyAt : List (Queue (ℕ × Written) × Bool) → ℕ → SubKey → Type 0
-HasKeyAt queues n key = (q : Queue (ℕ × Written) × Bool) × At queues n q × (is_among key q.0.subscriptions ≡ true)
+HasKeyAt queues n key =
+    (q : Queue (ℕ × Written) × Bool) × At queues n q × (is_among key q.0.subscriptions ≡ true)

@@ -20,7 +20,8 @@ put_names c x q = with_request q c history.Put x.names
 abbrev pub put_meant : (c : ℕ) → ClientSide → Intent
 put_meant c x = On c (Request history.Put (length x.names.requests))
 
-abbrev pub PutsOn : (i c : ℕ) → Elements → ClientSide → List (List Line) → List Joined → Result (Unit {0}) Refusal → ClientSide → List (List Line) → List Joined → Type 0
+abbrev pub PutsOn : (i c : ℕ) → Elements → ClientSide → List (List Line) → List Joined
+    → Result (Unit {0}) Refusal → ClientSide → List (List Line) → List Joined → Type 0
 PutsOn i c a x logs ks result x' logs' ks' =
     CallsOn i
     (At x.names.channels c)
@@ -43,7 +44,8 @@ write_names x = record x.names { writes = x.names.writes + 1 }
 abbrev pub write_meant : (c : ℕ) → ClientSide → Intent
 write_meant c x = On c (Request history.Write x.names.writes)
 
-abbrev pub WritesOn : (i c : ℕ) → Elements → ClientSide → List (List Line) → List Joined → Result (Unit {0}) Refusal → ClientSide → List (List Line) → List Joined → Type 0
+abbrev pub WritesOn : (i c : ℕ) → Elements → ClientSide → List (List Line) → List Joined
+    → Result (Unit {0}) Refusal → ClientSide → List (List Line) → List Joined → Type 0
 WritesOn i c a x logs ks result x' logs' ks' =
     CallsOn i
     (At x.names.channels c)

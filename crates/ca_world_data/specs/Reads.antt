@@ -14,7 +14,8 @@ use Rattle.ca_world_data.specs.Speaking.{CallsOn}
 abbrev pub read_names : (c : ℕ) → ClientSide → Handle → Names
 read_names c x q = with_request q c history.Read x.names
 
-abbrev pub ReadsOn : (i c : ℕ) → Shape → ClientSide → List (List Line) → List Joined → Result (Unit {0}) Refusal → ClientSide → List (List Line) → List Joined → Type 0
+abbrev pub ReadsOn : (i c : ℕ) → Shape → ClientSide → List (List Line) → List Joined
+    → Result (Unit {0}) Refusal → ClientSide → List (List Line) → List Joined → Type 0
 ReadsOn i c a x logs ks result x' logs' ks' =
     CallsOn i
     (At x.names.channels c)

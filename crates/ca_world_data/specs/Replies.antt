@@ -8,7 +8,8 @@ use Rattle.ca_world_data.specs.Updates.{AreGood}
 
 -- These are the messages that the bytes are, as replies about the client's message at this place.
 abbrev pub AreReplies : List ℕ → (place : ℕ) → List Told → Type 0
-AreReplies bytes place told = (ms : List Fields) → AreGood ms → bytes ≡ spelled ms → told ≡ about place Reply ms
+AreReplies bytes place told =
+    (ms : List Fields) → AreGood ms → bytes ≡ spelled ms → told ≡ about place Reply ms
 
 -- Of these messages the first ones are told, and have n bytes.
 pub record RepliesSome (ms : List Fields) (place read : ℕ) (told : List Told) : Type 0 where

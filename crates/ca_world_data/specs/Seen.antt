@@ -71,7 +71,14 @@ abbrev pub stored_of : Stored → speech.Stored
 stored_of s = record { value = elements s.value; meta = s.meta }
 
 abbrev pub recorded_of : Recorded → RecordState
-recorded_of r = record { name = r.name.items; count = r.count; slow = r.slow; value = elements r.value; meta = r.meta }
+recorded_of r =
+    record {
+      name = r.name.items;
+      count = r.count;
+      slow = r.slow;
+      value = elements r.value;
+      meta = r.meta;
+    }
 
 abbrev pub line_of : Line → history.Line
 line_of (line.Opened channel name) = history.Opened channel name.items
@@ -87,7 +94,8 @@ entry_of (entry.Added number r) = history.Added number (recorded_of r)
 entry_of (entry.Removed number) = history.Removed number
 entry_of (entry.Posted number mask v) = history.Posted number mask (stored_of v)
 entry_of (entry.Waits circuit place number v) = history.Waits circuit place number (stored_of v)
-entry_of (entry.Applied circuit place number v busies) = history.Applied circuit place number (stored_of v) busies
+entry_of (entry.Applied circuit place number v busies) =
+    history.Applied circuit place number (stored_of v) busies
 entry_of (entry.Finished circuit place) = history.Finished circuit place
 entry_of (entry.Withdrawn circuit place) = history.Withdrawn circuit place
 
@@ -117,7 +125,12 @@ abbrev pub item_of : SubKey × (ℕ × Cause) → SubKey × (ℕ × history.Caus
 item_of w = (w.0, (w.1.0, cause_of w.1.1))
 
 abbrev pub queue_of : Queue (ℕ × Cause) → Queue (ℕ × history.Cause)
-queue_of q = record { waiting = map item_of q.waiting; subscriptions = q.subscriptions; events_on = q.events_on }
+queue_of q =
+    record {
+      waiting = map item_of q.waiting;
+      subscriptions = q.subscriptions;
+      events_on = q.events_on;
+    }
 
 abbrev pub joined_of : Joined → model.Joined
 joined_of j = record {
@@ -154,7 +167,20 @@ abbrev pub place_of : PutPlace → model.PutPlace
 place_of p = record { circuit = p.circuit; place = p.place }
 
 abbrev pub record_of : RecordSide → model.RecordSide
-record_of r = record { name = r.name.items; number = r.number; busy = option_map place_of r.busy; waiting = map place_of r.waiting.items }
+record_of r =
+    record {
+      name = r.name.items;
+      number = r.number;
+      busy = option_map place_of r.busy;
+      waiting = map place_of r.waiting.items;
+    }
 
 abbrev pub server_of : ServerSide → model.ServerSide
-server_of y = record { setting = y.setting; core = y.core; life = y.life; records = map record_of y.records.items; added = y.added }
+server_of y =
+    record {
+      setting = y.setting;
+      core = y.core;
+      life = y.life;
+      records = map record_of y.records.items;
+      added = y.added;
+    }

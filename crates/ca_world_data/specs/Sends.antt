@@ -1,5 +1,6 @@
 -- Working: what a client sends without being called for it, and room for that on its circuits.
-use Rattle.std.specs.Prelude.{ℕ, ◌≡◌, ◌<◌, ◌+◌, Bool, true, false, List, Option, Some, filter, length}
+use Rattle.std.specs.Prelude.{ℕ, ◌≡◌, ◌<◌, ◌+◌, Bool, true, false, List, Option, Some, filter}
+use Rattle.std.specs.Prelude.{length}
 use Rattle.ca_arena.specs.declared.handle.Handle.{Handle}
 use Rattle.ca_ids.specs.Table.{same_handle}
 use Rattle.ca_text.specs.Place.{At}
@@ -17,7 +18,9 @@ count_on c sent = length (filter (λ (s : Sending). same_handle s.circuit c) sen
 -- Each circuit that is open at client i, and on which one of these messages goes, has room
 -- for all that go on it.
 abbrev pub HasRoomForAll : (i : ℕ) → List Sending → List Opened → Type 0
-HasRoomForAll i sent ks = (p : ℕ) (s : Sending) → At sent p s → (k : ℕ) → IsAt (map joined_of ks) i s.circuit k → HasRoomUp (count_on s.circuit sent) (Some k) ks
+HasRoomForAll i sent ks =
+    (p : ℕ) (s : Sending) → At sent p s → (k : ℕ) → IsAt (map joined_of ks) i s.circuit k
+    → HasRoomUp (count_on s.circuit sent) (Some k) ks
 
 -- There is room for n messages on each of the circuits of these numbers.
 abbrev pub HasRoomOnEach : (messages : ℕ) → (numbers : List ℕ) → List Opened → Type 0
@@ -25,7 +28,9 @@ HasRoomOnEach n numbers ks = (p k : ℕ) → At numbers p k → HasRoomUp n (Som
 
 -- the message at this place goes on the circuit of one before it; or nothing is said
 abbrev pub IsRepeated : List Sending → (place : ℕ) → Bool → Type 0
-IsRepeated sent place true = (p : ℕ) × (before at : Sending) × (p < place) × At sent p before × At sent place at × (at.circuit ≡ before.circuit)
+IsRepeated sent place true =
+    (p : ℕ) × (before at : Sending) × (p < place) × At sent p before × At sent place at
+    × (at.circuit ≡ before.circuit)
 IsRepeated sent place false = Unit {0}
 
 -- no circuit has less room
@@ -36,4 +41,5 @@ KeepsRoom ks ks' = (k n : ℕ) → HasRoomUp n (Some k) ks → HasRoomUp n (Some
 -- the room that they had
 pub record LeavesRoom (circuit : Option ℕ) (ks ks' : List Opened) : Type 0 where
   pub less : (k n : ℕ) → HasRoomUp (n + 1) (Some k) ks → HasRoomUp n (Some k) ks'
-  pub others : (k n : ℕ) → (circuit ≡ Some k → ⊥) → HasRoomUp n (Some k) ks → HasRoomUp n (Some k) ks'
+  pub others : (k n : ℕ) → (circuit ≡ Some k → ⊥) → HasRoomUp n (Some k) ks
+      → HasRoomUp n (Some k) ks'

@@ -1,5 +1,6 @@
 -- Working: a server's end of a circuit is cut.
-use Rattle.std.specs.Prelude.{ℕ, ◌≡◌, ◌+◌, ◌==◌, ◌≤◌, List, [], Ok, Err, Result, Vec, map, vec_capacity, vec_len}
+use Rattle.std.specs.Prelude.{ℕ, ◌≡◌, ◌+◌, ◌==◌, ◌≤◌, List, [], Ok, Err, Result, Vec, map}
+use Rattle.std.specs.Prelude.{vec_capacity, vec_len}
 use Rattle.std.specs.declared.alloc.Global.{Global}
 use Rattle.ca_arena.specs.declared.handle.Handle.{Handle}
 use Rattle.ca_ids.specs.Table.{under}
@@ -21,7 +22,8 @@ use Rattle.ca_world_data.specs.Withdrawing.{all_withdrawn}
 
 -- there is room for n entries in the log of a life, if it has one
 abbrev pub HasRoomFor : (entries life : ℕ) → List (Vec Entry Global) → Type 0
-HasRoomFor entries life logs = (log : Vec Entry Global) → At logs life log → vec_len log + entries ≤ vec_capacity log
+HasRoomFor entries life logs =
+    (log : Vec Entry Global) → At logs life log → vec_len log + entries ≤ vec_capacity log
 
 -- what an end left that a step reports
 abbrev pub left_in : Stepped → List ℕ
@@ -38,10 +40,16 @@ cut_core h y = closed h (ended h why.Cut (output_of (under y.circuits h)) y)
 
 -- The end at the server of circuit k is cut: it leaves what waited, and its puts
 -- that wait are withdrawn.
-abbrev pub CutsServer : (k : ℕ) → ServerSide → Joined → List (List history.Entry) → Result (Unit {0}) Refusal → ServerSide → Joined → List (List history.Entry) → Type 0
+abbrev pub CutsServer : (k : ℕ) → ServerSide → Joined → List (List history.Entry)
+    → Result (Unit {0}) Refusal → ServerSide → Joined → List (List history.Entry) → Type 0
 CutsServer k y j logs (Ok _) y' j' logs' =
-    (server_of y' ≡ record (server_of y) { core = cut_core j.at_server y.core; records = map (without_puts (λ n. n == k)) (map record_of y.records.items) })
-    × (y'.circuits.items ≡ y.circuits.items) × (joined_of j' ≡ server_closed (output_of (under y.core.circuits j.at_server)) (joined_of j))
+    (server_of y' ≡ record
+    (server_of y) {
+      core = cut_core j.at_server y.core;
+      records = map (without_puts (λ n. n == k)) (map record_of y.records.items);
+    })
+    × (y'.circuits.items ≡ y.circuits.items)
+    × (joined_of j' ≡ server_closed (output_of (under y.core.circuits j.at_server)) (joined_of j))
     × (logs' ≡ grown y.life (all_withdrawn k y.records.items) logs)
 CutsServer k y j logs (Err OutOfMemory) y' j' logs' = (y' ≡ y) × (j' ≡ j) × (logs' ≡ logs)
 CutsServer k y j logs (Err _) y' j' logs' = ⊥

@@ -1,5 +1,6 @@
 -- Working: what a setting's parts are by themselves.
-use Rattle.std.specs.Prelude.{◌≡◌, ◌<◌, ◌≤◌, ◌^◌, ◌++◌, ℕ, Bool, true, false, List, [], ◌∷◌, Ok, Err, Result, length, option_map}
+use Rattle.std.specs.Prelude.{◌≡◌, ◌<◌, ◌≤◌, ◌^◌, ◌++◌, ℕ, Bool, true, false, List, [], ◌∷◌, Ok}
+use Rattle.std.specs.Prelude.{Err, Result, length, option_map}
 use Rattle.std.specs.List.{list_any}
 use Rattle.std.specs.declared.alloc.AllocError.{AllocError}
 use Rattle.ca_records.specs.Record.{IsRecord, RecordState}
@@ -42,7 +43,8 @@ rule_of r = record {
 abbrev pub MakesClient : ClientSetting → Result ClientSetting Refusal → Type 0
 MakesClient s (Ok made) = IsClient s × (made ≡ s)
 MakesClient s (Err refusal.NameLength) = NamesFit s.peer → ⊥
-MakesClient s (Err refusal.ArenaFull) = NamesFit s.peer × (arena_slots < length (distinct s.name_servers))
+MakesClient s (Err refusal.ArenaFull) =
+    NamesFit s.peer × (arena_slots < length (distinct s.name_servers))
 MakesClient s (Err _) = ⊥
 
 -- one of these servers has this address
@@ -51,6 +53,8 @@ is_taken a servers = list_any (λ (y : ServerSetting). same_address y.address a)
 
 -- a server is added, unless another has its address, or there is no memory
 abbrev pub AddsServer : Setting → ServerSetting → Result Bool AllocError → Setting → Type 0
-AddsServer old s (Ok true) new = (is_taken s.address old.servers ≡ false) × (new ≡ record old { servers = old.servers ++ s ∷ [] })
+AddsServer old s (Ok true) new =
+    (is_taken s.address old.servers ≡ false)
+    × (new ≡ record old { servers = old.servers ++ s ∷ [] })
 AddsServer old s (Ok false) new = (is_taken s.address old.servers ≡ true) × (new ≡ old)
 AddsServer old s (Err e) new = (is_taken s.address old.servers ≡ false) × (new ≡ old)

@@ -1,5 +1,6 @@
 -- Working: what a client's calls on a channel leave of the client, of the logs and of the circuits.
-use Rattle.std.specs.Prelude.{ℕ, ◌≡◌, ◌≢◌, ◌⊎◌, ◌+◌, ◌≤◌, ◌++◌, List, [], ◌∷◌, Option, Some, None, Ok, Err, Result, Vec, map, slice_set, vec_capacity, vec_len}
+use Rattle.std.specs.Prelude.{ℕ, ◌≡◌, ◌≢◌, ◌⊎◌, ◌+◌, ◌≤◌, ◌++◌, List, [], ◌∷◌, Option, Some, None}
+use Rattle.std.specs.Prelude.{Ok, Err, Result, Vec, map, slice_set, vec_capacity, vec_len}
 use Rattle.std.specs.declared.alloc.Global.{Global}
 use Rattle.ca_arena.specs.declared.handle.Handle.{Handle}
 use Rattle.ca_text.specs.declared.refusal.Refusal.{Refusal}
@@ -41,7 +42,8 @@ GoesUp (Some k) s ks ks' = (j : Joined) → At ks k j → ks' ≡ slice_set ks k
 -- there is room for n more messages on this circuit, if there is one
 abbrev pub HasRoomUp : (messages : ℕ) → Option ℕ → List Opened → Type 0
 HasRoomUp n None ks = Unit {0}
-HasRoomUp n (Some k) ks = (j : Opened) → At ks k j → vec_len j.lists.up + n ≤ vec_capacity j.lists.up
+HasRoomUp n (Some k) ks =
+    (j : Opened) → At ks k j → vec_len j.lists.up + n ≤ vec_capacity j.lists.up
 
 -- of the circuits that are open at client i, the one of this handle
 abbrev pub GoesBy : Option ℕ → List Joined → (i : ℕ) → Handle → Type 0
@@ -51,12 +53,15 @@ GoesBy (Some k) ks i c = IsAt ks i c k
 -- where messages on this channel go, if it is live: on which circuit, under which SID, and with how
 -- many elements at most
 abbrev pub IsWay : Client → List Joined → (i : ℕ) → Handle → Way → Type 0
-IsWay x ks i h w = (l : LiveChannel) → IsLive x h l → (w.sid ≡ l.native.sid) × (w.count ≡ l.native.count) × GoesBy w.circuit ks i l.circuit
+IsWay x ks i h w =
+    (l : LiveChannel) → IsLive x h l → (w.sid ≡ l.native.sid) × (w.count ≡ l.native.count)
+    × GoesBy w.circuit ks i l.circuit
 
 -- ---- a call
 
 -- the channel of this number has this handle, and there is room for what a call leaves
-pub record IsReady (i c : ℕ) (x : real.ClientSide) (ks : List Opened) (logs : List (Vec Line Global)) (p : Handle × Way) : Type 0 where
+pub record IsReady (i c : ℕ) (x : real.ClientSide) (ks : List Opened)
+    (logs : List (Vec Line Global)) (p : Handle × Way) : Type 0 where
   pub named : At x.names.channels.items c p.0
   pub way : IsWay x.core (map joined_of ks) i p.0 p.1
   pub numbered : AreNumbered x.circuits.items (map joined_of ks) i
@@ -72,7 +77,9 @@ IsUnready c x refusal.BadEvent = (h : Handle) → At x.names.channels c h → �
 IsUnready c x e = ⊥
 
 -- refused, and that is in the log
-pub record CallRefused (Refuses : Refusal → Type 0) (x : ClientSide) (logs : List (List history.Line)) (ks : List Joined) (x' : ClientSide) (logs' : List (List history.Line)) (ks' : List Joined) : Type 0 where
+pub record CallRefused (Refuses : Refusal → Type 0) (x : ClientSide)
+    (logs : List (List history.Line)) (ks : List Joined) (x' : ClientSide)
+    (logs' : List (List history.Line)) (ks' : List Joined) : Type 0 where
   pub e : Refusal
   pub other : e ≢ refusal.OutOfMemory
   pub refused : Refuses e
@@ -81,7 +88,10 @@ pub record CallRefused (Refuses : Refusal → Type 0) (x : ClientSide) (logs : L
   pub stay : ks' ≡ ks
 
 -- Done: what was sent went up its circuits, these are the names, and the log has these lines more.
-pub record CallDone (Sends : List Sending → Client → Type 0) (i : ℕ) (spoken names : Names) (lines : List history.Line) (x : ClientSide) (logs : List (List history.Line)) (ks : List Joined) (x' : ClientSide) (logs' : List (List history.Line)) (ks' : List Joined) : Type 0 where
+pub record CallDone (Sends : List Sending → Client → Type 0) (i : ℕ) (spoken names : Names)
+    (lines : List history.Line) (x : ClientSide) (logs : List (List history.Line))
+    (ks : List Joined) (x' : ClientSide) (logs' : List (List history.Line))
+    (ks' : List Joined) : Type 0 where
   pub sent : List Sending
   pub does : Sends sent x'.core
   pub side : x' ≡ record x { core = x'.core; names = names }
@@ -89,11 +99,16 @@ pub record CallDone (Sends : List Sending → Client → Type 0) (i : ℕ) (spok
   pub goes : ks' ≡ map (sent_up i spoken sent) ks
 
 -- A call on what a name of the client names: it is not there; or the call is refused; or done.
-abbrev pub CallsOn : {K A : Type 0} → (i : ℕ) → (Named : K → Type 0) → (Answers : K → Result A Refusal → List Sending → Client → Type 0) → (spoken names : K → A → Names) → (lines : K → A → List history.Line) → ClientSide → List (List history.Line) → List Joined → Result (Unit {0}) Refusal → ClientSide → List (List history.Line) → List Joined → Type 0
+abbrev pub CallsOn : {K A : Type 0} → (i : ℕ) → (Named : K → Type 0)
+    → (Answers : K → Result A Refusal → List Sending → Client → Type 0)
+    → (spoken names : K → A → Names) → (lines : K → A → List history.Line) → ClientSide
+    → List (List history.Line) → List Joined → Result (Unit {0}) Refusal → ClientSide
+    → List (List history.Line) → List Joined → Type 0
 CallsOn {K} {A} i Named Answers spoken names lines x logs ks (Ok _) x' logs' ks' =
     (h : K) × Named h
     × (CallRefused (λ (e : Refusal). Answers h (Err e) [] x.core) x logs ks x' logs' ks'
-    ⊎ ((a : A) × CallDone (Answers h (Ok a)) i (spoken h a) (names h a) (lines h a) x logs ks x' logs' ks'))
+    ⊎ ((a : A)
+    × CallDone (Answers h (Ok a)) i (spoken h a) (names h a) (lines h a) x logs ks x' logs' ks'))
 CallsOn {K} i Named Answers spoken names lines x logs ks (Err refusal.OutOfMemory) x' logs' ks' =
     (h : K) × Named h × (x' ≡ x) × (logs' ≡ logs) × (ks' ≡ ks)
 CallsOn {K} i Named Answers spoken names lines x logs ks (Err refusal.BadEvent) x' logs' ks' =

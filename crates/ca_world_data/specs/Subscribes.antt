@@ -15,9 +15,11 @@ next_meant c x = On c (history.Subscribe (length x.names.subscriptions))
 
 -- the names with a subscription more to this channel
 abbrev pub subscribe_names : (c : ℕ) → ClientSide → Handle → Names
-subscribe_names c x s = record x.names { subscriptions = x.names.subscriptions ++ (s, next_meant c x) ∷ [] }
+subscribe_names c x s =
+    record x.names { subscriptions = x.names.subscriptions ++ (s, next_meant c x) ∷ [] }
 
-abbrev pub SubscribesOn : (i c : ℕ) → Shape → (mask : ℕ) → ClientSide → List (List Line) → List Joined → Result (Unit {0}) Refusal → ClientSide → List (List Line) → List Joined → Type 0
+abbrev pub SubscribesOn : (i c : ℕ) → Shape → (mask : ℕ) → ClientSide → List (List Line)
+    → List Joined → Result (Unit {0}) Refusal → ClientSide → List (List Line) → List Joined → Type 0
 SubscribesOn i c a mask x logs ks result x' logs' ks' =
     CallsOn i
     (At x.names.channels c)

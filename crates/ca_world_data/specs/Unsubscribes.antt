@@ -23,16 +23,20 @@ use Rattle.ca_world_data.specs.Speaking.{CallsOn, GoesBy, HasRoomUp}
 
 -- where the EVENT_CANCEL of this subscription goes, whose channel stands so, and what it names;
 -- none goes if that is not live
-abbrev pub GoesAs : Handle → Subscription → List Joined → (i : ℕ) → Cancelling → Option Standing → Type 0
-GoesAs s d ks i w (Some (On c (Live n rights))) = GoesBy w.circuit ks i c × (w.wanted ≡ wanted_by n.sid s d)
+abbrev pub GoesAs : Handle → Subscription → List Joined → (i : ℕ) → Cancelling → Option Standing
+    → Type 0
+GoesAs s d ks i w (Some (On c (Live n rights))) =
+    GoesBy w.circuit ks i c × (w.wanted ≡ wanted_by n.sid s d)
 GoesAs s d ks i w there = w.circuit ≡ None
 
 -- so it is of the subscription of its handle, if that stands
 abbrev pub IsCancelWay : Client → List Joined → (i : ℕ) → Cancelling → Type 0
-IsCancelWay x ks i w = (d : Subscription) → StandsAs x w.handle d → GoesAs w.handle d ks i w (standing_at x d.channel)
+IsCancelWay x ks i w =
+    (d : Subscription) → StandsAs x w.handle d → GoesAs w.handle d ks i w (standing_at x d.channel)
 
 -- the subscription of this number has its handle, and there is room for what its end leaves
-pub record IsReadyToCancel (i n : ℕ) (x : real.ClientSide) (ks : List Opened) (logs : List (Vec Written Global)) (w : Cancelling) : Type 0 where
+pub record IsReadyToCancel (i n : ℕ) (x : real.ClientSide) (ks : List Opened)
+    (logs : List (Vec Written Global)) (w : Cancelling) : Type 0 where
   pub named : At x.names.subscriptions.items n (w.handle, w.meant)
   pub way : IsCancelWay x.core (map joined_of ks) i w
   pub numbered : AreNumbered x.circuits.items (map joined_of ks) i
@@ -45,7 +49,8 @@ IsUnready n x refusal.OutOfMemory = (s : Handle × Meant) × At x.names.subscrip
 IsUnready n x refusal.BadEvent = (s : Handle × Meant) → At x.names.subscriptions.items n s → ⊥
 IsUnready n x e = ⊥
 
-abbrev pub UnsubscribesOn : (i n : ℕ) → ClientSide → List (List Line) → List Joined → Result (Unit {0}) Refusal → ClientSide → List (List Line) → List Joined → Type 0
+abbrev pub UnsubscribesOn : (i n : ℕ) → ClientSide → List (List Line) → List Joined
+    → Result (Unit {0}) Refusal → ClientSide → List (List Line) → List Joined → Type 0
 UnsubscribesOn i n x logs ks result x' logs' ks' =
     CallsOn i
     (At x.names.subscriptions n)

@@ -23,7 +23,8 @@ pub record BeginsSpelled (bytes : List ℕ) : Type 0 where
 
 -- So read, they begin with this message.
 abbrev pub ReadsFirst : List ℕ → Fields → Type 0
-ReadsFirst bytes made = (m : Fields) (rest : List ℕ) → IsMessage m → bytes ≡ spelling m ++ rest → made ≡ m
+ReadsFirst bytes made =
+    (m : Fields) (rest : List ℕ) → IsMessage m → bytes ≡ spelling m ++ rest → made ≡ m
 
 -- these are messages
 abbrev pub AreGood : List Fields → Type 0
@@ -45,12 +46,19 @@ pub record TellsOne (j : Joined) (m : Fields) (new : Joined) : Type 0 where
   pub queues : List (Queue (ℕ × Cause))
   pub takes : Takes j.queues (Some (place, key, item)) queues
   pub is :
-      new ≡ record j { queues = queues; lists = record j.lists { down = j.lists.down ++ record { message = m; place = item.0; cause = item.1 } ∷ [] } }
+      new ≡ record j {
+        queues = queues;
+        lists = record j.lists {
+          down = j.lists.down
+              ++ record { message = m; place = item.0; cause = item.1 } ∷ [];
+        };
+      }
 
 -- The update that begins these bytes went down, and has n of them; or not, and nothing changed.
 abbrev pub TellsNext : List ℕ → Joined → Result ℕ AllocError → Joined → Type 0
 TellsNext bytes j (Ok n) new =
-    (m : Fields) (rest : List ℕ) → IsMessage m → bytes ≡ spelling m ++ rest → (n ≡ length (spelling m)) × TellsOne j m new
+    (m : Fields) (rest : List ℕ) → IsMessage m → bytes ≡ spelling m ++ rest
+    → (n ≡ length (spelling m)) × TellsOne j m new
 TellsNext bytes j (Err e) new = new ≡ j
 
 -- Of these messages, the first ones went down, and have n bytes.
@@ -63,4 +71,5 @@ pub record TellsSome (ms : List Fields) (j : Joined) (read : ℕ) (new : Joined)
 
 -- So it is of all messages that these bytes are.
 abbrev pub TellsUpdates : List ℕ → Joined → (read : ℕ) → Joined → Type 0
-TellsUpdates bytes j read new = (ms : List Fields) → AreGood ms → bytes ≡ spelled ms → TellsSome ms j read new
+TellsUpdates bytes j read new =
+    (ms : List Fields) → AreGood ms → bytes ≡ spelled ms → TellsSome ms j read new

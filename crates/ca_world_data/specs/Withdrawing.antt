@@ -7,7 +7,9 @@ use Rattle.ca_world_data.specs.declared.server.RecordSide.{RecordSide}
 -- as the log tells of those among these that came on circuit k
 abbrev pub withdrawn_of : (k : ℕ) → List PutPlace → List history.Entry
 withdrawn_of k [] = []
-withdrawn_of k (p ∷ ps) = if p.circuit == k then history.Withdrawn p.circuit p.place ∷ withdrawn_of k ps else withdrawn_of k ps
+withdrawn_of k (p ∷ ps) =
+    if p.circuit == k then history.Withdrawn p.circuit p.place ∷ withdrawn_of k ps
+    else withdrawn_of k ps
 
 -- of all records, in order
 abbrev pub all_withdrawn : (k : ℕ) → List RecordSide → List history.Entry

@@ -1,6 +1,7 @@
 //! A circuit that a client wants is accepted by its server. All room is made first, since no core
 //! takes such a call back.
-ghost use Rattle.std.specs.Prelude.{◌≡◌, ◌<◌, ◌≤◌, ◌+◌, [], IfOk, OnOk, length, map, option_and_then, replicate, slice_set, vec_len};
+ghost use Rattle.std.specs.Prelude.{◌≡◌, ◌<◌, ◌≤◌, ◌+◌, [], IfOk, OnOk, length, map};
+ghost use Rattle.std.specs.Prelude.{option_and_then, replicate, slice_set, vec_len};
 ghost use Rattle.ca_client_core.specs.ForAccepts.{connecting_sent, wanted_in_place};
 ghost use Rattle.ca_client_core.specs.ForHistories.{sending_of};
 ghost use Rattle.ca_queue.specs.Queue.{no_queue};

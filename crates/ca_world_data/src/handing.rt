@@ -2,7 +2,8 @@
 ghost use Rattle.std.specs.Prelude.{◌≡◌, MatchResult, map};
 ghost use Rattle.std.specs.List.{list_any};
 ghost use Rattle.ca_model.specs.ClientEvents.{HandsOut, hands_out};
-ghost use Rattle.ca_world_data.specs.Handing.{IfSame, IsReadyToHand, IsUnasked, Tells, ToldAt, log_of};
+ghost use Rattle.ca_world_data.specs.Handing.{IfSame, IsReadyToHand, IsUnasked, Tells, ToldAt};
+ghost use Rattle.ca_world_data.specs.Handing.{log_of};
 ghost use Rattle.ca_world_data.specs.Logs.{lines_in};
 ghost use Rattle.ca_world_data.specs.Seen.{intent_of, line_of};
 

@@ -9,7 +9,8 @@ ghost use Rattle.ca_model.specs.History as history;
 ghost use Rattle.ca_model.specs.ServerEvents.{keys_concerned, numbers_posted, with_number};
 ghost use Rattle.ca_model.specs.ServerEvents as world;
 ghost use Rattle.ca_world_data.specs.declared.joined.Standing as kept;
-ghost use Rattle.ca_world_data.specs.Numbering.{AllAlike, AllMayCount, HasKeyAt, IsAlike, IsPlaced, MayCount, keys_at, post_limit, with_counted};
+ghost use Rattle.ca_world_data.specs.Numbering.{AllAlike, AllMayCount, HasKeyAt, IsAlike, IsPlaced};
+ghost use Rattle.ca_world_data.specs.Numbering.{MayCount, keys_at, post_limit, with_counted};
 ghost use Rattle.ca_world_data.specs.Seen.{joined_of, queue_of, record_of};
 
 use crate::history::Cause;

@@ -1,11 +1,13 @@
 ghost use Rattle.std.specs.Prelude.{◌≡◌, [], IfOk, OnOk, length, map, option_map};
-ghost use Rattle.ca_model.specs.World.{addresses, client_begun, no_names, numbered, record_begun, server_begun};
+ghost use Rattle.ca_model.specs.World.{addresses, client_begun, no_names, numbered, record_begun};
+ghost use Rattle.ca_model.specs.World.{server_begun};
 ghost use Rattle.ca_model.specs.ClientEnds.{new_client};
 ghost use Rattle.ca_model.specs.History.{Added};
 ghost use Rattle.ca_model.specs.Server.{new_server};
 ghost use Rattle.ca_world_data.specs.Opening.{BeginClients, BeginServers, HasClients, HasServers};
 ghost use Rattle.ca_world_data.specs.Restarts.{BeginsServer, address_of};
-ghost use Rattle.ca_world_data.specs.Seen.{client_of, entry_of, names_of, record_of, recorded_of, server_of};
+ghost use Rattle.ca_world_data.specs.Seen.{client_of, entry_of, names_of, record_of, recorded_of};
+ghost use Rattle.ca_world_data.specs.Seen.{server_of};
 ghost use Rattle.ca_world_data.specs.Settings.{rule_of};
 
 use crate::client::{ClientSide, Names};

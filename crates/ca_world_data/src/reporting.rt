@@ -1,11 +1,13 @@
 //! Ends of circuits at a server that ended in a call of its core, which did not report them: they
 //! are reported at once.
-ghost use Rattle.std.specs.Prelude.{◌≡◌, ◌++◌, ◌+◌, ◌<◌, ◌≤◌, IfOk, MatchOption, OnOk, Some, filter, is_some, length, map, not, vec_capacity, vec_len};
+ghost use Rattle.std.specs.Prelude.{◌≡◌, ◌++◌, ◌+◌, ◌<◌, ◌≤◌, IfOk, MatchOption, OnOk, Some};
+ghost use Rattle.std.specs.Prelude.{filter, is_some, length, map, not, vec_capacity, vec_len};
 ghost use Rattle.ca_ids.specs.Table.{under, with_freed};
 ghost use Rattle.ca_model.specs.ServerEvents as world;
 ghost use Rattle.ca_model.specs.World.{grown};
 ghost use Rattle.ca_world_data.specs.Opening.{entries_in};
-ghost use Rattle.ca_world_data.specs.Reporting.{AreServed, IsServed, IsUnserved, Quits, Reports, ReportsAt, all_gone, gone_at, gone_of, waits};
+ghost use Rattle.ca_world_data.specs.Reporting.{AreServed, IsServed, IsUnserved, Quits, Reports};
+ghost use Rattle.ca_world_data.specs.Reporting.{ReportsAt, all_gone, gone_at, gone_of, waits};
 ghost use Rattle.ca_world_data.specs.Seen.{entry_of, joined_of, record_of};
 ghost use Rattle.ca_world_data.specs.ServerCuts.{HasRoomFor};
 

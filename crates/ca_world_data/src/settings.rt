@@ -1,6 +1,7 @@
 ghost use Rattle.std.specs.Prelude.{◌≡◌, map};
 ghost use Rattle.ca_records.specs.Records.{AreApart};
-ghost use Rattle.ca_world_data.specs.Settings.{AreRecords, IsClient, MakesClient, is_taken, rule_of};
+ghost use Rattle.ca_world_data.specs.Settings.{AreRecords, IsClient, MakesClient, is_taken};
+ghost use Rattle.ca_world_data.specs.Settings.{rule_of};
 
 use ca_client_core::Address;
 use ca_client_tables::count_names;

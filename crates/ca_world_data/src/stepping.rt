@@ -1,9 +1,11 @@
 //! A step of a client's end of a circuit, with what it leaves in the history and the log.
 ghost use Rattle.ca_client_core.specs.ForHistories.{sending_of};
-ghost use Rattle.std.specs.Prelude.{◌≡◌, ◌+◌, ◌<◌, ◌≤◌, IfOk, OnOk, length, map, vec_capacity, vec_len};
+ghost use Rattle.std.specs.Prelude.{◌≡◌, ◌+◌, ◌<◌, ◌≤◌, IfOk, OnOk, length, map, vec_capacity};
+ghost use Rattle.std.specs.Prelude.{vec_len};
 ghost use Rattle.ca_model.specs.ClientEvents.{heard_in};
 ghost use Rattle.ca_model.specs.World.{log_length};
-ghost use Rattle.ca_world_data.specs.ClientSteps.{EndsOn, HasRoomHeard, HearsOn, IsAbout, IsHeard, IsReadyToStep, StepsOn, TellsFew};
+ghost use Rattle.ca_world_data.specs.ClientSteps.{EndsOn, HasRoomHeard, HearsOn, IsAbout, IsHeard};
+ghost use Rattle.ca_world_data.specs.ClientSteps.{IsReadyToStep, StepsOn, TellsFew};
 ghost use Rattle.ca_world_data.specs.Found.{AreNumbered};
 ghost use Rattle.ca_world_data.specs.Logs.{HasRoom, lines_in};
 ghost use Rattle.ca_world_data.specs.Named.{IsMeant};

@@ -4,7 +4,8 @@ ghost use Rattle.ca_queue.specs.Circuit.{Takes};
 ghost use Rattle.ca_wire.specs.Fields.{Fields};
 ghost use Rattle.ca_wire.specs.Message.{IsMessage, spelling};
 ghost use Rattle.ca_world_data.specs.Seen.{joined_of};
-ghost use Rattle.ca_world_data.specs.Updates.{AreSpelled, BeginsSpelled, ReadsFirst, TellsNext, TellsUpdates};
+ghost use Rattle.ca_world_data.specs.Updates.{AreSpelled, BeginsSpelled, ReadsFirst, TellsNext};
+ghost use Rattle.ca_world_data.specs.Updates.{TellsUpdates};
 
 use crate::history::{Cause, Told};
 use crate::joined::Joined;

@@ -4,7 +4,8 @@ ghost use Rattle.ca_ids.specs.Wire.{wire_of};
 ghost use Rattle.ca_world_data.specs.Found.{AreNumbered};
 ghost use Rattle.ca_world_data.specs.Logs.{HasRoom, lines_in};
 ghost use Rattle.ca_world_data.specs.Seen.{client_of, joined_of, sent_of};
-ghost use Rattle.ca_world_data.specs.Speaking.{GoesUp, HasRoomUp, IsReady, IsUnready, IsWay, with_up};
+ghost use Rattle.ca_world_data.specs.Speaking.{GoesUp, HasRoomUp, IsReady, IsUnready, IsWay};
+ghost use Rattle.ca_world_data.specs.Speaking.{with_up};
 
 use crate::client::ClientSide;
 use crate::found::circuit_of;

@@ -1,5 +1,6 @@
 -- Vocabulary: the numbers that a seed draws, and the events that they are.
-use Rattle.std.specs.Prelude.{ℕ, ◌+◌, ◌/◌, ◌%◌, ◌==◌, ◌||◌, ◌&&◌, if◌then◌else◌, min, Option, Some, None}
+use Rattle.std.specs.Prelude.{ℕ, ◌+◌, ◌/◌, ◌%◌, ◌==◌, ◌||◌, ◌&&◌, if◌then◌else◌, min, Option, Some}
+use Rattle.std.specs.Prelude.{None}
 use Rattle.ca_model.specs.Events.{Event}
 use Rattle.ca_model.specs.Events as event
 use Rattle.rand_core.specs.Pcg32Seed.{pcg32_seed}

@@ -1,5 +1,6 @@
 -- Vocabulary: the lines of events, after their first words.
-use Rattle.std.specs.Prelude.{ℕ, ◌≡◌, ◌<◌, Bool, true, false, if◌then◌else◌, List, [], ◌∷◌, length, codes}
+use Rattle.std.specs.Prelude.{ℕ, ◌≡◌, ◌<◌, Bool, true, false, if◌then◌else◌, List, [], ◌∷◌, length}
+use Rattle.std.specs.Prelude.{codes}
 use Rattle.ca_text.specs.Mask.{HasEvent}
 use Rattle.ca_dbr.specs.Elements.{Elements, base_of}
 use Rattle.ca_dbr.specs.Types.{base_number}
@@ -106,7 +107,8 @@ pub record SaysDatagram (words : List (List ℕ)) (e : Event) : Type 0 where
   pub some : (0 < length sender) × (0 < length digits)
   pub comes : IsAddress sender from
   pub hex : IsHex digits bytes
-  pub is : e ≡ (if at_client then event.ClientDatagram to from bytes else event.ServerDatagram to from bytes)
+  pub is : e ≡
+      (if at_client then event.ClientDatagram to from bytes else event.ServerDatagram to from bytes)
 
 -- `cut K client|server`
 pub record SaysCut (words : List (List ℕ)) (e : Event) : Type 0 where
@@ -121,11 +123,15 @@ pub record SaysCut (words : List (List ℕ)) (e : Event) : Type 0 where
 abbrev pub Says : Verb → List (List ℕ) → Event → Type 0
 Says verb.Open words e = SaysOpen words e
 Says verb.Clear words (event.Clear client channel) = AreNumbers words (client ∷ channel ∷ [])
-Says verb.Read words (event.Read client channel data_type count) = AreNumbers words (client ∷ channel ∷ data_type ∷ count ∷ [])
-Says verb.Write words (event.Write client channel value) = SaysWritten words (client, channel, value)
-Says verb.WriteNotify words (event.WriteNotify client channel value) = SaysWritten words (client, channel, value)
+Says verb.Read words (event.Read client channel data_type count) =
+    AreNumbers words (client ∷ channel ∷ data_type ∷ count ∷ [])
+Says verb.Write words (event.Write client channel value) =
+    SaysWritten words (client, channel, value)
+Says verb.WriteNotify words (event.WriteNotify client channel value) =
+    SaysWritten words (client, channel, value)
 Says verb.Subscribe words e = SaysSubscribe words e
-Says verb.Unsubscribe words (event.Unsubscribe client subscription) = AreNumbers words (client ∷ subscription ∷ [])
+Says verb.Unsubscribe words (event.Unsubscribe client subscription) =
+    AreNumbers words (client ∷ subscription ∷ [])
 Says verb.Collect words (event.Collect client request) = AreNumbers words (client ∷ request ∷ [])
 Says verb.GiveUp words (event.GiveUp client request) = AreNumbers words (client ∷ request ∷ [])
 Says verb.Datagram words e = SaysDatagram words e
@@ -144,7 +150,8 @@ Says verb.Tick words (event.Tick moment) = AreNumbers words (moment ∷ [])
 Says _ words _ = ⊥
 
 -- `post S RECORD MASK V..`: the values are of the type that the last line above gives the record
-pub record SaysPost (servers : List ServerSetting) (added : Added) (words : List (List ℕ)) (e : Event) : Type 0 where
+pub record SaysPost (servers : List ServerSetting) (added : Added) (words : List (List ℕ))
+    (e : Event) : Type 0 where
   pub first : List ℕ
   pub name : List ℕ
   pub third : List ℕ
@@ -166,7 +173,8 @@ pub record SaysAdd (words : List (List ℕ)) (server : ℕ) (r : RecordState) : 
   pub first : List ℕ
   pub number : List ℕ
   pub values : List (List ℕ)
-  pub are : words ≡ first ∷ r.name ∷ type_word (base_of r.value) ∷ number ∷ slow_word r.slow ∷ values
+  pub are : words ≡ first ∷ r.name ∷ type_word
+      (base_of r.value) ∷ number ∷ slow_word r.slow ∷ values
   pub of : IsNumber first server
   pub some : 0 < length r.name
   pub counts : IsNumber number r.count

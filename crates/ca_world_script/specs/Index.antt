@@ -7,7 +7,8 @@ use Rattle.ca_world_script.specs.Types.{Added}
 use Rattle.ca_world_script.specs.declared.types.Types.{Types}
 
 abbrev pub added_in : {K : Type 0} → (K → ℕ × List ℕ) → List (K × BaseType) → Added
-added_in key entries = λ server name. lookup (λ k. server == (key k).0 && bytes_eq name (key k).1) entries
+added_in key entries =
+    λ server name. lookup (λ k. server == (key k).0 && bytes_eq name (key k).1) entries
 
 -- the types that were named
 abbrev pub added_of : Types → Added

@@ -1,5 +1,6 @@
 -- The lines of a report.
-use Rattle.std.specs.Prelude.{ℕ, Bool, true, false, if◌then◌else◌, List, [], ◌++◌, Option, Some, None, codes, decimal, slice_get, unwrap_or}
+use Rattle.std.specs.Prelude.{ℕ, Bool, true, false, if◌then◌else◌, List, [], ◌++◌, Option, Some}
+use Rattle.std.specs.Prelude.{None, codes, decimal, slice_get, unwrap_or}
 use Rattle.std.specs.List.{flat_map}
 use Rattle.ca_text.specs.Refusal.{refusal_number}
 use Rattle.ca_dbr.specs.declared.value.Outcome.{Outcome}
@@ -32,15 +33,20 @@ live_text o = codes " lost "
 -- and of a subscription
 abbrev pub noticed_text : Intent → Outcome → List ℕ
 noticed_text (history.On channel history.Create) o = counted (live_text o) channel
-noticed_text (history.On channel (history.Request history.Write n)) o = counted (codes " write_refused ") channel ++ status_text o
-noticed_text (history.On channel (history.Request history.Read n)) o = counted (codes " completed ") n ++ outcome_text o
-noticed_text (history.On channel (history.Request history.Put n)) o = counted (codes " completed ") n ++ outcome_text o
-noticed_text (history.On channel (history.Subscribe n)) o = counted (codes " ended ") n ++ status_text o
+noticed_text (history.On channel (history.Request history.Write n)) o =
+    counted (codes " write_refused ") channel ++ status_text o
+noticed_text (history.On channel (history.Request history.Read n)) o =
+    counted (codes " completed ") n ++ outcome_text o
+noticed_text (history.On channel (history.Request history.Put n)) o =
+    counted (codes " completed ") n ++ outcome_text o
+noticed_text (history.On channel (history.Subscribe n)) o =
+    counted (codes " ended ") n ++ status_text o
 noticed_text intent o = []
 
 -- an update of a subscription
 abbrev pub updated_text : Intent → Outcome → List ℕ
-updated_text (history.On channel (history.Subscribe n)) o = counted (codes " update ") n ++ outcome_text o
+updated_text (history.On channel (history.Subscribe n)) o =
+    counted (codes " update ") n ++ outcome_text o
 updated_text intent o = []
 
 -- what a line of this log says
@@ -60,7 +66,8 @@ is_shown line = true
 
 -- a line: the client's number, what happened, and a line feed
 abbrev pub line_text : ℕ → List Line → Line → List ℕ
-line_text client log line = if is_shown line then decimal client ++ (entry_text log line ++ codes "\n") else []
+line_text client log line =
+    if is_shown line then decimal client ++ (entry_text log line ++ codes "\n") else []
 
 -- the lines of a log
 abbrev pub log_text : ℕ → List Line → List ℕ

@@ -28,7 +28,13 @@ pub record Reading : Type 0 where
   pub added : Added
 
 abbrev pub reading : Script → Added → Reading
-reading s added = record { clients = s.clients.items; servers = s.servers.items; events = s.events.items; added = added }
+reading s added =
+    record {
+      clients = s.clients.items;
+      servers = s.servers.items;
+      events = s.events.items;
+      added = added;
+    }
 
 abbrev pub nothing : Reading
 nothing = record { clients = []; servers = []; events = []; added = none_added }
@@ -95,7 +101,10 @@ pub record AddsAdd (old : Reading) (words : List (List ℕ)) (new : Reading) : T
 -- from old, a line of these words leads to new
 abbrev pub Adds : Reading → List (List ℕ) → Reading → Type 0
 Adds old words new =
-    AddsClient old words new ⊎ (AddsServer old words new ⊎ (AddsTo old words new ⊎ (AddsEvent old words new ⊎ (AddsPost old words new ⊎ AddsAdd old words new))))
+    AddsClient old words new
+    ⊎ (AddsServer old words new
+    ⊎ (AddsTo old words new
+    ⊎ (AddsEvent old words new ⊎ (AddsPost old words new ⊎ AddsAdd old words new))))
 
 -- and these lines in a row
 abbrev pub AddsAll : Reading → List (List ℕ) → Reading → Type 0

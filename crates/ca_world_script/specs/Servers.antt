@@ -11,7 +11,8 @@ abbrev pub bare : Address → ServerSetting
 bare a = record { address = a; rules = []; records = [] }
 
 -- `record NAME TYPE COUNT quick|slow V1 V2 ..`: a record of a new name, after the others
-pub record TakesRecord (old : ServerSetting) (words : List (List ℕ)) (new : ServerSetting) : Type 0 where
+pub record TakesRecord (old : ServerSetting) (words : List (List ℕ))
+    (new : ServerSetting) : Type 0 where
   pub behind : List (List ℕ)
   pub records : List RecordState
   pub are : words ≡ codes "record" ∷ behind
@@ -19,7 +20,8 @@ pub record TakesRecord (old : ServerSetting) (words : List (List ℕ)) (new : Se
   pub after : new ≡ record old { records = records }
 
 -- `rule USER HOST RECORD rw|r|w|-`: a rule, after the others
-pub record TakesRule (old : ServerSetting) (words : List (List ℕ)) (new : ServerSetting) : Type 0 where
+pub record TakesRule (old : ServerSetting) (words : List (List ℕ))
+    (new : ServerSetting) : Type 0 where
   pub behind : List (List ℕ)
   pub rule : Rule
   pub are : words ≡ codes "rule" ∷ behind

@@ -19,7 +19,8 @@ pub record Adds (server : ℕ) (name : List ℕ) (b : BaseType) (old new : Added
   pub others : (s : ℕ) (n : List ℕ) → ((s ≡ server) × (n ≡ name) → ⊥) → new s n ≡ old s n
 
 -- a `record` line of the server is of this type
-pub record IsRecorded (servers : List ServerSetting) (server : ℕ) (name : List ℕ) (b : BaseType) : Type 0 where
+pub record IsRecorded (servers : List ServerSetting) (server : ℕ) (name : List ℕ)
+    (b : BaseType) : Type 0 where
   pub line : ServerSetting
   pub at : At servers server line
   pub place : ℕ

@@ -33,4 +33,6 @@ client_text clients restarted logs i = lives_text i logs (lives_of clients i res
 -- The report of a run of n clients: the lines of each, of all its lives, and how
 -- many events were done.
 abbrev pub report_text : (clients : ℕ) → List Event → List (List Line) → List ℕ
-report_text clients done logs = flat_map (client_text clients (restarts done) logs) (range_with_len 0 clients) ++ end_text (length done)
+report_text clients done logs =
+    flat_map (client_text clients (restarts done) logs) (range_with_len 0 clients) ++ end_text
+    (length done)

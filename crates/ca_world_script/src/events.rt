@@ -4,7 +4,8 @@ ghost use Rattle.ca_dbr.specs.Elements.{Elements, elements};
 ghost use Rattle.ca_events.specs.Events.{event_of};
 ghost use Rattle.ca_model.specs.Events as event;
 ghost use Rattle.ca_script.specs.Grammar.{Refuses};
-ghost use Rattle.ca_world_script.specs.Events.{Says, SaysNamed, SaysOpen, SaysSubscribe, SaysWritten};
+ghost use Rattle.ca_world_script.specs.Events.{Says, SaysNamed, SaysOpen, SaysSubscribe};
+ghost use Rattle.ca_world_script.specs.Events.{SaysWritten};
 
 use crate::datagrams::{read_cut, read_datagram};
 use crate::values::{base_at, mask_of};

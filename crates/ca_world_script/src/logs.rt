@@ -1,7 +1,9 @@
 ghost use Rattle.std.specs.Prelude.{◌≡◌, ◌≢◌, ◌<◌, ◌++◌, IfErr, OnErr, OnOk, Some, length, map};
 ghost use Rattle.ca_text.specs.declared.refusal.Refusal.TheVariants.{OutOfMemory};
 ghost use Rattle.ca_text.specs.Place.{At};
-ghost use Rattle.ca_world_script.specs.Logs.{entry_text, found_text, is_shown, life_text, line_text, lives_text, log_text, noticed_text, status_text, told_text, updated_text};
+ghost use Rattle.ca_world_script.specs.Logs.{entry_text, found_text, is_shown, life_text};
+ghost use Rattle.ca_world_script.specs.Logs.{line_text, lives_text, log_text, noticed_text};
+ghost use Rattle.ca_world_script.specs.Logs.{status_text, told_text, updated_text};
 ghost use Rattle.ca_world_script.specs.Lives.{logs_of};
 ghost use Rattle.ca_world_data.specs.Seen.{intent_of, line_of};
 

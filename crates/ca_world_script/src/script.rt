@@ -1,7 +1,8 @@
 ghost use Rattle.std.specs.Prelude.{◌≢◌, ◌∷◌, List, ℕ, IfErr, IfOk, OnErr, OnOk, codes, length};
 ghost use Rattle.ca_script.specs.Grammar.{Refuses, parted};
 ghost use Rattle.ca_world_script.specs.Index.{added_of};
-ghost use Rattle.ca_world_script.specs.Scripts.{Adds, AddsAdd, AddsClient, AddsServer, AddsTo, RefusesScript, SaysScript, reading};
+ghost use Rattle.ca_world_script.specs.Scripts.{Adds, AddsAdd, AddsClient, AddsServer, AddsTo};
+ghost use Rattle.ca_world_script.specs.Scripts.{RefusesScript, SaysScript, reading};
 ghost use Rattle.ca_world_script.specs.Types.{Added};
 
 use crate::clients::read_client;

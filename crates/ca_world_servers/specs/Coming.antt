@@ -14,18 +14,23 @@ use Rattle.ca_world_servers.specs.declared.coming.Coming.{Coming}
 
 -- the elements of the message, if it has such, are these
 abbrev pub GivesElements : Fields → Option Elements → Type 0
-GivesElements m found = (b : BaseType) (e : Elements) → base_number b ≡ m.data_type → ReadsElements b m.count m.payload e → found ≡ Some e
+GivesElements m found =
+    (b : BaseType) (e : Elements) → base_number b ≡ m.data_type
+    → ReadsElements b m.count m.payload e → found ≡ Some e
 
 -- and in this type this value
 abbrev pub GivesValue : Fields → BaseType → Option Elements → Type 0
 GivesValue m base found =
-    (b : BaseType) (e v : Elements) → base_number b ≡ m.data_type → ReadsElements b m.count m.payload e → converted e base ≡ Ok v → found ≡ Some v
+    (b : BaseType) (e v : Elements) → base_number b ≡ m.data_type
+    → ReadsElements b m.count m.payload e → converted e base ≡ Ok v → found ≡ Some v
 
 -- What a write that the end takes writes by this message is this; if there is none, it takes none.
-abbrev pub IsComing : (k : Knows) (m : Fields) (c : Serves k m.p1) → Elements → Option Coming → Type 0
+abbrev pub IsComing : (k : Knows) (m : Fields) (c : Serves k m.p1) → Elements → Option Coming
+    → Type 0
 IsComing k m c v (Some w) = (c.channel.name ≡ w.name.items) × (v ≡ elements w.value)
 IsComing k m c v None = ⊥
 
 abbrev pub Foresees : Server → Handle → Fields → Option Coming → Type 0
 Foresees core h m found =
-    (e : ServerEnd) → HasEnd core h e → (c : Serves (knows core e) m.p1) (v : Elements) → PutTaken (knows core e) m c v → IsComing (knows core e) m c v found
+    (e : ServerEnd) → HasEnd core h e → (c : Serves (knows core e) m.p1) (v : Elements)
+    → PutTaken (knows core e) m c v → IsComing (knows core e) m c v found

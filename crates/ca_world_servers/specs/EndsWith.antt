@@ -5,7 +5,8 @@ use Rattle.ca_arena.specs.declared.handle.Handle.{Handle}
 use Rattle.ca_ids.specs.Table.{same_handle}
 use Rattle.ca_model.specs.History.{Entry}
 use Rattle.ca_model.specs.Server.{Server}
-use Rattle.ca_model.specs.ServerEvents.{ending, ends_at, ends_by, reported, server_closed, withdrawals, without_puts}
+use Rattle.ca_model.specs.ServerEvents.{ending, ends_at, ends_by, reported, server_closed}
+use Rattle.ca_model.specs.ServerEvents.{withdrawals, without_puts}
 use Rattle.ca_model.specs.World.{Joined, grown}
 use Rattle.ca_world_data.specs.declared.server.ServerSide.{ServerSide}
 use Rattle.ca_world_data.specs.Seen.{record_of, server_of}
@@ -13,7 +14,9 @@ use Rattle.ca_world_data.specs.Seen.{record_of, server_of}
 -- The circuit that is open at server i under this handle ends with these bytes left, and others as
 -- the core says: `ends_here` of the statement, for the circuit of which the core knows the handle.
 abbrev pub ends_under : Handle → List ℕ → (i : ℕ) → Server → Joined → Option (List ℕ)
-ends_under h left i core c = if same_handle c.at_server h && (c.server == i && c.lists.server_open) then Some left else ends_by i core c
+ends_under h left i core c =
+    if same_handle c.at_server h && (c.server == i && c.lists.server_open) then Some left
+    else ends_by i core c
 
 -- the circuits that end so: what they leave plays no part
 abbrev pub gone_with : Handle → (i : ℕ) → Server → List Joined → ℕ → Bool
@@ -21,15 +24,25 @@ gone_with h i core ks = ends_at (ends_under h [] i core) ks
 
 -- a circuit, which ends with these bytes left if it is that of the handle
 abbrev pub closed_under : Handle → List ℕ → (i : ℕ) → Joined → Joined
-closed_under h left i c = if same_handle c.at_server h && (c.server == i && c.lists.server_open) then server_closed left c else c
+closed_under h left i c =
+    if same_handle c.at_server h && (c.server == i && c.lists.server_open) then server_closed left c
+    else c
 
 -- A step of server i closed the end under this handle, with these bytes left: it ends, and each
 -- that ended in the step; these are reported, and the puts that wait on all of them are withdrawn.
 -- It is `server_after` of the statement, for `ends_here`.
-pub record ReportsWith (h : Handle) (left : List ℕ) (i : ℕ) (y : ServerSide) (ks : List Joined) (logs : List (List Entry)) (y' : ServerSide) (ks' : List Joined) (logs' : List (List Entry)) : Type 0 where
+pub record ReportsWith (h : Handle) (left : List ℕ) (i : ℕ) (y : ServerSide) (ks : List Joined)
+    (logs : List (List Entry)) (y' : ServerSide) (ks' : List Joined)
+    (logs' : List (List Entry)) : Type 0 where
   pub side :
       server_of y'
-      ≡ record (server_of y) { core = reported y.core; records = map (without_puts (ends_at (ends_under h left i y.core) ks)) (map record_of y.records.items) }
+      ≡ record (server_of y) {
+        core = reported y.core;
+        records =
+            map (without_puts (ends_at (ends_under h left i y.core) ks))
+            (map record_of y.records.items);
+      }
   pub numbers : y'.circuits.items ≡ y.circuits.items
   pub circuits : ks' ≡ map (ending (ends_under h left i y.core)) ks
-  pub logged : logs' ≡ grown y.life (withdrawals (ends_at (ends_under h left i y.core) ks) (map record_of y.records.items)) logs
+  pub logged : logs' ≡ grown y.life
+      (withdrawals (ends_at (ends_under h left i y.core) ks) (map record_of y.records.items)) logs

@@ -1,6 +1,7 @@
 -- Working: what a message that a server handled leaves on its circuit and in the records, as the
 -- statement's functions of its action.
-use Rattle.std.specs.Prelude.{ℕ, ◌≡◌, ◌+◌, ◌≤◌, ◌++◌, ◌==◌, Bool, true, List, [], ◌∷◌, Some, filter, length, map, nat_le, not, vec_capacity, vec_len}
+use Rattle.std.specs.Prelude.{ℕ, ◌≡◌, ◌+◌, ◌≤◌, ◌++◌, ◌==◌, Bool, true, List, [], ◌∷◌, Some, filter}
+use Rattle.std.specs.Prelude.{length, map, nat_le, not, vec_capacity, vec_len}
 use Rattle.std.specs.Str.{bytes_eq}
 use Rattle.ca_queue.specs.declared.entry.SubKey.{SubKey}
 use Rattle.ca_queue.specs.Queue.{Queue, switched}
@@ -22,16 +23,26 @@ pub record HasRoomToNote (replies : ℕ) (j : Opened) : Type 0 where
 
 -- a message was handled in this step, by these replies: `handled_at` of the statement
 abbrev pub with_handled : Step → List Told → Joined → Joined
-with_handled step told j = record j { lists = record j.lists { down = j.lists.down ++ told; handled = j.lists.handled ++ step ∷ [] } }
+with_handled step told j =
+    record j {
+      lists = record j.lists {
+        down = j.lists.down ++ told;
+        handled = j.lists.handled ++ step ∷ [];
+      };
+    }
 
 -- a channel was created by the message at this place: `numbers_after` of the statement, for `Opens`
 abbrev pub with_creation : (sid place : ℕ) → Joined → Joined
-with_creation sid place j = record j { creations = j.creations ++ record { sid = sid; place = place } ∷ [] }
+with_creation sid place j =
+    record j { creations = j.creations ++ record { sid = sid; place = place } ∷ [] }
 
 -- a subscription began by the message at this place: `numbers_after` for `Adds`
 abbrev pub with_standing : SubKey → (place : ℕ) → Joined → Joined
 with_standing key place j =
-    record j { standing = j.standing ++ record { key = key; place = place; posts = 1 } ∷ []; queues = number_taken key (place, Update 0) j.queues }
+    record j {
+      standing = j.standing ++ record { key = key; place = place; posts = 1 } ∷ [];
+      queues = number_taken key (place, Update 0) j.queues;
+    }
 
 -- a queue has room for one more subscription
 abbrev pub has_room : Queue (ℕ × Written) × Bool → Bool
@@ -44,7 +55,8 @@ with_switched on j = record j { queues = map (switched on) j.queues }
 -- the channel of this SID is over, and so are its subscriptions: `numbers_after` for `Clears`
 abbrev pub without_sid : (sid : ℕ) → Joined → Joined
 without_sid sid j =
-    without_standing (λ (k : SubKey). k.sid == sid) (record j { creations = filter (λ (c : Creation). not (c.sid == sid)) j.creations })
+    without_standing (λ (k : SubKey). k.sid == sid)
+    (record j { creations = filter (λ (c : Creation). not (c.sid == sid)) j.creations })
 
 -- ---- records
 

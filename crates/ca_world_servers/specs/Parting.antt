@@ -1,5 +1,6 @@
 -- Working: the puts that wait on a channel which a message clears, by what the core knows of each.
-use Rattle.std.specs.Prelude.{ℕ, ◌≡◌, ◌++◌, Bool, not, List, [], ◌∷◌, Option, Some, None, Vec, if◌then◌else◌, length, map}
+use Rattle.std.specs.Prelude.{ℕ, ◌≡◌, ◌++◌, Bool, not, List, [], ◌∷◌, Option, Some, None, Vec}
+use Rattle.std.specs.Prelude.{if◌then◌else◌, length, map}
 use Rattle.std.specs.declared.alloc.Global.{Global}
 use Rattle.ca_arena.specs.declared.handle.Handle.{Handle}
 use Rattle.ca_records.specs.declared.puts.Put.{Put}
@@ -27,11 +28,14 @@ puts_of None = []
 
 -- of the puts that wait for a record those that are not of the channel of this SID on this circuit
 abbrev pub kept_of : Server → Handle → (sid : ℕ) → RecordSide → List PutPlace
-kept_of core h sid r = places_where (λ (p : Put). not (is_of_channel h sid p)) (puts_of (record_named core.records r.name)) r.waiting
+kept_of core h sid r =
+    places_where (λ (p : Put). not (is_of_channel h sid p))
+    (puts_of (record_named core.records r.name)) r.waiting
 
 -- and those that are
 abbrev pub gone_of : Server → Handle → (sid : ℕ) → RecordSide → List PutPlace
-gone_of core h sid r = places_where (is_of_channel h sid) (puts_of (record_named core.records r.name)) r.waiting
+gone_of core h sid r =
+    places_where (is_of_channel h sid) (puts_of (record_named core.records r.name)) r.waiting
 
 -- as the log tells of one
 abbrev pub withdrawn_at : PutPlace → Entry
@@ -53,5 +57,6 @@ with_kept kept rs = rs
 
 -- The records are beside the core's: the core has by the name of each the one at its place.
 pub record AreBeside (cs : List Record) (rs : List RecordSide) : Type 0 where
-  pub each : (i : ℕ) (c : Record) (r : RecordSide) → At cs i c → At rs i r → record_named cs r.name ≡ Some c
+  pub each : (i : ℕ) (c : Record) (r : RecordSide) → At cs i c → At rs i r
+      → record_named cs r.name ≡ Some c
   pub long : length cs ≡ length rs

@@ -6,7 +6,8 @@ ghost use Rattle.ca_text.specs.declared.command.Command.TheVariants as command;
 ghost use Rattle.ca_world_data.specs.Seen.{record_of};
 ghost use Rattle.ca_world_servers.specs.declared.parting.Parting as part;
 ghost use Rattle.ca_world_servers.specs.Coming.{Foresees};
-ghost use Rattle.ca_world_servers.specs.Effects.{IsAhead, IsParting, IsPartingOf, IsWrite, MayWaitFor};
+ghost use Rattle.ca_world_servers.specs.Effects.{IsAhead, IsParting, IsPartingOf, IsWrite};
+ghost use Rattle.ca_world_servers.specs.Effects.{MayWaitFor};
 
 use crate::coming::{Coming, coming_write};
 use crate::handling::reserve_waiting;

@@ -7,7 +7,9 @@ ghost use Rattle.ca_world_data.specs.Reporting.{waits};
 ghost use Rattle.ca_world_data.specs.Seen.{joined_of, record_of};
 ghost use Rattle.ca_world_data.specs.ServerCuts.{HasRoomFor};
 ghost use Rattle.ca_world_servers.specs.declared.coming.Coming as coming;
-ghost use Rattle.ca_world_servers.specs.Effects.{AreApart, IsPartingOf, MayWaitFor, TellsClear, TellsMessage, TellsWait, TellsWrite, busy_after, wrote_by};
+ghost use Rattle.ca_world_servers.specs.Effects.{AreApart, IsPartingOf, MayWaitFor, TellsClear};
+ghost use Rattle.ca_world_servers.specs.Effects.{TellsMessage, TellsWait, TellsWrite, busy_after};
+ghost use Rattle.ca_world_servers.specs.Effects.{wrote_by};
 
 use crate::coming::Coming;
 use crate::handling::{add_waiting, make_busy};

@@ -3,7 +3,8 @@
 //! is read off the core.
 ghost use Rattle.std.specs.Prelude.{◌≡◌, OnErr, OnOk, map};
 ghost use Rattle.ca_world_data.specs.Seen.{joined_of, queue_of};
-ghost use Rattle.ca_world_servers.specs.Effects.{BeginsNew, MayLackFor, is_busy_in, numbers_by, wrote_by, wrote_in};
+ghost use Rattle.ca_world_servers.specs.Effects.{BeginsNew, MayLackFor, is_busy_in, numbers_by};
+ghost use Rattle.ca_world_servers.specs.Effects.{wrote_by, wrote_in};
 ghost use Rattle.ca_world_servers.specs.Losing.{AreSeated};
 
 use crate::coming::Coming;

@@ -1,6 +1,7 @@
 //! A step of a server's core closed the end of its circuit, and other ends may have ended in the
 //! same step: all of them are reported at once.
-ghost use Rattle.std.specs.Prelude.{ℕ, ◌≡◌, ◌++◌, ◌+◌, ◌≤◌, ◌==◌, ◌&&◌, [], filter, is_some, length, map, not, vec_capacity, vec_len};
+ghost use Rattle.std.specs.Prelude.{ℕ, ◌≡◌, ◌++◌, ◌+◌, ◌≤◌, ◌==◌, ◌&&◌, [], filter, is_some};
+ghost use Rattle.std.specs.Prelude.{length, map, not, vec_capacity, vec_len};
 ghost use Rattle.ca_ids.specs.Table.{same_handle};
 ghost use Rattle.ca_model.specs.ServerEvents as world;
 ghost use Rattle.ca_model.specs.World.{grown};

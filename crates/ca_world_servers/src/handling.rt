@@ -1,7 +1,8 @@
 //! What a message that a server handled leaves: its replies and its step on the circuit, the
 //! channels and subscriptions there, and the puts of the records. If memory is needed, a call
 //! without it changes nothing.
-ghost use Rattle.std.specs.Prelude.{◌≡◌, ◌+◌, ◌++◌, ◌≤◌, OnErr, OnOk, false, true, if◌then◌else◌, length, map, vec_capacity, vec_len};
+ghost use Rattle.std.specs.Prelude.{◌≡◌, ◌+◌, ◌++◌, ◌≤◌, OnErr, OnOk, false, true, if◌then◌else◌};
+ghost use Rattle.std.specs.Prelude.{length, map, vec_capacity, vec_len};
 ghost use Rattle.std.specs.Str.{bytes_eq};
 ghost use Rattle.ca_queue.specs.Circuit.{HasNone};
 ghost use Rattle.ca_queue.specs.Keys.{is_among, same};
@@ -10,8 +11,12 @@ ghost use Rattle.ca_model.specs.History as history;
 ghost use Rattle.ca_model.specs.ClientEvents.{place_of as place_in};
 ghost use Rattle.ca_model.specs.ServerEvents as world;
 ghost use Rattle.ca_world_data.specs.declared.history.Cause.TheVariants as cause;
-ghost use Rattle.ca_world_data.specs.Seen.{joined_of, place_of, queue_of, record_of, step_of, told_of};
-ghost use Rattle.ca_world_servers.specs.Handling.{HasRoomToNote, has_room, with_standing, HaveRoomToWait, MayWait, made_busy, with_creation, with_handled, with_switched, with_waiting, without_sid};
+ghost use Rattle.ca_world_data.specs.Seen.{joined_of, place_of, queue_of, record_of, step_of};
+ghost use Rattle.ca_world_data.specs.Seen.{told_of};
+ghost use Rattle.ca_world_servers.specs.Handling.{HasRoomToNote, has_room, with_standing};
+ghost use Rattle.ca_world_servers.specs.Handling.{HaveRoomToWait, MayWait, made_busy};
+ghost use Rattle.ca_world_servers.specs.Handling.{with_creation, with_handled, with_switched};
+ghost use Rattle.ca_world_servers.specs.Handling.{with_waiting, without_sid};
 ghost use Rattle.ca_world_servers.specs.Losing.{AreSeated};
 
 use crate::losing::{cancel_in, drop_lost};

@@ -1,12 +1,17 @@
 //! A record of a server is removed: the circuits with channels to it lose them, and it
 //! is no longer served.
-ghost use Rattle.std.specs.Prelude.{ℕ, ◌≡◌, ◌≤◌, ◌+◌, ◌++◌, ◌<◌, IfOk, true, OnOk, filter, if◌then◌else◌, length, map, not, take, vec_capacity, vec_len};
+ghost use Rattle.std.specs.Prelude.{ℕ, ◌≡◌, ◌≤◌, ◌+◌, ◌++◌, ◌<◌, IfOk, true, OnOk, filter};
+ghost use Rattle.std.specs.Prelude.{if◌then◌else◌, length, map, not, take, vec_capacity, vec_len};
 ghost use Rattle.std.specs.Str.{bytes_eq};
 ghost use Rattle.ca_queue.specs.Queue.{cancelled};
 ghost use Rattle.ca_model.specs.ServerEvents as world;
 ghost use Rattle.ca_model.specs.World as model;
-ghost use Rattle.ca_world_data.specs.Seen.{creation_of, entry_of, joined_of, queue_of, record_of, told_of};
-ghost use Rattle.ca_world_servers.specs.Losing.{AllMayLose, AllReady, AreLost, AreSeated, IsReady, MayLose, Disconnects, dropped, is_lost, lead_at, lost_by, lost_told, removed_all, withdrawn_entries, without_lost};
+ghost use Rattle.ca_world_data.specs.Seen.{creation_of, entry_of, joined_of, queue_of, record_of};
+ghost use Rattle.ca_world_data.specs.Seen.{told_of};
+ghost use Rattle.ca_world_servers.specs.Losing.{AllMayLose, AllReady, AreLost, AreSeated, IsReady};
+ghost use Rattle.ca_world_servers.specs.Losing.{MayLose, Disconnects, dropped, is_lost, lead_at};
+ghost use Rattle.ca_world_servers.specs.Losing.{lost_by, lost_told, removed_all, withdrawn_entries};
+ghost use Rattle.ca_world_servers.specs.Losing.{without_lost};
 
 use ca_queue::{ListQueue, Queues, SubKey};
 use ca_server_core::ServerCore;

@@ -4,7 +4,8 @@ ghost use Rattle.std.specs.Prelude.{◌≡◌, ◌++◌, IfOk, OnOk, map, not};
 ghost use Rattle.ca_ids.specs.Table.{same_handle};
 ghost use Rattle.ca_model.specs.ServerEvents as world;
 ghost use Rattle.ca_world_data.specs.Seen.{entry_of, place_of, record_of};
-ghost use Rattle.ca_world_servers.specs.Parting.{all_gone, all_kept, gone_of, kept_of, places_in, put_if, with_kept, withdrawn_at};
+ghost use Rattle.ca_world_servers.specs.Parting.{all_gone, all_kept, gone_of, kept_of, places_in};
+ghost use Rattle.ca_world_servers.specs.Parting.{put_if, with_kept, withdrawn_at};
 
 use ca_arena::Handle;
 use ca_ids::WireId;

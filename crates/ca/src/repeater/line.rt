@@ -1,4 +1,5 @@
-ghost use Rattle.std.specs.Prelude.{◌≡◌, IfErr, IfOk, ℕ, MatchOption, map, option_map, string_bytes};
+ghost use Rattle.std.specs.Prelude.{◌≡◌, IfErr, IfOk, ℕ, MatchOption, map, option_map};
+ghost use Rattle.std.specs.Prelude.{string_bytes};
 ghost use Rattle.ca_text.specs.declared.refusal.Refusal.TheVariants.{OutOfMemory};
 ghost use Rattle.clap.specs.Words.{app_of};
 ghost use Rattle.ca.specs.RepeaterWords.{IsAsked, IsMeant, IsPort, repeater_app};
