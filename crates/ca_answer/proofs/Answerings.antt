@@ -203,22 +203,42 @@ module _ {S K : Type 0} (gives : S → List ℕ → S → Type 0) (takes : K →
 
   pub source-fails : (s0 s : S) (k0 k : K) (chunks : List (List ℕ)) (x : EngineState) → Moves gives s0 chunks s → Rested takes rules states k0 (concat chunks) k x → SourceFails gives takes rules states s0 k0 k
   source-fails s0 s k0 k chunks x came r =
-      record { last = s; chunks = chunks; rest = r.served.link.input.bytes; turned = record { came = came; written = rested-written takes rules states k0 k (concat chunks) x r }; whole = r.whole }
+      record { last = s; chunks = chunks; rest = r.served.link.input.bytes; turned = record { came = came; written = rested-written takes rules states k0 k (concat chunks) x r }; whole = r.whole; good = r.good }
 
-  meets-bad : (s0 s : S) (k0 k : K) (chunks : List (List ℕ)) (e : Refusal) → Moves gives s0 chunks s → MetBad takes rules states k0 (concat chunks) k e → MeetsBad gives takes rules states s0 s k0 k e
-  meets-bad s0 s k0 k chunks e came m = record { chunks = chunks; rest = m.rest; turned = record { came = came; written = m.written }; bad = m.bad }
+  -- the last chunk had the end of a bad header, since all that had come before it was read
+  meets-bad : (s0 s : S) (k0 j k : K) (before : List (List ℕ)) (last : List ℕ) (x : EngineState) (e : Refusal)
+      → Moves gives s0 (before ++ last ∷ []) s → Rested takes rules states k0 (concat before) j x
+      → MetBad takes rules states k0 (concat (before ++ last ∷ [])) k e → MeetsBad gives takes rules states s0 s k0 k e
+  meets-bad s0 s k0 j k before last x e came r m = record {
+    before = before;
+    last = last;
+    earlier = r.served.past.ms;
+    unread = r.served.link.input.bytes;
+    begins = r.served.past.begins;
+    good = r.good;
+    rest = m.rest;
+    turned = record { came = came; written = m.written };
+    bad = m.bad;
+  }
 
   -- a refusal while the messages were answered
-  pub streams-refused : (s0 s : S) (k0 k k' : K) (chunks : List (List ℕ)) (x x' : EngineState) (turns : ℕ) (e : Refusal)
-      → Moves gives s0 chunks s → Serving takes rules states k0 (concat chunks) k x → faults' k ≡ faults' k0 → calls s + calls' k' ≡ calls s0 + calls' k0 + turns → Drains takes faults' rules states k k' x x' turns (Err e)
+  pub streams-refused : (s0 s : S) (k0 k k' : K) (before : List (List ℕ)) (last : List ℕ) (x0 x x' : EngineState) (turns : ℕ)
+      (e : Refusal) → Moves gives s0 (before ++ last ∷ []) s → Rested takes rules states k0 (concat before) k x0
+      → Serving takes rules states k0 (concat (before ++ last ∷ [])) k x → faults' k ≡ faults' k0
+      → calls s + calls' k' ≡ calls s0 + calls' k0 + turns → Drains takes faults' rules states k k' x x' turns (Err e)
       → Streams gives takes calls calls' faults faults' rules states s0 s k0 k' (Err e)
-  streams-refused s0 s k0 k k' chunks x x' turns OutOfMemory came serving same counted d = breaks-off s0 s k0 k' chunks came (d.1 k0 (concat chunks) serving)
-  streams-refused s0 s k0 k k' chunks x x' turns Misaligned came serving same counted d = meets-bad s0 s k0 k' chunks Misaligned came (d.1 k0 (concat chunks) serving)
-  streams-refused s0 s k0 k k' chunks x x' turns TooLarge came serving same counted d = meets-bad s0 s k0 k' chunks TooLarge came (d.1 k0 (concat chunks) serving)
-  streams-refused s0 s k0 k k' chunks x x' turns Device came serving same counted d =
+  streams-refused s0 s k0 k k' before last x0 x x' turns OutOfMemory came rested serving same counted d =
+      let chunks : List (List ℕ) = before ++ last ∷ [] in
+      breaks-off s0 s k0 k' chunks came (d.1 k0 (concat chunks) serving)
+  streams-refused s0 s k0 k k' before last x0 x x' turns Misaligned came rested serving same counted d =
+      meets-bad s0 s k0 k k' before last x0 Misaligned came rested (d.1 k0 (concat (before ++ last ∷ [])) serving)
+  streams-refused s0 s k0 k k' before last x0 x x' turns TooLarge came rested serving same counted d =
+      meets-bad s0 s k0 k k' before last x0 TooLarge came rested (d.1 k0 (concat (before ++ last ∷ [])) serving)
+  streams-refused s0 s k0 k k' before last x0 x x' turns Device came rested serving same counted d =
+      let chunks : List (List ℕ) = before ++ last ∷ [] in
       let off = breaks-off s0 s k0 k' chunks came (d.1 k0 (concat chunks) serving) in
       elim d.0 [
         | inl risen ↦ inr (inl (subst (λ (n : ℕ). n < faults' k') same risen, off))
         | inr used ↦ inr (inr (subst (λ (n : ℕ). calls s + calls' k' ≡ calls s0 + calls' k0 + n) used counted, off))
       ]
-  streams-refused s0 s k0 k k' chunks x x' turns _ came serving same counted d = absurd d
+  streams-refused s0 s k0 k k' before last x0 x x' turns _ came rested serving same counted d = absurd d

@@ -43,13 +43,19 @@ pub record ReadsAll {S K : Type 0} (gives : S → List ℕ → S → Type 0)
   pub whole : NoneBegins rest
   pub good : NotBad rest
 
--- All messages before a bad header were answered.
+-- All messages before a bad header were answered. It was whole only with the last chunk: what came
+-- before that chunk is readings of messages, then a rest with no bad header.
 pub record MeetsBad {S K : Type 0} (gives : S → List ℕ → S → Type 0)
     (takes : K → List ℕ → K → Type 0) (rules : List Rule) (states : List RecordState) (s0 s : S)
     (k0 k : K) (e : Refusal) : Type 0 where
-  pub chunks : List (List ℕ)
+  pub before : List (List ℕ)
+  pub last : List ℕ
+  pub earlier : List Fields
+  pub unread : List ℕ
+  pub begins : Begins (concat before) earlier unread
+  pub good : NotBad unread
   pub rest : List ℕ
-  pub turned : Turned gives takes rules states s0 s k0 k chunks rest []
+  pub turned : Turned gives takes rules states s0 s k0 k (before ++ last ∷ []) rest []
   pub bad : BadAt rest e
 
 -- The answers to the first messages were written, or a beginning of them.
@@ -61,7 +67,8 @@ pub record BreaksOff {S K : Type 0} (gives : S → List ℕ → S → Type 0)
   pub waits : List ℕ
   pub turned : Turned gives takes rules states s0 s k0 k chunks rest waits
 
--- The source failed after it had given these chunks. All complete messages in them were answered.
+-- The source failed after it had given these chunks. All complete messages in them were answered,
+-- and no header in them is bad.
 pub record SourceFails {S K : Type 0} (gives : S → List ℕ → S → Type 0)
     (takes : K → List ℕ → K → Type 0) (rules : List Rule) (states : List RecordState) (s0 : S)
     (k0 k : K) : Type 0 where
@@ -70,6 +77,7 @@ pub record SourceFails {S K : Type 0} (gives : S → List ℕ → S → Type 0)
   pub rest : List ℕ
   pub turned : Turned gives takes rules states s0 last k0 k chunks rest []
   pub whole : NoneBegins rest
+  pub good : NotBad rest
 
 -- What the engine did, by its answer. Refusal 23 comes if the source failed, the sink failed, or
 -- the calls of the two are used up.

@@ -103,8 +103,8 @@ returns-in_err-drain-clause-answers g c =
     let before = inv.calls in
     subst (λ (r : Result (Unit {0}) Refusal). Streams g.S.Source.gives g.K.Sink.takes g.S.Source.call_count g.K.Sink.call_count g.S.Source.fault_count g.K.Sink.fault_count c.args.rules.items c.args.records.now c.args.source.now c.read.new.self c.args.sink.now c.drain.new.sink r)
     (sym (same-error c.from_residual-in_err-drain.result c.in_err-drain.field-0.0 c.from_residual-in_err-drain.ensures.1))
-    (streams-refused g.S.Source.gives g.K.Sink.takes g.S.Source.call_count g.K.Sink.call_count g.S.Source.fault_count g.K.Sink.fault_count c.args.rules.items c.args.records.now c.args.source.now c.read.new.self c.args.sink.now c.loop-turns.sink c.drain.new.sink (came.0 ++ chunk ∷ []) c.give.new.self c.drain.new.self
-    c.drain.new.turns c.in_err-drain.field-0.0 moved held inv.sink_faults (omega (arith, read_calls, drain_calls, before)) (c.in_err-drain.ensures.drains c.args.rules.items c.args.records.now))
+    (streams-refused g.S.Source.gives g.K.Sink.takes g.S.Source.call_count g.K.Sink.call_count g.S.Source.fault_count g.K.Sink.fault_count c.args.rules.items c.args.records.now c.args.source.now c.read.new.self c.args.sink.now c.loop-turns.sink c.drain.new.sink came.0 chunk c.loop-turns.engine c.give.new.self c.drain.new.self
+    c.drain.new.turns c.in_err-drain.field-0.0 moved came.2 held inv.sink_faults (omega (arith, read_calls, drain_calls, before)) (c.in_err-drain.ensures.drains c.args.rules.items c.args.records.now))
 
 pub returns-clause-answers : goal.returns-clause-answers
 returns-clause-answers g c =
