@@ -230,8 +230,7 @@ pub record IsDropped (w : World) (n k l i : ℕ) (y : List Entry) : Type 0 where
 
 -- A write that is applied at entry i has the value that its caller gave, in the type of its record,
 -- with no alarm; the record was there then, under the name of the caller's channel; and it was
--- applied when it was
--- handled, or the server's end closed on it, or after it had waited.
+-- applied when it was handled, or the server's end closed on it, or after it had waited.
 pub record IsOwnWrite (w : World) (n k l i r : ℕ) (v : Stored) : Type 0 where
   pub c : Circuit
   pub x : List Line

@@ -81,8 +81,7 @@ abbrev pub server : ServerSide
 server = server_begun 0 0 (record { address = home; rules = []; records = worlds.temp ∷ [] })
 
 -- A world of anna, whose circuit is the last: on it this went up. Another client's has the same
--- handle, and so has one of anna's that ended;
--- one more of anna's has another.
+-- handle, and so has one of anna's that ended; one more of anna's has another.
 abbrev pub world : ClientSide → List Line → List Sent → World
 world x lines up = record {
   clients = x ∷ anna_side (anna []) names ∷ [];

@@ -261,8 +261,7 @@ ticked_once =
     (opened_line ∷ lost_lines) [])
 
 -- A silence of 35,000 milliseconds ends the circuit at the first client, and then the moment comes
--- to the other. It may stop before that,
--- and does not go back.
+-- to the other. It may stop before that, and does not go back.
 abbrev pub TickEnds : Type 0
 TickEnds =
     let before : World = world (anna_side reading with_read) (opened_line ∷ []) [] in

@@ -47,8 +47,7 @@ CreationFails =
     × (failed alive.core (channel_on alive.core first 65536) ≡ becomes alive.core)
 
 -- ACCESS_RIGHTS of a live channel are its rights from then on, and CLEAR_CHANNEL, SERVER_DISCONN
--- and CREATE_CHAN out of turn do nothing; nor
--- do messages of another circuit, or of no channel.
+-- and CREATE_CHAN out of turn do nothing; nor do messages of another circuit, or of no channel.
 abbrev pub OutOfTurn : Type 0
 OutOfTurn =
     (channel_state
@@ -80,8 +79,7 @@ NoneFree =
     (with_temp (anna [])) { circuits = t } in PutsOn x home first temp_channel None (becomes x))
 
 -- A channel that waited for its circuit is cleared: nothing is sent, its CID is free, and the
--- circuit is not wanted any more, unless it is a
--- name server's.
+-- circuit is not wanted any more, unless it is a name server's.
 abbrev pub ClearedWhileWaiting : Type 0
 ClearedWhileWaiting =
     let x : Client = cleared first (On first phase.Connecting) found in
@@ -122,8 +120,7 @@ failed_header number =
     record { command = number; data_type = 5; size = 0; count = 1; p1 = 65536; p2 = 65536 }
 
 -- A write that failed is told of its channel; a subscription that failed is over, and its id free,
--- unless it was cancelled; so is a request,
--- and an IOID that drains goes on draining.
+-- unless it was cancelled; so is a request, and an IOID that drains goes on draining.
 abbrev pub Errors : Type 0
 Errors =
     ((failing alive.core first error (failed_header 4)).notices ≡ notice.WriteRefused first
@@ -160,8 +157,7 @@ stages s =
     map (λ (e : Handle × Subscription). e.1.stage) (held (unsubscribed first s subscribed).subscriptions)
 
 -- Its id drains until the confirmation, or on a channel that its record left until the clear's
--- reply; else it is free. Only on a live
--- channel an EVENT_CANCEL goes out.
+-- reply; else it is free. Only on a live channel an EVENT_CANCEL goes out.
 abbrev pub Unsubscribes : Type 0
 Unsubscribes =
     (stages (Some (On second (phase.Live live_temp.native 3))) ≡ monitor.Cancelled second ∷ [])

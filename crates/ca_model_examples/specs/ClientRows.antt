@@ -140,8 +140,7 @@ refused rights data_type count =
     read_fault x first (record { data_type = data_type; count = count })
 
 -- The first fault decides: a stale handle, a channel that is not live, a type over 20, a missing
--- right, a count over the channel's. A
--- count of 0 is none.
+-- right, a count over the channel's. A count of 0 is none.
 abbrev pub ReadFaults : Type 0
 ReadFaults =
     (read_fault alive.core second one_long ≡ Some refusal.StaleHandle)
@@ -200,8 +199,7 @@ abbrev pub clears_now : Effect
 clears_now = created doomed first created_temp (channel_on doomed first 65536)
 
 -- While it is being created nothing is sent, and its handle is stale. Its CLEAR_CHANNEL goes out at
--- the reply, and its CID is free
--- at the answer to that.
+-- the reply, and its CID is free at the answer to that.
 abbrev pub ClearedBeforeLive : Type 0
 ClearedBeforeLive =
     (clearing_sent first (On first (phase.Creating 3)) ≡ [])

@@ -19,8 +19,8 @@ abbrev pub moved_entries : (value : ℕ) → List Entry
 moved_entries value = Added 0 (valued value) ∷ []
 
 -- The channel is created and subscribed on a circuit to this server, and its update shows this
--- value; it is told live in one line, and the
--- update is told in another. The client's end stays open or has ended.
+-- value; it is told live in one line, and the update is told in another. The client's end stays
+-- open or has ended.
 abbrev pub moved : (server live read value : ℕ) → (stays : Bool) → Circuit
 moved server live read value stays =
     record {
@@ -36,8 +36,8 @@ moved server live read value stays =
     }
 
 -- The channel is live on circuit 1, and its update 7 is read; the client's end of that circuit
--- ends, and the channel is lost; it is live
--- again on circuit 0, and its update 5 is read. The outcomes are those of the two updates.
+-- ends, and the channel is lost; it is live again on circuit 0, and its update 5 is read. The
+-- outcomes are those of the two updates.
 abbrev pub moved_lines : Outcome → Outcome → List Line
 moved_lines o p =
     Opened 0 temp_name ∷ Noticed (On 0 Create) outcome.Done ∷ Called

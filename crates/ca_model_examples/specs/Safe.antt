@@ -16,8 +16,7 @@ use Rattle.ca_model_examples.specs.Worlds.{creating, disconnected, long, put_tol
 use Rattle.ca_model_examples.specs.Worlds.{reply, rights_told, step, temp, temp_name, world}
 
 -- A channel to TEMP is created; a put of 22 is done, and its caller knows; a read is answered with
--- 22, and an update that shows 22 is
--- sent. Both are unread.
+-- 22, and an update that shows 22 is sent. Both are unread.
 abbrev pub used : Circuit
 used =
     circuit (creating ∷ putting 0 8 22 ∷ reading 1 7 ∷ adding 0 9 ∷ []) (
@@ -91,8 +90,8 @@ first_update place value =
     }
 
 -- A channel is live and subscribed; its record is removed, and the client clears it; the record is
--- added again, the channel is created
--- on the same circuit under the same SID, and its subscription goes out again.
+-- added again, the channel is created on the same circuit under the same SID, and its subscription
+-- goes out again.
 abbrev pub reopened : Circuit
 reopened =
     circuit (creating ∷ adding 0 9 ∷ clearing ∷ creating ∷ adding 0 9 ∷ []) (

@@ -43,8 +43,8 @@ abbrev pub quiet : ServerEnd
 quiet = end_1 (link [] []) []
 
 -- The first circuit gets index 0 in its first generation; an index that is free again its second.
--- Not an index that is held, nor one
--- that skips another or a generation; and it is not refused while there is room.
+-- Not an index that is held, nor one that skips another or a generation; and it is not refused
+-- while there is room.
 abbrev pub AcceptsFirst : Type 0
 AcceptsFirst =
     Accepts (served_by []) (Ok first) (one_circuit (new_end 0))

@@ -214,8 +214,7 @@ abbrev pub gone_told : Told
 gone_told = record { message = disconnect 8; place = 1; cause = Removal }
 
 -- Both circuits have a channel of SLOW: each gets its SERVER_DISCONN, about its CREATE_CHAN, and
--- its channel is retired. Subscription 2
--- is over, with its entry, and both puts are withdrawn.
+-- its channel is retired. Subscription 2 is over, with its entry, and both puts are withdrawn.
 abbrev pub removed_slow : World
 removed_slow =
     world_of (

@@ -228,9 +228,8 @@ adding_fault r rights in_use others data_type count mask =
     subscription_fault r rights in_use others (add_of data_type count mask) (type_of data_type)
 
 -- type 21 BADTYPE, no right NORDACCESS, no mask bit ADDFAIL, an id in use ADDFAIL, two elements of
--- TEMP BADCOUNT, TEMP as FLOAT
--- NOCONVERT, the 289th subscription ADDFAIL; NOTE as LONG is none, since its updates say GETFAIL;
--- and a count of 0 is none
+-- TEMP BADCOUNT, TEMP as FLOAT NOCONVERT, the 289th subscription ADDFAIL; NOTE as LONG is none,
+-- since its updates say GETFAIL; and a count of 0 is none
 abbrev pub SubscriptionFaults : Type 0
 SubscriptionFaults =
     (adding_fault temp 3 false 0 21 1 1 ≡ Some 114) × (adding_fault temp 2 false 0 5 1 1 ≡ Some 368)

@@ -221,8 +221,8 @@ joined h c created subscribed qs = record {
 }
 
 -- The circuits: on the first five messages were handled, and subscription 1 began at place 2, 2 at
--- place 3; on the second six were, and
--- 3 and 4 began at the places 2 and 3. So many posts matched 1, 2 and 3, and these numbers wait.
+-- place 3; on the second six were, and 3 and 4 began at the places 2 and 3. So many posts matched
+-- 1, 2 and 3, and these numbers wait.
 abbrev pub joined_0 : List Told → List Step → (posts_1 posts_2 : ℕ) → List (SubKey × (ℕ × Cause))
     → Joined
 joined_0 more steps posts_1 posts_2 waiting =

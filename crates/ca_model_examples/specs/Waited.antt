@@ -13,8 +13,7 @@ abbrev pub slow_temp : RecordState
 slow_temp = record temp { slow = true }
 
 -- A channel to TEMP is created; a put of 22 makes TEMP busy, and a put of 23 waits. The client's
--- end has ended; the server's is open,
--- and the reply to the first put is unread.
+-- end has ended; the server's is open, and the reply to the first put is unread.
 abbrev pub waited : Circuit
 waited =
     record (circuit (creating ∷ putting 0 8 22 ∷ putting 1 9 23 ∷ []) (
