@@ -105,8 +105,8 @@ pub fn subscriptions_were_held_as_they_were_added()
 
 /// After every run from a well-formed setting by well-formed events, each time that a channel
 /// becomes live at its client, each of its subscriptions that stands then by the client's log has
-/// an EVENT_ADD from there on, and before the channel is created again. This is `anew` of the
-/// statement's `LegalCircuit`. It holds also of what an end sent that has ended.
+/// an EVENT_ADD from there on, and before the channel is created again. The statement's
+/// `LegalCircuit` has it. It holds also of what an end sent that has ended.
 pub fn live_channels_are_subscribed_to()
     ensures { (s : Setting) (es : List Event) (stopped : Option Event) (w : World) → IsSetting s
         → AreEvents es → Runs s es stopped w → LiveChannelsAreSubscribedTo w }

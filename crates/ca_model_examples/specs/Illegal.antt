@@ -86,7 +86,7 @@ abbrev pub cancel_called : List Line
 cancel_called =
     Opened 0 temp_name ∷ Called (On 0 (Subscribe 1)) None ∷ Called (On 0 (Cancel 1)) None ∷ []
 
--- The channel becomes live when the client's log has so many lines, and these messages go out.
+-- The channel becomes live when the client's log has that many lines, and these messages go out.
 abbrev pub called_at : ℕ → List Sent → Circuit
 called_at logged up = circuit (creating ∷ up) (created_told ∷ []) [] (step 1 logged logged ∷ [])
 
