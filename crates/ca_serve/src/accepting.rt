@@ -5,7 +5,7 @@ use crate::circuit::{Circuit, Gathered};
 use crate::line::Line;
 use crate::locked::Shared;
 use crate::processing::Device;
-use crate::ringing::Bell;
+use crate::ringing::{Bell, Wake};
 use crate::work::started_or_ended;
 use ca_arena::Handle;
 use ca_text::Refusal;
@@ -251,8 +251,10 @@ fn entered<L: Ledger, D: Device, R: Wait>(
     };
     let bell = Bell {
         circuit,
-        waker: None,
-        parker,
+        wake: Wake {
+            waker: None,
+            parker,
+        },
         is_idle: false,
     };
     if locked.bells.insert(circuit.index, bell).is_err() {

@@ -102,7 +102,7 @@ impl<L: Ledger, D: Device> Shared<L, D> {
         let locked = &mut *guard;
         locked.ending = true;
         for (_, bell) in &locked.bells {
-            bell.ring();
+            bell.wake.ring();
         }
         drop(guard);
         self.given.notify_all();
