@@ -1,6 +1,6 @@
 ghost use Rattle.std.specs.Prelude.{◌≡◌, ◌<◌};
 
-use crate::clock::{parts_of, stamp_after};
+use crate::clock::{next_stamp, parts_of, stamp_after};
 use crate::parking::Parking;
 use crate::processing::Device;
 use crate::ringing::{Bell, Rings, ring};
@@ -13,8 +13,12 @@ use mio::Waker;
 use std::alloc::{AllocError, Global};
 use std::collections::VecDeque;
 use std::sync::ledger::{Ledger, Share};
-use std::sync::{Condvar, Mutex, Wait};
+use std::sync::{Condvar, Mutex, MutexGuard, Wait};
+use std::thread;
 use std::time::Clock;
+
+// Looks at the lock, each a call of the system, before a thread sleeps.
+const LOOKS: u32 = 32;
 
 /// What lies under the lock.
 #[derive(Drop)]
@@ -96,6 +100,18 @@ impl<L: Ledger, D: Device> Shared<L, D> {
         })
     }
 
+    /// Takes the lock for a turn. While others have it the thread looks again for some microseconds:
+    /// a turn takes less than a sleep and a wake.
+    pub(crate) fn lock<R: Wait>(&self, rt: &R) -> MutexGuard<'_, Locked<L>> {
+        for _ in 0..LOOKS {
+            if let Some(guard) = self.locked.try_lock() {
+                return guard;
+            }
+            thread::yield_now();
+        }
+        self.locked.lock(rt)
+    }
+
     /// Has all threads end.
     pub(crate) fn end<R: Wait>(&self, rt: &R) {
         let mut guard = self.locked.lock(rt);
@@ -152,9 +168,10 @@ impl<L: Ledger> Locked<L> {
         }
     }
 
-    // The other circuits that may have updates of a write on this channel are to be rung: the
-    // circuit that wrote is in its turn.
+    // A write was applied on this channel: the next one is to be later, and the other circuits that
+    // may have updates of it are to be rung. The circuit that wrote is in its turn.
     fn reach_by(&mut self, circuit: Handle, sid: u32, rings: &mut Rings) {
+        self.stamp_as(next_stamp(self.stamped));
         let Locked { state, bells, .. } = self;
         if let Some(name) = state.served_name(circuit, Sid::new(sid)) {
             reach(state, bells, name, Some(circuit), rings);
@@ -196,8 +213,13 @@ impl<L: Ledger> Locked<L> {
     /// Hands the machine's time in: the next write that is applied has this time stamp, and no
     /// write had it before.
     pub(crate) fn stamp<R: Clock>(&mut self, rt: &R) {
-        self.stamped = stamp_after(rt, self.stamped);
-        let (seconds, nanos) = parts_of(self.stamped);
+        self.stamp_as(stamp_after(rt, self.stamped));
+    }
+
+    // The next write that is applied has this time stamp.
+    fn stamp_as(&mut self, stamp: u64) {
+        self.stamped = stamp;
+        let (seconds, nanos) = parts_of(stamp);
         self.state.stamp(seconds, nanos);
     }
 
