@@ -47,7 +47,7 @@ pub(crate) fn moment_now<R: Clock>(rt: &R) -> u64 {
     }
 }
 
-fn milliseconds(time: Duration) -> u64 {
+pub(crate) fn milliseconds(time: Duration) -> u64 {
     match u64::try_from(time.as_millis()) {
         Ok(all) => all,
         Err(_) => u64::MAX,

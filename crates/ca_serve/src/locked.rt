@@ -1,9 +1,12 @@
 ghost use Rattle.std.specs.Prelude.{◌≡◌, ◌<◌};
 
-use crate::clock::{next_stamp, parts_of, stamp_after};
+use crate::clock::{milliseconds, next_stamp, parts_of, stamp_after};
+use crate::meter::Meter;
 use crate::parking::Parking;
 use crate::processing::Device;
 use crate::ringing::{Bell, Rings, ring};
+use crate::serving::Options;
+use crate::tally::Tally;
 use ca_arena::Handle;
 use ca_server::{State, locked_finish, locked_step};
 use ca_server_core::{Cause, Effect, Step};
@@ -60,6 +63,9 @@ pub(crate) struct Shared<L: Ledger, D: Device> {
     pub(crate) device: D,
     /// The names of the slow records.
     pub(crate) slow: IndexSet<Vec<u8>>,
+    /// For how many milliseconds a socket may take nothing of what waits, if there is a limit.
+    pub(crate) patience: Option<u64>,
+    pub(crate) meter: Option<Meter>,
     pub(crate) alloc: Global,
 }
 
@@ -73,7 +79,13 @@ impl<L: Ledger, D: Device> Shared<L, D> {
         accepting: Waker,
         answering: Waker,
         device: D,
+        options: Options,
     ) -> Result<Shared<L, D>, AllocError> {
+        let Options {
+            circuits: _,
+            patience,
+            meter,
+        } = options;
         let busy = VecDeque::with_capacity(alloc, slow.len())?;
         let mut in_hand = Vec::new(alloc);
         in_hand.resize(slow.len(), false)?;
@@ -96,6 +108,8 @@ impl<L: Ledger, D: Device> Shared<L, D> {
             answering,
             device,
             slow,
+            patience: patience.map(milliseconds),
+            meter,
             alloc,
         })
     }
@@ -110,6 +124,29 @@ impl<L: Ledger, D: Device> Shared<L, D> {
             thread::yield_now();
         }
         self.locked.lock(rt)
+    }
+
+    /// What counts for the meter, if there is one.
+    pub(crate) fn tally(&self) -> Result<Tally, AllocError> {
+        let meter = match &self.meter {
+            Some(meter) => Some(meter.share()?),
+            None => None,
+        };
+        Ok(Tally::new(self.alloc, meter))
+    }
+
+    /// Tells the meter how many writes were applied.
+    pub(crate) fn note_writes(&self, locked: &Locked<L>) {
+        if let Some(meter) = &self.meter {
+            meter.note_writes(locked.state.applied());
+        }
+    }
+
+    /// Tells the meter of a connection that is closed at once.
+    pub(crate) fn note_closed(&self) {
+        if let Some(meter) = &self.meter {
+            meter.note_closed();
+        }
     }
 
     /// Has all threads end.
