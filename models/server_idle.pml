@@ -5,16 +5,17 @@
  * Each block names the function that it follows, in the function's own order; threads take turns between statements. What is done under the mutex is one step with
  * the taking of the mutex, since nobody else can look meanwhile; the letting go, and what follows, are steps of their own.
  *
- * With PARKS a circuit begins parked, and is parked again as nothing comes to its poll, so many times at most. While it has a poll of its own (`own`, of which `life` is the number)
+ * With PARKS a circuit begins parked, and is parked again as nothing comes to its poll, also while its socket is full, so many times at most. While it has a poll of its own (`own`, of which `life` is the number)
  * it is told by `edge` and `bell`. While it is parked its socket is among those of the polling thread (`joined`, `told`), and its thread waits for `token`. Either poll reports
  * at once what is there as a socket comes in. Where there is no descriptor for a poll the circuit stays parked. Without PARKS each circuit has its poll for ever.
  *
  * A circuit has `rx`, messages in its socket; `input`, messages in the core; `due`, updates that wait in the core for a pump; `output`, bytes in the core that wait
  * to be sent; `line`, bytes that the thread took out and has not written; `room`, whether the socket takes bytes. Edges (`edge`, `bell`) are kept until a poll takes
- * them. No wait of the server ends by time, but for the pauses of a thread without memory and of what a closed circuit left, which are left out.
+ * them. No wait of the server ends by time, but for the pauses of a thread without memory and of what a closed circuit left, which are left out,
+ * and for that of PATIENCE.
  *
  * A message is a put. On a quick record it is applied at once, and is an update for each circuit that watches. On a slow one it makes the record busy, or waits for
- * it; a processing thread finishes it: that is a late reply to its circuit, and the next put that waits is applied. One message a turn stands for 64. Whoever applied
+ * it; a processing thread finishes it: that is a late reply to its circuit, and the next put that waits is applied. One message a turn stands for many. Whoever applied
  * or finished a put takes the bells of the idle circuits that it reached under the mutex (`rings`), and rings them one by one once it has let go; or with HANDS it hands
  * them over to the ringing thread (`handed`), as is done where there are many.
  *
@@ -33,6 +34,7 @@
  *   LACKS       there may be no memory for an update, which ends its circuit
  *   HANDS       all bells are handed over to the ringing thread
  *   PARKS=1     how often a circuit is parked again
+ *   PATIENCE    a wait for room may end by time, and the circuit is cut then
  *   ENDS        the server ends at some time
  *   P=1         processing threads
  *   PLANT=n     a wrong form, which is to be found
@@ -54,6 +56,8 @@
  *    16  the bell of a parked circuit is that of the poll that it had (PARKS)
  *    17  `end` rings no bell of a parked circuit (PARKS, ENDS)
  *    18  a circuit that has a poll of its own again does not ring it (PARKS, FULL, DEAF, ENDS)
+ *    19  a parked circuit has no limit of patience (PARKS, FULL, DEAF, PATIENCE)
+ *    20  a circuit that is parked while its socket is full waits before it takes a turn (PARKS, FULL)
  */
 #ifndef C
 #define C 2
@@ -360,7 +364,7 @@ proctype Circuit(byte c) {
                 input[c]--;
                 turn = BUSY;
 #ifdef PARKS
-                /* Of 64 messages the last may have been handled. */
+                /* Of the messages of a turn the last may have been handled. */
                 if
                 :: input[c] == 0 -> turn = IDLE
                 :: true
@@ -434,13 +438,11 @@ proctype Circuit(byte c) {
         :: turn == CLOSED -> ring_all(); line[c] = 0; break       /* write_left, which ends by itself */
         :: else
         fi;
-        /* Line::sends */
-        came = came || line[c] != 0;
-        /* Line::write */
+        /* Line::write; a circuit whose socket took some is busy, too */
         has_no_room = 0;
         if
         :: line[c] != 0 && shut[c] -> line[c] = 0; moved = OVER
-        :: line[c] != 0 && !shut[c] && room[c] -> d_step { line[c] = 0 }; FILL(c)
+        :: line[c] != 0 && !shut[c] && room[c] -> d_step { line[c] = 0; came = 1 }; FILL(c)
         :: line[c] != 0 && !shut[c] && !room[c] -> has_no_room = 1
         :: line[c] == 0
         fi;
@@ -454,11 +456,24 @@ proctype Circuit(byte c) {
 #endif
         if
         :: has_no_room ->
-            /* Line::wait_for_room */
+            /* Line::is_full */
             if
             :: own[c] ->
 end_full:
-                edge[c] || bell[c] -> d_step { edge[c] = 0; bell[c] = 0 }
+                if
+                :: edge[c] || bell[c] -> d_step { edge[c] = 0; bell[c] = 0 }
+#ifdef PARKS
+                :: parks < PARKS && !edge[c] && !bell[c] ->
+                    parks++;
+                    park();
+#if PLANT == 20
+                    goto parked_full
+#endif
+#endif
+#ifdef PATIENCE
+                :: !edge[c] && !bell[c] -> moved = OVER
+#endif
+                fi
             :: !own[c] ->
 #if PLANT != 15
                 if
@@ -466,8 +481,16 @@ end_full:
                 :: asks_room[c]
                 fi;
 #endif
+#if PLANT == 20
+parked_full:
+#endif
 end_parked_full:
-                token[c] -> token[c] = 0
+                if
+                :: token[c] -> token[c] = 0
+#if defined(PATIENCE) && PLANT != 19
+                :: !token[c] -> moved = OVER
+#endif
+                fi
             fi;
             goto turned_again
         :: else

@@ -4,7 +4,7 @@
  *     cc server.c $(pkg-config --cflags --libs cuvezhin) -o server && ./server 5064 [RECORDS]
  *
  * With port 0 the system chooses one, which is printed. RECORDS is a file of records and rules, of 65,536 bytes at most, to serve in place of these.
- * It ends at the end of its standard input. */
+ * For a line of its standard input it prints what it has counted, and at the end of that it ends. */
 #define _POSIX_C_SOURCE 200809L
 #include <cuvezhin.h>
 
@@ -33,6 +33,10 @@ static struct {
 } busy[PLACES];                        /* the slow records that a put makes busy, and when that put is to be done: the earliest first */
 static size_t busies;
 static uint32_t moved;
+static struct {
+    uint64_t created, searches, reads, updates, refused;
+} counted;
+static size_t ahead[PLACES];           /* for each circuit, where in what waits the first reply begins that was not counted */
 
 static char records[65536] =
     "record TEMP LONG 1 quick 21\n"
@@ -115,6 +119,52 @@ static void process(cvz_server *server)
     begin(server, name, size);
 }
 
+/* Counts the replies that begin in these bytes, after those that were counted before; the header of the last may be cut. */
+static void count_replies(size_t *before, const uint8_t *bytes, size_t size)
+{
+    while (*before + 16 <= size) {
+        const uint8_t *head = bytes + *before;
+        size_t payload = (size_t)head[2] << 8 | head[3];
+        bool is_normal = head[8] == 0 && head[9] == 0 && head[10] == 0 && head[11] == 1;
+        if (payload == 0xffff) {       /* the header has 24 bytes, of which these are the size */
+            if (*before + 24 > size)
+                return;
+            payload = 8 + ((size_t)head[16] << 24 | (size_t)head[17] << 16 | (size_t)head[18] << 8 | head[19]);
+        }
+        switch (head[0] << 8 | head[1]) {
+        case 1:                        /* EVENT_ADD; one without a payload confirms a cancel */
+            counted.updates += payload > 0;
+            break;
+        case 6:                        /* SEARCH */
+            counted.searches++;
+            break;
+        case 15:                       /* READ_NOTIFY */
+            counted.reads += is_normal;
+            counted.refused += !is_normal;
+            break;
+        case 18:                       /* CREATE_CHAN */
+            counted.created++;
+            break;
+        case 19:                       /* WRITE_NOTIFY */
+            counted.refused += !is_normal;
+            break;
+        case 11:                       /* ERROR */
+        case 26:                       /* CREATE_CH_FAIL */
+            counted.refused++;
+            break;
+        }
+        *before += 16 + payload;
+    }
+}
+
+static void print_counts(cvz_server *server)
+{
+    printf("%u circuits, %llu channels created, %llu searches, %llu reads, %llu writes, %llu updates, %llu refused\n", (unsigned)(used - CIRCUITS),
+           (unsigned long long)counted.created, (unsigned long long)counted.searches, (unsigned long long)counted.reads,
+           (unsigned long long)cvz_server_applied(server), (unsigned long long)counted.updates, (unsigned long long)counted.refused);
+    fflush(stdout);
+}
+
 /* Sends what waits on a circuit, as far as its socket takes it. False if the circuit was lost. */
 static bool send_all(cvz_server *server, nfds_t at)
 {
@@ -123,6 +173,8 @@ static bool send_all(cvz_server *server, nfds_t at)
     cvz_server_pump(server, circuits[at]);
     polled[at].events = POLLIN;
     while ((size = cvz_server_output(server, circuits[at], room, sizeof room)) > 0) {
+        count_replies(&ahead[at], room, size);
+        size = size < ahead[at] ? size : ahead[at];
         ssize_t sent = send(polled[at].fd, room, size, MSG_NOSIGNAL);
         if (sent < 0 && (errno == EAGAIN || errno == EWOULDBLOCK)) {
             polled[at].events = POLLOUT;
@@ -131,6 +183,7 @@ static bool send_all(cvz_server *server, nfds_t at)
         if (sent < 0)
             return false;
         cvz_server_sent(server, circuits[at], (size_t)sent);
+        ahead[at] -= (size_t)sent;
         cvz_server_pump(server, circuits[at]);
     }
     return true;
@@ -186,8 +239,11 @@ static void answer(cvz_server *server)
     ssize_t size = recvfrom(polled[SEARCHES].fd, bytes, sizeof bytes, 0, (struct sockaddr *)&from, &from_size);
     if (size < 0 || cvz_server_datagram(server, bytes, (size_t)size) < 0)
         return;
-    while ((size = (ssize_t)cvz_server_answer(server, bytes, sizeof bytes)) > 0)
+    while ((size = (ssize_t)cvz_server_answer(server, bytes, sizeof bytes)) > 0) {
+        size_t before = 0;
+        count_replies(&before, bytes, (size_t)size);
         sendto(polled[SEARCHES].fd, bytes, (size_t)size, 0, (struct sockaddr *)&from, from_size);
+    }
 }
 
 /* Sends the beacon that is due, if one is, to the repeater of this host, so that clients hear of the server. */
@@ -213,6 +269,7 @@ static void accept_one(cvz_server *server)
         return;
     }
     polled[used] = (struct pollfd){.fd = made, .events = POLLIN};
+    ahead[used] = 0;
     used++;
 }
 
@@ -223,6 +280,7 @@ int main(int argc, char **argv)
     size_t size = strlen(records);
     int32_t count = 0, made;
     uint64_t next, wake;
+    char line[80];
 
     if (argc > 2) {
         FILE *file = fopen(argv[2], "r");
@@ -263,8 +321,13 @@ int main(int argc, char **argv)
                 cvz_server_cut(&server, circuits[at]);
         wake = busies > 0 && busy[0].due < next ? busy[0].due : next;
         poll(polled, used, wake > now ? (int)(wake - now) : 0);
-        if (polled[INPUT].revents && getchar() == EOF)
-            break;
+        if (polled[INPUT].revents) {
+            ssize_t came = read(0, line, sizeof line);
+            if (came <= 0)
+                break;
+            if (memchr(line, '\n', (size_t)came))
+                print_counts(&server);
+        }
         if (polled[LISTENER].revents)
             accept_one(&server);
         if (polled[SEARCHES].revents)
@@ -275,6 +338,7 @@ int main(int argc, char **argv)
                 used--;
                 polled[at] = polled[used];
                 circuits[at] = circuits[used];
+                ahead[at] = ahead[used];
                 continue;
             }
             at++;

@@ -6,10 +6,10 @@ from .client import Client, Info
 from .errors import Error, LibraryMissing, Lost, Refused, ServerRefused, TimedOut, Unreadable
 from .monitor import Monitor
 from .record import Put, Record, RefusedPut
-from .server import Server
+from .server import Server, Stats
 from .values import Mask, Reading, Type, Value
 
 __all__ = [
     "Client", "Error", "Info", "LibraryMissing", "Lost", "Mask", "Monitor", "Put", "Reading", "Record", "Refused", "RefusedPut", "Server", "ServerRefused",
-    "TimedOut", "Type", "Unreadable", "Value",
+    "Stats", "TimedOut", "Type", "Unreadable", "Value",
 ]

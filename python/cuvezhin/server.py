@@ -9,6 +9,7 @@ from typing import Any, Optional
 
 from . import _library as lib
 from . import addresses
+from ._replies import WHOLE, Replies, Stats
 from ._unhandled import Unhandled
 from .errors import Refused
 from .record import Put, Record, RefusedPut, Waiting, now
@@ -31,6 +32,8 @@ class _Peer(asyncio.Protocol):
         self.subscribed: dict[int, set[int]] = {}
         # Kept only if somebody wants to know what is refused.
         self.unhandled = Unhandled() if server.on_refused else None
+        # What is still to come of the last reply that was counted.
+        self.begun = WHOLE
 
     def connection_made(self, transport: asyncio.BaseTransport) -> None:
         assert isinstance(transport, asyncio.Transport)
@@ -84,6 +87,7 @@ class Server:
     on_put, on_refused
               are called with a Put after each put of a client to any record, before the record's own callback, and with a RefusedPut after each that was
               refused
+    counts    whether `stats` counts what is seen of a reply alone, as reads and updates: each reply is looked at then
     rules     of access, "USER HOST RECORD RIGHTS" each, with rw, r, w or - as rights and * for any: the first that fits decides, and what fits none
               may be read and written. User and host are what a client says of itself
 
@@ -93,11 +97,12 @@ class Server:
 
     def __init__(self, records: Iterable[Record] = (), *, host: Optional[str] = None, port: Optional[int] = None,
                  beacons: Optional[Sequence[addresses.Place]] = None, on_put: Optional[Callable[[Put], None]] = None,
-                 on_refused: Optional[Callable[[RefusedPut], None]] = None, rules: Sequence[str] = ()) -> None:
+                 on_refused: Optional[Callable[[RefusedPut], None]] = None, rules: Sequence[str] = (), counts: bool = False) -> None:
         listens, at = addresses.served(os.environ)
         self.host = listens if host is None else host
         self.port = at if port is None else port
         self.on_put, self.on_refused = on_put, on_refused
+        self._replies = Replies() if counts else None
         self._rules = list(rules)
         self._beacons = addresses.beacons(os.environ) if beacons is None else [addresses.address(it, addresses.REPEATER_PORT) for it in beacons]
         self._given = list(records)
@@ -174,6 +179,13 @@ class Server:
     async def serve_forever(self) -> None:
         """Waits until the server is closed."""
         await asyncio.shield(self._stopped)
+
+    @property
+    def stats(self) -> Stats:
+        """What the server has, and did so far."""
+        replies = self._replies or Replies()
+        return Stats(len(self._peers), sum(len(it.records) for it in self._peers.values()), replies.searches, replies.reads,
+                     self._core.call_applied(self._core.at) if self._is_open else 0, replies.updates, replies.refused)
 
     # ---- records
 
@@ -373,6 +385,8 @@ class Server:
             data = core.output(peer.handle)
             if not data:
                 return
+            if self._replies:
+                peer.begun = self._replies.count(data, peer.begun)
             peer.transport.write(data)
 
     def _lost(self, peer: _Peer) -> None:
@@ -388,6 +402,8 @@ class Server:
         for record in peer.records.values():
             record._peers.pop(peer, None)
         if left:
+            if self._replies:
+                self._replies.count(left, peer.begun)
             peer.transport.write(left)
         peer.transport.close()
 
@@ -396,6 +412,8 @@ class Server:
     def _search(self, data: bytes, peer: Any) -> None:
         if self._is_open and self._core.call_datagram(self._core.at, data, len(data)) >= 0:
             while (answer := self._core.taken(self._core.call_answer)):
+                if self._replies:
+                    self._replies.count(answer)
                 self._datagrams.sendto(answer, peer)
 
     def _beacon(self) -> None:

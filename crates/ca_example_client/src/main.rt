@@ -1,12 +1,12 @@
 //! A complete client, and a server of one circuit for it in a thread: the client reads a record,
-//! writes it, waits until that is done, and reads it again.
+//! writes it, waits until that is done, and reads it again. Then the server's numbers are printed.
 #![tactic(auto)]
 
 use ca_client_context::{Context, Engine, Nobody, Setting, start};
 use ca_client_core::Address;
 use ca_dbr::{Outcome, Value};
 use ca_records::Records;
-use ca_serve::{Device, Places, serve};
+use ca_serve::{Device, Meter, Options, Places, serve};
 use ca_text::Refusal;
 use std::alloc::Global;
 use std::io::Write;
@@ -50,6 +50,9 @@ fn both_ends<
 >(rt: R, alloc: Global, out: &mut W) -> Result<(), Refusal> {
     let (places, address) = bound(&rt)?;
     let records = records(alloc)?;
+    let meter = Meter::new(alloc)?;
+    let mut options = Options::new(Some(1));
+    options.meter = Some(meter.share()?);
     let spawned = thread::spawn(&rt, move || {
         serve(
             rt,
@@ -58,13 +61,13 @@ fn both_ends<
             &records,
             Vec::new(alloc),
             Prompt,
-            Some(1),
+            options,
         )
     });
     let Ok(server) = spawned else {
         return Err(Refusal::Device);
     };
-    let talked = use_client(rt, alloc, address, out);
+    let talked = use_client(rt, alloc, address, &meter, out);
     let served = server.join(&rt);
     talked?;
     served?;
@@ -120,10 +123,10 @@ fn use_client<
         + Send
         + 'static,
     W: Write,
->(rt: R, alloc: Global, server: Address, out: &mut W) -> Result<(), Refusal> {
+>(rt: R, alloc: Global, server: Address, meter: &Meter, out: &mut W) -> Result<(), Refusal> {
     let setting = setting(alloc, server)?;
     let (context, engine) = Context::new(rt, alloc, setting)?;
-    talk_beside(rt, alloc, &context, engine, out)
+    talk_beside(rt, alloc, &context, engine, meter, out)
 }
 
 fn setting(alloc: Global, server: Address) -> Result<Setting, Refusal> {
@@ -151,20 +154,22 @@ fn talk_beside<
     alloc: Global,
     context: &Context<Nobody>,
     engine: Engine<R, Nobody>,
+    meter: &Meter,
     out: &mut W,
 ) -> Result<(), Refusal> {
     let thread = start(rt, engine)?;
-    let talked = talk(&rt, alloc, context, out);
+    let talked = talk(&rt, alloc, context, meter, out);
     context.end(&rt);
     thread.join(&rt);
     talked
 }
 
-/// Reads, writes and reads again, and prints what came.
+/// Reads, writes and reads again, and prints what came, and what the server has counted.
 fn talk<R: Wait + Clock, W: Write>(
     rt: &R,
     alloc: Global,
     context: &Context<Nobody>,
+    meter: &Meter,
     out: &mut W,
 ) -> Result<(), Refusal> {
     let mut caller = context.caller(rt)?;
@@ -182,7 +187,17 @@ fn talk<R: Wait + Clock, W: Write>(
         &context.wait(rt, &mut caller, ticket, TURNS),
     )?;
     let ticket = context.get(rt, channel, 5, 1)?;
-    say(out, "read", &context.wait(rt, &mut caller, ticket, TURNS))
+    say(out, "read", &context.wait(rt, &mut caller, ticket, TURNS))?;
+    let stats = meter.stats();
+    let said = writeln!(
+        out,
+        "the server has {} circuit and {} channel, answered {} reads, and applied {} write",
+        stats.circuits, stats.channels, stats.reads, stats.writes
+    );
+    match said {
+        Ok(()) => Ok(()),
+        Err(_) => Err(Refusal::Device),
+    }
 }
 
 fn say<W: Write>(out: &mut W, what: &str, outcome: &Option<Outcome>) -> Result<(), Refusal> {

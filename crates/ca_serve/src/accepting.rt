@@ -5,7 +5,8 @@ use crate::circuit::{Circuit, Gathered};
 use crate::line::Line;
 use crate::locked::Shared;
 use crate::processing::Device;
-use crate::ringing::Bell;
+use crate::ringing::{Bell, Wake};
+use crate::tally::Tally;
 use crate::work::started_or_ended;
 use ca_arena::Handle;
 use ca_text::Refusal;
@@ -56,6 +57,7 @@ struct Accepted<L: Ledger, D: Device> {
     shared: Arc<Shared<L, D>>,
     line: Line,
     number: u64,
+    tally: Tally,
     // Whether the circuit is to be closed at once.
     is_to_end: Arc<AtomicBool>,
     // That word, for the circuit's thread.
@@ -138,6 +140,9 @@ impl Door {
         let _held = shared.parking.polls.lock(rt);
         self.spare = None;
         let is_closed = self.listener.accept().is_ok();
+        if is_closed {
+            shared.note_closed();
+        }
         self.spare = Poll::new(rt).ok();
         is_closed
     }
@@ -183,23 +188,39 @@ fn accept_one<
     requires { all.old.parts + index_map_len running.old ≡ 2 ^ 64 - 1 }
     ensures { all.new.parts + index_map_len running.new ≡ 2 ^ 64 - 1 }
 {
-    if running.len() >= MOST_CIRCUITS || running.reserve(1).is_err() {
-        return;
-    }
-    let Ok((accepted, parker)) = prepared(alloc, shared, number, stream) else {
-        return;
+    let has_room = running.len() < MOST_CIRCUITS && running.reserve(1).is_ok();
+    let taken = if has_room {
+        taken(&rt, alloc, shared, stream, number, running.len())
+    } else {
+        None
     };
-    let Some(circuit) = entered(&rt, shared, parker, running.len(), &accepted.is_to_end) else {
+    let Some((accepted, circuit)) = taken else {
+        shared.note_closed();
         return;
     };
     let share = all.split_off(1, 0);
     match start_circuit(rt, accepted, circuit, share) {
         Ok(handle) => keep(&rt, running, number, handle, all),
         Err(gathered) => {
+            shared.note_closed();
             let Gathered { share } = gathered;
             all.merge(share);
         }
     }
+}
+
+// A circuit for a connection.
+fn taken<L: Ledger, D: Device, R: Wait>(
+    rt: &R,
+    alloc: Global,
+    shared: &Arc<Shared<L, D>>,
+    stream: TcpStream,
+    number: u64,
+    running: usize,
+) -> Option<(Accepted<L, D>, Handle)> {
+    let (accepted, parker) = prepared(alloc, shared, number, stream).ok()?;
+    let circuit = entered(rt, shared, parker, running, &accepted.is_to_end)?;
+    Some((accepted, circuit))
 }
 
 // Keeps a thread under its circuit's number. There is room, and no thread has the number; else the
@@ -251,8 +272,10 @@ fn entered<L: Ledger, D: Device, R: Wait>(
     };
     let bell = Bell {
         circuit,
-        waker: None,
-        parker,
+        wake: Wake {
+            waker: None,
+            parker,
+        },
         is_idle: false,
     };
     if locked.bells.insert(circuit.index, bell).is_err() {
@@ -270,10 +293,12 @@ fn prepared<L: Ledger, D: Device>(
     let shared = Arc::try_clone(shared)?;
     let is_to_end = Arc::new(alloc, AtomicBool::new(false))?;
     let parker = Arc::new(alloc, Parker::new())?;
+    let tally = shared.tally()?;
     let accepted = Accepted {
         shared,
         line: Line::new(alloc, stream, Arc::try_clone(&parker)?)?,
         number,
+        tally,
         ends: Arc::try_clone(&is_to_end)?,
         is_to_end,
     };
@@ -314,10 +339,11 @@ fn start_circuit<
         shared,
         line,
         number,
+        tally,
         is_to_end,
         ends,
     } = accepted;
-    let work = Circuit::new(shared, line, circuit, number, ends, share);
+    let work = Circuit::new(shared, line, circuit, number, tally, ends, share);
     started_or_ended(rt, work, &is_to_end)
 }
 

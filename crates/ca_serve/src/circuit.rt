@@ -3,8 +3,10 @@ ghost use Rattle.std.specs.Prelude.{◌≡◌, ◌<◌, ◌≤◌, length};
 use crate::line::{Line, Moved, Written};
 use crate::locked::{Locked, Shared};
 use crate::parking::{park, token_of, unpark};
+use crate::patience::Patience;
 use crate::processing::Device;
 use crate::ringing::{Rings, ring};
+use crate::tally::Tally;
 use crate::work::Work;
 use ca_arena::Handle;
 use ca_server_core::Step;
@@ -16,8 +18,8 @@ use std::sync::ledger::{Ledger, Share};
 use std::sync::{Arc, Wait};
 use std::time::Clock;
 
-// Messages that are handled while the lock is held.
-const STEPS: u32 = 64;
+// Messages that are handled while the lock is held, at most.
+const STEPS: u32 = 256;
 
 // A client that takes nothing of what its closed circuit left is waited for this often, and for
 // fewer once the server is to end.
@@ -39,6 +41,7 @@ pub(crate) struct Circuit<L: Ledger, D: Device> {
     line: Line,
     circuit: Handle,
     number: u64,
+    tally: Tally,
     // Whether the circuit is to be closed at once.
     is_to_end: Arc<AtomicBool>,
     share: Share<L>,
@@ -61,6 +64,7 @@ impl<L: Ledger, D: Device> Circuit<L, D> {
         line: Line,
         circuit: Handle,
         number: u64,
+        tally: Tally,
         is_to_end: Arc<AtomicBool>,
         share: Share<L>,
     ) -> Circuit<L, D>
@@ -71,6 +75,7 @@ impl<L: Ledger, D: Device> Circuit<L, D> {
             line,
             circuit,
             number,
+            tally,
             is_to_end,
             share,
         }
@@ -88,6 +93,7 @@ impl<L: Ledger, D: Device> Work<Gathered<L>> for Circuit<L, D> {
             mut line,
             circuit,
             number,
+            mut tally,
             is_to_end,
             mut share,
         } = self;
@@ -98,21 +104,33 @@ impl<L: Ledger, D: Device> Work<Gathered<L>> for Circuit<L, D> {
             Moved::Ended
         };
         let mut rings = Rings::new(shared.alloc);
+        let mut patience = Patience::new(shared.patience);
+        tally.begin();
         for _ in rt.forever() {
             let turn = turned(
                 rt, &shared, circuit, moved, &mut line, &mut share, &mut rings,
             );
             match turn {
                 Turn::Closed(left) => {
+                    tally.end(left.bytes());
                     rings.ring_all(&shared.rung);
                     ring(&shared.accepting);
-                    write_left(rt, &shared, &mut line, &left);
+                    if !patience.is_over {
+                        write_left(rt, &shared, &mut line, &left);
+                    }
                     break;
                 }
                 turn => {
+                    tally.count(line.taken());
+                    let before = line.written;
                     let written = line.write();
+                    let took = line.written != before;
                     rings.ring_all(&shared.rung);
-                    moved = go_on(rt, &shared, circuit, moved, &turn, written, &mut line);
+                    let written = patience.after(rt, written, took);
+                    let is_busy = took || matches!(moved, Moved::Count(_));
+                    moved = go_on(
+                        rt, &shared, circuit, is_busy, &turn, written, &patience, &mut line,
+                    );
                 }
             }
         }
@@ -151,13 +169,14 @@ fn turned<L: Ledger, D: Device, R: Wait + Clock>(
     requires { 0 < share.old.parts }
     ensures { share.new.parts ≡ share.old.parts }
 {
-    let mut guard = shared.locked.lock(rt);
+    let mut guard = shared.lock(rt);
     let locked = &mut *guard;
     take_in(locked, circuit, moved, line.input.as_slice());
     let turn = steps(rt, locked, &shared.slow, circuit, share, rings);
     let turn = take_out(locked, circuit, turn, line);
     let is_given = !locked.busy.is_empty();
     rings.hand_over(&mut locked.rings);
+    shared.note_writes(locked);
     drop(guard);
     if is_given {
         shared.given.notify_all();
@@ -166,24 +185,28 @@ fn turned<L: Ledger, D: Device, R: Wait + Clock>(
 }
 
 // After a turn and a write, with no lock held: reads if nothing else is to be done. A circuit to
-// which bytes came, or that sends some, is parked no more.
+// which bytes came, or whose socket took some, is parked no more; one whose socket has no room for
+// a second is parked.
 fn go_on<L: Ledger, D: Device, R: Wait + Clock + Net>(
     rt: &R,
     shared: &Shared<L, D>,
     circuit: Handle,
-    moved: Moved,
+    is_busy: bool,
     turn: &Turn,
     written: Written,
+    patience: &Patience,
     line: &mut Line,
 ) -> Moved {
-    let is_busy = matches!(moved, Moved::Count(_)) || line.sends();
     if is_busy && line.is_parked() {
         unpark(rt, shared, circuit, line);
     }
     match written {
         Written::Failed => Moved::Ended,
         Written::Some => {
-            line.wait_for_room(rt, &shared.parking.registry, token_of(circuit));
+            let registry = &shared.parking.registry;
+            if line.is_full(rt, registry, token_of(circuit), patience.left(rt)) {
+                park(rt, shared, circuit, line);
+            }
             Moved::Later
         }
         Written::All => match turn {
@@ -234,9 +257,8 @@ fn take_in<L: Ledger>(locked: &mut Locked<L>, circuit: Handle, moved: Moved, buf
     }
 }
 
-// Handles messages of a circuit, up to a number of them, and then puts its updates out. The
-// machine's time is handed in before each that may be a write: to read the clock takes as long as a
-// third of a put.
+// Handles messages of a circuit, up to a number of them, and then puts its updates out. The clock
+// is read once: that takes as long as a third of a put. A write after another is a nanosecond later.
 fn steps<L: Ledger, R: Clock>(
     rt: &R,
     locked: &mut Locked<L>,
@@ -248,10 +270,8 @@ fn steps<L: Ledger, R: Clock>(
     requires { 0 < share.old.parts }
     ensures { share.new.parts ≡ share.old.parts }
 {
+    locked.stamp(rt);
     for _ in 0..STEPS {
-        if locked.state.may_write(circuit) {
-            locked.stamp(rt);
-        }
         match locked.step(slow, circuit, share, rings) {
             Step::Handled(_) => {}
             Step::NeedBytes => {

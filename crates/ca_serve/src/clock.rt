@@ -12,7 +12,12 @@ const LAST: u64 = (1 << 32) * NANOS - 1;
 /// this one. A clock that was set back, or shows no later time, counts as one nanosecond more: so
 /// no two stamps are equal, and none is before an earlier one.
 pub(crate) fn stamp_after<R: Clock>(rt: &R, last: u64) -> u64 {
-    nanos_now(rt).max(last.saturating_add(1)).min(LAST)
+    nanos_now(rt).max(next_stamp(last))
+}
+
+/// The first time stamp after this one.
+pub(crate) fn next_stamp(last: u64) -> u64 {
+    last.saturating_add(1).min(LAST)
 }
 
 /// A time stamp as seconds, and nanoseconds.
@@ -42,7 +47,7 @@ pub(crate) fn moment_now<R: Clock>(rt: &R) -> u64 {
     }
 }
 
-fn milliseconds(time: Duration) -> u64 {
+pub(crate) fn milliseconds(time: Duration) -> u64 {
     match u64::try_from(time.as_millis()) {
         Ok(all) => all,
         Err(_) => u64::MAX,

@@ -1,6 +1,7 @@
 use crate::clock::moment_now;
 use crate::locked::Shared;
 use crate::processing::Device;
+use crate::tally::Tally;
 use crate::work::Work;
 use mio::net::UdpSocket;
 use mio::{Events, Poll};
@@ -29,6 +30,7 @@ const PAUSE: u64 = 10;
 pub(crate) struct Datagrams<L: Ledger, D: Device> {
     pub(crate) shared: Arc<Shared<L, D>>,
     pub(crate) desk: Desk,
+    pub(crate) tally: Tally,
 }
 
 /// A socket for datagrams, and what is done with it.
@@ -43,7 +45,11 @@ pub(crate) struct Desk {
 
 impl<L: Ledger, D: Device> Work<()> for Datagrams<L, D> {
     fn run<R: Wait + Clock + Net<Stream = TcpStream, Listener = TcpListener>>(self, rt: &R) {
-        let Datagrams { shared, mut desk } = self;
+        let Datagrams {
+            shared,
+            mut desk,
+            mut tally,
+        } = self;
         let mut due = 0u64;
         let mut pause = FIRST;
         for _ in rt.forever() {
@@ -59,7 +65,7 @@ impl<L: Ledger, D: Device> Work<()> for Datagrams<L, D> {
             if shared.locked.lock(rt).ending {
                 break;
             }
-            match answer_some(rt, &shared, &mut desk) {
+            match answer_some(rt, &shared, &mut desk, &mut tally) {
                 Answered::Some => {}
                 Answered::All => desk.wait(rt, due.saturating_sub(now)),
                 Answered::Failed => thread::sleep(rt, Duration::from_millis(PAUSE)),
@@ -106,6 +112,7 @@ fn answer_some<L: Ledger, D: Device, R: Wait>(
     rt: &R,
     shared: &Shared<L, D>,
     desk: &mut Desk,
+    tally: &mut Tally,
 ) -> Answered {
     for _ in 0..DATAGRAMS {
         match desk.socket.recv_from(desk.buffer.as_mut_slice()) {
@@ -117,6 +124,7 @@ fn answer_some<L: Ledger, D: Device, R: Wait>(
                         &desk.socket,
                         &desk.buffer.as_slice()[..count],
                         from,
+                        tally,
                     );
                 }
             }
@@ -139,12 +147,14 @@ fn answer<L: Ledger, D: Device, R: Wait>(
     socket: &UdpSocket,
     bytes: &[u8],
     from: SocketAddr,
+    tally: &mut Tally,
 ) {
     let answers = shared.locked.lock(rt).state.datagram(bytes);
     let Ok(answers) = answers else {
         return;
     };
     for datagram in &answers {
+        tally.count(datagram.as_slice());
         let _lost = socket.send_to(datagram.as_slice(), from);
     }
 }

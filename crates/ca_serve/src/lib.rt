@@ -13,11 +13,15 @@ mod clock;
 mod datagrams;
 mod line;
 mod locked;
+mod meter;
 mod parking;
+mod patience;
 mod processing;
 mod ringing;
 mod serving;
+mod tally;
 mod work;
 
+pub use meter::{Meter, Stats};
 pub use processing::Device;
-pub use serving::{Places, serve};
+pub use serving::{Options, Places, serve};

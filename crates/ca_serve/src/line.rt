@@ -36,6 +36,8 @@ pub(crate) struct Line {
     asks_room: bool,
     pub(crate) input: Vec<u8>,
     output: Vec<u8>,
+    // These bytes were taken in the last turn.
+    is_taken: bool,
     /// How many bytes of the output were written.
     pub(crate) written: usize,
 }
@@ -81,6 +83,7 @@ impl Line {
             asks_room: false,
             input: vec![in alloc; 0; PARKED_ROOM]?,
             output: Vec::with_capacity(alloc, PARKED_ROOM)?,
+            is_taken: false,
             written: 0,
         })
     }
@@ -89,9 +92,15 @@ impl Line {
         self.own.is_none()
     }
 
-    /// Whether bytes were taken for output in the last turn, or wait since an earlier one.
-    pub(crate) fn sends(&self) -> bool {
-        !self.output.is_empty()
+    /// The bytes that were taken for output in the last turn: it gives them once.
+    pub(crate) fn taken(&mut self) -> &[u8] {
+        let is_taken = self.is_taken;
+        self.is_taken = false;
+        if is_taken {
+            self.output.as_slice()
+        } else {
+            &[]
+        }
     }
 
     /// Puts the socket among those of the circuits that are parked, and says whether it could. It
@@ -113,15 +122,17 @@ impl Line {
         Ok(())
     }
 
-    /// Gives the poll of the circuit's own back, and the room for many bytes. All that was to be
-    /// written was written.
+    /// Gives the poll of the circuit's own back, and the room for many bytes, but for those that
+    /// are still to be written.
     pub(crate) fn drop_own(&mut self) {
         self.own = None;
         self.input.truncate(PARKED_ROOM);
         self.input.shrink_to(PARKED_ROOM);
-        self.output.clear();
-        self.output.shrink_to(PARKED_ROOM);
-        self.written = 0;
+        if self.written >= self.output.len() {
+            self.output.clear();
+            self.output.shrink_to(PARKED_ROOM);
+            self.written = 0;
+        }
     }
 
     /// Reads what is there. Readiness is told of once, so that a wait is safe only after a read
@@ -162,30 +173,36 @@ impl Line {
         }
     }
 
-    /// Waits until the socket may have room, or the thread is woken. The socket of a circuit that
+    /// Waits until the socket may have room, or the thread is woken, for so long at most. Says
+    /// whether neither came for a second: one that is parked waits on. The socket of a circuit that
     /// is parked tells of room from here on. It is asked once: it tells again of bytes that were
     /// not read each time that it is asked.
-    pub(crate) fn wait_for_room<R: Wait + Clock>(
+    pub(crate) fn is_full<R: Wait + Clock>(
         &mut self,
         rt: &R,
         registry: &Registry,
         token: Token,
-    ) {
-        match &mut self.own {
-            Some(own) => {
-                let _woken = own.is_idle(rt, None);
-            }
-            None => {
-                let both = Interest::READABLE | Interest::WRITABLE;
-                self.asks_room = self.asks_room
-                    || registry.reregister(&mut self.stream, token, both).is_ok();
-                if self.asks_room {
-                    self.parker.park(rt);
-                } else {
-                    self.pause(rt);
+        most: Option<Duration>,
+    ) -> bool {
+        if let Some(own) = &mut self.own {
+            let idle = Duration::from_secs(IDLE);
+            return match most {
+                Some(most) if most < idle => {
+                    let _woken = own.is_idle(rt, Some(most));
+                    false
                 }
-            }
+                _ => own.is_idle(rt, Some(idle)),
+            };
         }
+        let both = Interest::READABLE | Interest::WRITABLE;
+        self.asks_room = self.asks_room
+            || registry.reregister(&mut self.stream, token, both).is_ok();
+        match most {
+            _ if !self.asks_room => self.pause(rt),
+            Some(most) => self.parker.park_timeout(rt, most),
+            None => self.parker.park(rt),
+        }
+        false
     }
 
     /// Waits for a short time, or until the thread is woken.
@@ -231,6 +248,7 @@ impl Line {
         }
         self.output.clear();
         self.written = 0;
+        self.is_taken = true;
         let count = self.room_for(bytes.len());
         let first = &bytes[..count];
         match self.output.extend_from_slice(first) {

@@ -1,9 +1,12 @@
 ghost use Rattle.std.specs.Prelude.{◌≡◌, ◌<◌};
 
-use crate::clock::{parts_of, stamp_after};
+use crate::clock::{milliseconds, next_stamp, parts_of, stamp_after};
+use crate::meter::Meter;
 use crate::parking::Parking;
 use crate::processing::Device;
 use crate::ringing::{Bell, Rings, ring};
+use crate::serving::Options;
+use crate::tally::Tally;
 use ca_arena::Handle;
 use ca_server::{State, locked_finish, locked_step};
 use ca_server_core::{Cause, Effect, Step};
@@ -13,8 +16,12 @@ use mio::Waker;
 use std::alloc::{AllocError, Global};
 use std::collections::VecDeque;
 use std::sync::ledger::{Ledger, Share};
-use std::sync::{Condvar, Mutex, Wait};
+use std::sync::{Condvar, Mutex, MutexGuard, Wait};
+use std::thread;
 use std::time::Clock;
+
+// Looks at the lock, each a call of the system, before a thread sleeps.
+const LOOKS: u32 = 32;
 
 /// What lies under the lock.
 #[derive(Drop)]
@@ -56,6 +63,9 @@ pub(crate) struct Shared<L: Ledger, D: Device> {
     pub(crate) device: D,
     /// The names of the slow records.
     pub(crate) slow: IndexSet<Vec<u8>>,
+    /// For how many milliseconds a socket may take nothing of what waits, if there is a limit.
+    pub(crate) patience: Option<u64>,
+    pub(crate) meter: Option<Meter>,
     pub(crate) alloc: Global,
 }
 
@@ -69,7 +79,13 @@ impl<L: Ledger, D: Device> Shared<L, D> {
         accepting: Waker,
         answering: Waker,
         device: D,
+        options: Options,
     ) -> Result<Shared<L, D>, AllocError> {
+        let Options {
+            circuits: _,
+            patience,
+            meter,
+        } = options;
         let busy = VecDeque::with_capacity(alloc, slow.len())?;
         let mut in_hand = Vec::new(alloc);
         in_hand.resize(slow.len(), false)?;
@@ -92,8 +108,45 @@ impl<L: Ledger, D: Device> Shared<L, D> {
             answering,
             device,
             slow,
+            patience: patience.map(milliseconds),
+            meter,
             alloc,
         })
+    }
+
+    /// Takes the lock for a turn. While others have it the thread looks again for some microseconds:
+    /// a turn takes less than a sleep and a wake.
+    pub(crate) fn lock<R: Wait>(&self, rt: &R) -> MutexGuard<'_, Locked<L>> {
+        for _ in 0..LOOKS {
+            if let Some(guard) = self.locked.try_lock() {
+                return guard;
+            }
+            thread::yield_now();
+        }
+        self.locked.lock(rt)
+    }
+
+    /// What counts for the meter, if there is one.
+    pub(crate) fn tally(&self) -> Result<Tally, AllocError> {
+        let meter = match &self.meter {
+            Some(meter) => Some(meter.share()?),
+            None => None,
+        };
+        Ok(Tally::new(self.alloc, meter))
+    }
+
+    /// Tells the meter how many writes were applied.
+    pub(crate) fn note_writes(&self, locked: &Locked<L>) {
+        if let Some(meter) = &self.meter {
+            meter.note_writes(locked.state.applied());
+        }
+    }
+
+    /// Tells the meter of a connection that is closed at once.
+    pub(crate) fn note_closed(&self) {
+        if let Some(meter) = &self.meter {
+            meter.note_closed();
+        }
     }
 
     /// Has all threads end.
@@ -102,7 +155,7 @@ impl<L: Ledger, D: Device> Shared<L, D> {
         let locked = &mut *guard;
         locked.ending = true;
         for (_, bell) in &locked.bells {
-            bell.ring();
+            bell.wake.ring();
         }
         drop(guard);
         self.given.notify_all();
@@ -152,9 +205,10 @@ impl<L: Ledger> Locked<L> {
         }
     }
 
-    // The other circuits that may have updates of a write on this channel are to be rung: the
-    // circuit that wrote is in its turn.
+    // A write was applied on this channel: the next one is to be later, and the other circuits that
+    // may have updates of it are to be rung. The circuit that wrote is in its turn.
     fn reach_by(&mut self, circuit: Handle, sid: u32, rings: &mut Rings) {
+        self.stamp_as(next_stamp(self.stamped));
         let Locked { state, bells, .. } = self;
         if let Some(name) = state.served_name(circuit, Sid::new(sid)) {
             reach(state, bells, name, Some(circuit), rings);
@@ -196,8 +250,13 @@ impl<L: Ledger> Locked<L> {
     /// Hands the machine's time in: the next write that is applied has this time stamp, and no
     /// write had it before.
     pub(crate) fn stamp<R: Clock>(&mut self, rt: &R) {
-        self.stamped = stamp_after(rt, self.stamped);
-        let (seconds, nanos) = parts_of(self.stamped);
+        self.stamp_as(stamp_after(rt, self.stamped));
+    }
+
+    // The next write that is applied has this time stamp.
+    fn stamp_as(&mut self, stamp: u64) {
+        self.stamped = stamp;
+        let (seconds, nanos) = parts_of(stamp);
         self.state.stamp(seconds, nanos);
     }
 

@@ -116,7 +116,7 @@ fn hang<L: Ledger, D: Device, R: Wait>(
     let mut other = waker;
     let mut guard = shared.locked.lock(rt);
     if let Some(bell) = guard.bells.get_mut(&circuit.index) {
-        mem::swap(&mut bell.waker, &mut other);
+        mem::swap(&mut bell.wake.waker, &mut other);
     }
     drop(guard);
 }

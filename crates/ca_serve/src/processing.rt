@@ -84,6 +84,7 @@ fn finish<L: Ledger, D: Device, R: Wait + Clock>(
     let mut guard = shared.locked.lock(rt);
     let locked = &mut *guard;
     locked.finish(rt, place, name, &mut rings);
+    shared.note_writes(locked);
     rings.hand_over(&mut locked.rings);
     drop(guard);
     rings.ring_all(&shared.rung);

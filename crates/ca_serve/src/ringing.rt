@@ -14,19 +14,15 @@ use std::time::Clock;
 // A thread rings this many bells by itself, at most: each ring is a call of the system.
 const FEW: usize = 8;
 
-/// How the thread of a circuit is woken.
+/// What wakes a thread.
 #[derive(Drop)]
-pub(crate) struct Bell {
-    pub(crate) circuit: Handle,
-    /// Of the poll that the circuit has for itself, unless it is parked.
+pub(crate) struct Wake {
+    /// Of the poll that its circuit has for itself, unless it is parked.
     pub(crate) waker: Option<Arc<Waker>>,
     pub(crate) parker: Arc<Parker>,
-    /// The thread waits for bytes, nothing waits to be sent on its circuit, and nobody is about to
-    /// wake it.
-    pub(crate) is_idle: bool,
 }
 
-impl Bell {
+impl Wake {
     /// Wakes the thread, at its poll or its parker.
     pub(crate) fn ring(&self) {
         match &self.waker {
@@ -35,28 +31,26 @@ impl Bell {
         }
     }
 
-    fn wake(&self) -> Result<Wake, AllocError> {
-        match &self.waker {
-            Some(waker) => Ok(Wake::Poll(Arc::try_clone(waker)?)),
-            None => Ok(Wake::Park(Arc::try_clone(&self.parker)?)),
-        }
+    fn again(&self) -> Result<Wake, AllocError> {
+        let waker = match &self.waker {
+            Some(waker) => Some(Arc::try_clone(waker)?),
+            None => None,
+        };
+        Ok(Wake {
+            waker,
+            parker: Arc::try_clone(&self.parker)?,
+        })
     }
 }
 
-// A thread that is to be woken, at its poll or where it is parked.
+/// How the thread of a circuit is woken.
 #[derive(Drop)]
-enum Wake {
-    Poll(Arc<Waker>),
-    Park(Arc<Parker>),
-}
-
-impl Wake {
-    fn ring(&self) {
-        match self {
-            Wake::Poll(waker) => ring(waker),
-            Wake::Park(parker) => parker.unpark(),
-        }
-    }
+pub(crate) struct Bell {
+    pub(crate) circuit: Handle,
+    pub(crate) wake: Wake,
+    /// The thread waits for bytes, nothing waits to be sent on its circuit, and nobody is about to
+    /// wake it.
+    pub(crate) is_idle: bool,
 }
 
 /// Bells that are rung once the lock is let go.
@@ -85,17 +79,20 @@ impl Rings {
             return;
         }
         bell.is_idle = false;
-        match bell.wake() {
+        match bell.wake.again() {
             Ok(wake) => self.add(wake),
-            Err(_) => bell.ring(),
+            Err(_) => bell.wake.ring(),
         }
     }
 
     /// The thread is to be woken if it is parked, whatever it waits for there.
     pub(crate) fn call(&mut self, bell: &Bell) {
-        match Arc::try_clone(&bell.parker) {
-            Ok(parker) => self.add(Wake::Park(parker)),
-            Err(_) => bell.parker.unpark(),
+        match Arc::try_clone(&bell.wake.parker) {
+            Ok(parker) => self.add(Wake {
+                waker: None,
+                parker,
+            }),
+            Err(_) => bell.wake.parker.unpark(),
         }
     }
 

@@ -1,9 +1,10 @@
-ghost use Rattle.std.specs.Prelude.{◌≡◌, ◌-◌, ◌^◌};
+ghost use Rattle.std.specs.Prelude.{◌≡◌, ◌-◌, ◌^◌, None};
 
 use crate::accepting::{Door, SOCKET, accept_all, join_all, new_poll};
 use crate::clock::moment_now;
 use crate::datagrams::{Datagrams, Desk};
 use crate::locked::Shared;
+use crate::meter::Meter;
 use crate::parking::{Parking, Poller, SOCKETS};
 use crate::processing::{Device, Processor};
 use crate::ringing::Ringer;
@@ -21,7 +22,7 @@ use std::net::{Net, SocketAddr};
 use std::sync::ledger::{Blank, Ledger};
 use std::sync::{Arc, Mutex, Wait};
 use std::thread::{JoinHandle, Threads};
-use std::time::Clock;
+use std::time::{Clock, Duration};
 
 // Bytes of a datagram that is received, at most.
 const DATAGRAM: usize = 65_536;
@@ -34,8 +35,33 @@ pub struct Places {
     pub beacons: SocketAddr,
 }
 
-/// Serves records until that many circuits were closed, without a number for ever. Reports how many
-/// writes were applied for the circuits.
+/// How a server serves.
+#[derive(Drop)]
+pub struct Options {
+    /// It ends once so many circuits were closed, without a number never.
+    pub circuits: Option<u64>,
+    /// A circuit is cut if bytes wait to be sent on it and its socket takes none for so long. Without
+    /// a time none is.
+    pub patience: Option<Duration>,
+    /// Where it counts, if anywhere.
+    pub meter: Option<Meter>,
+}
+
+impl Options {
+    /// It ends once so many circuits were closed, has no patience to lose, and counts nowhere.
+    pub fn new(circuits: Option<u64>) -> Options
+        ensures circuits { result.circuits ≡ circuits }
+        ensures others { (result.patience ≡ None) × (result.meter ≡ None) }
+    {
+        Options {
+            circuits,
+            patience: None,
+            meter: None,
+        }
+    }
+}
+
+/// Serves records. Reports how many writes were applied for the circuits.
 ///
 /// A connection for which there is no room is closed at once. Refused as Device if a socket or a
 /// thread cannot be had, and as OutOfMemory.
@@ -55,7 +81,7 @@ pub fn serve<
     records: &Records,
     rules: Vec<Rule>,
     device: D,
-    circuits: Option<u64>,
+    options: Options,
 ) -> Result<u64, Refusal> {
     serve_as::<Brand, D, R>(
         rt,
@@ -65,7 +91,7 @@ pub fn serve<
         records,
         rules,
         device,
-        circuits,
+        options,
     )
 }
 
@@ -88,12 +114,13 @@ fn serve_as<
     records: &Records,
     rules: Vec<Rule>,
     device: D,
-    circuits: Option<u64>,
+    options: Options,
 ) -> Result<u64, Refusal>
     requires name { blank.name ≡ L.name }
     requires parts { blank.parts ≡ L.parts }
     requires all { blank.parts ≡ 2 ^ 64 - 1 }
 {
+    let circuits = options.circuits;
     let port = port_of(&places)?;
     let (book, mut all) = blank.open::<L>();
     let state = State::new(book, port, moment_now(&rt), records, rules)?;
@@ -109,6 +136,7 @@ fn serve_as<
             accepting,
             answering,
             device,
+            options,
         )?,
     )?;
     let mut helpers = Vec::with_capacity(alloc, 5)?;
@@ -292,7 +320,13 @@ fn start_datagrams<
         + 'static,
 >(rt: R, shared: &Arc<Shared<L, D>>, desk: Desk) -> Result<JoinHandle<()>, Refusal> {
     let shared = Arc::try_clone(shared)?;
-    started(rt, Datagrams { shared, desk })
+    let tally = shared.tally()?;
+    let datagrams = Datagrams {
+        shared,
+        desk,
+        tally,
+    };
+    started(rt, datagrams)
 }
 
 fn start_poller<

@@ -6,7 +6,7 @@ use crate::wire::{connected, greet, is_done, opened, put};
 use crate::{say_yes, tell};
 use ca_dbr::Value;
 use ca_script::{RecordFile, read_records};
-use ca_serve::{Device, Places, serve};
+use ca_serve::{Device, Options, Places, serve};
 use ca_text::Refusal;
 use std::alloc::Global;
 use std::io::Write;
@@ -152,7 +152,8 @@ fn start_server<
     };
     let spawned = thread::spawn(&rt, move || {
         let RecordFile { records, rules } = file;
-        serve(rt, alloc, places, &records, rules, device, Some(circuits))
+        let options = Options::new(Some(circuits));
+        serve(rt, alloc, places, &records, rules, device, options)
     });
     match spawned {
         Ok(server) => Ok(server),

@@ -5,6 +5,8 @@
 //!   their end (`holding`);
 //! - the lines `get`, `put` and `monitor`, what each says, and its status (`lines`);
 //! - servers whose device takes its time (`fairness`);
+//! - a server whose numbers are looked at (`counting`), and servers with and without patience
+//!   (`patience`);
 //! - a client whose callers are four threads (`callers`), and the calls that these
 //!   do not make (`calls`);
 //! - reads one after another, whose outcomes are told at once (`prompt`);
@@ -28,11 +30,13 @@ mod callers;
 mod calls;
 mod client;
 mod conduct;
+mod counting;
 mod fairness;
 mod holding;
 mod lines;
 mod listening;
 mod moments;
+mod patience;
 mod peer;
 mod prompt;
 mod reaching;
@@ -97,6 +101,8 @@ fn show<
     state::show(alloc, out)?;
     holding::show(rt, alloc, out)?;
     fairness::show(rt, alloc, out)?;
+    counting::show(rt, alloc, out)?;
+    patience::show(rt, alloc, out)?;
     lines::show(rt, alloc, out, err)?;
     callers::show(rt, alloc, out)?;
     prompt::show(rt, alloc, out)?;

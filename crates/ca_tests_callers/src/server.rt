@@ -2,7 +2,7 @@
 
 use ca_dbr::Value;
 use ca_script::RecordFile;
-use ca_serve::{Device, Places, serve};
+use ca_serve::{Device, Options, Places, serve};
 use ca_text::Refusal;
 use std::alloc::Global;
 use std::net::{Ipv4Addr, Net, SocketAddr, TcpListener, TcpStream, UdpSocket};
@@ -63,7 +63,8 @@ pub(crate) fn start_server<
 ) -> Result<JoinHandle<Result<u64, Refusal>>, Refusal> {
     let spawned = thread::spawn(&rt, move || {
         let RecordFile { records, rules } = file;
-        serve(rt, alloc, places, &records, rules, Prompt, Some(circuits))
+        let options = Options::new(Some(circuits));
+        serve(rt, alloc, places, &records, rules, Prompt, options)
     });
     match spawned {
         Ok(server) => Ok(server),

@@ -3,7 +3,7 @@ ghost use Rattle.std.specs.Prelude.{◌<◌, ◌^◌};
 use ca_dbr::Value;
 use ca_link::{Sink, report};
 use ca_script::RecordFile;
-use ca_serve::{Device, Places, serve};
+use ca_serve::{Device, Options, Places, serve};
 use ca_text::Refusal;
 use std::alloc::Global;
 use std::io::Write;
@@ -81,7 +81,8 @@ fn served<
 {
     let RecordFile { records, rules } = file;
     tell(alloc, &places.listener, sink)?;
-    serve(rt, alloc, places, &records, rules, Prompt, circuits)?;
+    let options = Options::new(circuits);
+    serve(rt, alloc, places, &records, rules, Prompt, options)?;
     Ok(())
 }
 
