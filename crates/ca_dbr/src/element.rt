@@ -3,7 +3,8 @@ ghost use Rattle.std.specs.List.{flat_map};
 ghost use Rattle.std.specs.Int.{to_be_bytes, w16, w32, w64};
 ghost use Rattle.ca_dbr.specs.Elements.{string_bytes, byte_1, bytes_2, bytes_4, bytes_8, signed_bytes_2, signed_bytes_4};
 
-use std::alloc::{AllocError, Global};
+use std::alloc::AllocError;
+use std::mem;
 
 /// An element as it is in an image.
 pub(crate) trait Element: Copy + Drop {
@@ -35,42 +36,18 @@ pub(crate) trait Element: Copy + Drop {
         ensures fits { fits result };
 }
 
-/// Puts these bytes at the end, where room was made for them.
-pub(crate) fn put_bytes(bytes: &[u8], out: &mut Vec<u8>)
+/// Puts these bytes at the end, where room was made for them: one by one, since no room is to be
+/// asked for again.
+#[inline(always)]
+fn put_bytes(bytes: &[u8], out: &mut Vec<u8>)
     requires { vec_len out.old + length bytes.now ≤ vec_capacity out.old }
     ensures after { out.new.items ≡ out.old.items ++ bytes.now }
     ensures len { vec_len out.new ≡ vec_len out.old + length bytes.now }
     ensures capacity { vec_capacity out.old ≤ vec_capacity out.new }
 {
-    match out.extend_from_slice(bytes) {
-        Ok(()) => {}
-        Err(_) => unreachable!(),
+    for byte in bytes {
+        out.push_reserved(*byte);
     }
-}
-
-/// Puts these two bytes at the end, where room was made for them. One by one, since no room is
-/// to be asked for again.
-fn put_two(bytes: [u8; 2], out: &mut Vec<u8>)
-    requires { vec_len out.old + 2 ≤ vec_capacity out.old }
-    ensures after { out.new.items ≡ out.old.items ++ bytes }
-    ensures len { vec_len out.new ≡ vec_len out.old + 2 }
-    ensures capacity { vec_capacity out.old ≤ vec_capacity out.new }
-{
-    out.push_reserved(bytes[0]);
-    out.push_reserved(bytes[1]);
-}
-
-/// Puts these four bytes at the end, where room was made for them.
-fn put_four(bytes: [u8; 4], out: &mut Vec<u8>)
-    requires { vec_len out.old + 4 ≤ vec_capacity out.old }
-    ensures after { out.new.items ≡ out.old.items ++ bytes }
-    ensures len { vec_len out.new ≡ vec_len out.old + 4 }
-    ensures capacity { vec_capacity out.old ≤ vec_capacity out.new }
-{
-    out.push_reserved(bytes[0]);
-    out.push_reserved(bytes[1]);
-    out.push_reserved(bytes[2]);
-    out.push_reserved(bytes[3]);
 }
 
 impl Element for [u8; 40] {
@@ -108,7 +85,7 @@ impl Element for i16 {
 
     #[tactic(auto, unfolding(crate::specs::Elements::signed_bytes_2))]
     fn put(self, out: &mut Vec<u8>) {
-        put_two(self.to_be_bytes(), out);
+        put_bytes(&self.to_be_bytes(), out);
     }
 
     fn know(self) {}
@@ -130,7 +107,7 @@ impl Element for u32 {
 
     #[tactic(auto, unfolding(crate::specs::Elements::bytes_4))]
     fn put(self, out: &mut Vec<u8>) {
-        put_four(self.to_be_bytes(), out);
+        put_bytes(&self.to_be_bytes(), out);
     }
 
     fn know(self) {}
@@ -152,7 +129,7 @@ impl Element for u16 {
 
     #[tactic(auto, unfolding(crate::specs::Elements::bytes_2))]
     fn put(self, out: &mut Vec<u8>) {
-        put_two(self.to_be_bytes(), out);
+        put_bytes(&self.to_be_bytes(), out);
     }
 
     fn know(self) {}
@@ -196,7 +173,7 @@ impl Element for i32 {
 
     #[tactic(auto, unfolding(crate::specs::Elements::signed_bytes_4))]
     fn put(self, out: &mut Vec<u8>) {
-        put_four(self.to_be_bytes(), out);
+        put_bytes(&self.to_be_bytes(), out);
     }
 
     fn know(self) {}
@@ -301,9 +278,12 @@ pub(crate) fn put_all<E: Element>(items: &[E], out: &mut Vec<u8>)
     ensures capacity { vec_capacity out.old ≤ vec_capacity out.new }
     ensures fits { All E.fits items.now }
 {
+    let mut row = Vec::new(*out.allocator());
+    mem::swap(&mut row, out);
     for item in items {
-        item.put(out);
+        item.put(&mut row);
     }
+    mem::swap(&mut row, out);
 }
 
 /// Reads n elements from the front, into this room, of which nothing else is left.
