@@ -1,8 +1,9 @@
 //! What a client makes of a SEARCH that comes on a circuit: it is a reply.
-ghost use Rattle.std.specs.Prelude.{◌≡◌, ◌<◌, Some};
+ghost use Rattle.std.specs.Prelude.{[], ℕ, ◌≡◌, ◌<◌, List, Some};
 ghost use Rattle.ca_text.specs.Command.{command_number};
 ghost use Rattle.ca_text.specs.declared.command.Command.TheVariants as command;
 ghost use Rattle.ca_ids.specs.Table.{under};
+ghost use Rattle.ca_requests.specs.Meaning.{message_of};
 ghost use Rattle.ca_model.specs.Client.{ClientCircuit};
 ghost use Rattle.ca_client_core.specs.Dispatch.{HearsOr};
 ghost use Rattle.ca_client_core.specs.Hearing.{FindsOr};
@@ -11,8 +12,8 @@ use crate::client::ClientCore;
 use crate::notices::Notices;
 use crate::searches::pause_found;
 use ca_arena::Handle;
-use ca_client_tables::{Address, find};
-use ca_wire::Message;
+use ca_client_tables::{Address, find, with_header};
+use ca_wire::Header;
 use std::alloc::AllocError;
 
 impl ClientCore {
@@ -20,24 +21,25 @@ impl ClientCore {
     pub(crate) fn hear_search(
         &mut self,
         circuit: Handle,
-        message: &Message,
+        header: &Header,
     ) -> Result<Notices, AllocError>
         requires there { (d : ClientCircuit) × (under self.old.circuits circuit ≡ Some d) }
-        requires command { message.now.command ≡ command_number command.Search }
-        ensures { HearsOr self.old circuit message.now result self.new }
+        requires command { header.now.command ≡ command_number command.Search }
+        ensures { (payload : List ℕ)
+            → HearsOr self.old circuit (message_of header.now payload) result self.new }
     {
         let Some(found) = self.circuits.by_handle(circuit) else {
             unreachable!()
         };
         let from = found.address;
-        self.hear_found(from, message)?;
+        self.hear_found(from, header)?;
         Ok(Notices::none(self.alloc))
     }
 
     // It came from this address: a channel that is searched for was found, and is put on the
     // circuit to its server. A circuit to it is wanted from now on if there is none.
-    fn hear_found(&mut self, from: Address, message: &Message) -> Result<(), AllocError>
-        ensures { FindsOr self.old from message.now result self.new }
+    fn hear_found(&mut self, from: Address, header: &Header) -> Result<(), AllocError>
+        ensures { FindsOr self.old from (message_of header.now []) result self.new }
     {
         let found = find(
             self.alloc,
@@ -45,7 +47,7 @@ impl ClientCore {
             &mut self.circuits,
             &mut self.order,
             from,
-            message,
+            &with_header(self.alloc, *header),
         )?;
         if let Some(channel) = found {
             pause_found(&mut self.searches, channel);
