@@ -12,7 +12,7 @@ use Rattle.ca_model.specs.Client.{Client, ClientCircuit, Connection, connection_
 use Rattle.ca_model.specs.ClientEnds.{after_taking}
 use Rattle.ca_client_tables.specs.declared.first.First.{First}
 use Rattle.ca_client_tables.specs.declared.first.First.TheVariants as first
-use Rattle.ca_client_tables.specs.First.{FirstAt, first_at, in_bytes, payload_at, without_front}
+use Rattle.ca_client_tables.specs.First.{FirstAt, first_at, in_bytes, payload_at, without_front, without_head}
 use Rattle.ca_client_tables.proofs.Circuits.{changed-same, found-changed}
 use Rattle.ca_client_tables.proofs.Firsts.{payload-long, takes-first}
 use Rattle.ca_client_core.specs.First.{FirstOn, first_on, without_first}
@@ -69,12 +69,9 @@ first-some x c head none h = none-gone head (connection_at x c) (ap (option_and_
 pub first-there : (x : Client) (c : Handle) (head : Head) (y : Client) → FirstOn x c (first.Message head) → y ≡ without_first c head x → (d : ClientCircuit) × (under y.circuits c ≡ Some d)
 first-there x c head y h is = go (under x.circuits c) refl
   where
-    abbrev f : ClientCircuit → ClientCircuit
-    f d = record d { connection = option_map (without_front head) d.connection }
-
     go : (o : Option ClientCircuit) → under x.circuits c ≡ o → (d : ClientCircuit) × (under y.circuits c ≡ Some d)
     go None none = none-gone head (connection_at x c) (ap (option_and_then (λ (w : ClientCircuit). w.connection)) none) h
-    go (Some d) found = (f d, ap (λ (z : Client). under z.circuits c) is ∙ found-changed x.circuits f c d found)
+    go (Some d) found = (without_head head d, ap (λ (z : Client). under z.circuits c) is ∙ found-changed x.circuits (without_head head) c d found)
 
 -- ---- the message is taken
 

@@ -29,7 +29,7 @@ use Rattle.ca_client_core.proofs.Walked.{steps-bad, steps-heard, steps-out}
 
 -- what comes first comes on an end that is there, or the circuit is gone
 with-end : {P : Type 0} (x : Client) (c : Handle) → (connection_at x c ≡ None → P) → ((d : ClientCircuit) (e : Connection) → under x.circuits c ≡ Some d → d.connection ≡ Some e → P) → P
-with-end x c none some = go (under x.circuits c) refl
+with-end {P = P} x c none some = go (under x.circuits c) refl
   where
     there : (d : ClientCircuit) → under x.circuits c ≡ Some d → (o : Option Connection) → d.connection ≡ o → P
     there d found None has = none (ap (option_and_then (λ (w : ClientCircuit). w.connection)) found ∙ has)
@@ -73,22 +73,20 @@ first-bad x c cause new k h ends left =
 
 -- ---- a reply
 
+-- what it does, and then it is taken
+abbrev after : Handle → Head → Effect → Effect
+after c head e = record e { core = without_first c head e.core }
+
 -- it is taken before its request is complete, or after
 pub reply-taken : (x y : Client) (c : Handle) (head : Head) (m : Fields) (told : Option (Handle × Outcome)) → HearsReply x c m (Ok told) y → HearsReply (without_first c head x) c m (Ok told) (without_first c head y)
 reply-taken x y c head m told did = go (answered_by c m.command m.p2 x.requests) did
   where
-    abbrev out : Client → Client
-    out z = without_first c head z
+    by : (q : Handle) (s : Stage) (e : Effect) → Completes x m q s e → Completes (without_first c head x) m q s (after c head e)
+    by q request.Open e (o, means, is) = (o, means, ap (after c head) is)
+    by q request.Draining e is = ap (after c head) is
 
-    abbrev after : Effect → Effect
-    after e = record e { core = out e.core }
-
-    by : (q : Handle) (s : Stage) (e : Effect) → Completes x m q s e → Completes (out x) m q s (after e)
-    by q request.Open e (o, means, is) = (o, means, ap after is)
-    by q request.Draining e is = ap after is
-
-    go : (about : Option (Handle × Request)) → HearsReplyTo x m about (Ok told) y → HearsReplyTo (out x) m about (Ok told) (out y)
-    go None is = ap after is
+    go : (about : Option (Handle × Request)) → HearsReplyTo x m about (Ok told) y → HearsReplyTo (without_first c head x) m about (Ok told) (without_first c head y)
+    go None is = ap (after c head) is
     go (Some (q, r)) done = by q r.stage (doing [] (completed told) y) done
 
 -- a step that read one

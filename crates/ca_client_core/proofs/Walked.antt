@@ -107,7 +107,7 @@ module _ (x : Client) (c : Handle) (d : ClientCircuit) (found : under x.circuits
           (subst (λ (j : answer.Closing). MayEnd x c e j.why × EndsFor j.why x c j [] new) (sym is) (may, (refl, refl, left))),
     )
 
-    may-bad : (cause : why.Why) → IsBad e cause → MayEnd x c e cause
+    may-bad : (cause : why.Why) → IsBad e.link.input.bytes cause → MayEnd x c e cause
     may-bad why.Misaligned bad = bad
     may-bad why.TooLarge bad = bad
     may-bad _ bad = absurd bad

@@ -13,7 +13,7 @@ use crate::notices::Notices;
 use crate::searches::pause_found;
 use ca_arena::Handle;
 use ca_client_tables::{Address, find, with_header};
-use ca_wire::Header;
+use ca_wire::{Header, Message};
 use std::alloc::AllocError;
 
 impl ClientCore {
@@ -32,14 +32,15 @@ impl ClientCore {
             unreachable!()
         };
         let from = found.address;
-        self.hear_found(from, header)?;
+        let reply = with_header(self.alloc, *header);
+        self.hear_found(from, &reply)?;
         Ok(Notices::none(self.alloc))
     }
 
     // It came from this address: a channel that is searched for was found, and is put on the
     // circuit to its server. A circuit to it is wanted from now on if there is none.
-    fn hear_found(&mut self, from: Address, header: &Header) -> Result<(), AllocError>
-        ensures { FindsOr self.old from (message_of header.now []) result self.new }
+    fn hear_found(&mut self, from: Address, message: &Message) -> Result<(), AllocError>
+        ensures { FindsOr self.old from message.now result self.new }
     {
         let found = find(
             self.alloc,
@@ -47,7 +48,7 @@ impl ClientCore {
             &mut self.circuits,
             &mut self.order,
             from,
-            &with_header(self.alloc, *header),
+            message,
         )?;
         if let Some(channel) = found {
             pause_found(&mut self.searches, channel);

@@ -25,6 +25,9 @@ take-requires c = subst (λ (y : Client). FirstOn y c.args.circuit (first.Messag
 pub invariant_of-self : goal.invariant_of-self
 invariant_of-self c = sound-answered c.self.inside.channels c.self.inside.searches.entries c.self.inside.requests.table c.self.inside.monitors c.self.inside.circuits c.self.inside.lives.items c.self.invariant _ c.answer.new.self _ _ c.answer.result refl c.answer.ensures
 
+pub invariant_of-self-in-Err : goal.invariant_of-self-in-Err
+invariant_of-self-in-Err c = sound-answered c.self.inside.channels c.self.inside.searches.entries c.self.inside.requests.table c.self.inside.monitors c.self.inside.circuits c.self.inside.lives.items c.self.invariant _ c.answer.new.self _ _ c.answer.result refl c.answer.ensures
+
 pub returns-in-Ok : goal.returns-in-Ok
 returns-in-Ok c =
     let i = c.self.inside in

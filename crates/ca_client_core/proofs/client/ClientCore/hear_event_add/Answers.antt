@@ -7,8 +7,8 @@ use Rattle.ca_client_core.proofs.Dispatched.{heard-first, update-out}
 use Rattle.ca_client_core.proofs.Firsts.{no-payload, some-payload}
 use Rattle.ca_client_core.proofs.client.ClientCore.hear_event_add.Goals as goal
 
-pub returns-then-size : goal.returns-then-size
-returns-then-size c =
+pub returns-then-head-eq0 : goal.returns-then-head-eq0
+returns-then-head-eq0 c =
     let none : c.args.head.now.header.size ≡ 0 = search rules in
     heard-first c.args.self.now c.args.circuit c.args.head.now (Ok c.none.result) c.take.new.self c.hear_confirmation.new.self c.take.ensures
     (becomes c.hear_confirmation.new.self, hears.Confirmation c.requires.command (no-payload c.args.self.now c.args.circuit c.args.head.now none) c.hear_confirmation.ensures, c.none.ensures, refl)

@@ -1,4 +1,6 @@
-use Rattle.std.proofs.Common.{◌≡◌, ◌∙◌, Some, ap, sym}
+use Rattle.std.proofs.Common.{◌≡◌, ◌∙◌, Err, Ok, Some, ap, subst, sym}
+use Rattle.ca_wire.specs.Fields.{Fields}
+use Rattle.ca_client_core.specs.Hearing.{FindsOr}
 use Rattle.ca_ids.specs.Table.{under}
 use Rattle.ca_requests.specs.Meaning.{message_of}
 use Rattle.ca_model.specs.Client.{Client, ClientCircuit}
@@ -11,7 +13,7 @@ returns-in_err-hear_found c payload =
     let d = c.in-Some.found.now in
     let there : under x.circuits c.args.circuit ≡ Some d =
     ap (λ (y : Client). under y.circuits c.args.circuit) (sym c.self.view_is) ∙ sym c.in-Some.ensures in
-    search-out x c.args.circuit d c.found.inside.address (message_of c.args.header.now payload) c.in_err-hear_found.field-0.0 c.from_residual.result c.hear_found.new.self c.requires.command there (ap (λ (e : ClientCircuit). e.address) c.found.view_is) c.in_err-hear_found.ensures c.from_residual.ensures.0
+    search-out x c.args.circuit d c.found.inside.address (message_of c.args.header.now payload) c.in_err-hear_found.field-0.0 c.from_residual.result c.hear_found.new.self c.requires.command there (ap (λ (e : ClientCircuit). e.address) c.found.view_is) (subst (λ (m : Fields). FindsOr x c.found.inside.address m (Err c.in_err-hear_found.field-0.0) c.hear_found.new.self) c.with_header-reply.ensures c.in_err-hear_found.ensures) c.from_residual.ensures.0
 
 pub returns : goal.returns
 returns c payload =
@@ -19,4 +21,4 @@ returns c payload =
     let d = c.in-Some.found.now in
     let there : under x.circuits c.args.circuit ≡ Some d =
     ap (λ (y : Client). under y.circuits c.args.circuit) (sym c.self.view_is) ∙ sym c.in-Some.ensures in
-    search-done x c.args.circuit d c.found.inside.address (message_of c.args.header.now payload) c.in_ok-hear_found.field-0 c.none.result c.hear_found.new.self c.requires.command there (ap (λ (e : ClientCircuit). e.address) c.found.view_is) c.none.ensures c.in_ok-hear_found.ensures
+    search-done x c.args.circuit d c.found.inside.address (message_of c.args.header.now payload) c.in_ok-hear_found.field-0 c.none.result c.hear_found.new.self c.requires.command there (ap (λ (e : ClientCircuit). e.address) c.found.view_is) c.none.ensures (subst (λ (m : Fields). FindsOr x c.found.inside.address m (Ok c.in_ok-hear_found.field-0) c.hear_found.new.self) c.with_header-reply.ensures c.in_ok-hear_found.ensures)
