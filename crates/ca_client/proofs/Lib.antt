@@ -12,4 +12,3 @@ pub mod Frames
 pub mod Drained
 pub mod Ticked
 pub mod Tapes
-pub mod Begun

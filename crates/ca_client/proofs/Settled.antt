@@ -25,10 +25,12 @@ use Rattle.ca_client_core.specs.declared.stepping.Stepped.{Stepped}
 use Rattle.ca_client_core.specs.declared.stepping.Stepped.TheVariants as step
 use Rattle.ca_client_core.specs.Stepping.{stepped_as}
 use Rattle.ca_client.specs.declared.ask.Ask.TheVariants as ask
-use Rattle.ca_client.specs.Calls.{HasAnswered, told_in}
+use Rattle.ca_client.specs.declared.answer.Answer.{Answer}
+use Rattle.ca_client.specs.Calls.{HasAnswered, HasSteppedUnderLock, told_in}
+use Rattle.ca_client.specs.Replies.{IsOther}
 use Rattle.ca_client.specs.Stepping.{handed_over, notices_in}
 use Rattle.ca_client_core.specs.Notices.{completions}
-use Rattle.ca_client.specs.Awaited.{Fillable, FillsAll, IsListed, IsState, Waits, others}
+use Rattle.ca_client.specs.Awaited.{Fillable, FillsAll, IsListed, IsState, StateView, Waits, others}
 use Rattle.ca_client.proofs.Ends.{told-clear, told-end}
 use Rattle.ca_client.proofs.Heard.{told-heard}
 use Rattle.ca_client.proofs.Tickets.{Leaves, fewer_awaited, fillable_awaited, filled_awaited}
@@ -175,3 +177,16 @@ pub rests-clear : (x : Client) (h : Handle) (e : Refusal) (sent : List Sending) 
 rests-clear x h refusal.StaleHandle sent y c = c.1.1
 rests-clear x h refusal.OutOfMemory sent y c = c.2.1
 rests-clear x h _ sent y c = absurd c
+
+-- what a step that read no reply comes to
+pub other-handed : (s : Stepped) → IsOther (handed_over s)
+other-handed (step.Notices told) = tt
+other-handed step.NeedBytes = tt
+other-handed (step.Closed k) = tt
+
+pub steps-handed : (before : StateView) (c : Handle) (y : Client) (w : CoreView) (s : Stepped) (a : Answer) → (sent : List Sending) × ClientSteps before.core c (stepped_as s) sent y
+    → FillsAll before.tickets before.seat (completions (notices_in s)) w → a ≡ handed_over s → HasSteppedUnderLock before (ask.Step c) a (record { core = y; seat = w; tickets = before.tickets })
+steps-handed before c y w s a steps fills is =
+    let answers = answers-stepped before.core c s y steps in
+    subst (λ (q : Answer). HasSteppedUnderLock before (ask.Step c) q (record { core = y; seat = w; tickets = before.tickets })) (sym is)
+    (notices_in s, answers.0, fills, answers.1, refl)

@@ -3,7 +3,6 @@ pub mod Filling
 pub mod Draining
 pub mod Calls
 pub mod Replies
-pub mod Beginning
 pub mod Stepping
 pub mod Turns
 pub mod Turning

@@ -3,7 +3,7 @@ ghost use Rattle.ca_client.specs.Replies.{HasSteppedOn};
 
 use crate::answer::{Answer, Steps};
 use crate::state::ClientState;
-use crate::stepping::{Begun, begin, finish};
+use crate::stepping::{Replied, step_other, step_reply};
 use ca_arena::Handle;
 
 /// Steps a circuit until a step does anything but read a reply, or n have read one. Each is
@@ -12,18 +12,18 @@ pub fn step_all(state: &mut ClientState, circuit: Handle, most: usize) -> Steps
     ensures { HasSteppedOn circuit most state.old result state.new }
 {
     for replies in 0..most {
-        match begin(state, circuit) {
-            Begun::Filled => {}
-            Begun::NeedBytes => {
+        match step_reply(state, circuit) {
+            Replied::Filled => {}
+            Replied::NeedBytes => {
                 return Steps {
                     replies,
                     answer: Answer::NeedBytes,
                 };
             }
-            Begun::Other(first) => {
+            Replied::Other => {
                 return Steps {
                     replies,
-                    answer: finish(state, circuit, first),
+                    answer: step_other(state, circuit),
                 };
             }
         }

@@ -1,14 +1,12 @@
 //! Calls of the core under the lock, and the outcomes that they complete.
 ghost use Rattle.std.specs.Prelude.{◌≡◌};
 ghost use Rattle.ca_client_core.specs.Notices.{completions};
-ghost use Rattle.ca_client.specs.Awaited.{Fillable, FillsAll, StateView, others};
-ghost use Rattle.ca_client.specs.Beginning.{Begins};
+ghost use Rattle.ca_client.specs.Awaited.{Fillable, FillsAll, others};
 ghost use Rattle.ca_client.specs.Calls.{HasSteppedUnderLock};
 ghost use Rattle.ca_client.specs.Replies.{IsOther};
-ghost use Rattle.ca_client.specs.Stepping.{handed_over, notices_in};
+ghost use Rattle.ca_client.specs.Stepping.{StepsReply, handed_over, notices_in};
 ghost use Rattle.ca_client.specs.declared.ask.Ask.TheVariants as ask;
 ghost use Rattle.ca_client.specs.declared.answer.Answer.TheVariants as answer;
-ghost use Rattle.ca_client.specs.declared.stepping.Begun.TheVariants as begun;
 
 use crate::answer::Answer;
 use crate::ask::Ask;
@@ -17,8 +15,7 @@ use crate::state::ClientState;
 use crate::ticking::tick;
 use ca_arena::Handle;
 use ca_board::{Board, CoreSeat, Ticket};
-use ca_client_core::{Advanced, Closing, Stepped};
-use ca_client_tables::First;
+use ca_client_core::{Closing, Reply, Stepped};
 
 /// Makes one call of the core, hands the outcome of each request that it completes to the request's
 /// ticket, and hands back the other notices.
@@ -50,28 +47,28 @@ fn step_any(state: &mut ClientState, asked: Ask) -> Answer
 fn step(state: &mut ClientState, circuit: Handle) -> Answer
     ensures { HasSteppedUnderLock state.old (ask.Step circuit) result state.new }
 {
-    match begin(state, circuit) {
-        Begun::Filled => Answer::Filled,
-        Begun::NeedBytes => Answer::NeedBytes,
-        Begun::Other(first) => finish(state, circuit, first),
+    match step_reply(state, circuit) {
+        Replied::Filled => Answer::Filled,
+        Replied::NeedBytes => Answer::NeedBytes,
+        Replied::Other => step_other(state, circuit),
     }
 }
 
-// How a step began, once the outcome of a reply was handed over.
-#[derive(Drop)]
-pub(crate) enum Begun {
-    // It read a reply, and is over.
+// What a step that is to read a reply did.
+#[derive(Clone, Copy, PartialEq, Eq)]
+pub(crate) enum Replied {
+    // It read one, and handed its outcome over.
     Filled,
-    // No complete message is there, and it is over.
+    // No complete message is there.
     NeedBytes,
-    // Something else came first. `finish` is to do the rest.
-    Other(First),
+    // Nothing: something else comes first, or there is no memory.
+    Other,
 }
 
-// Begins a step. Most messages are replies, which need no more: so this is small.
+// A step, if the next message is a reply. Most are: so this is small.
 #[inline(always)]
-pub(crate) fn begin(state: &mut ClientState, circuit: Handle) -> Begun
-    ensures { Begins state.old circuit result state.new }
+pub(crate) fn step_reply(state: &mut ClientState, circuit: Handle) -> Replied
+    ensures { StepsReply state.old circuit result state.new }
 {
     let ClientState {
         core,
@@ -79,24 +76,21 @@ pub(crate) fn begin(state: &mut ClientState, circuit: Handle) -> Begun
         tickets,
         board,
     } = state;
-    let first = match core.advance(circuit) {
-        Advanced::Completed(request, outcome) => {
+    match core.read_reply(circuit) {
+        Reply::Completed(request, outcome) => {
             fill_one(board, seat, tickets, request, outcome);
-            return Begun::Filled;
+            Replied::Filled
         }
-        Advanced::Unawaited => return Begun::Filled,
-        Advanced::NeedBytes => return Begun::NeedBytes,
-        Advanced::Begun(first) => first,
-    };
-    Begun::Other(first)
+        Reply::Unawaited => Replied::Filled,
+        Reply::NeedBytes => Replied::NeedBytes,
+        Reply::Other => Replied::Other,
+    }
 }
 
-// Does the rest of a step that began with this.
+// A step, whatever comes next.
 #[inline(never)]
-pub(crate) fn finish(state: &mut ClientState, circuit: Handle, first: First) -> Answer
-    requires { (before : StateView) × Begins before circuit (begun.Other first) state.old }
-    ensures steps { (before : StateView) → Begins before circuit (begun.Other first) state.old
-        → HasSteppedUnderLock before (ask.Step circuit) result state.new }
+pub(crate) fn step_other(state: &mut ClientState, circuit: Handle) -> Answer
+    ensures steps { HasSteppedUnderLock state.old (ask.Step circuit) result state.new }
     ensures other { IsOther result }
 {
     let ClientState {
@@ -105,7 +99,7 @@ pub(crate) fn finish(state: &mut ClientState, circuit: Handle, first: First) -> 
         tickets,
         board,
     } = state;
-    let stepped = core.finish(circuit, first);
+    let stepped = core.step(circuit);
     hand_over(board, seat, tickets, stepped)
 }
 

@@ -1,9 +1,9 @@
 -- What is made of a message, by its command.
-use Rattle.std.proofs.Common.{◌≡◌, ◌≢◌, ◌∙◌, ◌⊎◌, ℕ, ◌<◌, ◌^◌, ◌==◌, true, false, inl, inr, Global, Vec, List, [], ◌∷◌, Option, Some, None, Result, Ok, Err, arith, length, refl, subst, sym}
+use Rattle.std.proofs.Common.{◌≡◌, ◌≢◌, ◌∙◌, ℕ, ◌<◌, ◌^◌, ◌==◌, true, false, inl, inr, Global, Vec, List, [], ◌∷◌, Option, Some, None, Result, Ok, Err, refl, subst, sym}
 use Rattle.std.specs.List.{list_any}
 use Rattle.std.specs.Prelude.{IsErr}
 use Rattle.std.specs.declared.alloc.AllocError.{AllocError}
-use Rattle.std.proofs.lemmas.Bool.{cases_eq, ne_eqb}
+use Rattle.std.proofs.lemmas.Bool.{ne_eqb}
 use Rattle.ca_text.specs.Command.{command_number}
 use Rattle.ca_text.specs.declared.command.Command.{Command}
 use Rattle.ca_text.specs.declared.command.Command.TheVariants as command
@@ -16,19 +16,23 @@ use Rattle.ca_requests.specs.Meaning.{Means}
 use Rattle.ca_requests.specs.Requests.{Request, Stage, answered_by}
 use Rattle.ca_requests.specs.Requests as request
 use Rattle.ca_model.specs.Answers as notice
-use Rattle.ca_model.specs.Client.{Channel, Client, ClientCircuit, channel_on, circuit_to, new_circuit}
+use Rattle.ca_model.specs.Client.{Client, ClientCircuit}
 use Rattle.ca_model.specs.ClientEnds.{TakesMemory}
 use Rattle.ca_model.specs.Ends.{Address}
-use Rattle.ca_model.specs.Hears.{Answers, Completes, Effect, Fails, Finds, FindsAt, Hears, PutsOn, Updates, becomes, clear_answered, confirmed, created, doing, failed, found_at, heard_by, left, put_on, rights_told, searched_by, understood, with_circuit, without_request}
+use Rattle.ca_model.specs.Hears.{Answers, Completes, Effect, Finds, Hears, Updates, becomes, created, doing, heard_by, rights_told, understood, without_request}
 use Rattle.ca_model.specs.Hears as hears
 use Rattle.ca_model.specs.Speech.{Is}
-use Rattle.ca_monitor.specs.Subscriptions.{confirmed_by}
-use Rattle.ca_client_core.specs.Dispatch.{HearsOr, IsReply}
-use Rattle.ca_client_core.specs.First.{MayWant}
-use Rattle.ca_client_core.specs.Hearing.{FindsOr, HasEffect, HearsReply, HearsReplyTo}
-use Rattle.ca_client_core.proofs.Effects.{head-of}
+use Rattle.ca_wire.specs.declared.header.Header.{Header}
+use Rattle.ca_wire.specs.declared.reading.Head.{Head}
+use Rattle.ca_requests.specs.Meaning.{message_of}
+use Rattle.ca_model.specs.Client.{Phase}
+use Rattle.ca_model.specs.Client as phase
+use Rattle.ca_client_tables.specs.declared.first.First.TheVariants as first
+use Rattle.ca_client_core.specs.Dispatch.{HearsFirst, HearsFirstReply, HearsOr, IsReply}
+use Rattle.ca_client_core.specs.First.{FirstOn, first_on, without_first}
+use Rattle.ca_client_core.specs.Hearing.{FindsOr, HasEffect, HearsReplyTo}
+use Rattle.ca_client_core.proofs.Firsts.{first-bytes, first-count}
 use Rattle.ca_client_core.proofs.Outcomes.{image-means, status-means}
-use Rattle.ca_client_core.proofs.Quoted.{error-none, error-quotes}
 
 -- ---- a message of none of the commands that a client understands
 
@@ -57,19 +61,10 @@ of-other command.EventAdd a b d f g h i j e r = absurd (e refl)
 of-other command.Error a b d f g h i j e r = absurd (r refl)
 of-other _ a b d f g h i j e r = refl
 
--- ---- each message has an effect
-
-puts-on : (x : Client) (a : Address) (h : Handle) (here : Channel) → MayWant x → (o : Option (Handle × ClientCircuit)) → (e : Effect) × PutsOn x a h here o e
-puts-on x a h here room (Some (c, d)) = (put_on c d.connection h here x, refl)
-puts-on x a h here (inl (c, may)) None = (put_on c None h here (with_circuit c (new_circuit a here.priority false) x), inl (c, may, refl))
-puts-on x a h here (inr full) None = (becomes x, inr (full, refl))
-
-finds-at : (x : Client) (a : Address) → MayWant x → (s : Option (Handle × Channel)) → (e : Effect) × FindsAt x a s e
-finds-at x a room None = (becomes x, refl)
-finds-at x a room (Some (h, here)) = puts-on x a h here room (circuit_to a here.priority x)
+-- ---- what a value means
 
 -- what a reply means to the request that it is about
-reply-means : {Y : Type 0} (w : Vec Y Global) (m : Fields) → IsReply m → m.count < 2 ^ 32 → AreBytes m.payload → (o : Outcome) × Means m o
+reply-means : {Y : Type 0} (w : Vec Y Global) (m : Fields) → IsReply m.command → m.count < 2 ^ 32 → AreBytes m.payload → (o : Outcome) × Means m o
 reply-means w m (inl read) few are =
     let o = image-means w m few are in
     (o.0, inl (inl read, o.1))
@@ -77,91 +72,11 @@ reply-means w m (inr written) few are =
     let o = status-means m in
     (o.0, inr (inl (written, o.1)))
 
-completes : (x : Client) (m : Fields) (q : Handle) (o : Outcome) → Means m o → (s : Stage) → (e : Effect) × Completes x m q s e
-completes x m q o means request.Open = (doing [] (notice.Completed q o ∷ []) (without_request q x), (o, means, refl))
-completes x m q o means request.Draining = (becomes (without_request q x), refl)
-
-answers : {Y : Type 0} (w : Vec Y Global) (x : Client) (m : Fields) → IsReply m → m.count < 2 ^ 32 → AreBytes m.payload → (about : Option (Handle × Request)) → (e : Effect) × Answers x m about e
-answers w x m is few are None = (becomes x, refl)
-answers w x m is few are (Some (q, r)) =
-    let o = reply-means w m is few are in
-    completes x m q o.0 o.1 r.stage
-
 updates : {Y : Type 0} (w : Vec Y Global) (x : Client) (m : Fields) → Is command.EventAdd m → m.payload ≢ [] → m.count < 2 ^ 32 → AreBytes m.payload → (s : Option Handle) → (e : Effect) × Updates x m s e
 updates w x m is some few are None = (becomes x, refl)
 updates w x m is some few are (Some s) =
     let o = image-means w m few are in
     (doing [] (notice.Update s o.0 ∷ []) x, (o.0, inl (inr (is, some), o.1), refl))
-
-fails : (x : Client) (c : Handle) (m : Fields) → AreBytes m.payload → (e : Effect) × Fails x c m e
-fails x c m are =
-    elim (head-of m.payload are) [
-      | inl some ↦ (hears.failing x c m some.0.header, error-quotes x c m (hears.failing x c m some.0.header) some.0 some.1 refl)
-      | inr none ↦ (becomes x, error-none x c m none)
-    ]
-
-has-payload : (bytes : List ℕ) → (bytes ≡ []) ⊎ (bytes ≢ [])
-has-payload [] = inl refl
-has-payload (b ∷ bytes) = inr (λ none. absurd cc)
-
--- an EVENT_ADD is a confirmation, or an update
-event : {Y : Type 0} (w : Vec Y Global) (x : Client) (c : Handle) (m : Fields) → Is command.EventAdd m → m.count < 2 ^ 32 → AreBytes m.payload → (e : Effect) × Hears x c m e
-event w x c m is few are =
-    elim (has-payload m.payload) [
-      | inl none ↦ (confirmed x (confirmed_by c m.p2 x.subscriptions), hears.Confirmation is none refl)
-      | inr some ↦
-          let u = updates w x m is some few are (heard_by x c m.p2) in
-          (u.0, hears.Update is some u.1)
-    ]
-
-pub could-hear : {Y : Type 0} (w : Vec Y Global) (x : Client) (c : Handle) (d : ClientCircuit) (m : Fields) → under x.circuits c ≡ Some d → MayWant x → m.count < 2 ^ 32 → AreBytes m.payload → (e : Effect) × Hears x c m e
-could-hear w x c d m there room few are =
-    elim (cases_eq m.command 6) [
-      | inl is ↦ (let f = finds-at x (found_at d.address m) room (searched_by m.p2 x) in (f.0, hears.Search is d there f.1))
-      | inr a ↦
-          elim (cases_eq m.command 22) [
-            | inl is ↦ (rights_told x c m (channel_on x c m.p1), hears.AccessRights is refl)
-            | inr b ↦
-                elim (cases_eq m.command 18) [
-                  | inl is ↦ (created x c m (channel_on x c m.p1), hears.CreateChannel is refl)
-                  | inr k ↦
-                      elim (cases_eq m.command 26) [
-                        | inl is ↦ (failed x (channel_on x c m.p1), hears.CreateChannelFail is refl)
-                        | inr f ↦ could-more a b k f
-                      ]
-                ]
-          ]
-    ]
-  where
-    could-last : m.command ≢ 6 → m.command ≢ 22 → m.command ≢ 18 → m.command ≢ 26 → m.command ≢ 12 → m.command ≢ 27 → m.command ≢ 15 → m.command ≢ 19 → (e : Effect) × Hears x c m e
-    could-last a b k f g h i j =
-        elim (cases_eq m.command 1) [
-          | inl is ↦ event w x c m is few are
-          | inr n ↦
-              elim (cases_eq m.command 11) [
-                | inl is ↦ (let f = fails x c m are in (f.0, hears.Error is f.1))
-                | inr o ↦ (becomes x, hears.Other (of-none m.command a b k f g h i j n o) refl)
-              ]
-        ]
-
-    could-more : m.command ≢ 6 → m.command ≢ 22 → m.command ≢ 18 → m.command ≢ 26 → (e : Effect) × Hears x c m e
-    could-more a b k f =
-        elim (cases_eq m.command 12) [
-          | inl is ↦ (clear_answered x c (channel_on x c m.p2), hears.ClearChannel is refl)
-          | inr g ↦
-              elim (cases_eq m.command 27) [
-                | inl is ↦ (left x c (channel_on x c m.p1), hears.ServerDisconnect is refl)
-                | inr h ↦
-                    elim (cases_eq m.command 15) [
-                      | inl is ↦ (let r = answers w x m (inl is) few are (answered_by c m.command m.p2 x.requests) in (r.0, hears.Reply (inl is) r.1))
-                      | inr i ↦
-                          elim (cases_eq m.command 19) [
-                            | inl is ↦ (let r = answers w x m (inr is) few are (answered_by c m.command m.p2 x.requests) in (r.0, hears.Reply (inr is) r.1))
-                            | inr j ↦ could-last a b k f g h i j
-                          ]
-                    ]
-              ]
-        ]
 
 -- ---- what each part comes to
 
@@ -180,31 +95,56 @@ pub has-hears : (x : Client) (c : Handle) (m : Fields) (e : Effect) (r : Result 
 has-hears x c m e (Ok told) new heard did = (e, heard, did.0, did.1)
 has-hears x c m e (Err f) new heard did = (e, heard, inr did.0, did.1)
 
+-- A message was taken, and then heard.
+pub heard-first : (x : Client) (c : Handle) (head : Head) (r : Result (List notice.Notice) AllocError) (mid new : Client) → mid ≡ without_first c head x → HearsOr mid c (first_on x c head) r new → HearsFirst x c head r new
+heard-first x c head (Ok told) mid new is heard = subst (λ (y : Client). HearsOr y c (first_on x c head) (Ok told) new) is heard
+heard-first x c head (Err u) mid new is (e, hears, memory, same) =
+    let m = first_on x c head in
+    (e, subst (λ (y : Client). Hears y c m e) is hears, subst (λ (y : Client). TakesMemory y m e) is memory, inr (same ∙ is))
+
+-- what its header says does not depend on its payload
+pub rights-bare : (x : Client) (c : Handle) (h : Header) (p : List ℕ) (there : Option (Handle × Phase)) → rights_told x c (message_of h []) there ≡ rights_told x c (message_of h p) there
+rights-bare x c h p None = refl
+rights-bare x c h p (Some (q, phase.Connecting)) = refl
+rights-bare x c h p (Some (q, phase.Creating rights)) = refl
+rights-bare x c h p (Some (q, phase.Live n rights)) = refl
+rights-bare x c h p (Some (q, phase.Leaving)) = refl
+rights-bare x c h p (Some (q, phase.Clearing)) = refl
+rights-bare x c h p (Some (q, phase.Doomed)) = refl
+
+pub created-bare : (x : Client) (c : Handle) (h : Header) (p : List ℕ) (there : Option (Handle × Phase)) → created x c (message_of h []) there ≡ created x c (message_of h p) there
+created-bare x c h p None = refl
+created-bare x c h p (Some (q, phase.Connecting)) = refl
+created-bare x c h p (Some (q, phase.Creating rights)) = refl
+created-bare x c h p (Some (q, phase.Live n rights)) = refl
+created-bare x c h p (Some (q, phase.Leaving)) = refl
+created-bare x c h p (Some (q, phase.Clearing)) = refl
+created-bare x c h p (Some (q, phase.Doomed)) = refl
+
 -- there was no memory for the value of a reply
-out-for : {Y : Type 0} (w : Vec Y Global) (x : Client) (m : Fields) (about : Option (Handle × Request)) (u : AllocError) (new : Client) → IsReply m → m.count < 2 ^ 32 → AreBytes m.payload → HearsReplyTo x m about (Err u) new → (e : Effect) × Answers x m about e × TakesMemory x m e × (new ≡ x)
-out-for w x m None u new is few are did = absurd did
-out-for w x m (Some (q, r)) u new is few are (stage, image, same) =
+out-for : {Y : Type 0} (w : Vec Y Global) (x : Client) (m : Fields) (about : Option (Handle × Request)) (u : AllocError) (new : Client) → IsReply m.command → m.count < 2 ^ 32 → AreBytes m.payload → HearsReplyTo x m about (Err u) new → (y : Client) → (e : Effect) × Answers y m about e × TakesMemory x m e × (new ≡ x)
+out-for w x m None u new is few are did y = absurd did
+out-for w x m (Some (q, r)) u new is few are (stage, image, same) y =
     let o = reply-means w m is few are in
-    let e : Effect = doing [] (notice.Completed q o.0 ∷ []) (without_request q x) in
+    let e : Effect = doing [] (notice.Completed q o.0 ∷ []) (without_request q y) in
     let tells : e.notices ≢ [] = λ none. absurd cc in
-    (e, subst (λ (s : Stage). Completes x m q s e) (sym stage) (o.0, o.1, refl), inr (inr (inl tells)), same)
+    (e, subst (λ (s : Stage). Completes y m q s e) (sym stage) (o.0, o.1, refl), inr (inr (inl tells)), same)
 
-pub reply-out : {Y : Type 0} (w : Vec Y Global) (x : Client) (c : Handle) (m : Fields) (u : AllocError) (r : Result (List notice.Notice) AllocError) (new : Client) → IsReply m → m.count < 2 ^ 32 → AreBytes m.payload → HearsReply x c m (Err u) new → IsErr r → HearsOr x c m r new
-reply-out w x c m u (Ok told) new is few are did err =
+pub reply-out : {Y : Type 0} (w : Vec Y Global) (x : Client) (c : Handle) (head : Head) (u : AllocError) (r : Result (List notice.Notice) AllocError) (new : Client) → IsReply head.header.command → FirstOn x c (first.Message head) → HearsFirstReply x c head (Err u) new → IsErr r → HearsFirst x c head r new
+reply-out w x c head u (Ok told) new is h did err =
     let bad : false ≡ true = err in
     absurd cc
-reply-out w x c m u (Err f) new is few are did err =
-    let e = out-for w x m (answered_by c m.command m.p2 x.requests) u new is few are did in
-    (e.0, hears.Reply is e.1, e.2, e.3)
+reply-out w x c head u (Err f) new is h did err =
+    let m = first_on x c head in
+    let e = out-for w x m (answered_by c m.command m.p2 x.requests) u new is (first-count x c head h) (first-bytes x c head h) did (without_first c head x) in
+    (e.0, hears.Reply is e.1, e.2, inl e.3)
 
-pub update-out : {Y : Type 0} (w : Vec Y Global) (x : Client) (c : Handle) (m : Fields) (r : Result (List notice.Notice) AllocError) → Is command.EventAdd m → m.payload ≢ [] → m.count < 2 ^ 32 → AreBytes m.payload → IsErr r → HearsOr x c m r x
-update-out w x c m (Ok told) is some few are err =
+pub update-out : {Y : Type 0} (w : Vec Y Global) (x : Client) (c : Handle) (head : Head) (r : Result (List notice.Notice) AllocError) → head.header.command ≡ command_number command.EventAdd → FirstOn x c (first.Message head) → (first_on x c head).payload ≢ [] → IsErr r → HearsFirst x c head r x
+update-out w x c head (Ok told) is h some err =
     let bad : false ≡ true = err in
     absurd cc
-update-out w x c m (Err f) is some few are err =
-    let u = updates w x m is some few are (heard_by x c m.p2) in
-    (u.0, hears.Update is some u.1, inl some, refl)
-
-pub none-long : (bytes : List ℕ) → length bytes ≡ 0 → bytes ≡ []
-none-long [] none = refl
-none-long (b ∷ bytes) none = absurd (omega arith)
+update-out w x c head (Err f) is h some err =
+    let y = without_first c head x in
+    let m = first_on x c head in
+    let u = updates w y m is some (first-count x c head h) (first-bytes x c head h) (heard_by y c m.p2) in
+    (u.0, hears.Update is some u.1, inl some, inl refl)

@@ -8,7 +8,6 @@ pub mod Putting
 pub mod Quoted
 mod Queued
 mod Connected
-mod Effects
 mod Outcomes
 mod Dispatched
 pub mod Placing

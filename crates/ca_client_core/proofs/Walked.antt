@@ -1,67 +1,27 @@
 -- What a step comes to, by what came first.
-use Rattle.std.proofs.Common.{◌≡◌, ◌≢◌, ◌∙◌, ◌+◌, ◌≤◌, ◌&&◌, ◌||◌, zero, suc, Bool, true, false, Global, List, [], ◌∷◌, Option, Some, None, Ok, Err, Vec, ap, fold, if◌then◌else◌, inl, inr, is_some, length, nat_le, not, option_map, slice_set, refl, subst, sym, unwrap_or}
-use Rattle.std.specs.Prelude.{ℕ, nat_lt, option_and_then}
+use Rattle.std.proofs.Common.{◌≡◌, ◌∙◌, ◌+◌, ◌⊎◌, Bool, true, false, List, [], ◌∷◌, Option, Some, None, Ok, Err, ap, drop, fold, if◌then◌else◌, inl, inr, not, option_map, slice_set, refl, subst, sym, unwrap_or}
+use Rattle.std.specs.Prelude.{ℕ, option_and_then}
 use Rattle.std.specs.declared.alloc.AllocError.{AllocError}
-use Rattle.std.proofs.lemmas.List.{get_or-set_other, length-set, set-set}
-use Rattle.ca_text.specs.Limits.{arena_slots, last_generation}
+use Rattle.std.proofs.lemmas.List.{set-set}
 use Rattle.ca_arena.specs.declared.handle.Handle.{Handle}
-use Rattle.ca_arena.specs.Arena.{Place, blank, place_at}
-use Rattle.ca_arena.proofs.Places.{value_for-some}
-use Rattle.ca_dbr.specs.Octets.{AreBytes}
-use Rattle.ca_dbr.proofs.LongBytes.{are-back, are-front}
-use Rattle.ca_ids.specs.Table.{MayGive, Table, has_free, is_full, under, with_changed, with_freed}
-use Rattle.ca_link.specs.Link.{TakesFirst}
-use Rattle.ca_wire.specs.Fields.{Fields}
+use Rattle.ca_arena.specs.Arena.{Place}
+use Rattle.ca_ids.specs.Table.{Table, under, with_changed, with_freed}
 use Rattle.ca_model.specs.Answers as answer
 use Rattle.ca_model.specs.Client.{Client, ClientCircuit, Connection, Phase, channels_ended, channels_on, closing, connection_at, disconnected, ended, is_cleared, let_go, on_connection, out_bytes, searched_again, without_channel, without_circuit, without_ids}
-use Rattle.ca_model.specs.ClientEnds.{ClientSteps, EndsFor, MayEnd, StepsOn, Takes, TakesMemory}
+use Rattle.ca_model.specs.ClientEnds.{ClientSteps, EndsFor, MayEnd, StepsOn, Takes}
 use Rattle.ca_model.specs.Ends as why
 use Rattle.ca_model.specs.Hears.{Effect, Hears}
-use Rattle.ca_client_core.specs.Dispatch.{HearsOr}
-use Rattle.ca_client_tables.specs.First.{HasPayload, IsBad, emptied, without_first}
-use Rattle.ca_client_core.specs.First.{MayWant}
+use Rattle.ca_wire.specs.declared.reading.Head.{Head}
+use Rattle.ca_client_tables.specs.declared.first.First.TheVariants as first
+use Rattle.ca_client_core.specs.Dispatch.{HearsFirst}
+use Rattle.ca_client_tables.specs.First.{IsBad, without_front}
+use Rattle.ca_client_core.specs.First.{FirstOn, first_on, without_first}
 use Rattle.ca_client_tables.proofs.Circuits.{changed-found, changed-same, changed-twice, found-changed}
-use Rattle.ca_client_core.proofs.Dispatched.{could-hear}
-use Rattle.ca_client_core.proofs.Openings.{held-apart}
+use Rattle.ca_client_core.proofs.Firsts.{taken-on, takes-on}
 
 -- the client with this end in place of that of a circuit
 abbrev pub with_end : Client → Handle → ClientCircuit → Connection → Client
 with_end x c d g = record x { circuits = with_changed (λ (w : ClientCircuit). record d { connection = Some g }) c x.circuits }
-
--- ---- one more circuit may be wanted still
-
-free-set : (t : Table ClientCircuit) (i : ℕ) (p : Place ClientCircuit) (v w : ClientCircuit) → (place_at t i).value ≡ Some v → p.value ≡ Some w → has_free (slice_set t i p) ≡ has_free t
-free-set [] i p v w was now = absurd (none-held v was)
-  where
-    none-held : (v : ClientCircuit) → ◌≡◌ {A = Option ClientCircuit} None (Some v) → ⊥
-    none-held v same = absurd cc
-free-set (q ∷ t) zero p v w was now = rw (now, was) refl
-free-set (q ∷ t) (suc i) p v w was now =
-    ap (λ (b : Bool). (not (is_some q.value) && nat_lt q.generation last_generation) || b) (free-set t i p v w was now)
-
-may-want-still : (x : Client) (c : Handle) (d n : ClientCircuit) → under x.circuits c ≡ Some d → MayWant x → MayWant (record x { circuits = with_changed (λ (w : ClientCircuit). n) c x.circuits })
-may-want-still x c d n found room =
-    let place : Place ClientCircuit = record { generation = c.generation; value = Some n } in
-    let is : with_changed (λ (w : ClientCircuit). n) c x.circuits ≡ slice_set x.circuits c.index place = changed-found x.circuits (λ (w : ClientCircuit). n) c d found in
-    let was = value_for-some c.generation (place_at x.circuits c.index) d found in
-    elim room [
-      | inl (k, may) ↦
-          let apart : k.index ≢ c.index = λ same. held-apart x.circuits k c d may found (sym same) in
-          let same : place_at (slice_set x.circuits c.index place) k.index ≡ place_at x.circuits k.index = get_or-set_other x.circuits c.index k.index place blank apart in
-          let now : MayGive (slice_set x.circuits c.index place) k = record {
-            index = subst (λ (l : ℕ). k.index ≤ l) (sym (length-set x.circuits c.index place)) may.index;
-            slot = may.slot;
-            free = ap (λ (p : Place ClientCircuit). p.value) same ∙ may.free;
-            next = may.next ∙ sym (ap (λ (p : Place ClientCircuit). p.generation + 1) same);
-            last = may.last;
-          } in
-          inl (k, subst (λ (t : Table ClientCircuit). MayGive t k) (sym is) now)
-      | inr full ↦
-          inr (ap is_full is
-          ∙ ap (λ (l : ℕ). nat_le arena_slots l && not (has_free (slice_set x.circuits c.index place))) (length-set x.circuits c.index place)
-          ∙ ap (λ (b : Bool). nat_le arena_slots (length x.circuits) && not b) (free-set x.circuits c.index place d n was.1 refl)
-          ∙ full)
-    ]
 
 -- ---- what the end of a circuit leaves does not depend on what its end was
 
@@ -147,63 +107,47 @@ module _ (x : Client) (c : Handle) (d : ClientCircuit) (found : under x.circuits
           (subst (λ (j : answer.Closing). MayEnd x c e j.why × EndsFor j.why x c j [] new) (sym is) (may, (refl, refl, left))),
     )
 
-    may-bad : (cause : why.Why) → IsBad e cause → MayEnd x c e cause
+    may-bad : (cause : why.Why) → IsBad e.link.input.bytes cause → MayEnd x c e cause
     may-bad why.Misaligned bad = bad
     may-bad why.TooLarge bad = bad
     may-bad _ bad = absurd bad
 
-    pub steps-bad : (cause : why.Why) (k l : answer.Closing) (left : List ℕ) (new : Client) → IsBad e cause → left ≡ e.link.output → l ≡ closing cause c (with_end x c d (emptied e)) → k ≡ record l { left = left } → new ≡ ended c (with_end x c d (emptied e)) → (sent : List answer.Sending) × ClientSteps x c (answer.Closed k) sent new
-    steps-bad cause k l left new bad waits ends is done =
-        closed-as cause k new (may-bad cause bad)
-        (is
-        ∙ ap (λ (j : answer.Closing). let m : answer.Closing = record j { left = left } in m) ends
-        ∙ ap (λ (bytes : List ℕ). let m : answer.Closing = record (closing cause c x) { left = bytes } in m) (waits ∙ sym out-was))
-        (done ∙ ended-beside (emptied e))
+    pub steps-bad : (cause : why.Why) (k : answer.Closing) (new : Client) → IsBad e.link.input.bytes cause → k ≡ closing cause c x → new ≡ ended c x → (sent : List answer.Sending) × ClientSteps x c (answer.Closed k) sent new
+    steps-bad cause k new bad ends left = closed-as cause k new (may-bad cause bad) ends left
 
-    takes-it : (m : Fields) (rest : List ℕ) (effect : Effect) → TakesFirst e.link m rest → Hears (with_end x c d (without_first rest e)) c m effect → Takes x c e effect
-    takes-it m rest effect first hears = record {
-      m = m;
-      rest = rest;
-      first = first;
-      hears = subst (λ (y : Client). Hears y c m effect) (end-on (without_first rest)) hears;
-    }
+    -- ---- its first message is taken
 
-    pub steps-heard : (m : Fields) (rest : List ℕ) (y new : Client) (told : List answer.Notice) → TakesFirst e.link m rest → y ≡ with_end x c d (without_first rest e) → HearsOr y c m (Ok told) new → (sent : List answer.Sending) × ClientSteps x c (answer.Notices told) sent new
-    steps-heard m rest y new told first is (effect, hears, says, left) =
-        let took : Takes x c e effect = takes-it m rest effect first (subst (λ (z : Client). Hears z c m effect) is hears) in
-        let same : effect ≡ record { core = new; sent = effect.sent; notices = told } =
-        ap (λ (z : Client). let f : Effect = record { core = z; sent = effect.sent; notices = effect.notices } in f) (sym left)
-        ∙ ap (λ (ns : List answer.Notice). let f : Effect = record { core = new; sent = effect.sent; notices = ns } in f) (sym says) in
-        (effect.sent, subst (λ (o : Option Connection). StepsOn x c o (answer.Notices told) effect.sent new) (sym end-at) (subst (Takes x c e) same took))
+    module _ (head : Head) where
+      abbrev rest : List ℕ
+      rest = drop (head.start + head.header.size) e.link.input.bytes
 
-    -- ---- without memory
+      takes-it : (effect : Effect) → FirstOn x c (first.Message head) → Hears (without_first c head x) c (first_on x c head) effect → Takes x c e effect
+      takes-it effect h hears = record {
+        m = first_on x c head;
+        rest = rest;
+        first = takes-on x c e head end-at h;
+        hears = subst (λ (y : Client). Hears y c (first_on x c head) effect) (taken-on x c d e head found has) hears;
+      }
 
-    lacks : (m : Fields) (rest : List ℕ) (k : answer.Closing) (new y : Client) (effect : Effect) → TakesFirst e.link m rest → Hears (with_end x c d (without_first rest e)) c m effect → TakesMemory x m effect → k ≡ closing why.OutOfMemory c x → new ≡ ended c x → (sent : List answer.Sending) × ClientSteps x c (answer.Closed k) sent new
-    unfolding takes-it
-    lacks m rest k new y effect first hears memory is left =
-        closed-as why.OutOfMemory k new (effect, takes-it m rest effect first hears, memory) is left
+      pub steps-heard : (new : Client) (told : List answer.Notice) → FirstOn x c (first.Message head) → HearsFirst x c head (Ok told) new → (sent : List answer.Sending) × ClientSteps x c (answer.Notices told) sent new
+      steps-heard new told h (effect, hears, says, left) =
+          let took : Takes x c e effect = takes-it effect h hears in
+          let same : effect ≡ record { core = new; sent = effect.sent; notices = told } =
+          ap (λ (z : Client). let f : Effect = record { core = z; sent = effect.sent; notices = effect.notices } in f) (sym left)
+          ∙ ap (λ (ns : List answer.Notice). let f : Effect = record { core = new; sent = effect.sent; notices = ns } in f) (sym says) in
+          (effect.sent, subst (λ (o : Option Connection). StepsOn x c o (answer.Notices told) effect.sent new) (sym end-at) (subst (Takes x c e) same took))
 
-    pub steps-out : (m : Fields) (rest : List ℕ) (y z new : Client) (u : AllocError) (k : answer.Closing) → TakesFirst e.link m rest → y ≡ with_end x c d (without_first rest e) → HearsOr y c m (Err u) z → k ≡ closing why.OutOfMemory c z → new ≡ ended c z → (sent : List answer.Sending) × ClientSteps x c (answer.Closed k) sent new
-    steps-out m rest y z new u k first is (effect, hears, memory, same) ends left =
-        let now : Client = with_end x c d (without_first rest e) in
-        let here : z ≡ now = same ∙ is in
-        let whole : closing why.OutOfMemory c now ≡ closing why.OutOfMemory c x =
-        ap (λ (bytes : List ℕ). let m : answer.Closing = record (closing why.OutOfMemory c x) { left = bytes } in m) (out-now (without_first rest e) ∙ sym out-was) in
-        lacks m rest k new y effect first (subst (λ (w : Client). Hears w c m effect) is hears) (subst (λ (w : Client). TakesMemory w m effect) is memory)
-        (ends ∙ ap (closing why.OutOfMemory c) here ∙ whole)
-        (left ∙ ap (ended c) here ∙ ended-beside (without_first rest e))
+      -- without memory the end has ended, and what was done of the message is gone with it
+      ends-as : (y : Client) → (y ≡ x) ⊎ (y ≡ without_first c head x) → (closing why.OutOfMemory c y ≡ closing why.OutOfMemory c x) × (ended c y ≡ ended c x)
+      ends-as y (inl same) = (ap (closing why.OutOfMemory c) same, ap (ended c) same)
+      ends-as y (inr is) =
+          let g : Connection = without_front head e in
+          let now : y ≡ with_end x c d g = is ∙ sym (end-on (without_front head)) in
+          let whole : closing why.OutOfMemory c (with_end x c d g) ≡ closing why.OutOfMemory c x =
+          ap (λ (bytes : List ℕ). let m : answer.Closing = record (closing why.OutOfMemory c x) { left = bytes } in m) (out-now g ∙ sym out-was) in
+          (ap (closing why.OutOfMemory c) now ∙ whole, ap (ended c) now ∙ ended-beside g)
 
-    -- a message with a payload lacks memory for it
-    pub steps-lacks : {Y : Type 0} (w : Vec Y Global) (room : MayWant x) (p : HasPayload e) (y new : Client) (k : answer.Closing) → y ≡ with_end x c d e → k ≡ closing why.OutOfMemory c y → new ≡ ended c y → (sent : List answer.Sending) × ClientSteps x c (answer.Closed k) sent new
-    steps-lacks w room p y new k is ends left =
-        let after : Client = with_end x c d (without_first p.rest e) in
-        let there : under after.circuits c ≡ Some (record d { connection = Some (without_first p.rest e) }) =
-        found-changed x.circuits (λ (v : ClientCircuit). record d { connection = Some (without_first p.rest e) }) c d found in
-        let front = are-front p.takes.0 p.rest (subst AreBytes p.takes.2 p.bytes) in
-        let payload : AreBytes p.m.payload = are-back p.takes.1.head p.m.payload (subst AreBytes p.takes.1.are front) in
-        let heard = could-hear w after c (record d { connection = Some (without_first p.rest e) }) p.m there (may-want-still x c d (record d { connection = Some (without_first p.rest e) }) found room) p.takes.1.good.header.count payload in
-        let whole : closing why.OutOfMemory c (with_end x c d e) ≡ closing why.OutOfMemory c x =
-        ap (λ (bytes : List ℕ). let m : answer.Closing = record (closing why.OutOfMemory c x) { left = bytes } in m) (out-now e ∙ sym out-was) in
-        lacks p.m p.rest k new y heard.0 p.takes heard.1 (inl p.some)
-        (ends ∙ ap (closing why.OutOfMemory c) is ∙ whole)
-        (left ∙ ap (ended c) is ∙ ended-beside e)
+      pub steps-out : (u : AllocError) (y new : Client) (k : answer.Closing) → FirstOn x c (first.Message head) → HearsFirst x c head (Err u) y → k ≡ closing why.OutOfMemory c y → new ≡ ended c y → (sent : List answer.Sending) × ClientSteps x c (answer.Closed k) sent new
+      unfolding takes-it
+      steps-out u y new k h (effect, hears, memory, same) ends left =
+          closed-as why.OutOfMemory k new (effect, takes-it effect h hears, memory) (ends ∙ (ends-as y same).0) (left ∙ (ends-as y same).1)

@@ -13,13 +13,13 @@ pub mod Dispatch
 pub mod Turns
 pub mod First
 pub mod Stepping
-pub mod Advancing
 pub mod Clearing
 pub mod Moments
 pub mod Marks
 pub mod Silences
 pub mod NameSearches
 pub mod Quiet
+pub mod Replying
 pub mod Ticked
 pub mod ForAccepts
 pub mod ForDatagrams

@@ -6,16 +6,16 @@ ghost use Rattle.ca_model.specs.Hears.{becomes, clear_answered, without_drained}
 use crate::client::ClientCore;
 use ca_arena::Handle;
 use ca_client_tables::Phase;
-use ca_wire::Message;
+use ca_wire::Header;
 
 impl ClientCore {
     // A channel that its caller cleared is gone; one that its record left is searched for again.
-    pub(crate) fn hear_clear_channel(&mut self, circuit: Handle, message: &Message)
+    pub(crate) fn hear_clear_channel(&mut self, circuit: Handle, header: &Header)
         ensures { becomes self.new
-            ≡ clear_answered self.old circuit (channel_on self.old circuit message.now.p2) }
+            ≡ clear_answered self.old circuit (channel_on self.old circuit header.now.p2) }
     {
         self.know();
-        let Some((channel, phase)) = self.channel_on(circuit, message.p2()) else {
+        let Some((channel, phase)) = self.channel_on(circuit, header.p2) else {
             return;
         };
         match phase {

@@ -1,6 +1,7 @@
 //! What a client makes of the reply to a CREATE_CHAN.
-ghost use Rattle.std.specs.Prelude.{◌≡◌, OnErr, OnOk, length};
+ghost use Rattle.std.specs.Prelude.{[], ◌≡◌, OnErr, OnOk, length};
 ghost use Rattle.ca_model.specs.Client as client;
+ghost use Rattle.ca_requests.specs.Meaning.{message_of};
 ghost use Rattle.ca_model.specs.Client.{channel_on, out_bytes};
 ghost use Rattle.ca_model.specs.Hears.{created, native_in};
 ghost use Rattle.ca_client_tables.specs.Forms.{native_of};
@@ -16,7 +17,7 @@ use ca_arena::Handle;
 use ca_client_tables::{Native, Phase};
 use ca_ids::WireId;
 use ca_monitor::Subscription;
-use ca_wire::{Cid, Ioid, Message, Sid, Wanted, clear_request, event_add_request};
+use ca_wire::{Cid, Header, Ioid, Sid, Wanted, clear_request, event_add_request};
 use std::alloc::AllocError;
 
 impl ClientCore {
@@ -25,30 +26,30 @@ impl ClientCore {
     pub(crate) fn hear_create_channel(
         &mut self,
         circuit: Handle,
-        message: &Message,
+        header: &Header,
     ) -> Result<Notices, AllocError>
         ensures { HasEffect
             self.old
             (created
             self.old
             circuit
-            message.now
-            (channel_on self.old circuit message.now.p1))
+            (message_of header.now [])
+            (channel_on self.old circuit header.now.p1))
             result
             self.new }
     {
-        let Some((channel, phase)) = self.channel_on(circuit, message.p1()) else {
+        let Some((channel, phase)) = self.channel_on(circuit, header.p1) else {
             return Ok(Notices::none(self.alloc));
         };
         match phase {
             Phase::Connecting => Ok(Notices::none(self.alloc)),
             Phase::Creating(rights) => {
-                self.go_live(circuit, channel, native_in(message), rights)
+                self.go_live(circuit, channel, native_in(header), rights)
             }
             Phase::Live(_, _) => Ok(Notices::none(self.alloc)),
             Phase::Leaving => Ok(Notices::none(self.alloc)),
             Phase::Clearing => Ok(Notices::none(self.alloc)),
-            Phase::Doomed => self.clear_doomed(circuit, channel, message.p2()),
+            Phase::Doomed => self.clear_doomed(circuit, channel, header.p2),
         }
     }
 
@@ -159,12 +160,12 @@ impl ClientCore {
 }
 
 // What a CREATE_CHAN says of its channel.
-fn native_in(message: &Message) -> Native
-    ensures { native_of result ≡ native_in message.now }
+fn native_in(header: &Header) -> Native
+    ensures { native_of result ≡ native_in (message_of header.now []) }
 {
     Native {
-        sid: message.p2(),
-        data_type: message.data_type(),
-        count: message.count(),
+        sid: header.p2,
+        data_type: header.data_type,
+        count: header.count,
     }
 }

@@ -6,16 +6,16 @@ ghost use Rattle.ca_model.specs.Hears.{becomes, failed};
 use crate::client::ClientCore;
 use ca_arena::Handle;
 use ca_client_tables::Phase;
-use ca_wire::Message;
+use ca_wire::Header;
 
 impl ClientCore {
     // The channel is searched for again; one that its caller cleared meanwhile is gone.
-    pub(crate) fn hear_create_channel_fail(&mut self, circuit: Handle, message: &Message)
+    pub(crate) fn hear_create_channel_fail(&mut self, circuit: Handle, header: &Header)
         ensures { becomes self.new
-            ≡ failed self.old (channel_on self.old circuit message.now.p1) }
+            ≡ failed self.old (channel_on self.old circuit header.now.p1) }
     {
         self.know();
-        let Some((channel, phase)) = self.channel_on(circuit, message.p1()) else {
+        let Some((channel, phase)) = self.channel_on(circuit, header.p1) else {
             return;
         };
         match phase {

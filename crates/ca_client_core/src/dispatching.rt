@@ -1,61 +1,67 @@
 //! What a client makes of a message that it reads, by its command.
-ghost use Rattle.std.specs.Prelude.{◌≡◌, ◌<◌, ◌^◌, Some};
-ghost use Rattle.ca_dbr.specs.Octets.{AreBytes};
-ghost use Rattle.ca_ids.specs.Table.{under};
-ghost use Rattle.ca_model.specs.Client.{ClientCircuit};
-ghost use Rattle.ca_client_core.specs.Dispatch.{HearsOr};
+ghost use Rattle.ca_client_tables.specs.declared.first.First.TheVariants.{Message};
+ghost use Rattle.ca_client_core.specs.Dispatch.{HearsFirst};
+ghost use Rattle.ca_client_core.specs.First.{FirstOn};
 
 use crate::client::ClientCore;
 use crate::notices::Notices;
 use ca_arena::Handle;
-use ca_client_tables::know_bytes;
 use ca_text::Command;
-use ca_wire::Message;
+use ca_wire::Head;
 use std::alloc::AllocError;
 
 impl ClientCore {
-    // A message was read on a circuit that is there. Without memory for it nothing changes.
-    pub(crate) fn hear(&mut self, circuit: Handle, message: &Message) -> Result<Notices, AllocError>
-        requires { (d : ClientCircuit) × (under self.old.circuits circuit ≡ Some d) }
-        ensures { HearsOr self.old circuit message.now result self.new }
+    // The first message of a circuit, which has this header, is handled and dropped. What needs its
+    // payload reads it where it came. Without memory for it nothing else changes.
+    pub(crate) fn hear(&mut self, circuit: Handle, head: &Head) -> Result<Notices, AllocError>
+        requires { FirstOn self.old circuit (Message head.now) }
+        ensures { HearsFirst self.old circuit head.now result self.new }
     {
-        let Some(command) = Command::of(message.command()) else {
+        let header = &head.header;
+        let Some(command) = Command::of(header.command) else {
+            self.take(circuit, head);
             return Ok(Notices::none(self.alloc));
         };
         match command {
-            Command::ReadNotify => self.hear_reply(circuit, message),
-            Command::WriteNotify => self.hear_reply(circuit, message),
-            Command::EventAdd => self.hear_event_add(circuit, message),
+            Command::ReadNotify => self.hear_reply(circuit, head),
+            Command::WriteNotify => self.hear_reply(circuit, head),
+            Command::EventAdd => self.hear_event_add(circuit, head),
             Command::Error => {
-                let told = self.hear_error(circuit, message);
+                let told = self.hear_error(circuit, head);
                 Ok(Notices::one(self.alloc, told))
             }
-            Command::Search => self.hear_search(circuit, message),
-            Command::CreateChannel => self.hear_create_channel(circuit, message),
+            Command::Search => {
+                self.take(circuit, head);
+                self.hear_search(circuit, header)
+            }
+            Command::CreateChannel => {
+                self.take(circuit, head);
+                self.hear_create_channel(circuit, header)
+            }
             Command::CreateChannelFail => {
-                self.hear_create_channel_fail(circuit, message);
+                self.take(circuit, head);
+                self.hear_create_channel_fail(circuit, header);
                 Ok(Notices::none(self.alloc))
             }
             Command::AccessRights => {
-                self.hear_access_rights(circuit, message);
+                self.take(circuit, head);
+                self.hear_access_rights(circuit, header);
                 Ok(Notices::none(self.alloc))
             }
-            Command::ServerDisconnect => self.hear_server_disconnect(circuit, message),
+            Command::ServerDisconnect => {
+                self.take(circuit, head);
+                self.hear_server_disconnect(circuit, header)
+            }
             Command::ClearChannel => {
-                self.hear_clear_channel(circuit, message);
+                self.take(circuit, head);
+                self.hear_clear_channel(circuit, header);
                 Ok(Notices::none(self.alloc))
             }
             // VERSION needs no answer, and no server sends the others.
-            _ => Ok(Notices::none(self.alloc)),
+            _ => {
+                self.take(circuit, head);
+                Ok(Notices::none(self.alloc))
+            }
         }
     }
-}
-
-// The payload of a message is of bytes, and its count has its width.
-pub(crate) fn know_message(message: &Message)
-    ensures bytes { AreBytes message.now.payload }
-    ensures count { message.now.count < 2 ^ 32 }
-{
-    know_bytes(message.payload());
-    let _count = message.count();
 }

@@ -1,22 +1,24 @@
 //! What a client makes of an EVENT_ADD: the confirmation of a cancel, or an update.
-ghost use Rattle.std.specs.Prelude.{◌≡◌, ◌≢◌, [], IfOk, OnErr};
+ghost use Rattle.std.specs.Prelude.{[], ◌≡◌, ◌≢◌, IfOk, OnErr};
 ghost use Rattle.ca_text.specs.Command.{command_number};
 ghost use Rattle.ca_text.specs.declared.command.Command.TheVariants.{EventAdd};
 ghost use Rattle.ca_monitor.specs.Subscriptions.{confirmed_by};
 ghost use Rattle.ca_requests.specs.Calls.{HasImage};
+ghost use Rattle.ca_model.specs.Client.{Client};
 ghost use Rattle.ca_model.specs.Hears.{Updates, becomes, confirmed, doing, heard_by, is_live_on};
-ghost use Rattle.ca_client_core.specs.Dispatch.{HearsOr};
+ghost use Rattle.ca_client_tables.specs.declared.first.First.TheVariants.{Message};
+ghost use Rattle.ca_client_core.specs.Dispatch.{HearsFirst};
+ghost use Rattle.ca_client_core.specs.First.{FirstOn, first_on};
 ghost use Rattle.ca_client_core.specs.Hearing.{updated};
 ghost use Rattle.ca_client_core.specs.Notices.{noticed};
 
 use crate::client::ClientCore;
-use crate::dispatching::know_message;
 use crate::notice::Notice;
 use crate::notices::Notices;
 use ca_arena::Handle;
 use ca_dbr::Outcome;
 use ca_requests::image_outcome;
-use ca_wire::Message;
+use ca_wire::Head;
 use std::alloc::AllocError;
 
 impl ClientCore {
@@ -24,51 +26,54 @@ impl ClientCore {
     pub(crate) fn hear_event_add(
         &mut self,
         circuit: Handle,
-        message: &Message,
+        head: &Head,
     ) -> Result<Notices, AllocError>
-        requires { message.now.command ≡ command_number EventAdd }
-        ensures { HearsOr self.old circuit message.now result self.new }
+        requires first { FirstOn self.old circuit (Message head.now) }
+        requires command { head.now.header.command ≡ command_number EventAdd }
+        ensures { HearsFirst self.old circuit head.now result self.new }
     {
         let alloc = self.alloc;
-        if message.payload().is_empty() {
-            self.hear_confirmation(circuit, message);
+        if head.header.size == 0 {
+            self.take(circuit, head);
+            self.hear_confirmation(circuit, head.header.p2);
             return Ok(Notices::none(alloc));
         }
-        know_message(message);
-        let told = self.hear_update(circuit, message)?;
+        let told = self.hear_update(circuit, head)?;
+        self.take(circuit, head);
         Ok(Notices::one(alloc, updated(told)))
     }
 
     // An EVENT_ADD without payload confirms a cancel.
-    fn hear_confirmation(&mut self, circuit: Handle, message: &Message)
+    fn hear_confirmation(&mut self, circuit: Handle, id: u32)
         ensures { becomes self.new
-            ≡ confirmed
-            self.old
-            (confirmed_by circuit message.now.p2 self.old.subscriptions) }
+            ≡ confirmed self.old (confirmed_by circuit id self.old.subscriptions) }
     {
-        let _ = self.monitors.confirmed(circuit, message.p2());
+        let _ = self.monitors.confirmed(circuit, id);
     }
 
     // An EVENT_ADD with a payload is an update: of which subscription, and what it means.
     fn hear_update(
         &self,
         circuit: Handle,
-        message: &Message,
+        head: &Head,
     ) -> Result<Option<(Handle, Outcome)>, AllocError>
-        requires command { message.now.command ≡ command_number EventAdd }
-        requires payload { message.now.payload ≢ [] }
-        ensures ok { IfOk result (λ told.
-            Updates
-            self.now
-            message.now
-            (heard_by self.now circuit message.now.p2)
-            (doing [] (updated told) self.now)) }
-        ensures err { OnErr result (HasImage message.now) }
+        requires first { FirstOn self.now circuit (Message head.now) }
+        requires command { head.now.header.command ≡ command_number EventAdd }
+        requires payload { head.now.header.size ≢ 0 }
+        ensures ok { IfOk result (λ told. (x : Client) → Updates
+            x
+            (first_on self.now circuit head.now)
+            (heard_by self.now circuit head.now.header.p2)
+            (doing [] (updated told) x)) }
+        ensures err { OnErr result (HasImage (first_on self.now circuit head.now)) }
     {
-        let Some(subscription) = self.heard_by(circuit, message.p2()) else {
+        let Some(subscription) = self.heard_by(circuit, head.header.p2) else {
             return Ok(None);
         };
-        let outcome = image_outcome(self.alloc, message)?;
+        let Some(found) = self.circuits.by_handle(circuit) else {
+            unreachable!()
+        };
+        let outcome = image_outcome(self.alloc, &head.header, found.payload(head))?;
         Ok(Some((subscription, outcome)))
     }
 

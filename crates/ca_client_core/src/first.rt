@@ -1,39 +1,33 @@
-//! The first message of a circuit is taken.
+//! The first message of a circuit, where it came.
 ghost use Rattle.std.specs.Prelude.{◌≡◌};
-ghost use Rattle.ca_client_core.specs.First.{FirstOn, MayWant};
+ghost use Rattle.ca_client_tables.specs.declared.first.First.TheVariants.{Message};
+ghost use Rattle.ca_client_core.specs.First.{FirstOn, without_first};
 
 use crate::client::ClientCore;
 use ca_arena::Handle;
 use ca_client_tables::First;
-use ca_wire::Message;
+use ca_wire::Head;
 
 impl ClientCore {
-    // Takes the first message of a circuit.
+    // What comes first on a circuit.
     #[inline(always)]
-    pub(crate) fn take_first(&mut self, circuit: Handle) -> First
-        ensures { FirstOn self.old circuit result self.new }
+    pub(crate) fn first(&self, circuit: Handle) -> First
+        ensures { FirstOn self.now circuit result }
     {
-        let Some(found) = self.circuits.by_handle_mut(circuit) else {
-            return First::Gone;
-        };
-        found.take_first(self.alloc)
+        match self.circuits.by_handle(circuit) {
+            Some(found) => found.first(),
+            None => First::Gone,
+        }
     }
 
-    // The memory of a handled message is kept for the next one.
+    // Takes the first message of a circuit, which has this header.
     #[inline(always)]
-    pub(crate) fn recycle(&mut self, circuit: Handle, message: Message)
-        ensures { self.new ≡ self.old }
+    pub(crate) fn take(&mut self, circuit: Handle, head: &Head)
+        requires { FirstOn self.old circuit (Message head.now) }
+        ensures { self.new ≡ without_first circuit head.now self.old }
     {
-        let Some(found) = self.circuits.by_handle_mut(circuit) else {
-            return;
-        };
-        found.recycle(message);
-    }
-
-    // One more circuit may be wanted, or not.
-    pub(crate) fn know_room(&self)
-        ensures { MayWant self.now }
-    {
-        let _vacant = self.circuits.vacant();
+        if let Some(found) = self.circuits.by_handle_mut(circuit) {
+            found.drop_first(head);
+        }
     }
 }

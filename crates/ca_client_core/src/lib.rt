@@ -59,5 +59,5 @@ pub use client::ClientCore;
 pub use closing::Closing;
 pub use notice::Notice;
 pub use notices::Notices;
-pub use stepping::{Advanced, Stepped};
+pub use stepping::{Reply, Stepped};
 pub use ticking::{Left, Ticked};

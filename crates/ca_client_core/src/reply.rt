@@ -1,16 +1,17 @@
 //! What a client makes of a READ_NOTIFY or a WRITE_NOTIFY.
 ghost use Rattle.std.specs.Prelude.{◌≡◌};
-ghost use Rattle.ca_client_core.specs.Dispatch.{HearsOr, IsReply};
-ghost use Rattle.ca_client_core.specs.Hearing.{HearsReply, completed};
+ghost use Rattle.ca_client_tables.specs.declared.first.First.TheVariants.{Message};
+ghost use Rattle.ca_client_core.specs.Dispatch.{HearsFirst, HearsFirstReply, IsReply};
+ghost use Rattle.ca_client_core.specs.First.{FirstOn};
+ghost use Rattle.ca_client_core.specs.Hearing.{completed};
 ghost use Rattle.ca_client_core.specs.Notices.{noticed};
 
 use crate::client::ClientCore;
-use crate::dispatching::know_message;
 use crate::notice::Notice;
 use crate::notices::Notices;
 use ca_arena::Handle;
 use ca_dbr::Outcome;
-use ca_wire::Message;
+use ca_wire::Head;
 use std::alloc::AllocError;
 
 impl ClientCore {
@@ -18,27 +19,41 @@ impl ClientCore {
     pub(crate) fn hear_reply(
         &mut self,
         circuit: Handle,
-        message: &Message,
+        head: &Head,
     ) -> Result<Notices, AllocError>
-        requires { IsReply message.now }
-        ensures { HearsOr self.old circuit message.now result self.new }
+        requires first { FirstOn self.old circuit (Message head.now) }
+        requires reply { IsReply head.now.header.command }
+        ensures { HearsFirst self.old circuit head.now result self.new }
     {
         let alloc = self.alloc;
-        know_message(message);
-        let told = self.complete(circuit, message)?;
+        let told = self.complete(circuit, head)?;
         Ok(Notices::one(alloc, completed(told)))
     }
 
-    // The request that is complete, with its outcome. Only a value takes memory.
+    // The request that the first message completes, with its outcome. Only a value takes memory;
+    // without it nothing changes.
     #[inline(always)]
     pub(crate) fn complete(
         &mut self,
         circuit: Handle,
-        message: &Message,
+        head: &Head,
     ) -> Result<Option<(Handle, Outcome)>, AllocError>
-        ensures { HearsReply self.old circuit message.now result self.new }
+        requires { FirstOn self.old circuit (Message head.now) }
+        ensures { HearsFirstReply self.old circuit head.now result self.new }
     {
-        self.requests.answer(circuit, message)
+        let Some(found) = self.circuits.by_handle(circuit) else {
+            unreachable!()
+        };
+        match self
+            .requests
+            .answer(circuit, &head.header, found.payload(head))
+        {
+            Ok(told) => {
+                self.take(circuit, head);
+                Ok(told)
+            }
+            Err(refused) => Err(refused),
+        }
     }
 }
 

@@ -1,8 +1,9 @@
 //! What a client makes of a SEARCH that comes on a circuit: it is a reply.
-ghost use Rattle.std.specs.Prelude.{◌≡◌, ◌<◌, Some};
+ghost use Rattle.std.specs.Prelude.{[], ℕ, ◌≡◌, ◌<◌, List, Some};
 ghost use Rattle.ca_text.specs.Command.{command_number};
 ghost use Rattle.ca_text.specs.declared.command.Command.TheVariants as command;
 ghost use Rattle.ca_ids.specs.Table.{under};
+ghost use Rattle.ca_requests.specs.Meaning.{message_of};
 ghost use Rattle.ca_model.specs.Client.{ClientCircuit};
 ghost use Rattle.ca_client_core.specs.Dispatch.{HearsOr};
 ghost use Rattle.ca_client_core.specs.Hearing.{FindsOr};
@@ -11,8 +12,8 @@ use crate::client::ClientCore;
 use crate::notices::Notices;
 use crate::searches::pause_found;
 use ca_arena::Handle;
-use ca_client_tables::{Address, find};
-use ca_wire::Message;
+use ca_client_tables::{Address, find, with_header};
+use ca_wire::{Header, Message};
 use std::alloc::AllocError;
 
 impl ClientCore {
@@ -20,17 +21,19 @@ impl ClientCore {
     pub(crate) fn hear_search(
         &mut self,
         circuit: Handle,
-        message: &Message,
+        header: &Header,
     ) -> Result<Notices, AllocError>
         requires there { (d : ClientCircuit) × (under self.old.circuits circuit ≡ Some d) }
-        requires command { message.now.command ≡ command_number command.Search }
-        ensures { HearsOr self.old circuit message.now result self.new }
+        requires command { header.now.command ≡ command_number command.Search }
+        ensures { (payload : List ℕ)
+            → HearsOr self.old circuit (message_of header.now payload) result self.new }
     {
         let Some(found) = self.circuits.by_handle(circuit) else {
             unreachable!()
         };
         let from = found.address;
-        self.hear_found(from, message)?;
+        let reply = with_header(self.alloc, *header);
+        self.hear_found(from, &reply)?;
         Ok(Notices::none(self.alloc))
     }
 

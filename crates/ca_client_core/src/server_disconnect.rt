@@ -12,7 +12,7 @@ use crate::notices::Notices;
 use ca_arena::Handle;
 use ca_client_tables::Phase;
 use ca_ids::WireId;
-use ca_wire::{Cid, Message, Sid, clear_request};
+use ca_wire::{Cid, Header, Sid, clear_request};
 use std::alloc::AllocError;
 
 impl ClientCore {
@@ -21,15 +21,15 @@ impl ClientCore {
     pub(crate) fn hear_server_disconnect(
         &mut self,
         circuit: Handle,
-        message: &Message,
+        header: &Header,
     ) -> Result<Notices, AllocError>
         ensures { HasEffect
             self.old
-            (left self.old circuit (channel_on self.old circuit message.now.p1))
+            (left self.old circuit (channel_on self.old circuit header.now.p1))
             result
             self.new }
     {
-        let Some((channel, phase)) = self.channel_on(circuit, message.p1()) else {
+        let Some((channel, phase)) = self.channel_on(circuit, header.p1) else {
             return Ok(Notices::none(self.alloc));
         };
         match phase {

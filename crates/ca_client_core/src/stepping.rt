@@ -2,21 +2,19 @@
 ghost use Rattle.std.specs.Prelude.{◌≡◌, List, true};
 ghost use Rattle.ca_model.specs.Answers.{Sending};
 ghost use Rattle.ca_model.specs.ClientEnds.{ClientConnects, ClientSteps, gone};
-ghost use Rattle.ca_model.specs.Client.{Client};
-ghost use Rattle.ca_client_core.specs.Advancing.{HasAdvanced, HasBegun, advanced_by};
+ghost use Rattle.ca_client_core.specs.Replying.{ReadsReply, told_by};
 ghost use Rattle.ca_client_core.specs.Dispatch.{IsReply};
 ghost use Rattle.ca_client_core.specs.Stepping.{stepped_as};
 
 use crate::client::ClientCore;
 use crate::closing::Closing;
-use crate::dispatching::know_message;
 use crate::notice::Notice;
 use crate::notices::Notices;
 use ca_arena::Handle;
 use ca_client_tables::{First, Why};
 use ca_dbr::Outcome;
 use ca_text::Command;
-use ca_wire::{Message, Pipe};
+use ca_wire::{Header, Pipe};
 use std::alloc::{AllocError, Global};
 
 /// What a step of a client's end of a circuit did.
@@ -30,18 +28,19 @@ pub enum Stepped {
     Closed(Closing),
 }
 
-/// How a step began. Most messages are replies, which need no more; any other
-/// report of a step is large.
+/// What became of a reply that was to be read. Most messages are replies; any other report of a step
+/// is large.
 #[derive(Debug, Drop)]
-pub enum Advanced {
-    /// It read a reply, which completed this request with this outcome. The step is over.
+pub enum Reply {
+    /// It completed this request with this outcome.
     Completed(Handle, Outcome),
-    /// It read a reply that no open request awaited. The step is over.
+    /// No open request awaited it.
     Unawaited,
-    /// No complete message is there. The step is over.
+    /// No complete message is there.
     NeedBytes,
-    /// Something else came first. `finish` is to do the rest.
-    Begun(First),
+    /// Something else comes first, or there is no memory for it, and nothing has changed: `step`
+    /// tells which.
+    Other,
 }
 
 impl ClientCore {
@@ -53,66 +52,29 @@ impl ClientCore {
         ensures { (sent : List Sending)
             × ClientSteps self.old circuit (stepped_as result) sent self.new }
     {
-        match self.advance(circuit) {
-            Advanced::Completed(request, outcome) => {
-                let told = Notice::Completed(request, outcome);
-                Stepped::Notices(Notices::one(self.alloc, Some(told)))
-            }
-            Advanced::Unawaited => Stepped::Notices(Notices::none(self.alloc)),
-            Advanced::NeedBytes => Stepped::NeedBytes,
-            Advanced::Begun(first) => self.finish(circuit, first),
-        }
-    }
-
-    /// Begins a step, which is over if the next message is a reply, or is not complete. Else
-    /// `finish` is to do the rest, before any other call.
-    #[inline(always)]
-    pub fn advance(&mut self, circuit: Handle) -> Advanced
-        ensures { HasAdvanced self.old circuit result self.new }
-    {
-        let _ = &self.alloc;
-        self.know_room();
-        match self.take_first(circuit) {
-            First::Gone => Advanced::Begun(First::Gone),
-            First::NeedBytes => Advanced::NeedBytes,
-            First::Message(message) => {
-                if !is_reply(&message) {
-                    return Advanced::Begun(First::Message(message));
-                }
-                know_message(&message);
-                let told = self.complete(circuit, &message);
-                self.recycle(circuit, message);
-                begun_by(told)
-            }
-            First::OutOfMemory => Advanced::Begun(First::OutOfMemory),
-            First::Bad(why, left) => Advanced::Begun(First::Bad(why, left)),
-        }
-    }
-
-    /// Does the rest of a step that began with this.
-    #[inline(never)]
-    pub fn finish(&mut self, circuit: Handle, first: First) -> Stepped
-        requires { (before : Client) × HasBegun before circuit first self.old }
-        ensures { (before : Client) → HasBegun before circuit first self.old
-            → (sent : List Sending)
-            × ClientSteps before circuit (stepped_as result) sent self.new }
-    {
         let alloc = self.alloc;
-        match first {
+        match self.first(circuit) {
             First::Gone => Stepped::Closed(Closing::gone(alloc)),
             First::NeedBytes => Stepped::NeedBytes,
-            First::Message(message) => match self.hear(circuit, &message) {
-                Ok(told) => {
-                    self.recycle(circuit, message);
-                    Stepped::Notices(told)
-                }
+            First::Message(head) => match self.hear(circuit, &head) {
+                Ok(told) => Stepped::Notices(told),
                 Err(_) => Stepped::Closed(self.end(circuit, Why::OutOfMemory)),
             },
-            First::OutOfMemory => Stepped::Closed(self.end(circuit, Why::OutOfMemory)),
-            First::Bad(why, left) => {
-                let ended = self.end(circuit, why);
-                Stepped::Closed(ended.with_left(left))
+            First::Bad(why) => Stepped::Closed(self.end(circuit, why)),
+        }
+    }
+
+    /// Reads the next message of a circuit as `step` does, if it is a reply.
+    #[inline(always)]
+    pub fn read_reply(&mut self, circuit: Handle) -> Reply
+        ensures { ReadsReply self.old circuit result self.new }
+    {
+        match self.first(circuit) {
+            First::Message(head) if is_reply(&head.header) => {
+                told_by(self.complete(circuit, &head))
             }
+            First::NeedBytes => Reply::NeedBytes,
+            _ => Reply::Other,
         }
     }
 
@@ -136,23 +98,23 @@ impl ClientCore {
     }
 }
 
-// Whether a message is a reply.
-fn is_reply(message: &Message) -> bool
-    ensures { result ≡ true → IsReply message.now }
+// Whether a message with this header is a reply.
+fn is_reply(header: &Header) -> bool
+    ensures { result ≡ true → IsReply header.now.command }
 {
-    let command = message.command();
-    command == Command::ReadNotify.number() || command == Command::WriteNotify.number()
+    header.command == Command::ReadNotify.number()
+        || header.command == Command::WriteNotify.number()
 }
 
-// How a step began that read a reply with this result.
+// What became of a reply with this result.
 #[inline(always)]
-fn begun_by(told: Result<Option<(Handle, Outcome)>, AllocError>) -> Advanced
-    ensures { result ≡ advanced_by told }
+fn told_by(told: Result<Option<(Handle, Outcome)>, AllocError>) -> Reply
+    ensures { result ≡ told_by told }
 {
     match told {
-        Ok(Some((request, outcome))) => Advanced::Completed(request, outcome),
-        Ok(None) => Advanced::Unawaited,
-        Err(_) => Advanced::Begun(First::OutOfMemory),
+        Ok(Some((request, outcome))) => Reply::Completed(request, outcome),
+        Ok(None) => Reply::Unawaited,
+        Err(_) => Reply::Other,
     }
 }
 
@@ -166,13 +128,5 @@ impl Closing {
             notices: Notices::none(alloc),
             left: Pipe::new(alloc),
         }
-    }
-
-    // Adds the bytes that are left.
-    fn with_left(self, left: Pipe) -> Closing
-        ensures { result ≡ record self { left = left } }
-    {
-        let Closing { why, notices, .. } = self;
-        Closing { why, notices, left }
     }
 }

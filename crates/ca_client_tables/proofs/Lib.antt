@@ -14,6 +14,7 @@ pub mod Packings
 pub mod Sifting
 pub mod Values
 pub mod Dues
+pub mod Firsts
 pub mod Foretold
 pub mod Noticed
 pub mod OnLists

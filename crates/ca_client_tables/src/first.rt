@@ -1,78 +1,98 @@
-//! The first message of a circuit is taken.
+//! What comes first on a circuit, read where it came.
 ghost use Rattle.std.specs.Prelude.{◌≡◌};
-ghost use Rattle.ca_client_tables.specs.First.{FirstAt, FirstIn};
+ghost use Rattle.ca_wire.specs.Reading.{IsWhole};
+ghost use Rattle.ca_client_tables.specs.First.{FirstAt, FirstIn, in_bytes, payload_at, without_front, without_head};
 ghost use Rattle.ca_client_tables.specs.Closings.{why_is};
 ghost use Rattle.ca_model.specs.Ends.{why_of};
 
 use crate::bytes::know_bytes;
 use crate::circuit::{Circuit, Connection};
 use crate::why::Why;
-use ca_link::Link;
 use ca_text::Refusal;
-use ca_wire::{Message, Pipe};
-use std::alloc::Global;
+use ca_wire::{Head, One, read_one};
 
 /// What comes first on a circuit.
-#[derive(Debug, Drop)]
+#[derive(Clone, Copy, Debug, PartialEq, Eq)]
 pub enum First {
     /// It is not there, or not connected.
     Gone,
     /// No complete message.
     NeedBytes,
-    /// This message.
-    Message(Message),
-    /// A message with a payload, for which there is no memory.
-    OutOfMemory,
-    /// A header that is refused; these bytes waited to be sent.
-    Bad(Why, Pipe),
+    /// A complete message with this header.
+    Message(Head),
+    /// A header that is refused: the end is to end for this.
+    Bad(Why),
 }
 
 impl Circuit {
-    /// Takes the first message, if it is connected. After a refused header nothing
-    /// is left on its link.
+    /// What comes first, if it is connected.
     #[inline(always)]
-    pub fn take_first(&mut self, alloc: Global) -> First
-        ensures { FirstAt self.old result self.new }
+    pub fn first(&self) -> First
+        ensures { FirstAt self.now.connection result }
     {
-        let Some(connection) = &mut self.connection else {
-            return First::Gone;
-        };
-        connection.take_first(alloc)
+        match &self.connection {
+            Some(connection) => connection.first(),
+            None => First::Gone,
+        }
     }
 
-    /// A message that was handled gives its memory to the next one.
-    pub fn recycle(&mut self, message: Message)
-        ensures { self.new ≡ self.old }
+    /// The payload of the first message, which has this header.
+    #[inline(always)]
+    pub fn payload(&self, head: &Head) -> &[u8]
+        requires { IsWhole (in_bytes self.now.connection) head.now }
+        ensures { result.now ≡ payload_at (in_bytes self.now.connection) head.now }
+    {
+        match &self.connection {
+            Some(connection) => connection.payload(head),
+            None => &[],
+        }
+    }
+
+    /// Drops the first message, which has this header and was handled.
+    #[inline(always)]
+    pub fn drop_first(&mut self, head: &Head)
+        requires { IsWhole (in_bytes self.old.connection) head.now }
+        ensures { self.new ≡ without_head head.now self.old }
     {
         if let Some(connection) = &mut self.connection {
-            connection.recycle(message);
+            connection.drop_first(head);
         }
     }
 }
 
 impl Connection {
-    // Takes the first message. After a refused header nothing is left on the link.
+    // What comes first.
     #[inline(always)]
-    fn take_first(&mut self, alloc: Global) -> First
-        ensures { FirstIn self.old result self.new }
+    fn first(&self) -> First
+        ensures { FirstIn self.now result }
     {
-        know_bytes(self.link.in_bytes());
-        match self.link.next_message() {
-            Ok(Some(message)) => First::Message(message),
-            Ok(None) => First::NeedBytes,
-            Err(Refusal::OutOfMemory) => First::OutOfMemory,
-            Err(refusal) => {
-                let met = std::mem::replace(&mut self.link, Link::new(alloc, 0));
-                First::Bad(bad_header(refusal), met.into_left())
-            }
+        let bytes = self.link.in_bytes();
+        know_bytes(bytes);
+        match read_one(bytes) {
+            One::Whole(head) => First::Message(head),
+            One::More => First::NeedBytes,
+            One::Bad(refusal) => First::Bad(bad_header(refusal)),
         }
     }
 
-    // A message that was handled gives its memory to the next one.
-    fn recycle(&mut self, message: Message)
-        ensures { self.new ≡ self.old }
+    // The payload of the first message, which has this header.
+    #[inline(always)]
+    fn payload(&self, head: &Head) -> &[u8]
+        requires { IsWhole self.now.link.input.bytes head.now }
+        ensures { result.now ≡ payload_at self.now.link.input.bytes head.now }
     {
-        self.link.recycle(message);
+        let end = head.start + head.header.size as usize;
+        &self.link.in_bytes()[head.start..end]
+    }
+
+    // Drops the first message, which has this header.
+    #[inline(always)]
+    fn drop_first(&mut self, head: &Head)
+        requires { IsWhole self.old.link.input.bytes head.now }
+        ensures { self.new ≡ without_front head.now self.old }
+    {
+        self.link
+            .drop_front(head.start + head.header.size as usize);
     }
 }
 

@@ -85,8 +85,8 @@ impl Connection {
     }
 }
 
-// The message with this header, and no payload.
-fn with_header(alloc: Global, header: Header) -> Message
+/// The message with this header, and no payload.
+pub fn with_header(alloc: Global, header: Header) -> Message
     ensures { result
         ≡ record {
           command = header.command;

@@ -16,6 +16,10 @@ use Rattle.ca_wire.specs.declared.header.Header.{Header}
 use Rattle.ca_wire.specs.Fields.{Fields}
 use Rattle.ca_wire.specs.Header.{HeaderSpells}
 
+-- the message of this header with this payload
+abbrev pub message_of : Header → List ℕ → Fields
+message_of h payload = record { command = h.command; data_type = h.data_type; count = h.count; p1 = h.p1; p2 = h.p2; payload = payload }
+
 -- An image means its value, or why it has none; another status means that the read failed
 -- ("CA_PROTO_READ_NOTIFY", "CA_PROTO_EVENT_ADD").
 abbrev pub ImageMeans : Fields → Outcome → Type 0

@@ -11,6 +11,6 @@ mod request;
 mod requests;
 
 pub use asked::{Asked, Stage};
-pub use outcome::{image_outcome, image_outcome_into, status_outcome};
+pub use outcome::image_outcome;
 pub use request::Request;
 pub use requests::Requests;

@@ -1,45 +1,44 @@
-ghost use Rattle.std.specs.Prelude.{IfOk, OnErr};
-ghost use Rattle.ca_requests.specs.Meaning.{ImageMeans, StatusMeans};
+ghost use Rattle.std.specs.Prelude.{ℕ, IfOk, List, OnErr};
+ghost use Rattle.ca_requests.specs.Meaning.{ImageMeans, StatusMeans, message_of};
 ghost use Rattle.ca_requests.specs.Calls.{HasImage};
 
 use ca_dbr::{Outcome, Value, read_value_into};
 use ca_text::{Refusal, Status};
-use ca_wire::Message;
+use ca_wire::Header;
 use std::alloc::{AllocError, Global};
 
 /// What the reply to a read, or an update, means: with status NORMAL its value, or why the payload
 /// has none; else the status.
 ///
 /// It takes memory only for a value that has elements.
-pub fn image_outcome(alloc: Global, message: &Message) -> Result<Outcome, AllocError>
-    ensures ok { IfOk result (ImageMeans message.now) }
-    ensures err { OnErr result (HasImage message.now) }
+pub fn image_outcome(
+    alloc: Global,
+    header: &Header,
+    payload: &[u8],
+) -> Result<Outcome, AllocError>
+    ensures ok { IfOk result (ImageMeans (message_of header.now payload.now)) }
+    ensures err { OnErr result (HasImage (message_of header.now payload.now)) }
 {
-    image_outcome_into(alloc, None, message)
+    image_outcome_into(alloc, None, header, payload)
 }
 
 /// What the reply to a read, or an update, means, as `image_outcome`, into the memory of a value
 /// that is no longer used, if there is one and its elements are of that type.
 #[inline(always)]
-pub fn image_outcome_into(
+pub(crate) fn image_outcome_into(
     alloc: Global,
     room: Option<Value>,
-    message: &Message,
+    header: &Header,
+    payload: &[u8],
 ) -> Result<Outcome, AllocError>
-    ensures ok { IfOk result (ImageMeans message.now) }
-    ensures err { OnErr result (HasImage message.now) }
+    ensures ok { IfOk result (ImageMeans (message_of header.now payload.now)) }
+    ensures err { OnErr result (HasImage (message_of header.now payload.now)) }
 {
-    let number = message.p1();
+    let number = header.p1;
     if number != Status::NORMAL.number {
         return Ok(Outcome::Failed(Status { number }));
     }
-    match read_value_into(
-        alloc,
-        room,
-        message.data_type(),
-        message.count(),
-        message.payload(),
-    ) {
+    match read_value_into(alloc, room, header.data_type, header.count, payload) {
         Ok((value, meta)) => Ok(Outcome::Value(value, meta)),
         Err(refusal) => match refusal {
             Refusal::OutOfMemory => Err(AllocError),
@@ -49,10 +48,10 @@ pub fn image_outcome_into(
 }
 
 /// What the reply to a put with notification means: that it is done, or the status.
-pub fn status_outcome(message: &Message) -> Outcome
-    ensures { StatusMeans message.now result }
+pub(crate) fn status_outcome(header: &Header) -> Outcome
+    ensures { (payload : List ℕ) → StatusMeans (message_of header.now payload) result }
 {
-    let number = message.p1();
+    let number = header.p1;
     if number != Status::NORMAL.number {
         return Outcome::Failed(Status { number });
     }

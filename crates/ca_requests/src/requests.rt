@@ -4,6 +4,7 @@ ghost use Rattle.ca_ids.specs.Table.{MayGive};
 ghost use Rattle.ca_requests.specs.Calls.{Answers, Issues, MayIssue, WhyNot, failed_in, issued_last, new_request, open_of, with_table, without, without_if};
 ghost use Rattle.ca_requests.specs.Forms.{asked_of};
 ghost use Rattle.ca_requests.specs.Layout.{named};
+ghost use Rattle.ca_requests.specs.Meaning.{message_of};
 ghost use Rattle.ca_requests.specs.Requests.{answered_by, asks_on, channel_gone, channel_over, circuit_gone, in_order_of_issue, is_open, was_sent_on};
 
 use crate::asked::{Asked, Stage};
@@ -16,7 +17,7 @@ use ca_arena::Handle;
 use ca_dbr::{Outcome, Value};
 use ca_ids::{HeldTable, WireId};
 use ca_text::Refusal;
-use ca_wire::Message;
+use ca_wire::Header;
 use std::alloc::{AllocError, Global};
 use std::marker::Model;
 
@@ -182,19 +183,25 @@ impl Requests {
         }
     }
 
-    /// A reply was read on this circuit: the open request that it completes, with its outcome. The
-    /// IOID is free then, also if it drained.
+    /// A reply with this header and payload was read on this circuit: the open request that it
+    /// completes, with its outcome. The IOID is free then, also if it drained.
     ///
     /// Only a value takes memory; without it nothing changes.
     #[inline(always)]
     pub fn answer(
         &mut self,
         circuit: Handle,
-        message: &Message,
+        header: &Header,
+        payload: &[u8],
     ) -> Result<Option<(Handle, Outcome)>, AllocError>
-        ensures { Answers self.old circuit message.now result self.new }
+        ensures { Answers
+            self.old
+            circuit
+            (message_of header.now payload.now)
+            result
+            self.new }
     {
-        let Some((handle, request)) = self.answered(circuit, message.command(), message.p2()) else {
+        let Some((handle, request)) = self.answered(circuit, header.command, header.p2) else {
             return Ok(None);
         };
         if !request.is_open() {
@@ -204,9 +211,9 @@ impl Requests {
         let outcome = match request.asked {
             Asked::Read(_, _) => {
                 let room = self.spare.pop();
-                image_outcome_into(*self.listed.allocator(), room, message)?
+                image_outcome_into(*self.listed.allocator(), room, header, payload)?
             }
-            Asked::Put => status_outcome(message),
+            Asked::Put => status_outcome(header),
         };
         self.free(handle);
         Ok(Some((handle, outcome)))

@@ -229,20 +229,13 @@ impl Message {
             count: self.count(),
         }
     }
+}
 
-    /// The status in an ERROR.
-    pub fn error_status(&self) -> Status
-        ensures { result.number ≡ self.now.p2 }
-    {
-        Status { number: self.p2() }
-    }
-
-    /// The header that an ERROR quotes, if it is complete.
-    pub fn quoted(&self) -> Option<Head>
-        ensures { MatchOption result (NoHeader self.now.payload) (BeginsHeader self.now.payload) }
-    {
-        head_at(self.payload())
-    }
+/// The header that an ERROR with this payload quotes, if it is complete.
+pub fn quoted(payload: &[u8]) -> Option<Head>
+    ensures { MatchOption result (NoHeader payload.now) (BeginsHeader payload.now) }
+{
+    head_at(payload)
 }
 
 /// The payload of the reply to a SEARCH: the minor version.

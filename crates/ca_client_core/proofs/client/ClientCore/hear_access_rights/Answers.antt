@@ -10,20 +10,20 @@ use Rattle.ca_client_core.proofs.client.ClientCore.hear_access_rights.Goals as g
 pub set_phase-requires-clause-turn : goal.set_phase-requires-clause-turn
 set_phase-requires-clause-turn c =
     let h = c.in-Some.channel in
-    let at : channel_on c.args.self.now c.args.circuit c.p1.result ≡ Some (h, phase.Creating c.in-Creating.field-0) =
-    found-on-circuit c.args.self.now c.args.circuit c.p1.result c.channel_on.result h _ c.channel_on.ensures (c.in-Some.is ∙ ap (λ (p : Phase). Some (h, p)) c.in-Creating.is) in
-    turns-found c.args.self.now c.args.circuit c.p1.result h (phase.Creating c.in-Creating.field-0) (phase.Creating c.p2.result) at refl (λ live. live)
+    let at : channel_on c.args.self.now c.args.circuit c.args.header.now.p1 ≡ Some (h, phase.Creating c.in-Creating.field-0) =
+    found-on-circuit c.args.self.now c.args.circuit c.args.header.now.p1 c.channel_on.result h _ c.channel_on.ensures (c.in-Some.is ∙ ap (λ (p : Phase). Some (h, p)) c.in-Creating.is) in
+    turns-found c.args.self.now c.args.circuit c.args.header.now.p1 h (phase.Creating c.in-Creating.field-0) (phase.Creating c.args.header.now.p2) at refl (λ live. live)
 
 pub set_phase-requires-in-Live-clause-turn : goal.set_phase-requires-in-Live-clause-turn
 set_phase-requires-in-Live-clause-turn c =
     let h = c.in-Some.channel in
-    let at : channel_on c.args.self.now c.args.circuit c.p1.result ≡ Some (h, phase.Live (native_of c.in-Live.native) c.in-Live.field-1) =
-    found-on-circuit c.args.self.now c.args.circuit c.p1.result c.channel_on.result h _ c.channel_on.ensures (c.in-Some.is ∙ ap (λ (p : Phase). Some (h, p)) c.in-Live.is) in
-    turns-found c.args.self.now c.args.circuit c.p1.result h (phase.Live (native_of c.in-Live.native) c.in-Live.field-1) (phase.Live (native_of c.in-Live.native) c.p2-in-Live.result) at refl (λ live. live)
+    let at : channel_on c.args.self.now c.args.circuit c.args.header.now.p1 ≡ Some (h, phase.Live (native_of c.in-Live.native) c.in-Live.field-1) =
+    found-on-circuit c.args.self.now c.args.circuit c.args.header.now.p1 c.channel_on.result h _ c.channel_on.ensures (c.in-Some.is ∙ ap (λ (p : Phase). Some (h, p)) c.in-Live.is) in
+    turns-found c.args.self.now c.args.circuit c.args.header.now.p1 h (phase.Live (native_of c.in-Live.native) c.in-Live.field-1) (phase.Live (native_of c.in-Live.native) c.args.header.now.p2) at refl (λ live. live)
 
 pub set_phase-requires-in-Live-clause-alive : goal.set_phase-requires-in-Live-clause-alive
 set_phase-requires-in-Live-clause-alive c =
     let h = c.in-Some.channel in
-    let at : channel_on c.args.self.now c.args.circuit c.p1.result ≡ Some (h, phase.Live (native_of c.in-Live.native) c.in-Live.field-1) =
-    found-on-circuit c.args.self.now c.args.circuit c.p1.result c.channel_on.result h _ c.channel_on.ensures (c.in-Some.is ∙ ap (λ (p : Phase). Some (h, p)) c.in-Live.is) in
-    λ e. live-found c.args.self.now c.args.circuit c.p1.result h (phase.Live (native_of c.in-Live.native) c.in-Live.field-1) at refl
+    let at : channel_on c.args.self.now c.args.circuit c.args.header.now.p1 ≡ Some (h, phase.Live (native_of c.in-Live.native) c.in-Live.field-1) =
+    found-on-circuit c.args.self.now c.args.circuit c.args.header.now.p1 c.channel_on.result h _ c.channel_on.ensures (c.in-Some.is ∙ ap (λ (p : Phase). Some (h, p)) c.in-Live.is) in
+    λ e. live-found c.args.self.now c.args.circuit c.args.header.now.p1 h (phase.Live (native_of c.in-Live.native) c.in-Live.field-1) at refl

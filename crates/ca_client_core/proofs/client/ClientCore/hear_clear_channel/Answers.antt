@@ -9,13 +9,13 @@ use Rattle.ca_client_core.proofs.client.ClientCore.hear_clear_channel.Goals as g
 pub seek_again-requires : goal.seek_again-requires
 seek_again-requires c =
     let h = c.in-Some.channel in
-    let at : channel_on c.args.self.now c.args.circuit c.p2.result ≡ Some (h, phase.Leaving) =
-    found-on-circuit c.args.self.now c.args.circuit c.p2.result c.channel_on.result h _ c.channel_on.ensures (c.in-Some.is ∙ ap (λ (p : Phase). Some (h, p)) c.in-Leaving.is) in
-    subst (λ (y : Client). IsBare h y) (sym c.end_draining.ensures) (drained-found c.args.self.now c.args.circuit c.p2.result h phase.Leaving at c.know.ensures)
+    let at : channel_on c.args.self.now c.args.circuit c.args.header.now.p2 ≡ Some (h, phase.Leaving) =
+    found-on-circuit c.args.self.now c.args.circuit c.args.header.now.p2 c.channel_on.result h _ c.channel_on.ensures (c.in-Some.is ∙ ap (λ (p : Phase). Some (h, p)) c.in-Leaving.is) in
+    subst (λ (y : Client). IsBare h y) (sym c.end_draining.ensures) (drained-found c.args.self.now c.args.circuit c.args.header.now.p2 h phase.Leaving at c.know.ensures)
 
 pub remove_channel-requires : goal.remove_channel-requires
 remove_channel-requires c =
     let h = c.in-Some.channel in
-    let at : channel_on c.args.self.now c.args.circuit c.p2.result ≡ Some (h, phase.Clearing) =
-    found-on-circuit c.args.self.now c.args.circuit c.p2.result c.channel_on.result h _ c.channel_on.ensures (c.in-Some.is ∙ ap (λ (p : Phase). Some (h, p)) c.in-Clearing.is) in
-    subst (λ (y : Client). IsBare h y) (sym c.end_draining-in-Clearing.ensures) (drained-found c.args.self.now c.args.circuit c.p2.result h phase.Clearing at c.know.ensures)
+    let at : channel_on c.args.self.now c.args.circuit c.args.header.now.p2 ≡ Some (h, phase.Clearing) =
+    found-on-circuit c.args.self.now c.args.circuit c.args.header.now.p2 c.channel_on.result h _ c.channel_on.ensures (c.in-Some.is ∙ ap (λ (p : Phase). Some (h, p)) c.in-Clearing.is) in
+    subst (λ (y : Client). IsBare h y) (sym c.end_draining-in-Clearing.ensures) (drained-found c.args.self.now c.args.circuit c.args.header.now.p2 h phase.Clearing at c.know.ensures)

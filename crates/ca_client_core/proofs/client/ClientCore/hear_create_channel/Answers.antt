@@ -10,14 +10,14 @@ pub go_live-requires : goal.go_live-requires
 go_live-requires c =
     let x = c.args.self.now in
     let h = c.in-Some.channel in
-    let at : channel_on x c.args.circuit c.p1.result ≡ Some (h, phase.Creating c.in-Creating.rights) =
-    found-on-circuit x c.args.circuit c.p1.result c.channel_on.result h _ c.channel_on.ensures (c.in-Some.is ∙ ap (λ (p : Phase). Some (h, p)) c.in-Creating.is) in
-    turns-found x c.args.circuit c.p1.result h (phase.Creating c.in-Creating.rights) (phase.Live (native_of c.native_in.result) c.in-Creating.rights) at refl (λ was. refl)
+    let at : channel_on x c.args.circuit c.args.header.now.p1 ≡ Some (h, phase.Creating c.in-Creating.rights) =
+    found-on-circuit x c.args.circuit c.args.header.now.p1 c.channel_on.result h _ c.channel_on.ensures (c.in-Some.is ∙ ap (λ (p : Phase). Some (h, p)) c.in-Creating.is) in
+    turns-found x c.args.circuit c.args.header.now.p1 h (phase.Creating c.in-Creating.rights) (phase.Live (native_of c.native_in.result) c.in-Creating.rights) at refl (λ was. refl)
 
 pub clear_doomed-requires : goal.clear_doomed-requires
 clear_doomed-requires c =
     let x = c.args.self.now in
     let h = c.in-Some.channel in
-    let at : channel_on x c.args.circuit c.p1.result ≡ Some (h, phase.Doomed) =
-    found-on-circuit x c.args.circuit c.p1.result c.channel_on.result h _ c.channel_on.ensures (c.in-Some.is ∙ ap (λ (p : Phase). Some (h, p)) c.in-Doomed.is) in
-    turns-found x c.args.circuit c.p1.result h phase.Doomed phase.Clearing at refl (λ was. refl)
+    let at : channel_on x c.args.circuit c.args.header.now.p1 ≡ Some (h, phase.Doomed) =
+    found-on-circuit x c.args.circuit c.args.header.now.p1 c.channel_on.result h _ c.channel_on.ensures (c.in-Some.is ∙ ap (λ (p : Phase). Some (h, p)) c.in-Doomed.is) in
+    turns-found x c.args.circuit c.args.header.now.p1 h phase.Doomed phase.Clearing at refl (λ was. refl)

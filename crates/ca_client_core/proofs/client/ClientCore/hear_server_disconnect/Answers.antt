@@ -11,6 +11,6 @@ leave-requires c =
     let x = c.args.self.now in
     let h = c.in-Some.channel in
     let live = phase.Live (native_of c.in-Live.native) c.in-Live.field-1 in
-    let at : channel_on x c.args.circuit c.p1.result ≡ Some (h, live) =
-    found-on-circuit x c.args.circuit c.p1.result c.channel_on.result h _ c.channel_on.ensures (c.in-Some.is ∙ ap (λ (p : Phase). Some (h, p)) c.in-Live.is) in
-    turns-found x c.args.circuit c.p1.result h live phase.Leaving at refl (λ was. refl)
+    let at : channel_on x c.args.circuit c.args.header.now.p1 ≡ Some (h, live) =
+    found-on-circuit x c.args.circuit c.args.header.now.p1 c.channel_on.result h _ c.channel_on.ensures (c.in-Some.is ∙ ap (λ (p : Phase). Some (h, p)) c.in-Live.is) in
+    turns-found x c.args.circuit c.args.header.now.p1 h live phase.Leaving at refl (λ was. refl)
