@@ -43,9 +43,7 @@ impl ClientCore {
         };
         match phase {
             Phase::Connecting => Ok(Notices::none(self.alloc)),
-            Phase::Creating(rights) => {
-                self.go_live(circuit, channel, native_in(header), rights)
-            }
+            Phase::Creating(rights) => { self.go_live(circuit, channel, native_in(header), rights) }
             Phase::Live(_, _) => Ok(Notices::none(self.alloc)),
             Phase::Leaving => Ok(Notices::none(self.alloc)),
             Phase::Clearing => Ok(Notices::none(self.alloc)),

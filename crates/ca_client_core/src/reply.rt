@@ -16,11 +16,7 @@ use std::alloc::AllocError;
 
 impl ClientCore {
     // Without memory for it nothing changes.
-    pub(crate) fn hear_reply(
-        &mut self,
-        circuit: Handle,
-        head: &Head,
-    ) -> Result<Notices, AllocError>
+    pub(crate) fn hear_reply(&mut self, circuit: Handle, head: &Head) -> Result<Notices, AllocError>
         requires first { FirstOn self.old circuit (Message head.now) }
         requires reply { IsReply head.now.header.command }
         ensures { HearsFirst self.old circuit head.now result self.new }

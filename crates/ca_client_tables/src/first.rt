@@ -91,8 +91,7 @@ impl Connection {
         requires { IsWhole self.old.link.input.bytes head.now }
         ensures { self.new ≡ without_front head.now self.old }
     {
-        self.link
-            .drop_front(head.start + head.header.size as usize);
+        self.link.drop_front(head.start + head.header.size as usize);
     }
 }
 

@@ -11,11 +11,7 @@ use std::alloc::{AllocError, Global};
 /// has none; else the status.
 ///
 /// It takes memory only for a value that has elements.
-pub fn image_outcome(
-    alloc: Global,
-    header: &Header,
-    payload: &[u8],
-) -> Result<Outcome, AllocError>
+pub fn image_outcome(alloc: Global, header: &Header, payload: &[u8]) -> Result<Outcome, AllocError>
     ensures ok { IfOk result (ImageMeans (message_of header.now payload.now)) }
     ensures err { OnErr result (HasImage (message_of header.now payload.now)) }
 {

@@ -29,8 +29,8 @@ pub use pipe::Pipe;
 pub use reading::{Head, One, read_one};
 pub use replies::{
     Answered, Created, cancel_reply, cleared_reply, created_reply, disconnect, failed_reply,
-    no_cid, not_found_reply, put_status, quoted, read_head, read_status, rights_reply, search_reply,
-    update_head, version_header, version_reply,
+    no_cid, not_found_reply, put_status, quoted, read_head, read_status, rights_reply,
+    search_reply, update_head, version_header, version_reply,
 };
 pub use requests::{
     ChannelIds, Wanted, bare, clear_request, create_request, event_add_request,
