@@ -79,12 +79,13 @@ pub(crate) fn step_reply(state: &mut ClientState, circuit: Handle) -> Replied
     match core.read_reply(circuit) {
         Reply::Completed(request, outcome) => {
             fill_one(board, seat, tickets, request, outcome);
-            Replied::Filled
+            return Replied::Filled;
         }
-        Reply::Unawaited => Replied::Filled,
-        Reply::NeedBytes => Replied::NeedBytes,
-        Reply::Other => Replied::Other,
+        Reply::Unawaited => return Replied::Filled,
+        Reply::NeedBytes => return Replied::NeedBytes,
+        Reply::Other => {}
     }
+    Replied::Other
 }
 
 // A step, whatever comes next.
