@@ -250,15 +250,6 @@ impl Link {
         self.output.sent(n);
     }
 
-    /// All bytes that wait are handed over, in place of those that are there, whose memory the link
-    /// keeps for more. Nothing is copied, and it does not allocate.
-    pub fn hand_over(&mut self, to: &mut Pipe)
-        ensures handed { to.new ≡ self.old.output }
-        ensures left { self.new ≡ with_handed (length self.old.output) self.old }
-    {
-        self.output.hand_over(to);
-    }
-
     /// The bytes that wait, for whoever still sends them.
     pub fn into_left(self) -> Pipe
         ensures { result ≡ self.output }
