@@ -1,4 +1,4 @@
-ghost use Rattle.std.specs.Prelude.{ℕ, List, ◌≡◌, ◌≢◌, ◌≤◌, ◌++◌, [], drop, length, take, IfOk, OnErr, OnOk};
+ghost use Rattle.std.specs.Prelude.{ℕ, List, ◌≡◌, ◌≤◌, ◌++◌, [], drop, length, take, IfOk, OnErr, OnOk};
 ghost use Rattle.ca_text.specs.Limits.{payload_limit};
 ghost use Rattle.ca_wire.specs.Made.{PutsMade};
 ghost use Rattle.ca_wire.specs.Message.{spelling};
@@ -12,7 +12,6 @@ use crate::message::Message;
 use ca_text::Refusal;
 use std::alloc::{AllocError, Global};
 use std::marker::Model;
-use std::mem;
 
 /// Bytes that wait to be sent.
 #[derive(Debug, Drop)]
@@ -110,24 +109,6 @@ impl Pipe {
         ensures { self.new ≡ drop n self.old }
     {
         self.buffer.drop_front(n);
-    }
-
-    /// All bytes that wait go over to this one, in place of those that it has, whose memory stays
-    /// here for more. Nothing is copied, and it does not allocate.
-    pub fn hand_over(&mut self, to: &mut Pipe)
-        ensures handed { to.new ≡ self.old }
-        ensures nothing { self.new ≡ [] }
-    {
-        to.buffer.truncate(0);
-        mem::swap(&mut self.buffer, &mut to.buffer);
-    }
-
-    /// Puts these bytes after what waits. A refusal changes nothing, and no bytes need no memory.
-    pub fn push(&mut self, bytes: &[u8]) -> Result<(), AllocError>
-        ensures ok { OnOk result (self.new ≡ self.old ++ bytes.now) }
-        ensures err { OnErr result ((self.new ≡ self.old) × (bytes.now ≢ [])) }
-    {
-        self.buffer.push(bytes)
     }
 
     /// Takes the memory of a spare row, if it has none.
