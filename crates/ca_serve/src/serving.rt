@@ -38,17 +38,17 @@ pub struct Places {
 /// How a server serves.
 #[derive(Drop)]
 pub struct Options {
-    /// It ends once so many circuits were closed, without a number never.
+    /// The number of circuits after whose end the server ends: without one it does not.
     pub circuits: Option<u64>,
-    /// A circuit is cut if bytes wait to be sent on it and its socket takes none for so long. Without
-    /// a time none is.
+    /// A circuit is cut if bytes wait to be sent on it and its socket takes none for this time.
+    /// Without one it is not.
     pub patience: Option<Duration>,
     /// Where it counts, if anywhere.
     pub meter: Option<Meter>,
 }
 
 impl Options {
-    /// It ends once so many circuits were closed, has no patience to lose, and counts nowhere.
+    /// Those of a server that cuts no circuit for what its socket does not take, and counts nothing.
     pub fn new(circuits: Option<u64>) -> Options
         ensures circuits { result.circuits ≡ circuits }
         ensures others { (result.patience ≡ None) × (result.meter ≡ None) }

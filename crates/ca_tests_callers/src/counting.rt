@@ -262,7 +262,7 @@ fn search(stream: &TcpStream) -> Result<(), Refusal> {
     echo(stream)
 }
 
-/// The same two by a datagram.
+/// Two searches by a datagram, of which one finds a record.
 fn search_by_datagram<R: Net<Stream = TcpStream, Listener = TcpListener>>(
     rt: &R,
     address: SocketAddr,

@@ -25,10 +25,10 @@ const REPLY: u64 = 65_536;
 
 const ALL: u64 = READS * REPLY;
 
-/// A circuit whose socket takes nothing for so many milliseconds is cut.
+/// A circuit whose socket takes nothing for this time, in milliseconds, is cut.
 const PATIENCE: u64 = 1_500;
 
-/// A client that is slow takes four replies and then waits for so many milliseconds, so often.
+/// A client that is slow takes four replies and then waits, in milliseconds; and how often it does.
 const PAUSE: u64 = 100;
 
 const PAUSES: u64 = 30;
@@ -153,7 +153,7 @@ fn now<R: Clock>(rt: &R) -> Result<Duration, Refusal> {
     }
 }
 
-/// A circuit on which so many reads are asked, and no more.
+/// A circuit on which all reads are asked, and nothing else.
 fn asked<R: Net<Stream = TcpStream, Listener = TcpListener>>(
     rt: &R,
     address: SocketAddr,
@@ -169,7 +169,7 @@ fn asked<R: Net<Stream = TcpStream, Listener = TcpListener>>(
     Ok(stream)
 }
 
-/// Whether so many bytes come before the circuit ends.
+/// Whether this number of bytes comes before the circuit ends.
 fn has_all(stream: &TcpStream, room: &mut Vec<u8>, bytes: u64) -> bool {
     let mut left = bytes;
     for _ in 0..bytes {
