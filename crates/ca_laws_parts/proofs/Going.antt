@@ -8,7 +8,7 @@ use Rattle.ca_records.specs.declared.puts.Put.{Put}
 use Rattle.ca_records.specs.Puts.{Record}
 use Rattle.ca_model.specs.Speech.{Stored, sid_in}
 use Rattle.ca_model.specs.History.{Applied, Entry, Finished, Sent, Step, Withdrawn}
-use Rattle.ca_model.specs.Channels.{HasWaited, IsApplied as IsAppliedIn, IsBusyUntil, IsCleared, IsDropped, IsTaken}
+use Rattle.ca_model.specs.Channels.{CameIn, HasWaited, IsApplied as IsAppliedIn, IsBusyUntil, IsCleared, IsDropped, IsTaken, IsWaiting}
 use Rattle.ca_model.specs.World.{Joined, PutPlace, RecordSide, World, circuit_of, told}
 use Rattle.ca_laws_parts.specs.Once.{Once}
 use Rattle.ca_laws_parts.specs.Agrees.{Agrees, IsBusyAs, WaitsAs}
@@ -152,6 +152,11 @@ dropped-as w logs n k l i y log at =
             inr (subst (λ (t : Sent). IsCleared came.c.lists k (sid_in t.message) i ⊎ (came.c.lists.server_open ≡ false)) s (subst (λ (d : Joined). IsCleared d.lists k (sid_in off.s.message) i ⊎ (d.lists.server_open ≡ false)) c off.why))
       ];
     }
+
+pub came-waiting : (w : World) → LogsOnce w → (n k l i r : ℕ) (v : Stored) → IsWaiting (told w) n k l i r v → CameIn (told w) n k l i
+came-waiting w logs n k l i r v a =
+    let came = (logs l a.0 a.1).came i n k r v a.2 in
+    (circuit_of came.c, At-map circuit_of w.circuits n came.c came.on, came.joins, came.taken)
 
 pub own-message : (w : World) → LogsOnce w → (n k l i r : ℕ) (v : Stored) → IsAppliedIn (told w) n k l i r v → IsOfMessage w n k l i r v
 own-message w logs n k l i r v a =

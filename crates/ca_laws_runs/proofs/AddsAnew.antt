@@ -54,7 +54,7 @@ use Rattle.ca_laws_runs.proofs.Created.{reached-created}
 use Rattle.ca_laws_runs.proofs.Found.{found-intent}
 use Rattle.ca_laws_runs.proofs.Joint.{are-snoc, folds-snoc, run-tells}
 use Rattle.ca_laws_runs.proofs.Lasts.{IsKept}
-use Rattle.ca_laws_runs.proofs.LastsGoing.{AllAddsNamed, AllStandOrEnd, ClientsLast, adds-named-on, event-last, last-still, stand-on, ticks-last}
+use Rattle.ca_laws_runs.proofs.LastsGoing.{AllAddsCalled, AllAddsNamed, AllNamedCalled, AllStandOrEnd, ClientsLast, adds-called-on, adds-named-on, event-last, last-still, named-called-on, stand-on, ticks-last}
 use Rattle.ca_laws_runs.proofs.Live.{channels-sending, made-live}
 use Rattle.ca_laws_runs.proofs.LostRuns.{known-runs}
 use Rattle.ca_laws_runs.proofs.OnceLess.{is_gone}
@@ -322,15 +322,22 @@ pub record AnewStand (w : World) : Type 0 where
   pub names : AllNamedOnce w
   pub stand : AllStandOrEnd w
   pub adds : AllAddsNamed w
+  pub called : AllNamedCalled w
+  pub said : AllAddsCalled w
   pub anew : AllAnew w
 
 module _ (w new : World) (known : Known w) (now : Known new) (goes : WorldsOn w new) (uses : ClientsUse w new) (order : ClientsInOrder w)
     (lasts : ClientsLast w new) (adding : AddingBack w new) (z : AnewStand w) where
+  called-now : AllNamedCalled new
+  called-now = named-called-on w new known.once goes lasts z.called
+
   anew-with : AllAnew new → AnewStand new
   anew-with anew = record {
     names = named-once-on w new known.stands uses z.names;
     stand = stand-on w new known.once goes lasts z.stand;
     adds = adds-named-on w new known now.once now.quiet adding goes uses z.adds;
+    called = called-now;
+    said = adds-called-on w new known.once now.quiet adding goes called-now z.said;
     anew = anew;
   }
 
@@ -441,6 +448,10 @@ opening-anew s = record {
       let r = numbered-place 0 (client_begun (addresses s.servers) 0) s.clients i x at in
       absurd (none_at m (g, On a (Subscribe m)) (subst (λ (v : ClientSide). At v.names.subscriptions m (g, On a (Subscribe m))) r.2 named));
   adds = λ n i l a m c x q at. absurd (none_at n c at);
+  called = λ i m x e log at there named.
+      let r = numbered-place 0 (client_begun (addresses s.servers) 0) s.clients i x at in
+      absurd (none_at m e (subst (λ (v : ClientSide). At v.names.subscriptions m e) r.2 named));
+  said = λ n k a m c q x at. absurd (none_at n c at);
   anew = λ n c y i a sid number t h q at. absurd (none_at n c at);
 }
 

@@ -48,25 +48,25 @@ abbrev pub IsEndedBy : List Line → (a m : ℕ) → Type 0
 IsEndedBy log a m = In log (Called (On a Clear) None) ⊎ (In log (Called (On a (Cancel m)) None) ⊎ ((o : Outcome) × In log (Noticed (On a (Subscribe m)) o)))
 
 -- Each subscription stands on, or its end is in the log of the client's life in the new world. The
--- same are named, or one more that stands.
+-- same are named, or one more that stands, and was called.
 abbrev StandOn : World → (x y : ClientSide) → Type 0
 StandOn new x y = (g h : Handle) (a m : ℕ) (log : List Line) → At x.names.subscriptions m (g, On a (Subscribe m)) → At new.client_logs y.life log → IsKept x.core g h → IsKept y.core g h ⊎ IsEndedBy log a m
 
-abbrev NamesMore : (x y : ClientSide) → Type 0
-NamesMore x y = (y.names.subscriptions ≡ x.names.subscriptions) ⊎ ((q h : Handle) × (intent : Intent) × (y.names.subscriptions ≡ x.names.subscriptions ++ (q, intent) ∷ []) × IsKept y.core q h)
+abbrev NamesMore : World → (x y : ClientSide) → Type 0
+NamesMore new x y = (y.names.subscriptions ≡ x.names.subscriptions) ⊎ ((q h : Handle) × (intent : Intent) × (y.names.subscriptions ≡ x.names.subscriptions ++ (q, intent) ∷ []) × IsKept y.core q h × ((log : List Line) → At new.client_logs y.life log → In log (Called intent None)))
 
 -- So it is of each client of the world, or it begins now.
 abbrev pub ClientsLast : (w new : World) → Type 0
-ClientsLast w new = (i : ℕ) (y : ClientSide) → At new.clients i y → ((x : ClientSide) × At w.clients i x × (y.life ≡ x.life) × NamesMore x y × StandOn new x y) ⊎ IsFresh w y
+ClientsLast w new = (i : ℕ) (y : ClientSide) → At new.clients i y → ((x : ClientSide) × At w.clients i x × (y.life ≡ x.life) × NamesMore new x y × StandOn new x y) ⊎ IsFresh w y
 
 last-same : (w new : World) → new.clients ≡ w.clients → ClientsLast w new
 last-same w new is i y at = inl (y, subst (λ (l : List ClientSide). At l i y) is at, refl, inl refl, λ g h a m log named there it. inl it)
 
-last-set : (w new : World) (i : ℕ) (x z : ClientSide) → At w.clients i x → new.clients ≡ slice_set w.clients i z → z.life ≡ x.life → NamesMore x z
+last-set : (w new : World) (i : ℕ) (x z : ClientSide) → At w.clients i x → new.clients ≡ slice_set w.clients i z → z.life ≡ x.life → NamesMore new x z
     → StandOn new x z → ClientsLast w new
 last-set w new i x z at is life names stand l y there = elim (At-set w.clients i z l y (subst (λ (c : List ClientSide). At c l y) is there)) [
   | inl here ↦
-      let now = subst (λ (v : ClientSide). (v.life ≡ x.life) × NamesMore x v × StandOn new x v) (sym here.1) (life, names, stand) in
+      let now = subst (λ (v : ClientSide). (v.life ≡ x.life) × NamesMore new x v × StandOn new x v) (sym here.1) (life, names, stand) in
       inl (x, subst (λ (n : ℕ). At w.clients n x) (sym here.0) at, now.0, now.1, now.2)
   | inr old ↦ inl (y, old.0, refl, inl refl, λ g h a m log named logged it. inl it)
 ]
@@ -122,25 +122,25 @@ module _ (w new : World) (i : ℕ) (x : ClientSide) (at : At w.clients i x) wher
         (subst (λ (v : Client). Lasts x.core v) (sym did.3.3.1) (lasts-sending (write_sent h (did.3.0) e ∷ []) x.core))
   ]
 
-  last-subscribe : (c : ℕ) (h : Handle) (data_type count mask : ℕ) → HappensSubscribe w i x c h data_type count mask new → ClientsLast w new
-  last-subscribe c h data_type count mask happens = elim happens [
-    | inl refusal ↦ last-same w new (ap (λ (z : World). z.clients) refusal.3)
-    | inr did ↦
-        let intent : Intent = On c (Subscribe (length x.names.subscriptions)) in
-        let made = lasts-subscribed x.core h (record { data_type = data_type; count = count }) mask did.0 did.1 did.2 did.3 in
-        last-set w new i x (record x { core = did.2; names = with_subscription did.0 intent x.names }) at (ap (λ (z : World). z.clients) did.4) refl
-        (inr (did.0, h, intent, refl, made.1)) (λ g k a m log named there it. inl (made.0.forth g k it))
-  ]
-
   last-datagram : (from : Address) (bytes : List ℕ) → HappensClientDatagram w i x from bytes new → ClientsLast w new
   last-datagram from bytes happens =
       let now : Client = record x.core { moment = later w.moment x.core } in
       let e : Effect = record { core = happens.1; sent = happens.0; notices = [] } in
       last-called w new i x x.names happens.1 at (ap (λ (z : World). z.clients) happens.3) refl (lasts-then x.core now happens.1 (lasts-same x.core now refl refl) (lasts-all-received from happens.2.0 now e happens.2.2))
 
-  -- its caller ends one, or a channel
+  -- its caller subscribes, or ends a subscription or a channel
   module _ (old : List Line) (logged : At w.client_logs x.life old) (tidy : Tidy x.names x.core)
       (once : (k l : ℕ) (e f : Handle × Intent) → At x.names.subscriptions k e → At x.names.subscriptions l f → e.0 ≡ f.0 → k ≡ l) where
+    last-subscribe : (c : ℕ) (h : Handle) (data_type count mask : ℕ) → HappensSubscribe w i x c h data_type count mask new → ClientsLast w new
+    last-subscribe c h data_type count mask happens = elim happens [
+      | inl refusal ↦ last-same w new (ap (λ (z : World). z.clients) refusal.3)
+      | inr did ↦
+          let intent : Intent = On c (Subscribe (length x.names.subscriptions)) in
+          let made = lasts-subscribed x.core h (record { data_type = data_type; count = count }) mask did.0 did.1 did.2 did.3 in
+          last-set w new i x (record x { core = did.2; names = with_subscription did.0 intent x.names }) at (ap (λ (z : World). z.clients) did.4) refl
+          (inr (did.0, h, intent, refl, made.1, λ log there. fresh-line w new x.life (Called intent None ∷ []) old log 0 (Called intent None) logged (ap (λ (z : World). z.client_logs) did.4) refl there)) (λ g k a m log named there it. inl (made.0.forth g k it))
+    ]
+
     last-unsubscribe : (n : ℕ) (s : Handle × Intent) → At x.names.subscriptions n s → HappensUnsubscribe w i x s new → ClientsLast w new
     last-unsubscribe n s named happens = elim happens [
       | inl refusal ↦ last-same w new (ap (λ (z : World). z.clients) refusal.3)
@@ -286,7 +286,10 @@ event-last w new (event.Clear i k) c q o n happens =
 event-last w new (event.Read i k data_type count) c q o n happens = last-read w new i happens.0.x happens.0.at k happens.0.h data_type count happens.1
 event-last w new (event.Write i k e) c q o n happens = last-write w new i happens.0.x happens.0.at k happens.0.h e happens.1
 event-last w new (event.WriteNotify i k e) c q o n happens = last-put w new i happens.0.x happens.0.at k happens.0.h e happens.1
-event-last w new (event.Subscribe i k data_type count mask) c q o n happens = last-subscribe w new i happens.0.x happens.0.at k happens.0.h data_type count mask happens.1
+event-last w new (event.Subscribe i k data_type count mask) c q o n happens =
+    let x : ClientSide = happens.0.x in
+    let log = o.there i x happens.0.at in
+    last-subscribe w new i x happens.0.at log.0 log.1 (q.tidy i x happens.0.at) (n i x happens.0.at) k happens.0.h data_type count mask happens.1
 event-last w new (event.Unsubscribe i k) c q o n happens =
     let x : ClientSide = happens.0.x in
     let log = o.there i x happens.0.at in
@@ -351,7 +354,31 @@ stand-on w new once goes lasts all i a m y g log at logged named = elim (lasts i
       ]
 ]
 
--- ---- EVENT_ADDs are named
+-- The log of the client's life has the call of each that is named.
+abbrev pub AllNamedCalled : World → Type 0
+AllNamedCalled w = (i m : ℕ) (x : ClientSide) (e : Handle × Intent) (log : List Line) → At w.clients i x → At w.client_logs x.life log → At x.names.subscriptions m e → In log (Called e.1 None)
+
+pub named-called-on : (w new : World) → OnceStand w → WorldsOn w new → ClientsLast w new → AllNamedCalled w → AllNamedCalled new
+named-called-on w new once goes lasts all i m y e log at logged named = elim (lasts i y at) [
+  | inr fresh ↦ absurd (none_at m e (subst (λ (v : ClientSide). At v.names.subscriptions m e) fresh.3 named))
+  | inl b ↦
+      let x : ClientSide = b.0 in
+      let old = once.there i x b.1 in
+      let more = goes.logs x.life old.0 old.1 in
+      let log_is : old.0 ++ more.0 ≡ log = At-one new.client_logs y.life (old.0 ++ more.0) log (subst (λ (v : ℕ). At new.client_logs v (old.0 ++ more.0)) (sym b.2) more.1) logged in
+      let was : At x.names.subscriptions m e → In log (Called e.1 None) = λ named_x.
+      let c = all i m x e old.0 b.1 old.1 named_x in
+      (c.0, subst (λ (v : List Line). At v c.0 (Called e.1 None)) log_is (At-append old.0 more.0 c.0 (Called e.1 None) c.1)) in
+      elim b.3 [
+        | inl same ↦ was (subst (λ (v : List (Handle × Intent)). At v m e) same named)
+        | inr made ↦ elim (At-snoc x.names.subscriptions (made.0, made.2) m e (subst (λ (v : List (Handle × Intent)). At v m e) made.3 named)) [
+          | inl before ↦ was before
+          | inr last ↦ subst (λ (v : Handle × Intent). In log (Called v.1 None)) (sym last.1) (made.5 log logged)
+        ]
+      ]
+]
+
+-- ---- EVENT_ADDs are named, and were called
 
 -- Each EVENT_ADD that was sent on a circuit of the client's life, open or not, is named.
 abbrev pub AllAddsNamed : World → Type 0
@@ -381,6 +408,31 @@ adds-named-on w new known once quiet adding goes uses all n i l a m d y s at at_
               | inr more ↦ (r.0, subst (λ (v : List (Handle × Intent)). At v m (r.0, On a (Subscribe m))) (sym more.3) (At-append (u.0).names.subscriptions ((more.0, more.1) ∷ []) m (r.0, On a (Subscribe m)) r.1))
             ]
       ]
+]
+  where
+    life : (c : Joined) → At w.circuits n c → d.lists.client ≡ c.lists.client
+    life c on_c =
+        let o = goes.circuits n c on_c in
+        let one : o.0 ≡ d = At-one new.circuits n o.0 d o.1 at in
+        ap (λ (v : Joined). v.lists.client) (sym one) ∙ o.2.client
+
+-- The log of its client's life has the call of each EVENT_ADD that was sent.
+abbrev pub AllAddsCalled : World → Type 0
+AllAddsCalled w = (n k a m : ℕ) (c : Joined) (s : Sent) (x : List Line) → At w.circuits n c → At c.lists.up k s → At w.client_logs c.lists.client x → s.intent ≡ On a (Subscribe m) → In x (Called (On a (Subscribe m)) None)
+
+pub adds-called-on : (w new : World) → OnceStand w → ClientsQuiet new → AddingBack w new → WorldsOn w new → AllNamedCalled new → AllAddsCalled w → AllAddsCalled new
+adds-called-on w new once quiet adding goes named all n k a m d s x at at_s logged is = elim (adding n d k s at at_s) [
+  | inl other ↦ absurd (other a m is)
+  | inr (inr z) ↦
+      named (z.c).client m z.y (z.g, On a (Subscribe m)) x z.at (subst (λ (v : ℕ). At new.client_logs v x) (life z.c z.on ∙ z.life) logged)
+      (subscribed-at (z.y).names (z.y).core z.g a m (quiet.tidy (z.c).client z.y z.at) (sym z.meant ∙ is))
+  | inr (inl old) ↦
+      let c : Joined = old.0 in
+      let t = once.lives n c old.1 in
+      let g = goes.logs c.lists.client t.0 t.1 in
+      let x_is : x ≡ t.0 ++ g.0 = At-one new.client_logs c.lists.client x (t.0 ++ g.0) (subst (λ (v : ℕ). At new.client_logs v x) (life c old.1) logged) g.1 in
+      let was = all n k a m c s t.0 old.1 old.2 t.1 is in
+      (was.0, subst (λ (v : List Line). At v was.0 (Called (On a (Subscribe m)) None)) (sym x_is) (At-append t.0 g.0 was.0 (Called (On a (Subscribe m)) None) was.1))
 ]
   where
     life : (c : Joined) → At w.circuits n c → d.lists.client ≡ c.lists.client

@@ -193,6 +193,7 @@ pub mod WritesSaid
 pub mod WritesCarried
 pub mod WritesTitled
 pub mod OwnWrites
+pub mod UsesCalled
 pub mod Awaiting
 pub mod ClearedPuts
 pub mod AnsweredWhole

@@ -13,14 +13,14 @@ use Rattle.ca_model.specs.Events.{Event}
 use Rattle.ca_model.specs.Runs.{AreEvents, Runs}
 use Rattle.ca_model.specs.World.{IsSetting, Joined, Setting, World, circuit_of, told}
 use Rattle.ca_laws_parts.specs.Lives.{IsOfMessage, LogsOnce}
-use Rattle.ca_laws_parts.proofs.Going.{applied-once, dropped-as, finished-once, own-message}
+use Rattle.ca_laws_parts.proofs.Going.{applied-once, came-waiting, dropped-as, finished-once, own-message}
 use Rattle.ca_laws_parts.proofs.WritesLists.{At-take}
 use Rattle.ca_laws_runs.proofs.StepWhole.{run-serves}
 use Rattle.ca_laws_runs.proofs.ToldWrites.{run-done, run-failed}
 use Rattle.ca_laws_runs.specs.Carried.{IsCarried, IsTitled, IsWrite}
 use Rattle.ca_laws_runs.specs.OwnWrites.{WritesAreNotTwice, WritesAreOwn}
 use Rattle.ca_laws_runs.proofs.NamesEvents.{run-keep}
-use Rattle.ca_laws_runs.proofs.WritesCarried.{reads-carried, run-carried}
+use Rattle.ca_laws_runs.proofs.WritesCarried.{reads-carried, run-carried, write-carried, write-request}
 use Rattle.ca_laws_runs.proofs.WritesTitled.{run-titled, write-meant}
 
 same-state : (r q : ℕ) (a b : RecordState) → Added r a ≡ Added q b → a ≡ b
@@ -62,7 +62,7 @@ module _ (s : Setting) (es : List Event) (stopped : Option Event) (w : World) (o
     number = same-on meant.0 t.channel meant.1 t.ask (sym meant.2 ∙ ap (λ (z : Sent). z.intent) (sym sent_is) ∙ t.meant)
 
     carried : IsCarried t.x m.s
-    carried = run-carried s es stopped w are runs n k m.c m.s t.x m.on m.sent lines meant.4
+    carried = write-carried t.x m.s meant.4 (run-carried s es stopped w are runs n k m.c m.s t.x m.on m.sent lines (write-request (m.s).intent meant.4))
 
     given : m.given ≡ carried.given
     given = reads-carried (m.s).message carried.given m.given carried.valued carried.carries m.reads
@@ -98,6 +98,7 @@ pub run-not-twice : (s : Setting) (es : List Event) (stopped : Option Event) (w 
 run-not-twice s es stopped w ok are runs = record {
   once = applied-once w (logs s es stopped w ok are runs);
   own = run-own s es stopped w ok are runs;
+  waits = came-waiting w (logs s es stopped w ok are runs);
   dropped = dropped-as w (logs s es stopped w ok are runs);
   finished = finished-once w (logs s es stopped w ok are runs);
   done = run-done s es stopped w ok are runs;

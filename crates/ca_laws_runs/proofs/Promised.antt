@@ -29,6 +29,7 @@ use Rattle.ca_laws_runs.proofs.LegalCut.{run-channels}
 use Rattle.ca_laws_runs.proofs.LegalTold.{run-told}
 use Rattle.ca_laws_runs.proofs.LegalUpdates.{run-legal}
 use Rattle.ca_laws_runs.proofs.OwnWrites.{run-not-twice}
+use Rattle.ca_laws_runs.proofs.UsesCalled.{run-uses-called}
 use Rattle.ca_laws_runs.proofs.FollowsWhole.{run-record}
 
 -- ---- what is answered
@@ -70,14 +71,15 @@ run-legal-world s es stopped w ok are runs = record {
   circuits = λ n c at.
       let a =
       both-of w _ _ (both-of w _ _ (both-of w _ _ (run-channels s es stopped w ok are runs) (run-cancels s es stopped w ok are runs)) (both-of w _ _ (run-ids s es stopped w ok are runs) (run-legal s es stopped w ok are runs)))
-      (both-of w _ _ (both-of w _ _ (run-told s es stopped w ok runs) (run-apart s es stopped w ok runs)) (both-of w _ _ (run-adds-anew s es stopped w ok are runs) (run-none-ended s es stopped w ok are runs))) n c at in (
+      (both-of w _ _ (both-of w _ _ (both-of w _ _ (run-uses-called s es stopped w ok are runs) (run-told s es stopped w ok runs)) (run-apart s es stopped w ok runs)) (both-of w _ _ (run-adds-anew s es stopped w ok are runs) (run-none-ended s es stopped w ok are runs))) n c at in (
         a.0,
         a.1,
         a.2,
         record {
           client = record { on_channel = a.3.0.0.0; cancels = a.3.0.0.1; ids = a.3.0.1.0 };
           server = a.3.0.1.1;
-          told = a.3.1.0.0;
+          called = a.3.1.0.0.0;
+          told = a.3.1.0.0.1;
           apart = a.3.1.0.1;
           anew = a.3.1.1.0;
           ended = a.3.1.1.1;

@@ -1,5 +1,5 @@
--- What a put or a plain write carries is what its caller gave, over every event and run; and it is
--- read from its message as that.
+-- Each request that was sent was called, and what a put or a plain write carries is what its caller
+-- gave, over every event and run; and it is read from its message as that.
 use Rattle.std.proofs.Common.{◌≡◌, ℕ, suc, ◌-◌, ◌*◌, ◌%◌, ◌≤◌, ◌≢◌, ⊎_elim, inl, inr, Bool, true, false, cond, eqb, List, [], ◌∷◌, ◌++◌, length, Option, Some, None, refl, sym, ap, ◌∙◌, subst, append-nil, arith}
 use Rattle.std.specs.Prelude.{replicate}
 use Rattle.std.specs.List.{FoldsTo}
@@ -17,7 +17,8 @@ use Rattle.ca_dbr.proofs.OneReading.{reads_elements-one}
 use Rattle.ca_wire.specs.Fields.{Fields, padded}
 use Rattle.ca_model.specs.Due.{PutReads}
 use Rattle.ca_model.specs.Faults.{base_type_of}
-use Rattle.ca_model.specs.History.{Line, Sent}
+use Rattle.ca_model.specs.Channels.{IsRequest}
+use Rattle.ca_model.specs.History.{Cancel, Clear, Create, Intent, Line, OfCircuit, On, Put, Read, Request, Sent, Subscribe, Write}
 use Rattle.ca_model.specs.Events.{Event}
 use Rattle.ca_model.specs.Events as event
 use Rattle.ca_model.specs.Runs.{AreEvents, Happens, Runs, StopsAt, clients_below}
@@ -30,7 +31,7 @@ use Rattle.ca_laws_runs.proofs.OnceRuns.{once-runs}
 use Rattle.ca_laws_runs.proofs.OnceWorld.{OnceStand}
 use Rattle.ca_laws_runs.proofs.OrderGrows.{ticks-grown}
 use Rattle.ca_laws_runs.proofs.ToldGrows.{WorldsOn, event-on, on-grown}
-use Rattle.ca_laws_runs.specs.Carried.{AllCarried, Carries, IsCarried}
+use Rattle.ca_laws_runs.specs.Carried.{AllCarried, Carries, IsCalledIn, IsCarried, IsRead, IsWrite}
 use Rattle.ca_laws_runs.proofs.WritesSaid.{CarriesBack, event-carries, ticks-carry}
 
 -- ---- what is read of a message
@@ -72,10 +73,37 @@ reads-carried m e given valued c r =
     let reads : ReadsElements (base_of e) (count_of e) (padded (bytes_of e)) given = subst (λ (v : BaseType × ℕ × List ℕ). ReadsElements v.0 v.1 v.2 given) (λ i. (sym b i, c.counted i, c.payload i)) r.reads in
     reads_elements-one (base_of e) (count_of e) (padded (bytes_of e)) given e reads (reads-padded e valued)
 
+-- ---- puts and plain writes
+
+pub write-request : (i : Intent) → IsWrite i → IsRequest i
+write-request (On c (Request Put m)) writes = tt
+write-request (On c (Request Write m)) writes = tt
+write-request (On c (Request Read m)) writes = absurd writes
+write-request (On c Create) writes = absurd writes
+write-request (On c Clear) writes = absurd writes
+write-request (On c (Subscribe m)) writes = absurd writes
+write-request (On c (Cancel m)) writes = absurd writes
+write-request OfCircuit writes = absurd writes
+
+not-read : (i : Intent) → IsWrite i → IsRead i → ⊥
+not-read (On c (Request Put m)) writes reads = reads
+not-read (On c (Request Write m)) writes reads = reads
+not-read (On c (Request Read m)) writes reads = writes
+not-read (On c Create) writes reads = writes
+not-read (On c Clear) writes reads = writes
+not-read (On c (Subscribe m)) writes reads = writes
+not-read (On c (Cancel m)) writes reads = writes
+not-read OfCircuit writes reads = writes
+
+pub write-carried : (x : List Line) (s : Sent) → IsWrite s.intent → IsCalledIn x s → IsCarried x s
+write-carried x s writes (inl read) = absurd (not-read s.intent writes read.0)
+write-carried x s writes (inr c) = c
+
 -- ---- every event
 
-carried-more : (x more : List Line) (s : Sent) → IsCarried x s → IsCarried (x ++ more) s
-carried-more x more s c = record { given = c.given; called = (c.called.0, At-append x more c.called.0 _ c.called.1); valued = c.valued; carries = c.carries }
+called-more : (x more : List Line) (s : Sent) → IsCalledIn x s → IsCalledIn (x ++ more) s
+called-more x more s (inl read) = inl (read.0, (read.1.0, At-append x more read.1.0 _ read.1.1))
+called-more x more s (inr c) = inr (record { given = c.given; called = (c.called.0, At-append x more c.called.0 _ c.called.1); valued = c.valued; carries = c.carries })
 
 carried-on : (w new : World) → OnceStand w → CarriesBack w new → WorldsOn w new → AllCarried w → AllCarried new
 carried-on w new once back on all n k d s x at at_s at_x writes = elim (back n d k s at at_s writes) [
@@ -87,8 +115,8 @@ carried-on w new once back on all n k d s x at at_s at_x writes = elim (back n d
       let t = once.lives n c old.1 in
       let g = on.logs c.lists.client t.0 t.1 in
       let x_is : x ≡ t.0 ++ g.0 = At-one new.client_logs c.lists.client x (t.0 ++ g.0) (subst (λ (l : ℕ). At new.client_logs l x) life at_x) g.1 in
-      subst (λ (l : List Line). IsCarried l s) (sym x_is) (carried-more t.0 g.0 s (all n k c s t.0 old.1 old.2 t.1 writes))
-  | inr z ↦ subst (λ (l : List Line). IsCarried l s) (At-one new.client_logs d.lists.client z.0 x z.1 at_x) z.2
+      subst (λ (l : List Line). IsCalledIn l s) (sym x_is) (called-more t.0 g.0 s (all n k c s t.0 old.1 old.2 t.1 writes))
+  | inr z ↦ subst (λ (l : List Line). IsCalledIn l s) (At-one new.client_logs d.lists.client z.0 x z.1 at_x) z.2
 ]
 
 -- ---- every run

@@ -1,5 +1,5 @@
--- Each put and each plain write that a client sends is that of the call that sends it, with the
--- value that was given: what each event sends.
+-- Each read, put and plain write that a client sends is that of the call that sends it, a put or a
+-- plain write with the value that was given: what each event sends.
 use Rattle.std.proofs.Common.{◌≡◌, ℕ, zero, suc, ◌+◌, ◌⊎◌, inl, inr, Bool, true, false, ◌&&◌, cond, eqb, List, [], ◌∷◌, ◌++◌, length, Option, Some, None, refl, sym, ap, ◌∙◌, subst}
 use Rattle.std.specs.Prelude.{drop, is_none, map, option_map, slice_set, unwrap_or}
 use Rattle.std.specs.List.{FoldsTo}
@@ -37,32 +37,15 @@ use Rattle.ca_laws_runs.proofs.OnceCalls.{NoRequest, calls-put, calls-read, call
 use Rattle.ca_laws_runs.proofs.OnceMoved.{ArePlain, moved-all-received, moved-connected, moved-given, moved-heard, none-sent, one-plain}
 use Rattle.ca_laws_runs.proofs.OnceWorld.{OnceStand, logs-grown, on-circuit-sent}
 use Rattle.ca_laws_runs.proofs.Servers.{from-add, from-cut-server, from-finish, from-post, from-pump, from-remove, from-server-restart, from-server-step}
-use Rattle.ca_laws_runs.specs.Carried.{Carries, IsCarried, IsWrite}
+use Rattle.ca_laws_runs.specs.Carried.{IsCalledIn, IsRead}
 
 -- The log of the circuit's client has the call of what was sent.
 abbrev pub IsCalledBy : (new : World) → Joined → Sent → Type 0
-IsCalledBy new d s = (x : List Line) × At new.client_logs d.lists.client x × IsCarried x s
+IsCalledBy new d s = (x : List Line) × At new.client_logs d.lists.client x × IsCalledIn x s
 
--- Each put and each plain write was there, or is called with what it carries.
+-- Each request was there, or is called.
 abbrev pub CarriesBack : (w new : World) → Type 0
-CarriesBack w new = (n : ℕ) (d : Joined) (k : ℕ) (s : Sent) → At new.circuits n d → At d.lists.up k s → IsWrite s.intent → ((c : Joined) × At w.circuits n c × At c.lists.up k s) ⊎ IsCalledBy new d s
-
--- none of these is a put or a plain write
-abbrev NoWrite : Names → List Sending → Type 0
-NoWrite n sent = (i : ℕ) (s : Sending) → At sent i s → IsWrite (intent_of n s.aim) → ⊥
-
-write-request : (i : Intent) → IsWrite i → IsRequest i
-write-request (history.On c (history.Request history.Put m)) writes = tt
-write-request (history.On c (history.Request history.Write m)) writes = tt
-write-request (history.On c (history.Request history.Read m)) writes = absurd writes
-write-request (history.On c history.Create) writes = absurd writes
-write-request (history.On c history.Clear) writes = absurd writes
-write-request (history.On c (history.Subscribe m)) writes = absurd writes
-write-request (history.On c (history.Cancel m)) writes = absurd writes
-write-request history.OfCircuit writes = absurd writes
-
-no-write : (n : Names) (sent : List Sending) → NoRequest n sent → NoWrite n sent
-no-write n sent none i s at writes = none i s at (write-request (intent_of n s.aim) writes)
+CarriesBack w new = (n : ℕ) (d : Joined) (k : ℕ) (s : Sent) → At new.circuits n d → At d.lists.up k s → IsRequest s.intent → ((c : Joined) × At w.circuits n c × At c.lists.up k s) ⊎ IsCalledBy new d s
 
 only : (r s : Sending) (m : ℕ) → At (r ∷ []) m s → s ≡ r
 only r s zero there = sym (some_is r s there)
@@ -114,8 +97,8 @@ says-ups w new ups n d k s at there writes = (let c = ups n d at in inl (c.0, c.
 after-goes : (i : ℕ) (names : Names) (sent : List Sending) (mid new : World) → new.circuits ≡ map (sent_to i names sent) mid.circuits → (n : ℕ) (d : Joined) → At new.circuits n d → (b : Joined) × At mid.circuits n b × (d ≡ sent_to i names sent b)
 after-goes i names sent mid new is n d at = At-mapped (sent_to i names sent) mid.circuits n d (subst (λ (l : List Joined). At l n d) is at)
 
--- These were sent by a client since, and none is a put or a plain write.
-says-called : (w mid new : World) (i : ℕ) (names : Names) (sent : List Sending) → Ups w mid → new.circuits ≡ map (sent_to i names sent) mid.circuits → NoWrite names sent → CarriesBack w new
+-- These were sent by a client since, and none is a request.
+says-called : (w mid new : World) (i : ℕ) (names : Names) (sent : List Sending) → Ups w mid → new.circuits ≡ map (sent_to i names sent) mid.circuits → NoRequest names sent → CarriesBack w new
 says-called w mid new i names sent ups is none n d k s at there writes =
     let b = after-goes i names sent mid new is n d at in
     let c = ups n b.0 b.1 in
@@ -123,13 +106,13 @@ says-called w mid new i names sent ups is none n d k s at there writes =
       | inl old ↦ inl (c.0, c.1, subst (λ (l : List Sent). At l k s) c.2 old)
       | inr late ↦
           let v = (on-circuit-sent i names sent b.0 late.0 s late.2).2 in
-          absurd (none v.0 v.1 v.2 (subst (λ (z : Sent). IsWrite z.intent) v.4 writes))
+          absurd (none v.0 v.1 v.2 (subst (λ (z : Sent). IsRequest z.intent) v.4 writes))
     ]
 
 -- One was, which its call reports.
-says-one : (w new : World) (i : ℕ) (x : ClientSide) (spoken : Names) (o : Outcomes) (r : Sending) (e : Elements) → At w.clients i x → OnceStand w → new ≡ client_after i x spoken o w → o.sent ≡ r ∷ []
-    → o.lines ≡ Called (intent_of spoken r.aim) (Some e) ∷ [] → IsValue e → Carries r.message e → CarriesBack w new
-says-one w new i x spoken o r e at once is sent lines valued carries n d k s at_d there writes =
+says-one : (w new : World) (i : ℕ) (x : ClientSide) (spoken : Names) (o : Outcomes) (r : Sending) (given : Option Elements) → At w.clients i x → OnceStand w → new ≡ client_after i x spoken o w → o.sent ≡ r ∷ []
+    → o.lines ≡ Called (intent_of spoken r.aim) given ∷ [] → ((l : List Line) → In l (Called (intent_of spoken r.aim) given) → IsCalledIn l (stamped spoken r)) → CarriesBack w new
+says-one w new i x spoken o r given at once is sent lines called n d k s at_d there writes =
     let b = after-goes i spoken o.sent w new (ap (λ (v : World). v.circuits) is) n d at_d in
     elim (At-parts b.0.lists.up (sent_on i spoken o.sent b.0) k s (subst (λ (l : List Sent). At l k s) (ap (λ (v : Joined). v.lists.up) b.2) there)) [
       | inl old ↦ inl (b.0, b.1, old)
@@ -142,18 +125,18 @@ says-one w new i x spoken o r e at once is sent lines valued carries n d k s at_
           let t = once.there i x at in
           let g = logs-grown w.client_logs x.life o.lines t.0 t.1 in
           let now = g.1 x.life t.0 t.1 in
-          let has : In now.0 (Called (intent_of spoken r.aim) (Some e)) = elim (g.0 x.life now.0 now.1) [
+          let has : In now.0 (Called (intent_of spoken r.aim) given) = elim (g.0 x.life now.0 now.1) [
             | inr other ↦ absurd (other.1 refl)
             | inl grew ↦ (
               length grew.1.0 + 0,
-              subst (λ (l : List Line). At l (length grew.1.0 + 0) (Called (intent_of spoken r.aim) (Some e))) (sym grew.1.2)
-                  (At-after grew.1.0 o.lines 0 (Called (intent_of spoken r.aim) (Some e)) (subst (λ (l : List Line). At l 0 (Called (intent_of spoken r.aim) (Some e))) (sym lines) refl)),
+              subst (λ (l : List Line). At l (length grew.1.0 + 0) (Called (intent_of spoken r.aim) given)) (sym grew.1.2)
+                  (At-after grew.1.0 o.lines 0 (Called (intent_of spoken r.aim) given) (subst (λ (l : List Line). At l 0 (Called (intent_of spoken r.aim) given)) (sym lines) refl)),
             )
           ] in
           inr (
             now.0,
             subst (λ (l : List (List Line)). At l d.lists.client now.0) (sym (ap (λ (z : World). z.client_logs) is)) (subst (λ (m : ℕ). At (client_after i x spoken o w).client_logs m now.0) (sym life) now.1),
-            subst (λ (z : Sent). IsCarried now.0 z) (sym s_is) (record { given = e; called = has; valued = valued; carries = carries }),
+            subst (λ (z : Sent). IsCalledIn now.0 z) (sym s_is) (called now.0 has),
           )
     ]
 
@@ -167,11 +150,11 @@ module _ (w new : World) (i : ℕ) (x : ClientSide) (at : At w.clients i x) (sta
   by-new : (z : ClientSide) (sent : List Sending) → new.clients ≡ slice_set w.clients i z → new.circuits ≡ map (sent_to i z.names sent) w.circuits → ArePlain sent → CarriesBack w new
   by-new z sent clients circuits plain =
       let there : At new.clients i z = subst (λ (l : List ClientSide). At l i z) (sym clients) (set-here w.clients i x z at) in
-      says-called w w new i z.names sent (ups-self w w refl) circuits (no-write z.names sent (plain-no-request z.names z.core (now.tidy i z there) sent plain))
+      says-called w w new i z.names sent (ups-self w w refl) circuits (plain-no-request z.names z.core (now.tidy i z there) sent plain)
 
   -- names as they were
   by-old : (sent : List Sending) → new.circuits ≡ map (sent_to i x.names sent) w.circuits → ArePlain sent → CarriesBack w new
-  by-old sent circuits plain = says-called w w new i x.names sent (ups-self w w refl) circuits (no-write x.names sent (plain-no-request x.names x.core (q.tidy i x at) sent plain))
+  by-old sent circuits plain = says-called w w new i x.names sent (ups-self w w refl) circuits (plain-no-request x.names x.core (q.tidy i x at) sent plain)
 
   says-open : (name : List ℕ) (priority : ℕ) → HappensOpen w i x name priority new → CarriesBack w new
   says-open name priority happens = elim happens [
@@ -187,9 +170,9 @@ module _ (w new : World) (i : ℕ) (x : ClientSide) (at : At w.clients i x) (sta
         let intent : Intent = history.On c (history.Request history.Read (length x.names.requests)) in
         let names : Names = with_request did.0 intent x.names in
         let calls = calls-read x.names x.core c h (stands.sound i x at).placed (stands.sound i x at).named.requests (record { data_type = data_type; count = count }) did.0 did.1 did.2 did.3 in
+        let o : Outcomes = record { core = did.2; names = names; lines = Called intent None ∷ []; sent = did.1 } in
         let a = calls.asks 0 intent None refl tt in
-        says-called w w new i names did.1 (ups-self w w refl) (ap (λ (z : World). z.circuits) did.4)
-        (λ m r there writes. subst (λ (z : Intent). IsWrite z) (ap (λ (z : Sending). intent_of names z.aim) (only a.0 r m (subst (λ (l : List Sending). At l m r) a.1 there)) ∙ a.2) writes)
+        says-one w new i x names o a.0 None at once did.4 a.1 (ap (λ (z : Intent). Called z None ∷ []) (sym a.2)) (λ l has. inl (subst (λ (z : Intent). IsRead z) (sym a.2) tt, has))
   ]
 
   says-put : (c : ℕ) (h : Handle) (e : Elements) → IsValue e → HappensWriteNotify w i x c h e new → CarriesBack w new
@@ -204,7 +187,7 @@ module _ (w new : World) (i : ℕ) (x : ClientSide) (at : At w.clients i x) (sta
         let r : Sending = put_sent h did.3.0 e did.0 in
         let same : a.0 ≡ r = some_is a.0 r (subst (λ (l : List Sending). At l 0 r) (sym did.3.4.0 ∙ a.1) refl) in
         let meant : intent_of names r.aim ≡ intent = ap (λ (z : Sending). intent_of names z.aim) (sym same) ∙ a.2 in
-        says-one w new i x names o r e at once did.4 did.3.4.0 (ap (λ (z : Intent). Called z (Some e) ∷ []) (sym meant)) valued (record { typed = refl; counted = refl; payload = refl })
+        says-one w new i x names o r (Some e) at once did.4 did.3.4.0 (ap (λ (z : Intent). Called z (Some e) ∷ []) (sym meant)) (λ l has. inr (record { given = e; called = has; valued = valued; carries = record { typed = refl; counted = refl; payload = refl } }))
   ]
 
   says-write : (c : ℕ) (h : Handle) (e : Elements) → At x.names.channels c h → IsValue e → HappensWrite w i x c h e new → CarriesBack w new
@@ -218,7 +201,7 @@ module _ (w new : World) (i : ℕ) (x : ClientSide) (at : At w.clients i x) (sta
         let r : Sending = write_sent h did.3.0 e in
         let same : a.0 ≡ r = some_is a.0 r (subst (λ (l : List Sending). At l 0 r) (sym did.3.3.0 ∙ a.1) refl) in
         let meant : intent_of x.names r.aim ≡ intent = ap (λ (z : Sending). intent_of x.names z.aim) (sym same) ∙ a.2 in
-        says-one w new i x x.names o r e at once did.4 did.3.3.0 (ap (λ (z : Intent). Called z (Some e) ∷ []) (sym meant)) valued (record { typed = refl; counted = refl; payload = refl })
+        says-one w new i x x.names o r (Some e) at once did.4 did.3.3.0 (ap (λ (z : Intent). Called z (Some e) ∷ []) (sym meant)) (λ l has. inr (record { given = e; called = has; valued = valued; carries = record { typed = refl; counted = refl; payload = refl } }))
   ]
 
   says-subscribe : (c : ℕ) (h : Handle) (data_type count mask : ℕ) → HappensSubscribe w i x c h data_type count mask new → CarriesBack w new
@@ -251,7 +234,7 @@ module _ (w new : World) (i : ℕ) (x : ClientSide) (at : At w.clients i x) (sta
 
 module _ (w new : World) (k : ℕ) (j : Joined) (x : ClientSide) (on : At w.circuits k j) (there : At w.clients j.client x) (q : ClientsQuiet w) where
   said-mid : (mid : World) (sent : List Sending) → Ups w mid → new.circuits ≡ map (sent_to j.client x.names sent) mid.circuits → ArePlain sent → CarriesBack w new
-  said-mid mid sent ups circuits plain = says-called w mid new j.client x.names sent ups circuits (no-write x.names sent (plain-no-request x.names x.core (q.tidy j.client x there) sent plain))
+  said-mid mid sent ups circuits plain = says-called w mid new j.client x.names sent ups circuits (plain-no-request x.names x.core (q.tidy j.client x there) sent plain)
 
   says-up : (n : ℕ) (y : ServerSide) → HappensUp w k n j x y new → CarriesBack w new
   says-up n y happens = says-ups w new (subst (λ (v : World). Ups w v) (sym happens.2) (go j.lists.client_open))
@@ -299,13 +282,13 @@ says-accept w new c x v at q happens = elim happens.leaves [
       let made : Joined = connected_as did.1 (new_circuit c x v.v.circuit v.i v.y did.0) in
       let mid : World = record w { circuits = w.circuits ++ made ∷ [] } in
       let plain : ArePlain did.2 = (moved-connected x.core on there.0 did.1 did.2 did.3 (subst (λ (o : Option ClientCircuit). ConnectsOn x.core on o did.1 did.2 did.3) (unconnected-is x.core on there.0 there.1 there.2) did.5)).plain in
-      let none : NoWrite x.names did.2 = no-write x.names did.2 (plain-no-request x.names x.core (q.tidy c x at) did.2 plain) in
+      let none : NoRequest x.names did.2 = plain-no-request x.names x.core (q.tidy c x at) did.2 plain in
       λ n d k s at_d at_s writes.
       let b = after-goes c x.names did.2 mid new (ap (λ (z : World). z.circuits) did.6) n d at_d in
       elim (At-parts b.0.lists.up (sent_on c x.names did.2 b.0) k s (subst (λ (l : List Sent). At l k s) (ap (λ (y : Joined). y.lists.up) b.2) at_s)) [
         | inr late ↦
             let z = (on-circuit-sent c x.names did.2 b.0 late.0 s late.2).2 in
-            absurd (none z.0 z.1 z.2 (subst (λ (y : Sent). IsWrite y.intent) z.4 writes))
+            absurd (none z.0 z.1 z.2 (subst (λ (y : Sent). IsRequest y.intent) z.4 writes))
         | inl old ↦ elim (At-snoc w.circuits made n b.0 b.1) [
           | inl was ↦ inl (b.0, was, old)
           | inr last ↦ absurd (none_at k s (subst (λ (l : List Sent). At l k s) (ap (λ (y : Joined). y.lists.up) last.1 ∙ empty did.1 (new_circuit c x v.v.circuit v.i v.y did.0)) old))
@@ -328,9 +311,9 @@ says-restart w new i x happens = says-ups w new (λ n b at.
 
 -- ---- a moment
 
--- Over a moment no put and no plain write is sent.
+-- Over a moment no request is sent.
 abbrev NoneBack : (w new : World) → Type 0
-NoneBack w new = (n : ℕ) (d : Joined) (k : ℕ) (s : Sent) → At new.circuits n d → At d.lists.up k s → IsWrite s.intent → (c : Joined) × At w.circuits n c × At c.lists.up k s
+NoneBack w new = (n : ℕ) (d : Joined) (k : ℕ) (s : Sent) → At new.circuits n d → At d.lists.up k s → IsRequest s.intent → (c : Joined) × At w.circuits n c × At c.lists.up k s
 
 tick-none : (moment : ℕ) (w : World) (i : ℕ) (new : World) → TicksOne moment w i new → NoneBack w new
 tick-none moment w i new (x, at, t, sent, core, does, is) n d k s at_d at_s writes =
@@ -342,7 +325,7 @@ tick-none moment w i new (x, at, t, sent, core, does, is) n d k s at_d at_s writ
       | inl old ↦ (b.0, b.1, old)
       | inr late ↦
           let v = (on-circuit-sent i x.names sent b.0 late.0 s late.2).2 in
-          absurd (subst (λ (z : Intent). IsWrite z) (ap (λ (z : Sent). z.intent) v.4 ∙ (ticked-client x.names moment x.core).ticked.serves v.0 v.1 (subst (λ (l : List Sending). At l v.0 v.1) does.1 v.2)) writes)
+          absurd (subst (λ (z : Intent). IsRequest z) (ap (λ (z : Sent). z.intent) v.4 ∙ (ticked-client x.names moment x.core).ticked.serves v.0 v.1 (subst (λ (l : List Sending). At l v.0 v.1) does.1 v.2)) writes)
     ]
   where
     by : (a : Joined) (b : Bool) (o : Option (List ℕ)) → (cond b (unwrap_or (option_map (λ (left : List ℕ). client_closed left a) o) a) a).lists.up ≡ a.lists.up

@@ -1,17 +1,23 @@
--- Working: what the puts and plain writes of clients carry is what their callers gave, and the
--- record that each was applied to has the name of the caller's channel.
-use Rattle.std.specs.Prelude.{ℕ, ◌≡◌, List, Some}
+-- Working: what clients read, put and write was called, and puts and plain writes carry what their
+-- callers gave; the record that each was applied to has the name of the caller's channel.
+use Rattle.std.specs.Prelude.{ℕ, ◌≡◌, ◌⊎◌, List, None, Some}
 use Rattle.ca_dbr.specs.Elements.{Elements, IsValue, base_of, bytes_of, count_of}
 use Rattle.ca_dbr.specs.Types.{base_number}
 use Rattle.ca_records.specs.Record.{RecordState}
 use Rattle.ca_text.specs.Place.{At}
 use Rattle.ca_wire.specs.Fields.{Fields, padded}
 use Rattle.ca_model.specs.History.{Added, Applied, Ask, Called, Entry, Intent, Line, On, Opened}
-use Rattle.ca_model.specs.History.{Put, Request, Sent, Waits, Write}
+use Rattle.ca_model.specs.History.{Put, Read, Request, Sent, Waits, Write}
+use Rattle.ca_model.specs.Channels.{IsRequest}
 use Rattle.ca_model.specs.Speech.{In, IsWritten}
 use Rattle.ca_model.specs.World.{Joined, World}
 
 -- ---- what clients send
+
+-- an intent to read
+abbrev pub IsRead : Intent → Type 0
+IsRead (On channel (Request Read number)) = Unit {0}
+IsRead intent = ⊥
 
 -- an intent to put, or to write
 abbrev pub IsWrite : Intent → Type 0
@@ -32,12 +38,16 @@ pub record IsCarried (x : List Line) (s : Sent) : Type 0 where
   pub valued : IsValue given
   pub carries : Carries s.message given
 
--- So it is of each put and each plain write that was sent, by the log of its client's life.
+-- What the message is meant for was called: a read, or a put or a plain write with its value.
+abbrev pub IsCalledIn : List Line → Sent → Type 0
+IsCalledIn x s = (IsRead s.intent × In x (Called s.intent None)) ⊎ IsCarried x s
+
+-- So it is of each request that was sent, by the log of its client's life.
 abbrev pub AllCarried : World → Type 0
 AllCarried w =
     (n k : ℕ) (c : Joined) (s : Sent) (x : List Line) → At w.circuits n c → At c.lists.up k s
     → At w.client_logs c.lists.client x
-    → IsWrite s.intent → IsCarried x s
+    → IsRequest s.intent → IsCalledIn x s
 
 -- ---- what servers log
 

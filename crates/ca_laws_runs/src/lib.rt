@@ -76,7 +76,7 @@ pub use legal_laws::{
     live_channels_are_subscribed_to, live_subscriptions_are_held_by_logs,
     live_subscriptions_were_added, servers_confirm_at_once, servers_disconnect_open_channels,
     servers_give_free_sids, subscriptions_are_added_apart,
-    subscriptions_were_held_as_they_were_added,
+    subscriptions_were_held_as_they_were_added, what_uses_a_record_was_called,
 };
 pub use live_laws::{
     live_channels_have_their_records, servers_act_on_records, what_lost_its_record_is_cleared,

@@ -5,8 +5,8 @@ ghost use Rattle.ca_model.specs.World.{IsSetting, Setting, World};
 ghost use Rattle.ca_laws_runs.specs.Carried.{AllCarried, AllTitled};
 ghost use Rattle.ca_laws_runs.specs.OwnWrites.{WritesAreNotTwice, WritesAreOwn};
 
-/// After every run by well-formed events each put and each plain write that a client sent carries
-/// the value that its caller gave: the log of the client's life has its call, with that value.
+/// After every run by well-formed events the log of a client's life has the call of each read, put
+/// and plain write that it sent, and a put or a plain write carries the value of its call.
 pub fn writes_carry_what_callers_gave()
     ensures { (s : Setting) (es : List Event) (stopped : Option Event) (w : World) → AreEvents es
         → Runs s es stopped w → AllCarried w }

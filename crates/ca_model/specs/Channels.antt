@@ -207,6 +207,16 @@ IsTaken c k i =
     ⊎ ((k ≡ length c.handled) × (c.server_open ≡ false)
     × ((l : ℕ) (g : Step) → At c.handled l g → g.after ≤ i))
 
+-- The write at place k of circuit n came to server life l in entry i: the circuit joins that life,
+-- and the entry was made when the message was handled, or as the server's end closed on it.
+abbrev pub CameIn : World → (n k l i : ℕ) → Type 0
+CameIn w n k l i = (c : Circuit) × At w.circuits n c × (c.server ≡ l) × IsTaken c k i
+
+-- The put at place k of circuit n waits for record r with this value, by entry i of the log of
+-- server life l.
+abbrev pub IsWaiting : World → (n k l i r : ℕ) → Stored → Type 0
+IsWaiting w n k l i r v = (y : List Entry) × At w.servers l y × At y i (Waits n k r v)
+
 -- The put at place k of circuit n came to wait for record r when it was handled, before entry i,
 -- and was never withdrawn.
 abbrev pub HasWaited : (n : ℕ) → Circuit → List Entry → (k i r : ℕ) → Type 0

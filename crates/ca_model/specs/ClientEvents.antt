@@ -72,7 +72,7 @@ write_number (On channel (history.Request history.Write number)) = number
 write_number intent = 0
 
 -- The line for a notice. The message that the client read was about one that was meant so: of a
--- plain write that says which it was.
+-- plain write that says which it was, since the client names its channel alone.
 abbrev pub line_of : (about : Intent) → Names → Notice → Line
 line_of about n (answer.Live h) =
     history.Noticed (On (channel_number n h) history.Create) outcome.Done

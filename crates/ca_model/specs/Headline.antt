@@ -12,10 +12,9 @@ use Rattle.ca_wire.specs.Messages.{mask_in}
 use Rattle.ca_model.specs.History.{Ask, Create, Request, Subscribe, Put, Intent, On, Cause, Reply, Removal, Update}
 use Rattle.ca_model.specs.History.{Sent, Told, Step, Circuit, Entry, Removed, Finished, Withdrawn, Line, Called}
 use Rattle.ca_model.specs.History.{Noticed, Updated, World}
-use Rattle.ca_model.specs.Channels.{AreSteps, Created, IsApplied, IsBusyUntil, IsDropped, IsFinished, IsHeld, IsLive}
-use Rattle.ca_model.specs.Channels.{IsLost, IsNamed, IsOpen}
+use Rattle.ca_model.specs.Channels.{AreSteps, CameIn, Created, IsApplied, IsBusyUntil, IsDropped, IsFinished, IsHeld, IsLive}
 use Rattle.ca_model.specs.Channels.{IsOwnWrite, IsReply, IsRequest, IsUncleared, IsUnread, IsUse, KeepNames}
-use Rattle.ca_model.specs.Channels.{Lasts, Meant}
+use Rattle.ca_model.specs.Channels.{IsLost, IsNamed, IsOpen, IsWaiting, Lasts, Meant}
 use Rattle.ca_model.specs.Channels.{OfCircuits, OfClients, Stands, Suits, before, named, until, updates}
 use Rattle.ca_model.specs.Posts.{matching}
 
@@ -152,13 +151,14 @@ module _
         → Stands w life intent m l → (n ≡ m) × (k ≡ l)
 
   -- 3. A write is applied once, in all lives of all servers, with its own value to its own record, when it was handled,
-  -- or as the server's end closed on it, or after it had waited. A put that waits is dropped only with its record, its
-  -- channel or its circuit. A record finishes one put at a time, each once. A put told Done is applied; a write told
-  -- Failed is not.
+  -- or as the server's end closed on it, or after it had waited. A put came to wait in one of the first two ways, and
+  -- is dropped only with its record, its channel or its circuit. A record finishes one put at a time, each once. A put
+  -- told Done is applied; a write told Failed is not.
   pub record NotTwice (w : World) : Type 0 where
     pub once : (n k l m i j r q : ℕ) (v u : Stored) → IsApplied w n k l i r v → IsApplied w n k m j q u
         → (l ≡ m) × (i ≡ j)
     pub own : (n k l i r : ℕ) (v : Stored) → IsApplied w n k l i r v → IsOwnWrite w n k l i r v
+    pub waits : (n k l i r : ℕ) (v : Stored) → IsWaiting w n k l i r v → CameIn w n k l i
     pub dropped : (n k l i : ℕ) (y : List Entry) → At w.servers l y → At y i (Withdrawn n k) → IsDropped w n k l i y
     pub finished : (n k l e : ℕ) (y : List Entry) → At w.servers l y → At y e (Finished n k)
         → IsBusyUntil y n k e × ((f : ℕ) → At y f (Finished n k) → e ≡ f)

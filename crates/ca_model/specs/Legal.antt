@@ -1,12 +1,13 @@
 -- Statement: what each end of each circuit sends is what it may send.
-use Rattle.std.specs.Prelude.{ℕ, ◌≡◌, ◌<◌, ◌≤◌, true, List, None, map, take}
+use Rattle.std.specs.Prelude.{ℕ, ◌≡◌, ◌<◌, ◌≤◌, true, List, Option, None, map, take}
 use Rattle.ca_text.specs.Place.{At}
 use Rattle.ca_dbr.specs.declared.value.Outcome.{Outcome}
+use Rattle.ca_dbr.specs.Elements.{Elements}
 use Rattle.ca_model.specs.Sends.{Conduct, LegalClient, LegalServer}
 use Rattle.ca_model.specs.Speech.{Creates, In}
 use Rattle.ca_model.specs.History.{Create, Subscribe, Intent, On, Reply, Removal, Sent, Told, Step, Circuit, Entry}
 use Rattle.ca_model.specs.History.{Removed, Line, Called, Noticed, World}
-use Rattle.ca_model.specs.Channels.{Created, IsHeld, IsUncleared, Meant, OfCircuits, OfClients, Stands}
+use Rattle.ca_model.specs.Channels.{Created, IsHeld, IsUncleared, IsUse, Meant, OfCircuits, OfClients, Stands}
 
 -- What the client did on a circuit, and what the server did.
 abbrev pub client_conduct : Circuit → Conduct
@@ -33,13 +34,15 @@ BecomesLive c channel k h =
 abbrev pub IsStanding : List Line → Intent → Type 0
 IsStanding x intent = In x (Called intent None) × IsHeld x intent × ((o : Outcome) → In x (Noticed intent o) → ⊥)
 
--- What goes out on a circuit. Each end sends what it may. A channel that was open when its record was removed has a
--- SERVER_DISCONN. And for each creation of its channel a subscription has one EVENT_ADD: two are for different
--- creations; each time that the channel becomes live there is one if the subscription stands, and none if its caller
--- or a refusal had ended it.
+-- What goes out on a circuit. Each end sends what it may. A read, a write or an EVENT_ADD was called. A channel that
+-- was open when its record was removed has a SERVER_DISCONN. And for each creation of its channel a subscription has
+-- one EVENT_ADD: two are for different creations; each time that the channel becomes live there is one if the
+-- subscription stands, and none if its caller or a refusal had ended it.
 pub record LegalCircuit (n : ℕ) (c : Circuit) (x : List Line) (y : List Entry) : Type 0 where
   pub client : LegalClient (client_conduct c)
   pub server : LegalServer (server_conduct c)
+  pub called : (k : ℕ) (intent : Intent) → IsUse intent → Meant c k intent
+      → (given : Option Elements) × In x (Called intent given)
   pub told : (j k sid r e : ℕ) → Created c y j k sid r → At y e (Removed r) → IsUncleared c k sid e
       → c.server_open ≡ true
       → (q : ℕ) × (t : Told) × At c.down q t × (t.place ≡ k) × (t.cause ≡ Removal)

@@ -120,7 +120,8 @@ after_next name [] gone y =
 after_next name (p ∷ ps) gone y = after_post name write_mask (stored_now y p.value) gone (counted y)
 
 -- `finish`: refused if no record has the name, or none of its puts is busy. Else the busy put ends,
--- with its reply, and the next is applied.
+-- with its reply, and the next is applied: also if it came on the circuit that ends for lack of
+-- memory for that reply, since it is applied before that end.
 abbrev pub Finishes : Server → List ℕ → (sent : List (Handle × Fields)) → Result (Unit {0}) Refusal
     → Server → Type 0
 Finishes old name sent (Ok _) new =

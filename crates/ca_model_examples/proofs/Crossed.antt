@@ -6,7 +6,7 @@ use Rattle.ca_dbr.specs.declared.value.Outcome.{Outcome}
 use Rattle.ca_dbr.specs.declared.value.Outcome.TheVariants as outcome
 use Rattle.ca_wire.specs.Fields.{Fields}
 use Rattle.ca_model.specs.Speech.{Cid, In, Stored}
-use Rattle.ca_model.specs.History.{Circuit, Intent, On, OfCircuit, Create, Line, Entry, Opened, Called, Noticed, Updated, Subscribe, Request, Put, Sent, Told, Update, Added, Applied, Finished, Withdrawn, Clear, Cancel}
+use Rattle.ca_model.specs.History.{Circuit, Intent, On, OfCircuit, Create, Line, Entry, Opened, Called, Noticed, Updated, Subscribe, Request, Put, Sent, Told, Update, Added, Applied, Finished, Waits, Withdrawn, Clear, Cancel}
 use Rattle.ca_model.specs.Channels.{AreSteps, IsApplied, IsHeld, IsRequest, Joins, OfCircuits, OfClients, Stands, Suits}
 use Rattle.ca_model.specs.Headline.{ActsOnRecord, AnswersOwn, CompletesOnce, FollowsRecord, NotTwice, Reads, Safe, Sees}
 use Rattle.ca_model.specs.Legal.{Legal}
@@ -179,6 +179,7 @@ module _
   shared-writes = record {
     once = λ n k l m i j r q v u a. absurd (no-write n k l i r v a);
     own = λ n k l i r v a. absurd (no-write n k l i r v a);
+    waits = λ n k l i r v a. (let z = (only-entry i _ (subst (λ (s : List Entry). At s i (Waits n k r v)) (one-at (Added 0 temp ∷ []) l a.0 a.1).1 a.2)).1 in absurd cc);
     dropped = λ n k l i y at drops. (let z = (only-entry i _ (subst (λ (s : List Entry). At s i (Withdrawn n k)) (one-at (Added 0 temp ∷ []) l y at).1 drops)).1 in absurd cc);
     finished = λ n k l e y at ends. (let z = (only-entry e _ (subst (λ (s : List Entry). At s e (Finished n k)) (one-at (Added 0 temp ∷ []) l y at).1 ends)).1 in absurd cc);
     done = λ life channel number x at h. absurd (no-line h.0 _ (subst (λ (s : List Line). At s h.0 (Noticed (On channel (Request Put number)) outcome.Done)) (one-at shared_lines life x at).1 h.1) (λ c e. cc));

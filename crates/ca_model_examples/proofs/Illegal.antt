@@ -7,13 +7,13 @@ use Rattle.ca_text.specs.declared.command.Command.TheVariants as command
 use Rattle.ca_dbr.specs.declared.value.Outcome.{Outcome}
 use Rattle.ca_wire.specs.Fields.{Fields}
 use Rattle.ca_model.specs.Speech.{Cid, Ioid, Creates, Gives, In, Is, SubId, sid_in}
-use Rattle.ca_model.specs.History.{Cancel, Clear, Create, Subscribe, Intent, On, Sent, Told, Step, Circuit, Line, Added, Called, Noticed, Opened}
+use Rattle.ca_model.specs.History.{Cancel, Clear, Create, Read, Request, Subscribe, Intent, On, Sent, Told, Step, Circuit, Line, Added, Called, Noticed, Opened}
 use Rattle.ca_model.specs.Channels.{IsHeld, Meant}
 use Rattle.ca_model.specs.Sends.{Conduct, Frees, HasChannel, IsConnected, IsDisconnect, IsOnChannel, IsOpenAt, IsUncancelled, ReadsBetween}
 use Rattle.ca_model.specs.Legal.{BecomesLive, IsStanding, Legal, client_conduct, server_conduct}
 use Rattle.ca_model_examples.specs.Worlds.{putting, clearing, temp, adding, created_told, creating, disconnected, reading, step, temp_name, world}
 use Rattle.ca_model_examples.specs.Unsafe.{cancelling, opened, temp_removed, temp_there, updated}
-use Rattle.ca_model_examples.specs.Illegal.{added_again, asked_again, asked_with, both_asked, both_created, called_at, cancel_called, confirm_out, created_again, goes_out, live_again, read_out, reads_out, alone, writing, unasked, subscribe_called, told_closed, told_so, update_out}
+use Rattle.ca_model_examples.specs.Illegal.{added_again, asked_again, asked_with, both_asked, both_created, called_at, calls, cancel_called, confirm_out, created_again, goes_out, live_again, read_out, reads_out, alone, writing, unasked, sent_in, subscribe_called, told_closed, told_so, uncalled_in, update_out}
 use Rattle.ca_model_examples.specs.Parts.{MaySend, Sending, SendsWrong, SentSo}
 use Rattle.ca_model_examples.specs.Parts as part
 use Rattle.ca_model_examples.proofs.Lists.{each-at, none-at, one-at}
@@ -24,76 +24,84 @@ use Rattle.ca_model_examples.proofs.Sent.{all-legal, all-on-sid, is, is-so, its-
 
 -- ---- what a client sends
 
-read-legal-each : (p : Sending) → MaySend p (world (read_out (step 1 0 0 ∷ []) ∷ []) opened temp_there)
-read-legal-each part.OnChannel = sends part.OnChannel (read_out (step 1 0 0 ∷ [])) opened temp_there refl refl (all-on-sid (read_out (step 1 0 0 ∷ [])) opened temp_there ((reading 0 7).message) [] 1 refl refl refl refl refl refl refl) tt
-read-legal-each p = quiet-sends p (read_out (step 1 0 0 ∷ [])) opened temp_there refl refl refl
+read-legal-each : (p : Sending) → MaySend p (sent_in (read_out (step 1 0 0 ∷ [])))
+read-legal-each part.OnChannel = sends part.OnChannel (read_out (step 1 0 0 ∷ [])) (calls (read_out (step 1 0 0 ∷ [])).up) temp_there refl refl (all-on-sid (read_out (step 1 0 0 ∷ [])) (calls (read_out (step 1 0 0 ∷ [])).up) temp_there ((reading 0 7).message) [] 1 refl refl refl refl refl refl refl) tt
+read-legal-each p = quiet-sends p (read_out (step 1 0 0 ∷ [])) (calls (read_out (step 1 0 0 ∷ [])).up) temp_there refl refl refl
 
-pub read-legal : Legal (world (read_out (step 1 0 0 ∷ []) ∷ []) opened temp_there)
+pub read-legal : Legal (sent_in (read_out (step 1 0 0 ∷ [])))
 read-legal = all-legal _ read-legal-each
 
-read-too-soon-rest : (p : Sending) → (p ≡ part.OnChannel → ⊥) → MaySend p (world (read_out [] ∷ []) opened temp_there)
+read-uncalled-rest : (p : Sending) → (p ≡ part.HasCall → ⊥) → MaySend p (uncalled_in (read_out (step 1 0 0 ∷ [])))
+read-uncalled-rest part.HasCall ne = absurd (ne refl)
+read-uncalled-rest part.OnChannel ne = sends part.OnChannel (read_out (step 1 0 0 ∷ [])) opened temp_there refl refl (all-on-sid (read_out (step 1 0 0 ∷ [])) opened temp_there ((reading 0 7).message) [] 1 refl refl refl refl refl refl refl) tt
+read-uncalled-rest p ne = quiet-sends p (read_out (step 1 0 0 ∷ [])) opened temp_there refl refl refl
+
+pub read-uncalled : SendsWrong part.HasCall (uncalled_in (read_out (step 1 0 0 ∷ [])))
+read-uncalled = (read-uncalled-rest, λ h. (let c = its-sent part.HasCall (read_out (step 1 0 0 ∷ [])) opened temp_there refl refl h.0 1 (On 0 (Request Read 0)) tt (reading 0 7, refl, refl) in let e : Called (On 0 (Request Read 0)) c.0 ≡ Opened 0 temp_name = (one-at (Opened 0 temp_name) c.1.0 _ c.1.1).1 in cc))
+
+read-too-soon-rest : (p : Sending) → (p ≡ part.OnChannel → ⊥) → MaySend p (sent_in (read_out []))
 read-too-soon-rest part.OnChannel ne = absurd (ne refl)
-read-too-soon-rest p ne = quiet-sends p (read_out []) opened temp_there refl refl refl
+read-too-soon-rest p ne = quiet-sends p (read_out []) (calls (read_out []).up) temp_there refl refl refl
 
-pub read-too-soon : SendsWrong part.OnChannel (world (read_out [] ∷ []) opened temp_there)
-read-too-soon = (read-too-soon-rest, λ h. (let o = its-sent part.OnChannel (read_out []) opened temp_there refl refl h.0 1 (reading 0 7).message refl (inl refl) in none-at o.1 o.3.4.0 o.3.4.2))
+pub read-too-soon : SendsWrong part.OnChannel (sent_in (read_out []))
+read-too-soon = (read-too-soon-rest, λ h. (let o = its-sent part.OnChannel (read_out []) (calls (read_out []).up) temp_there refl refl h.0 1 (reading 0 7).message refl (inl refl) in none-at o.1 o.3.4.0 o.3.4.2))
 
-unasked-rest : (p : Sending) → (p ≡ part.OnChannel → ⊥) → MaySend p (world (unasked ∷ []) opened temp_there)
+unasked-rest : (p : Sending) → (p ≡ part.OnChannel → ⊥) → MaySend p (sent_in unasked)
 unasked-rest part.OnChannel ne = absurd (ne refl)
-unasked-rest p ne = quiet-sends p unasked opened temp_there refl refl refl
+unasked-rest p ne = quiet-sends p unasked (calls (unasked).up) temp_there refl refl refl
 
-pub read-unasked : SendsWrong part.OnChannel (world (unasked ∷ []) opened temp_there)
+pub read-unasked : SendsWrong part.OnChannel (sent_in unasked)
 read-unasked = (
   unasked-rest,
   λ h.
-      (let o = its-sent part.OnChannel unasked opened temp_there refl refl h.0 1 (reading 0 7).message refl (inl refl) in
+      (let o = its-sent part.OnChannel unasked (calls (unasked).up) temp_there refl refl h.0 1 (reading 0 7).message refl (inl refl) in
       let c = o.3 in
       each-at (λ (i : ℕ) (m : Fields). Gives m (Cid o.2) → ⊥) (client_conduct unasked).sent ((λ g. (let e = g.0 in omega (arith, e))), ((λ g. (let e = g.0 in omega (arith, e))), tt)) o.0 c.0 c.2 c.3),
 )
 
 -- A message on a channel goes out, and none was read.
-alone-fails : (m : Sent) → IsOnChannel m.message → MaySend part.OnChannel (world (alone m ∷ []) opened temp_there) → ⊥
-alone-fails m on h = (let o = its-sent part.OnChannel (alone m) opened temp_there refl refl h.0 0 m.message refl on in none-at o.1 o.3.4.0 o.3.4.2)
+alone-fails : (m : Sent) → IsOnChannel m.message → MaySend part.OnChannel (sent_in (alone m)) → ⊥
+alone-fails m on h = (let o = its-sent part.OnChannel (alone m) (calls (alone m).up) temp_there refl refl h.0 0 m.message refl on in none-at o.1 o.3.4.0 o.3.4.2)
 
-put-alone-rest : (p : Sending) → (p ≡ part.OnChannel → ⊥) → MaySend p (world (alone (putting 0 8 22) ∷ []) opened temp_there)
+put-alone-rest : (p : Sending) → (p ≡ part.OnChannel → ⊥) → MaySend p (sent_in (alone (putting 0 8 22)))
 put-alone-rest part.OnChannel ne = absurd (ne refl)
-put-alone-rest p ne = quiet-sends p (alone (putting 0 8 22)) opened temp_there refl refl refl
+put-alone-rest p ne = quiet-sends p (alone (putting 0 8 22)) (calls (alone (putting 0 8 22)).up) temp_there refl refl refl
 
-pub put-alone : SendsWrong part.OnChannel (world (alone (putting 0 8 22) ∷ []) opened temp_there)
+pub put-alone : SendsWrong part.OnChannel (sent_in (alone (putting 0 8 22)))
 put-alone = (put-alone-rest, alone-fails (putting 0 8 22) (inr (inl refl)))
 
-write-alone-rest : (p : Sending) → (p ≡ part.OnChannel → ⊥) → MaySend p (world (alone (writing) ∷ []) opened temp_there)
+write-alone-rest : (p : Sending) → (p ≡ part.OnChannel → ⊥) → MaySend p (sent_in (alone (writing)))
 write-alone-rest part.OnChannel ne = absurd (ne refl)
-write-alone-rest p ne = quiet-sends p (alone (writing)) opened temp_there refl refl refl
+write-alone-rest p ne = quiet-sends p (alone (writing)) (calls (alone (writing)).up) temp_there refl refl refl
 
-pub write-alone : SendsWrong part.OnChannel (world (alone (writing) ∷ []) opened temp_there)
+pub write-alone : SendsWrong part.OnChannel (sent_in (alone (writing)))
 write-alone = (write-alone-rest, alone-fails (writing) (inr (inr (inl refl))))
 
-add-alone-rest : (p : Sending) → (p ≡ part.OnChannel → ⊥) → MaySend p (world (alone (adding 0 9) ∷ []) opened temp_there)
+add-alone-rest : (p : Sending) → (p ≡ part.OnChannel → ⊥) → MaySend p (sent_in (alone (adding 0 9)))
 add-alone-rest part.OnChannel ne = absurd (ne refl)
-add-alone-rest p ne = quiet-sends p (alone (adding 0 9)) opened temp_there refl refl refl
+add-alone-rest p ne = quiet-sends p (alone (adding 0 9)) (calls (alone (adding 0 9)).up) temp_there refl refl refl
 
-pub add-alone : SendsWrong part.OnChannel (world (alone (adding 0 9) ∷ []) opened temp_there)
+pub add-alone : SendsWrong part.OnChannel (sent_in (alone (adding 0 9)))
 add-alone = (add-alone-rest, alone-fails (adding 0 9) (inr (inr (inr (inl refl)))))
 
-clear-alone-rest : (p : Sending) → (p ≡ part.OnChannel → ⊥) → MaySend p (world (alone (clearing) ∷ []) opened temp_there)
+clear-alone-rest : (p : Sending) → (p ≡ part.OnChannel → ⊥) → MaySend p (sent_in (alone (clearing)))
 clear-alone-rest part.OnChannel ne = absurd (ne refl)
-clear-alone-rest p ne = quiet-sends p (alone (clearing)) opened temp_there refl refl refl
+clear-alone-rest p ne = quiet-sends p (alone (clearing)) (calls (alone (clearing)).up) temp_there refl refl refl
 
-pub clear-alone : SendsWrong part.OnChannel (world (alone (clearing) ∷ []) opened temp_there)
+pub clear-alone : SendsWrong part.OnChannel (sent_in (alone (clearing)))
 clear-alone = (clear-alone-rest, alone-fails (clearing) (inr (inr (inr (inr (inr refl))))))
 
-shared-rest : (p : Sending) → (p ≡ part.Ids → ⊥) → MaySend p (world (goes_out (adding 0 9 ∷ adding 1 9 ∷ []) ∷ []) opened temp_there)
+shared-rest : (p : Sending) → (p ≡ part.Ids → ⊥) → MaySend p (sent_in (goes_out (adding 0 9 ∷ adding 1 9 ∷ [])))
 shared-rest part.Ids ne = absurd (ne refl)
-shared-rest part.OnChannel ne = sends part.OnChannel (goes_out (adding 0 9 ∷ adding 1 9 ∷ [])) opened temp_there refl refl (all-on-sid (goes_out (adding 0 9 ∷ adding 1 9 ∷ [])) opened temp_there ((adding 0 9).message) ((adding 1 9).message ∷ []) 1 refl refl refl refl refl refl refl) tt
-shared-rest p ne = quiet-sends p (goes_out (adding 0 9 ∷ adding 1 9 ∷ [])) opened temp_there refl refl refl
+shared-rest part.OnChannel ne = sends part.OnChannel (goes_out (adding 0 9 ∷ adding 1 9 ∷ [])) (calls (goes_out (adding 0 9 ∷ adding 1 9 ∷ [])).up) temp_there refl refl (all-on-sid (goes_out (adding 0 9 ∷ adding 1 9 ∷ [])) (calls (goes_out (adding 0 9 ∷ adding 1 9 ∷ [])).up) temp_there ((adding 0 9).message) ((adding 1 9).message ∷ []) 1 refl refl refl refl refl refl refl) tt
+shared-rest p ne = quiet-sends p (goes_out (adding 0 9 ∷ adding 1 9 ∷ [])) (calls (goes_out (adding 0 9 ∷ adding 1 9 ∷ [])).up) temp_there refl refl refl
 
-pub sub-shared : SendsWrong part.Ids (world (goes_out (adding 0 9 ∷ adding 1 9 ∷ []) ∷ []) opened temp_there)
+pub sub-shared : SendsWrong part.Ids (sent_in (goes_out (adding 0 9 ∷ adding 1 9 ∷ [])))
 sub-shared = (
   shared-rest,
   λ h.
       (let c = goes_out (adding 0 9 ∷ adding 1 9 ∷ []) in
-      let f = its-sent part.Ids (goes_out (adding 0 9 ∷ adding 1 9 ∷ [])) opened temp_there refl refl h.0 1 2 (adding 0 9).message (adding 1 9).message (SubId 9) (SubId 9) (omega arith) refl refl (refl, refl) (refl, refl) refl in
+      let f = its-sent part.Ids (goes_out (adding 0 9 ∷ adding 1 9 ∷ [])) (calls (goes_out (adding 0 9 ∷ adding 1 9 ∷ [])).up) temp_there refl refl h.0 1 2 (adding 0 9).message (adding 1 9).message (SubId 9) (SubId 9) (omega arith) refl refl (refl, refl) (refl, refl) refl in
       let b = (one-at 1 f.0 f.1 f.6).1 in
       let late = f.7 in
       omega (arith, b, late)),
@@ -111,47 +119,47 @@ cancel-for c sent k m at e =
       ),
     ) k m (subst (λ (s : List Fields). At s k m) sent at) e
 
-cancel-legal-each : (p : Sending) → MaySend p (world (goes_out (adding 0 9 ∷ cancelling ∷ []) ∷ []) opened temp_there)
-cancel-legal-each part.OnChannel = sends part.OnChannel (goes_out (adding 0 9 ∷ cancelling ∷ [])) opened temp_there refl refl (all-on-sid (goes_out (adding 0 9 ∷ cancelling ∷ [])) opened temp_there ((adding 0 9).message) (cancelling.message ∷ []) 1 refl refl refl refl refl refl refl) tt
-cancel-legal-each part.Cancels = sends part.Cancels (goes_out (adding 0 9 ∷ cancelling ∷ [])) opened temp_there refl refl (cancel-for (goes_out (adding 0 9 ∷ cancelling ∷ [])) refl) tt
-cancel-legal-each p = quiet-sends p (goes_out (adding 0 9 ∷ cancelling ∷ [])) opened temp_there refl refl refl
+cancel-legal-each : (p : Sending) → MaySend p (sent_in (goes_out (adding 0 9 ∷ cancelling ∷ [])))
+cancel-legal-each part.OnChannel = sends part.OnChannel (goes_out (adding 0 9 ∷ cancelling ∷ [])) (calls (goes_out (adding 0 9 ∷ cancelling ∷ [])).up) temp_there refl refl (all-on-sid (goes_out (adding 0 9 ∷ cancelling ∷ [])) (calls (goes_out (adding 0 9 ∷ cancelling ∷ [])).up) temp_there ((adding 0 9).message) (cancelling.message ∷ []) 1 refl refl refl refl refl refl refl) tt
+cancel-legal-each part.Cancels = sends part.Cancels (goes_out (adding 0 9 ∷ cancelling ∷ [])) (calls (goes_out (adding 0 9 ∷ cancelling ∷ [])).up) temp_there refl refl (cancel-for (goes_out (adding 0 9 ∷ cancelling ∷ [])) refl) tt
+cancel-legal-each p = quiet-sends p (goes_out (adding 0 9 ∷ cancelling ∷ [])) (calls (goes_out (adding 0 9 ∷ cancelling ∷ [])).up) temp_there refl refl refl
 
-pub cancel-legal : Legal (world (goes_out (adding 0 9 ∷ cancelling ∷ []) ∷ []) opened temp_there)
+pub cancel-legal : Legal (sent_in (goes_out (adding 0 9 ∷ cancelling ∷ [])))
 cancel-legal = all-legal _ cancel-legal-each
 
-cancel-of-nothing-rest : (p : Sending) → (p ≡ part.Cancels → ⊥) → MaySend p (world (goes_out (cancelling ∷ []) ∷ []) opened temp_there)
+cancel-of-nothing-rest : (p : Sending) → (p ≡ part.Cancels → ⊥) → MaySend p (sent_in (goes_out (cancelling ∷ [])))
 cancel-of-nothing-rest part.Cancels ne = absurd (ne refl)
-cancel-of-nothing-rest part.OnChannel ne = sends part.OnChannel (goes_out (cancelling ∷ [])) opened temp_there refl refl (all-on-sid (goes_out (cancelling ∷ [])) opened temp_there (cancelling.message) [] 1 refl refl refl refl refl refl refl) tt
-cancel-of-nothing-rest p ne = quiet-sends p (goes_out (cancelling ∷ [])) opened temp_there refl refl refl
+cancel-of-nothing-rest part.OnChannel ne = sends part.OnChannel (goes_out (cancelling ∷ [])) (calls (goes_out (cancelling ∷ [])).up) temp_there refl refl (all-on-sid (goes_out (cancelling ∷ [])) (calls (goes_out (cancelling ∷ [])).up) temp_there (cancelling.message) [] 1 refl refl refl refl refl refl refl) tt
+cancel-of-nothing-rest p ne = quiet-sends p (goes_out (cancelling ∷ [])) (calls (goes_out (cancelling ∷ [])).up) temp_there refl refl refl
 
-pub cancel-of-nothing : SendsWrong part.Cancels (world (goes_out (cancelling ∷ []) ∷ []) opened temp_there)
-cancel-of-nothing = (cancel-of-nothing-rest, λ h. (let a = its-sent part.Cancels (goes_out (cancelling ∷ [])) opened temp_there refl refl h.0 1 cancelling.message refl refl in each-at (λ (i : ℕ) (z : Fields). Is command.EventAdd z → i < 1 → ⊥) (creating.message ∷ cancelling.message ∷ []) ((λ e l. omega (arith, e)), ((λ e l. omega (arith, l)), tt)) a.0 a.1 a.2 a.3 a.4))
+pub cancel-of-nothing : SendsWrong part.Cancels (sent_in (goes_out (cancelling ∷ [])))
+cancel-of-nothing = (cancel-of-nothing-rest, λ h. (let a = its-sent part.Cancels (goes_out (cancelling ∷ [])) (calls (goes_out (cancelling ∷ [])).up) temp_there refl refl h.0 1 cancelling.message refl refl in each-at (λ (i : ℕ) (z : Fields). Is command.EventAdd z → i < 1 → ⊥) (creating.message ∷ cancelling.message ∷ []) ((λ e l. omega (arith, e)), ((λ e l. omega (arith, l)), tt)) a.0 a.1 a.2 a.3 a.4))
 
-ids-legal-each : (p : Sending) → MaySend p (world (both_asked 2 ∷ []) opened temp_there)
-ids-legal-each part.OnChannel = quiet-sends part.OnChannel (both_asked 2) opened temp_there refl refl refl
-ids-legal-each p = quiet-sends p (both_asked 2) opened temp_there refl refl refl
+ids-legal-each : (p : Sending) → MaySend p (sent_in (both_asked 2))
+ids-legal-each part.OnChannel = quiet-sends part.OnChannel (both_asked 2) (calls (both_asked 2).up) temp_there refl refl refl
+ids-legal-each p = quiet-sends p (both_asked 2) (calls (both_asked 2).up) temp_there refl refl refl
 
-pub ids-legal : Legal (world (both_asked 2 ∷ []) opened temp_there)
+pub ids-legal : Legal (sent_in (both_asked 2))
 ids-legal = all-legal _ ids-legal-each
 
-id-shared-rest : (p : Sending) → (p ≡ part.Ids → ⊥) → MaySend p (world (both_asked 1 ∷ []) opened temp_there)
+id-shared-rest : (p : Sending) → (p ≡ part.Ids → ⊥) → MaySend p (sent_in (both_asked 1))
 id-shared-rest part.Ids ne = absurd (ne refl)
-id-shared-rest p ne = quiet-sends p (both_asked 1) opened temp_there refl refl refl
+id-shared-rest p ne = quiet-sends p (both_asked 1) (calls (both_asked 1).up) temp_there refl refl refl
 
-pub id-shared : SendsWrong part.Ids (world (both_asked 1 ∷ []) opened temp_there)
-id-shared = (id-shared-rest, λ h. (let f = its-sent part.Ids (both_asked 1) opened temp_there refl refl h.0 0 1 creating.message (asked_with 1).message (Cid 1) (Cid 1) (omega arith) refl refl (refl, refl) (refl, refl) refl in none-at f.0 f.3 f.5))
+pub id-shared : SendsWrong part.Ids (sent_in (both_asked 1))
+id-shared = (id-shared-rest, λ h. (let f = its-sent part.Ids (both_asked 1) (calls (both_asked 1).up) temp_there refl refl h.0 0 1 creating.message (asked_with 1).message (Cid 1) (Cid 1) (omega arith) refl refl (refl, refl) (refl, refl) refl in none-at f.0 f.3 f.5))
 
-reads-each : (p : Sending) → MaySend p (world (reads_out 8 ∷ []) opened temp_there)
-reads-each part.OnChannel = sends part.OnChannel (reads_out 8) opened temp_there refl refl (all-on-sid (reads_out 8) opened temp_there ((reading 0 7).message) ((reading 1 8).message ∷ []) 1 refl refl refl refl refl refl refl) tt
-reads-each p = quiet-sends p (reads_out 8) opened temp_there refl refl refl
+reads-each : (p : Sending) → MaySend p (sent_in (reads_out 8))
+reads-each part.OnChannel = sends part.OnChannel (reads_out 8) (calls (reads_out 8).up) temp_there refl refl (all-on-sid (reads_out 8) (calls (reads_out 8).up) temp_there ((reading 0 7).message) ((reading 1 8).message ∷ []) 1 refl refl refl refl refl refl refl) tt
+reads-each p = quiet-sends p (reads_out 8) (calls (reads_out 8).up) temp_there refl refl refl
 
-pub reads-legal : Legal (world (reads_out 8 ∷ []) opened temp_there)
+pub reads-legal : Legal (sent_in (reads_out 8))
 reads-legal = all-legal _ reads-each
 
-reused-rest : (p : Sending) → (p ≡ part.Ids → ⊥) → MaySend p (world (reads_out 7 ∷ []) opened temp_there)
+reused-rest : (p : Sending) → (p ≡ part.Ids → ⊥) → MaySend p (sent_in (reads_out 7))
 reused-rest part.Ids ne = absurd (ne refl)
-reused-rest part.OnChannel ne = sends part.OnChannel (reads_out 7) opened temp_there refl refl (all-on-sid (reads_out 7) opened temp_there ((reading 0 7).message) ((reading 1 7).message ∷ []) 1 refl refl refl refl refl refl refl) tt
-reused-rest p ne = quiet-sends p (reads_out 7) opened temp_there refl refl refl
+reused-rest part.OnChannel ne = sends part.OnChannel (reads_out 7) (calls (reads_out 7).up) temp_there refl refl (all-on-sid (reads_out 7) (calls (reads_out 7).up) temp_there ((reading 0 7).message) ((reading 1 7).message ∷ []) 1 refl refl refl refl refl refl refl) tt
+reused-rest p ne = quiet-sends p (reads_out 7) (calls (reads_out 7).up) temp_there refl refl refl
 
 -- no ACCESS_RIGHTS frees the id of a read
 not-freed : (e : Conduct) (b : ℕ) (r m : Fields) → r.command ≡ 15 → m.command ≡ 22 → Frees e 1 b r m → ⊥
@@ -170,12 +178,12 @@ not-freed e b r m read rights h =
       ]
     ]
 
-pub id-reused : SendsWrong part.Ids (world (reads_out 7 ∷ []) opened temp_there)
+pub id-reused : SendsWrong part.Ids (sent_in (reads_out 7))
 id-reused = (
   reused-rest,
   λ h.
       (let e = client_conduct (reads_out 7) in
-      let f = its-sent part.Ids (reads_out 7) opened temp_there refl refl h.0 1 2 (reading 0 7).message (reading 1 7).message (Ioid 7) (Ioid 7) (omega arith) refl refl (inl refl, refl) (inl refl, refl) refl in
+      let f = its-sent part.Ids (reads_out 7) (calls (reads_out 7).up) temp_there refl refl h.0 1 2 (reading 0 7).message (reading 1 7).message (Ioid 7) (Ioid 7) (omega arith) refl refl (inl refl, refl) (inl refl, refl) refl in
       let read : f.2.command ≡ 15 = ap (λ (m : Fields). m.command) (sym (some_is (reading 0 7).message f.2 f.4)) in
       let late = f.7 in
       let rights : f.3.command ≡ 22 = each-at (λ (j : ℕ) (m : Fields). At (1 ∷ 2 ∷ []) j f.1 → m.command ≡ 22) (client_conduct (reads_out 7)).came ((λ at. absurd (let one = some_is 1 f.1 at in omega (arith, one, late))), ((λ at. refl), tt)) f.0 f.3 f.5 f.6 in
@@ -184,19 +192,19 @@ id-reused = (
 
 -- ---- what a server sends
 
-sids-legal-each : (p : Sending) → MaySend p (world (both_created 6 ∷ []) opened temp_there)
-sids-legal-each part.OnChannel = quiet-sends part.OnChannel (both_created 6) opened temp_there refl refl refl
-sids-legal-each p = quiet-sends p (both_created 6) opened temp_there refl refl refl
+sids-legal-each : (p : Sending) → MaySend p (sent_in (both_created 6))
+sids-legal-each part.OnChannel = quiet-sends part.OnChannel (both_created 6) (calls (both_created 6).up) temp_there refl refl refl
+sids-legal-each p = quiet-sends p (both_created 6) (calls (both_created 6).up) temp_there refl refl refl
 
-pub sids-legal : Legal (world (both_created 6 ∷ []) opened temp_there)
+pub sids-legal : Legal (sent_in (both_created 6))
 sids-legal = all-legal _ sids-legal-each
 
-sid-shared-rest : (p : Sending) → (p ≡ part.Sids → ⊥) → MaySend p (world (both_created 5 ∷ []) opened temp_there)
+sid-shared-rest : (p : Sending) → (p ≡ part.Sids → ⊥) → MaySend p (sent_in (both_created 5))
 sid-shared-rest part.Sids ne = absurd (ne refl)
-sid-shared-rest p ne = quiet-sends p (both_created 5) opened temp_there refl refl refl
+sid-shared-rest p ne = quiet-sends p (both_created 5) (calls (both_created 5).up) temp_there refl refl refl
 
-pub sid-shared : SendsWrong part.Sids (world (both_created 5 ∷ []) opened temp_there)
-sid-shared = (sid-shared-rest, λ h. (let f = its-sent part.Sids (both_created 5) opened temp_there refl refl h.0 0 1 5 5 _ _ (omega arith) refl refl (refl, refl) (refl, refl) refl in none-at f.0 f.2.0 f.2.2))
+pub sid-shared : SendsWrong part.Sids (sent_in (both_created 5))
+sid-shared = (sid-shared-rest, λ h. (let f = its-sent part.Sids (both_created 5) (calls (both_created 5).up) temp_there refl refl h.0 0 1 5 5 _ _ (omega arith) refl refl (refl, refl) (refl, refl) refl in none-at f.0 f.2.0 f.2.2))
 
 -- what an update at this place has
 abbrev UpdateFor : Circuit → ℕ → Fields → Type 0
@@ -204,65 +212,65 @@ UpdateFor c k m =
     (i j cid : ℕ) × (add : Fields) × IsOpenAt (server_conduct c) k i cid (sid_in add) × IsConnected (server_conduct c) i k cid × ReadsBetween (server_conduct c) i k j add × Gives add (SubId m.p2)
     × ((l : ℕ) (r : Fields) → j < l → ReadsBetween (server_conduct c) i k l r → Is command.EventCancel r → r.p1 ≡ add.p1 → r.p2 ≢ add.p2)
 
-update-legal-each : (p : Sending) → MaySend p (world (update_out (step 0 0 0 ∷ step 1 0 0 ∷ []) ∷ []) opened temp_there)
-update-legal-each part.OnChannel = sends part.OnChannel (update_out (step 0 0 0 ∷ step 1 0 0 ∷ [])) opened temp_there refl refl (all-on-sid (update_out (step 0 0 0 ∷ step 1 0 0 ∷ [])) opened temp_there ((adding 0 9).message) [] 1 refl refl refl refl refl refl refl) tt
-update-legal-each part.Updates = sends part.Updates (update_out (step 0 0 0 ∷ step 1 0 0 ∷ [])) opened temp_there refl refl (λ k m at e full. each-at (λ (i : ℕ) (z : Fields). Is command.EventAdd z → UpdateFor (update_out (step 0 0 0 ∷ step 1 0 0 ∷ [])) i z) (server_conduct (update_out (step 0 0 0 ∷ step 1 0 0 ∷ []))).sent ((λ f. absurd (omega (arith, f))), ((λ f. (0, 1, 1, (adding 0 9).message, (created_told.message, refl, (refl, refl), refl, omega arith, λ j r reads clears. none (is 12) (server_conduct (update_out (step 0 0 0 ∷ step 1 0 0 ∷ []))).came refl j r reads.1 (is-so 12 r clears.0)), (λ l m a b. absurd (omega (arith, a, b))), (1, refl, refl, omega arith, omega arith), (refl, refl), λ l r after reads cancel. absurd (none (is 2) (server_conduct (update_out (step 0 0 0 ∷ step 1 0 0 ∷ []))).came refl l r reads.1 (is-so 2 r cancel)))), tt)) k m at e) tt
-update-legal-each p = quiet-sends p (update_out (step 0 0 0 ∷ step 1 0 0 ∷ [])) opened temp_there refl refl refl
+update-legal-each : (p : Sending) → MaySend p (sent_in (update_out (step 0 0 0 ∷ step 1 0 0 ∷ [])))
+update-legal-each part.OnChannel = sends part.OnChannel (update_out (step 0 0 0 ∷ step 1 0 0 ∷ [])) (calls (update_out (step 0 0 0 ∷ step 1 0 0 ∷ [])).up) temp_there refl refl (all-on-sid (update_out (step 0 0 0 ∷ step 1 0 0 ∷ [])) (calls (update_out (step 0 0 0 ∷ step 1 0 0 ∷ [])).up) temp_there ((adding 0 9).message) [] 1 refl refl refl refl refl refl refl) tt
+update-legal-each part.Updates = sends part.Updates (update_out (step 0 0 0 ∷ step 1 0 0 ∷ [])) (calls (update_out (step 0 0 0 ∷ step 1 0 0 ∷ [])).up) temp_there refl refl (λ k m at e full. each-at (λ (i : ℕ) (z : Fields). Is command.EventAdd z → UpdateFor (update_out (step 0 0 0 ∷ step 1 0 0 ∷ [])) i z) (server_conduct (update_out (step 0 0 0 ∷ step 1 0 0 ∷ []))).sent ((λ f. absurd (omega (arith, f))), ((λ f. (0, 1, 1, (adding 0 9).message, (created_told.message, refl, (refl, refl), refl, omega arith, λ j r reads clears. none (is 12) (server_conduct (update_out (step 0 0 0 ∷ step 1 0 0 ∷ []))).came refl j r reads.1 (is-so 12 r clears.0)), (λ l m a b. absurd (omega (arith, a, b))), (1, refl, refl, omega arith, omega arith), (refl, refl), λ l r after reads cancel. absurd (none (is 2) (server_conduct (update_out (step 0 0 0 ∷ step 1 0 0 ∷ []))).came refl l r reads.1 (is-so 2 r cancel)))), tt)) k m at e) tt
+update-legal-each p = quiet-sends p (update_out (step 0 0 0 ∷ step 1 0 0 ∷ [])) (calls (update_out (step 0 0 0 ∷ step 1 0 0 ∷ [])).up) temp_there refl refl refl
 
-pub update-legal : Legal (world (update_out (step 0 0 0 ∷ step 1 0 0 ∷ []) ∷ []) opened temp_there)
+pub update-legal : Legal (sent_in (update_out (step 0 0 0 ∷ step 1 0 0 ∷ [])))
 update-legal = all-legal _ update-legal-each
 
-update-unread-rest : (p : Sending) → (p ≡ part.Updates → ⊥) → MaySend p (world (update_out (step 0 0 0 ∷ []) ∷ []) opened temp_there)
+update-unread-rest : (p : Sending) → (p ≡ part.Updates → ⊥) → MaySend p (sent_in (update_out (step 0 0 0 ∷ [])))
 update-unread-rest part.Updates ne = absurd (ne refl)
-update-unread-rest part.OnChannel ne = sends part.OnChannel (update_out (step 0 0 0 ∷ [])) opened temp_there refl refl (all-on-sid (update_out (step 0 0 0 ∷ [])) opened temp_there ((adding 0 9).message) [] 1 refl refl refl refl refl refl refl) tt
-update-unread-rest p ne = quiet-sends p (update_out (step 0 0 0 ∷ [])) opened temp_there refl refl refl
+update-unread-rest part.OnChannel ne = sends part.OnChannel (update_out (step 0 0 0 ∷ [])) (calls (update_out (step 0 0 0 ∷ [])).up) temp_there refl refl (all-on-sid (update_out (step 0 0 0 ∷ [])) (calls (update_out (step 0 0 0 ∷ [])).up) temp_there ((adding 0 9).message) [] 1 refl refl refl refl refl refl refl) tt
+update-unread-rest p ne = quiet-sends p (update_out (step 0 0 0 ∷ [])) (calls (update_out (step 0 0 0 ∷ [])).up) temp_there refl refl refl
 
-pub update-unread : SendsWrong part.Updates (world (update_out (step 0 0 0 ∷ []) ∷ []) opened temp_there)
-update-unread = (update-unread-rest, λ h. (let u = its-sent part.Updates (update_out (step 0 0 0 ∷ [])) opened temp_there refl refl h.0 1 (updated 0 21).message refl refl (λ e. cc) in let b = (one-at 0 u.1 u.6.0 u.6.2).1 in let early = u.6.3 in omega (arith, b, early)))
+pub update-unread : SendsWrong part.Updates (sent_in (update_out (step 0 0 0 ∷ [])))
+update-unread = (update-unread-rest, λ h. (let u = its-sent part.Updates (update_out (step 0 0 0 ∷ [])) (calls (update_out (step 0 0 0 ∷ [])).up) temp_there refl refl h.0 1 (updated 0 21).message refl refl (λ e. cc) in let b = (one-at 0 u.1 u.6.0 u.6.2).1 in let early = u.6.3 in omega (arith, b, early)))
 
 -- what a confirmation at this place has
 abbrev ConfirmFor : Circuit → ℕ → Fields → Type 0
 ConfirmFor c k m =
     (j : ℕ) × (r : Fields) × At (server_conduct c).came j r × At (server_conduct c).read j k × Is command.EventCancel r × (r.p1 ≡ m.p1) × (r.p2 ≡ m.p2)
 
-confirm-legal-each : (p : Sending) → MaySend p (world (confirm_out (step 0 0 0 ∷ step 1 0 0 ∷ step 1 0 0 ∷ []) ∷ []) opened temp_there)
-confirm-legal-each part.OnChannel = sends part.OnChannel (confirm_out (step 0 0 0 ∷ step 1 0 0 ∷ step 1 0 0 ∷ [])) opened temp_there refl refl (all-on-sid (confirm_out (step 0 0 0 ∷ step 1 0 0 ∷ step 1 0 0 ∷ [])) opened temp_there ((adding 0 9).message) (cancelling.message ∷ []) 1 refl refl refl refl refl refl refl) tt
-confirm-legal-each part.Cancels = sends part.Cancels (confirm_out (step 0 0 0 ∷ step 1 0 0 ∷ step 1 0 0 ∷ [])) opened temp_there refl refl (cancel-for (confirm_out (step 0 0 0 ∷ step 1 0 0 ∷ step 1 0 0 ∷ [])) refl) tt
-confirm-legal-each part.Confirmations = sends part.Confirmations (confirm_out (step 0 0 0 ∷ step 1 0 0 ∷ step 1 0 0 ∷ [])) opened temp_there refl refl (λ k m at e empty. each-at (λ (i : ℕ) (z : Fields). Is command.EventAdd z → ConfirmFor (confirm_out (step 0 0 0 ∷ step 1 0 0 ∷ step 1 0 0 ∷ [])) i z) (server_conduct (confirm_out (step 0 0 0 ∷ step 1 0 0 ∷ step 1 0 0 ∷ []))).sent ((λ f. absurd (omega (arith, f))), ((λ f. (2, cancelling.message, refl, refl, refl, refl, refl)), tt)) k m at e) tt
-confirm-legal-each p = quiet-sends p (confirm_out (step 0 0 0 ∷ step 1 0 0 ∷ step 1 0 0 ∷ [])) opened temp_there refl refl refl
+confirm-legal-each : (p : Sending) → MaySend p (sent_in (confirm_out (step 0 0 0 ∷ step 1 0 0 ∷ step 1 0 0 ∷ [])))
+confirm-legal-each part.OnChannel = sends part.OnChannel (confirm_out (step 0 0 0 ∷ step 1 0 0 ∷ step 1 0 0 ∷ [])) (calls (confirm_out (step 0 0 0 ∷ step 1 0 0 ∷ step 1 0 0 ∷ [])).up) temp_there refl refl (all-on-sid (confirm_out (step 0 0 0 ∷ step 1 0 0 ∷ step 1 0 0 ∷ [])) (calls (confirm_out (step 0 0 0 ∷ step 1 0 0 ∷ step 1 0 0 ∷ [])).up) temp_there ((adding 0 9).message) (cancelling.message ∷ []) 1 refl refl refl refl refl refl refl) tt
+confirm-legal-each part.Cancels = sends part.Cancels (confirm_out (step 0 0 0 ∷ step 1 0 0 ∷ step 1 0 0 ∷ [])) (calls (confirm_out (step 0 0 0 ∷ step 1 0 0 ∷ step 1 0 0 ∷ [])).up) temp_there refl refl (cancel-for (confirm_out (step 0 0 0 ∷ step 1 0 0 ∷ step 1 0 0 ∷ [])) refl) tt
+confirm-legal-each part.Confirmations = sends part.Confirmations (confirm_out (step 0 0 0 ∷ step 1 0 0 ∷ step 1 0 0 ∷ [])) (calls (confirm_out (step 0 0 0 ∷ step 1 0 0 ∷ step 1 0 0 ∷ [])).up) temp_there refl refl (λ k m at e empty. each-at (λ (i : ℕ) (z : Fields). Is command.EventAdd z → ConfirmFor (confirm_out (step 0 0 0 ∷ step 1 0 0 ∷ step 1 0 0 ∷ [])) i z) (server_conduct (confirm_out (step 0 0 0 ∷ step 1 0 0 ∷ step 1 0 0 ∷ []))).sent ((λ f. absurd (omega (arith, f))), ((λ f. (2, cancelling.message, refl, refl, refl, refl, refl)), tt)) k m at e) tt
+confirm-legal-each p = quiet-sends p (confirm_out (step 0 0 0 ∷ step 1 0 0 ∷ step 1 0 0 ∷ [])) (calls (confirm_out (step 0 0 0 ∷ step 1 0 0 ∷ step 1 0 0 ∷ [])).up) temp_there refl refl refl
 
-pub confirm-legal : Legal (world (confirm_out (step 0 0 0 ∷ step 1 0 0 ∷ step 1 0 0 ∷ []) ∷ []) opened temp_there)
+pub confirm-legal : Legal (sent_in (confirm_out (step 0 0 0 ∷ step 1 0 0 ∷ step 1 0 0 ∷ [])))
 confirm-legal = all-legal _ confirm-legal-each
 
-confirm-unread-rest : (p : Sending) → (p ≡ part.Confirmations → ⊥) → MaySend p (world (confirm_out (step 0 0 0 ∷ step 1 0 0 ∷ []) ∷ []) opened temp_there)
+confirm-unread-rest : (p : Sending) → (p ≡ part.Confirmations → ⊥) → MaySend p (sent_in (confirm_out (step 0 0 0 ∷ step 1 0 0 ∷ [])))
 confirm-unread-rest part.Confirmations ne = absurd (ne refl)
-confirm-unread-rest part.OnChannel ne = sends part.OnChannel (confirm_out (step 0 0 0 ∷ step 1 0 0 ∷ [])) opened temp_there refl refl (all-on-sid (confirm_out (step 0 0 0 ∷ step 1 0 0 ∷ [])) opened temp_there ((adding 0 9).message) (cancelling.message ∷ []) 1 refl refl refl refl refl refl refl) tt
-confirm-unread-rest part.Cancels ne = sends part.Cancels (confirm_out (step 0 0 0 ∷ step 1 0 0 ∷ [])) opened temp_there refl refl (cancel-for (confirm_out (step 0 0 0 ∷ step 1 0 0 ∷ [])) refl) tt
-confirm-unread-rest p ne = quiet-sends p (confirm_out (step 0 0 0 ∷ step 1 0 0 ∷ [])) opened temp_there refl refl refl
+confirm-unread-rest part.OnChannel ne = sends part.OnChannel (confirm_out (step 0 0 0 ∷ step 1 0 0 ∷ [])) (calls (confirm_out (step 0 0 0 ∷ step 1 0 0 ∷ [])).up) temp_there refl refl (all-on-sid (confirm_out (step 0 0 0 ∷ step 1 0 0 ∷ [])) (calls (confirm_out (step 0 0 0 ∷ step 1 0 0 ∷ [])).up) temp_there ((adding 0 9).message) (cancelling.message ∷ []) 1 refl refl refl refl refl refl refl) tt
+confirm-unread-rest part.Cancels ne = sends part.Cancels (confirm_out (step 0 0 0 ∷ step 1 0 0 ∷ [])) (calls (confirm_out (step 0 0 0 ∷ step 1 0 0 ∷ [])).up) temp_there refl refl (cancel-for (confirm_out (step 0 0 0 ∷ step 1 0 0 ∷ [])) refl) tt
+confirm-unread-rest p ne = quiet-sends p (confirm_out (step 0 0 0 ∷ step 1 0 0 ∷ [])) (calls (confirm_out (step 0 0 0 ∷ step 1 0 0 ∷ [])).up) temp_there refl refl refl
 
-pub confirm-unread : SendsWrong part.Confirmations (world (confirm_out (step 0 0 0 ∷ step 1 0 0 ∷ []) ∷ []) opened temp_there)
-confirm-unread = (confirm-unread-rest, λ h. (let f = its-sent part.Confirmations (confirm_out (step 0 0 0 ∷ step 1 0 0 ∷ [])) opened temp_there refl refl h.0 1 _ refl refl refl in let two = each-at (λ (i : ℕ) (z : Fields). Is command.EventCancel z → i ≡ 2) (server_conduct (confirm_out (step 0 0 0 ∷ step 1 0 0 ∷ []))).came ((λ e. absurd (omega (arith, e))), ((λ e. absurd (omega (arith, e))), ((λ e. refl), tt))) f.0 f.1 f.2 f.4 in let w = At-within (server_conduct (confirm_out (step 0 0 0 ∷ step 1 0 0 ∷ []))).read f.0 1 f.3 in omega (arith, two, w)))
+pub confirm-unread : SendsWrong part.Confirmations (sent_in (confirm_out (step 0 0 0 ∷ step 1 0 0 ∷ [])))
+confirm-unread = (confirm-unread-rest, λ h. (let f = its-sent part.Confirmations (confirm_out (step 0 0 0 ∷ step 1 0 0 ∷ [])) (calls (confirm_out (step 0 0 0 ∷ step 1 0 0 ∷ [])).up) temp_there refl refl h.0 1 _ refl refl refl in let two = each-at (λ (i : ℕ) (z : Fields). Is command.EventCancel z → i ≡ 2) (server_conduct (confirm_out (step 0 0 0 ∷ step 1 0 0 ∷ []))).came ((λ e. absurd (omega (arith, e))), ((λ e. absurd (omega (arith, e))), ((λ e. refl), tt))) f.0 f.1 f.2 f.4 in let w = At-within (server_conduct (confirm_out (step 0 0 0 ∷ step 1 0 0 ∷ []))).read f.0 1 f.3 in omega (arith, two, w)))
 
-gone-legal-each : (p : Sending) → MaySend p (world (told_so (created_told ∷ disconnected ∷ []) ∷ []) opened temp_there)
-gone-legal-each part.Disconnects = sends part.Disconnects (told_so (created_told ∷ disconnected ∷ [])) opened temp_there refl refl (λ k m at e. each-at (λ (i : ℕ) (z : Fields). Is command.ServerDisconnect z → (a sid : ℕ) × IsOpenAt (server_conduct (told_so (created_told ∷ disconnected ∷ []))) i a z.p1 sid × IsConnected (server_conduct (told_so (created_told ∷ disconnected ∷ []))) a i z.p1) (server_conduct (told_so (created_told ∷ disconnected ∷ []))).sent ((λ f. absurd (omega (arith, f))), ((λ f. (0, 5, (created_told.message, refl, (refl, refl), refl, omega arith, λ j r reads clears. none (is 12) (server_conduct (told_so (created_told ∷ disconnected ∷ []))).came refl j r reads.1 (is-so 12 r clears.0)), λ l m a b. absurd (omega (arith, a, b)))), tt)) k m at e) tt
-gone-legal-each p = quiet-sends p (told_so (created_told ∷ disconnected ∷ [])) opened temp_there refl refl refl
+gone-legal-each : (p : Sending) → MaySend p (sent_in (told_so (created_told ∷ disconnected ∷ [])))
+gone-legal-each part.Disconnects = sends part.Disconnects (told_so (created_told ∷ disconnected ∷ [])) (calls (told_so (created_told ∷ disconnected ∷ [])).up) temp_there refl refl (λ k m at e. each-at (λ (i : ℕ) (z : Fields). Is command.ServerDisconnect z → (a sid : ℕ) × IsOpenAt (server_conduct (told_so (created_told ∷ disconnected ∷ []))) i a z.p1 sid × IsConnected (server_conduct (told_so (created_told ∷ disconnected ∷ []))) a i z.p1) (server_conduct (told_so (created_told ∷ disconnected ∷ []))).sent ((λ f. absurd (omega (arith, f))), ((λ f. (0, 5, (created_told.message, refl, (refl, refl), refl, omega arith, λ j r reads clears. none (is 12) (server_conduct (told_so (created_told ∷ disconnected ∷ []))).came refl j r reads.1 (is-so 12 r clears.0)), λ l m a b. absurd (omega (arith, a, b)))), tt)) k m at e) tt
+gone-legal-each p = quiet-sends p (told_so (created_told ∷ disconnected ∷ [])) (calls (told_so (created_told ∷ disconnected ∷ [])).up) temp_there refl refl refl
 
-pub gone-legal : Legal (world (told_so (created_told ∷ disconnected ∷ []) ∷ []) opened temp_there)
+pub gone-legal : Legal (sent_in (told_so (created_told ∷ disconnected ∷ [])))
 gone-legal = all-legal _ gone-legal-each
 
-gone-uncreated-rest : (p : Sending) → (p ≡ part.Disconnects → ⊥) → MaySend p (world (told_so (disconnected ∷ []) ∷ []) opened temp_there)
+gone-uncreated-rest : (p : Sending) → (p ≡ part.Disconnects → ⊥) → MaySend p (sent_in (told_so (disconnected ∷ [])))
 gone-uncreated-rest part.Disconnects ne = absurd (ne refl)
-gone-uncreated-rest p ne = quiet-sends p (told_so (disconnected ∷ [])) opened temp_there refl refl refl
+gone-uncreated-rest p ne = quiet-sends p (told_so (disconnected ∷ [])) (calls (told_so (disconnected ∷ [])).up) temp_there refl refl refl
 
-pub gone-uncreated : SendsWrong part.Disconnects (world (told_so (disconnected ∷ []) ∷ []) opened temp_there)
-gone-uncreated = (gone-uncreated-rest, λ h. (let d = its-sent part.Disconnects (told_so (disconnected ∷ [])) opened temp_there refl refl h.0 0 disconnected.message refl refl in let e = d.2.4 in omega (arith, e)))
+pub gone-uncreated : SendsWrong part.Disconnects (sent_in (told_so (disconnected ∷ [])))
+gone-uncreated = (gone-uncreated-rest, λ h. (let d = its-sent part.Disconnects (told_so (disconnected ∷ [])) (calls (told_so (disconnected ∷ [])).up) temp_there refl refl h.0 0 disconnected.message refl refl in let e = d.2.4 in omega (arith, e)))
 
-gone-twice-rest : (p : Sending) → (p ≡ part.Disconnects → ⊥) → MaySend p (world (told_so (created_told ∷ disconnected ∷ disconnected ∷ []) ∷ []) opened temp_there)
+gone-twice-rest : (p : Sending) → (p ≡ part.Disconnects → ⊥) → MaySend p (sent_in (told_so (created_told ∷ disconnected ∷ disconnected ∷ [])))
 gone-twice-rest part.Disconnects ne = absurd (ne refl)
-gone-twice-rest p ne = quiet-sends p (told_so (created_told ∷ disconnected ∷ disconnected ∷ [])) opened temp_there refl refl refl
+gone-twice-rest p ne = quiet-sends p (told_so (created_told ∷ disconnected ∷ disconnected ∷ [])) (calls (told_so (created_told ∷ disconnected ∷ disconnected ∷ [])).up) temp_there refl refl refl
 
-pub gone-twice : SendsWrong part.Disconnects (world (told_so (created_told ∷ disconnected ∷ disconnected ∷ []) ∷ []) opened temp_there)
-gone-twice = (gone-twice-rest, λ h. (let d = its-sent part.Disconnects (told_so (created_told ∷ disconnected ∷ disconnected ∷ [])) opened temp_there refl refl h.0 2 disconnected.message refl refl in let first = each-at (λ (i : ℕ) (z : Fields). Creates z d.1 → i < 1) (server_conduct (told_so (created_told ∷ disconnected ∷ disconnected ∷ []))).sent ((λ e. omega arith), ((λ e. (let f = e.0 in absurd (omega (arith, f)))), ((λ e. (let f = e.0 in absurd (omega (arith, f)))), tt))) d.0 d.2.0 d.2.1 d.2.2 in d.3 1 disconnected.message (omega (arith, first)) (omega arith) refl (refl, refl)))
+pub gone-twice : SendsWrong part.Disconnects (sent_in (told_so (created_told ∷ disconnected ∷ disconnected ∷ [])))
+gone-twice = (gone-twice-rest, λ h. (let d = its-sent part.Disconnects (told_so (created_told ∷ disconnected ∷ disconnected ∷ [])) (calls (told_so (created_told ∷ disconnected ∷ disconnected ∷ [])).up) temp_there refl refl h.0 2 disconnected.message refl refl in let first = each-at (λ (i : ℕ) (z : Fields). Creates z d.1 → i < 1) (server_conduct (told_so (created_told ∷ disconnected ∷ disconnected ∷ []))).sent ((λ e. omega arith), ((λ e. (let f = e.0 in absurd (omega (arith, f)))), ((λ e. (let f = e.0 in absurd (omega (arith, f)))), tt))) d.0 d.2.0 d.2.1 d.2.2 in d.3 1 disconnected.message (omega (arith, first)) (omega arith) refl (refl, refl)))
 
 closed-untold-each : (p : Sending) → MaySend p (world (told_closed (created_told ∷ []) ∷ []) opened temp_removed)
 closed-untold-each part.OnChannel = quiet-sends part.OnChannel (told_closed (created_told ∷ [])) opened temp_removed refl refl refl
@@ -280,20 +288,28 @@ removed-untold = (removed-untold-rest, λ h. (let t = its-sent part.ToldRemoved 
 
 -- ---- subscriptions
 
-adds-legal-each : (p : Sending) → MaySend p (world (goes_out (adding 0 9 ∷ adding 1 10 ∷ []) ∷ []) opened temp_there)
-adds-legal-each part.OnChannel = sends part.OnChannel (goes_out (adding 0 9 ∷ adding 1 10 ∷ [])) opened temp_there refl refl (all-on-sid (goes_out (adding 0 9 ∷ adding 1 10 ∷ [])) opened temp_there ((adding 0 9).message) ((adding 1 10).message ∷ []) 1 refl refl refl refl refl refl refl) tt
-adds-legal-each p = quiet-sends p (goes_out (adding 0 9 ∷ adding 1 10 ∷ [])) opened temp_there refl refl refl
+adds-legal-each : (p : Sending) → MaySend p (sent_in (goes_out (adding 0 9 ∷ adding 1 10 ∷ [])))
+adds-legal-each part.OnChannel = sends part.OnChannel (goes_out (adding 0 9 ∷ adding 1 10 ∷ [])) (calls (goes_out (adding 0 9 ∷ adding 1 10 ∷ [])).up) temp_there refl refl (all-on-sid (goes_out (adding 0 9 ∷ adding 1 10 ∷ [])) (calls (goes_out (adding 0 9 ∷ adding 1 10 ∷ [])).up) temp_there ((adding 0 9).message) ((adding 1 10).message ∷ []) 1 refl refl refl refl refl refl refl) tt
+adds-legal-each p = quiet-sends p (goes_out (adding 0 9 ∷ adding 1 10 ∷ [])) (calls (goes_out (adding 0 9 ∷ adding 1 10 ∷ [])).up) temp_there refl refl refl
 
-pub adds-legal : Legal (world (goes_out (adding 0 9 ∷ adding 1 10 ∷ []) ∷ []) opened temp_there)
+pub adds-legal : Legal (sent_in (goes_out (adding 0 9 ∷ adding 1 10 ∷ [])))
 adds-legal = all-legal _ adds-legal-each
 
-added-twice-rest : (p : Sending) → (p ≡ part.Apart → ⊥) → MaySend p (world (goes_out (adding 0 9 ∷ adding 0 10 ∷ []) ∷ []) opened temp_there)
-added-twice-rest part.Apart ne = absurd (ne refl)
-added-twice-rest part.OnChannel ne = sends part.OnChannel (goes_out (adding 0 9 ∷ adding 0 10 ∷ [])) opened temp_there refl refl (all-on-sid (goes_out (adding 0 9 ∷ adding 0 10 ∷ [])) opened temp_there ((adding 0 9).message) ((adding 0 10).message ∷ []) 1 refl refl refl refl refl refl refl) tt
-added-twice-rest p ne = quiet-sends p (goes_out (adding 0 9 ∷ adding 0 10 ∷ [])) opened temp_there refl refl refl
+adds-uncalled-rest : (p : Sending) → (p ≡ part.HasCall → ⊥) → MaySend p (uncalled_in (goes_out (adding 0 9 ∷ adding 1 10 ∷ [])))
+adds-uncalled-rest part.HasCall ne = absurd (ne refl)
+adds-uncalled-rest part.OnChannel ne = sends part.OnChannel (goes_out (adding 0 9 ∷ adding 1 10 ∷ [])) opened temp_there refl refl (all-on-sid (goes_out (adding 0 9 ∷ adding 1 10 ∷ [])) opened temp_there ((adding 0 9).message) ((adding 1 10).message ∷ []) 1 refl refl refl refl refl refl refl) tt
+adds-uncalled-rest p ne = quiet-sends p (goes_out (adding 0 9 ∷ adding 1 10 ∷ [])) opened temp_there refl refl refl
 
-pub added-twice : SendsWrong part.Apart (world (goes_out (adding 0 9 ∷ adding 0 10 ∷ []) ∷ []) opened temp_there)
-added-twice = (added-twice-rest, λ h. (let p = its-sent part.Apart (goes_out (adding 0 9 ∷ adding 0 10 ∷ [])) opened temp_there refl refl h.0 1 2 0 0 (omega arith) (adding 0 9, refl, refl) (adding 0 10, refl, refl) in let after = p.1 in let early = p.2 in omega (arith, after, early)))
+pub adds-uncalled : SendsWrong part.HasCall (uncalled_in (goes_out (adding 0 9 ∷ adding 1 10 ∷ [])))
+adds-uncalled = (adds-uncalled-rest, λ h. (let c = its-sent part.HasCall (goes_out (adding 0 9 ∷ adding 1 10 ∷ [])) opened temp_there refl refl h.0 1 (On 0 (Subscribe 0)) tt (adding 0 9, refl, refl) in let e : Called (On 0 (Subscribe 0)) c.0 ≡ Opened 0 temp_name = (one-at (Opened 0 temp_name) c.1.0 _ c.1.1).1 in cc))
+
+added-twice-rest : (p : Sending) → (p ≡ part.Apart → ⊥) → MaySend p (sent_in (goes_out (adding 0 9 ∷ adding 0 10 ∷ [])))
+added-twice-rest part.Apart ne = absurd (ne refl)
+added-twice-rest part.OnChannel ne = sends part.OnChannel (goes_out (adding 0 9 ∷ adding 0 10 ∷ [])) (calls (goes_out (adding 0 9 ∷ adding 0 10 ∷ [])).up) temp_there refl refl (all-on-sid (goes_out (adding 0 9 ∷ adding 0 10 ∷ [])) (calls (goes_out (adding 0 9 ∷ adding 0 10 ∷ [])).up) temp_there ((adding 0 9).message) ((adding 0 10).message ∷ []) 1 refl refl refl refl refl refl refl) tt
+added-twice-rest p ne = quiet-sends p (goes_out (adding 0 9 ∷ adding 0 10 ∷ [])) (calls (goes_out (adding 0 9 ∷ adding 0 10 ∷ [])).up) temp_there refl refl refl
+
+pub added-twice : SendsWrong part.Apart (sent_in (goes_out (adding 0 9 ∷ adding 0 10 ∷ [])))
+added-twice = (added-twice-rest, λ h. (let p = its-sent part.Apart (goes_out (adding 0 9 ∷ adding 0 10 ∷ [])) (calls (goes_out (adding 0 9 ∷ adding 0 10 ∷ [])).up) temp_there refl refl h.0 1 2 0 0 (omega arith) (adding 0 9, refl, refl) (adding 0 10, refl, refl) in let after = p.1 in let early = p.2 in omega (arith, after, early)))
 
 abbrev intent-of : Line → Intent
 intent-of (Called i e) = i

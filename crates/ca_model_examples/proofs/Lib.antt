@@ -5,6 +5,7 @@ pub mod Shown
 pub mod Names
 pub mod Requests
 pub mod Writes
+pub mod Waiting
 pub mod Echoes
 pub mod Opened
 pub mod Creations

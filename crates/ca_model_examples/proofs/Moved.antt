@@ -11,8 +11,8 @@ use Rattle.ca_dbr.specs.Elements.{Elements}
 use Rattle.ca_dbr.specs.Elements as E
 use Rattle.ca_model.specs.Speech.{Stored}
 use Rattle.ca_wire.specs.Messages.{mask_in}
-use Rattle.ca_model.specs.History.{Circuit, Intent, On, Create, Request, Subscribe, Put, Line, Entry, Sent, Told, Step, Added, Finished, Withdrawn, Reply, Update, Cause, Called, Noticed, Updated}
-use Rattle.ca_model.specs.Channels.{IsApplied, IsLost, IsRequest, IsUse, Joins, OfCircuits, OfClients, Stands, updates}
+use Rattle.ca_model.specs.History.{Circuit, Intent, On, Create, Request, Subscribe, Put, Line, Entry, Sent, Told, Step, Added, Finished, Waits, Withdrawn, Reply, Update, Cause, Called, Noticed, Updated}
+use Rattle.ca_model.specs.Channels.{IsApplied, IsLost, IsRequest, IsUse, IsWaiting, Joins, OfCircuits, OfClients, Stands, updates}
 use Rattle.ca_model.specs.Headline.{ActsOnRecord, AnswersOwn, CompletesOnce, Follows, FollowsRecord, LosesLive, NotTwice, Reads, Sees}
 use Rattle.ca_model.specs.Known.{IsSafe}
 use Rattle.ca_model.specs.Legal.{IsSent, Legal, LegalCircuit}
@@ -233,10 +233,18 @@ no-drop o p n k l i y at drops =
       | inr f ↦ cc
     ]
 
+no-wait : (o p : Outcome) (n k l i r : ℕ) (v : Stored) → IsWaiting (moved_world o p) n k l i r v → ⊥
+no-wait o p n k l i r v a =
+    elim (only-added o p l i a.0 _ a.1 a.2) [
+      | inl f ↦ cc
+      | inr f ↦ cc
+    ]
+
 moved-writes : (o p : Outcome) → NotTwice TrueDue Shows Means (moved_world o p)
 moved-writes o p = record {
   once = λ n k l m i j r q v u a. absurd (no-write o p n k l i r v a);
   own = λ n k l i r v a. absurd (no-write o p n k l i r v a);
+  waits = λ n k l i r v a. absurd (no-wait o p n k l i r v a);
   dropped = λ n k l i y at drops. absurd (no-drop o p n k l i y at drops);
   finished = λ n k l e y at ends. absurd (no-finish o p n k l e y at ends);
   done = λ life channel number x at h. absurd (no-use o p h.0 _ outcome.Done (subst (λ (s : List Line). At s h.0 (Noticed (On channel (Request Put number)) outcome.Done)) (one-at (moved_lines o p) life x at).1 h.1) tt);

@@ -13,7 +13,9 @@ use Rattle.ca_model.specs.Channels.{IsHeld, Meant}
 use Rattle.ca_model.specs.Legal.{BecomesLive, LegalCircuit, client_conduct, server_conduct}
 use Rattle.ca_model_examples.specs.Worlds.{adding, created_told, creating, step}
 use Rattle.ca_model_examples.specs.Moved.{moved, moved_entries, moved_lines}
+use Rattle.ca_model_examples.specs.Parts as part
 use Rattle.ca_model_examples.proofs.Lists.{each-at, at-take}
+use Rattle.ca_model_examples.proofs.Sent.{quiet-sent}
 use Rattle.ca_model_examples.proofs.Reopened.{intent-of, noticed-intent}
 use Rattle.ca_model_examples.proofs.MovedActs.{no-removal, reply-at}
 
@@ -213,6 +215,7 @@ module _ (server live read value : ℕ) (stays : Bool) where
   moved-circuit o p = record {
     client = moved-client;
     server = moved-server;
+    called = quiet-sent part.HasCall c (moved_lines o p) (moved_entries value) refl;
     told = λ j k sid r e made gone uncleared up. absurd (no-removal value e r gone);
     apart = λ k l channel number lt a b. (let d = subscribed-at k channel number a in let e = subscribed-at l channel number b in absurd (omega (arith, d, e, lt)));
     anew = λ channel k number h lives standing. sent-after o p channel k number h lives standing.0;

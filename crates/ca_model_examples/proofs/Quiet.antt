@@ -115,7 +115,7 @@ is_use (On channel (Request kind n)) = true
 is_use (On channel (Subscribe n)) = true
 is_use i = false
 
-is-use : (i : Intent) → IsUse i → is_use i ≡ true
+pub is-use : (i : Intent) → IsUse i → is_use i ≡ true
 is-use (On channel (Request kind n)) h = refl
 is-use (On channel (Subscribe n)) h = refl
 is-use (On channel Create) h = absurd h
@@ -253,6 +253,10 @@ abbrev pub is_applied : Entry → Bool
 is_applied (Applied n k r v b) = true
 is_applied e = false
 
+abbrev pub is_waiting : Entry → Bool
+is_waiting (history.Waits n k r v) = true
+is_waiting e = false
+
 abbrev pub is_withdrawn : Entry → Bool
 is_withdrawn (Withdrawn n k) = true
 is_withdrawn e = false
@@ -370,6 +374,7 @@ life_test p c x = true
 abbrev pub world_test : Part → List Line → List Entry → Bool
 world_test part.AppliedOnce x y = few is_applied y
 world_test part.OwnWrite x y = not (any is_applied y)
+world_test part.CameToWait x y = not (any is_waiting y)
 world_test part.Dropped x y = not (any is_withdrawn y)
 world_test part.Finished x y = not (any is_finished y)
 world_test part.Done x y = not (any is_done x)
@@ -463,6 +468,8 @@ module _
       (z.0 ∙ sym o.0, few-same is_applied y t i j _ _ at bt refl refl))
   quiet-world part.OwnWrite c x y t = λ n k l i r v a.
       absurd (none is_applied y t i _ (subst (λ (e : List Entry). At e i (Applied n k r v a.1)) (one-at y l a.0 a.2).1 a.3) refl)
+  quiet-world part.CameToWait c x y t = λ n k l i r v a.
+      absurd (none is_waiting y t i _ (subst (λ (e : List Entry). At e i (history.Waits n k r v)) (one-at y l a.0 a.1).1 a.2) refl)
   quiet-world part.Dropped c x y t = λ n k l i z at drops.
       absurd (none is_withdrawn y t i _ (subst (λ (e : List Entry). At e i (Withdrawn n k)) (one-at y l z at).1 drops) refl)
   quiet-world part.Finished c x y t = λ n k l i z at ends.
@@ -565,6 +572,7 @@ module _
     applied = record {
       once = (each part.AppliedOnce).2;
       own = (each part.OwnWrite).2;
+      waits = (each part.CameToWait).2;
       dropped = (each part.Dropped).2;
       finished = (each part.Finished).2;
       done = (each part.Done).2;
@@ -621,6 +629,7 @@ module _
   parts w s part.SeesInOrder = (λ n c at. (let h = s.acts n c at in (h.0, h.1, h.2, tt)), (λ life x at. (s.sees.1 life x at).in_order), tt)
   parts w s part.AppliedOnce = (λ n c at. (let h = s.acts n c at in (h.0, h.1, h.2, tt)), (λ life x at. tt), s.applied.once)
   parts w s part.OwnWrite = (λ n c at. (let h = s.acts n c at in (h.0, h.1, h.2, tt)), (λ life x at. tt), s.applied.own)
+  parts w s part.CameToWait = (λ n c at. (let h = s.acts n c at in (h.0, h.1, h.2, tt)), (λ life x at. tt), s.applied.waits)
   parts w s part.Dropped = (λ n c at. (let h = s.acts n c at in (h.0, h.1, h.2, tt)), (λ life x at. tt), s.applied.dropped)
   parts w s part.Finished = (λ n c at. (let h = s.acts n c at in (h.0, h.1, h.2, tt)), (λ life x at. tt), s.applied.finished)
   parts w s part.Done = (λ n c at. (let h = s.acts n c at in (h.0, h.1, h.2, tt)), (λ life x at. tt), s.applied.done)

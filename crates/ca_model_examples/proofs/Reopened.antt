@@ -13,7 +13,9 @@ use Rattle.ca_model.specs.Channels.{Created, IsHeld, Joins, Meant, OfCircuits, O
 use Rattle.ca_model.specs.Legal.{BecomesLive, IsSent, Legal, LegalCircuit, client_conduct, server_conduct}
 use Rattle.ca_model_examples.specs.Worlds.{adding, clearing, created_told, creating, disconnected, step}
 use Rattle.ca_model_examples.specs.Safe.{reopened, reopened_entries, reopened_lines, reopened_world}
+use Rattle.ca_model_examples.specs.Parts as part
 use Rattle.ca_model_examples.proofs.Lists.{each-at, at-take, at-take-within, one-at}
+use Rattle.ca_model_examples.proofs.Sent.{quiet-sent}
 
 abbrev cl : Conduct
 cl = client_conduct reopened
@@ -514,6 +516,7 @@ legal-circuit : (o : Outcome) → LegalCircuit 0 reopened (reopened_lines o) reo
 legal-circuit o = record {
   client = reopened-client;
   server = reopened-server;
+  called = quiet-sent part.HasCall reopened (reopened_lines o) reopened_entries refl;
   told = λ j k sid r e made gone uncleared up. gone-told j k sid r e made gone;
   apart = λ k l channel number lt a b. elim (subscribed-at k channel number a) [
     | inl x ↦ elim (subscribed-at l channel number b) [

@@ -11,7 +11,7 @@ use Rattle.ca_dbr.specs.Elements.{Elements}
 use Rattle.ca_dbr.specs.Elements as E
 use Rattle.ca_model.specs.Speech.{In, Stored}
 use Rattle.ca_wire.specs.Messages.{mask_in}
-use Rattle.ca_model.specs.History.{Circuit, Intent, On, OfCircuit, Create, Request, Subscribe, Put, Line, Entry, Sent, Told, Step, Added, Applied, Finished, Withdrawn, Removed, Clear, Reply, Update, Cause, Called, Noticed, Updated}
+use Rattle.ca_model.specs.History.{Circuit, Intent, On, OfCircuit, Create, Request, Subscribe, Put, Line, Entry, Sent, Told, Step, Added, Applied, Finished, Waits, Withdrawn, Removed, Clear, Reply, Update, Cause, Called, Noticed, Updated}
 use Rattle.ca_model.specs.Channels.{IsApplied, IsLost, IsOpen, IsRequest, IsUse, Stands, before, updates}
 use Rattle.ca_model.specs.Headline.{ActsOnRecord, AnswersOwn, CompletesOnce, Follows, FollowsRecord, LosesLive, NotTwice, Reads, Sees}
 use Rattle.ca_model.specs.Known.{IsSafe}
@@ -196,6 +196,7 @@ reopened-writes : (o : Outcome) → NotTwice TrueDue Shows Means (reopened_world
 reopened-writes o = record {
   once = λ n k l m i j r q v u a. absurd (no-write o n k l i r v a);
   own = λ n k l i r v a. absurd (no-write o n k l i r v a);
+  waits = λ n k l i r v a. absurd (each-at (λ (j : ℕ) (z : Entry). z ≡ Waits n k r v → ⊥) reopened_entries ((λ f. cc), ((λ f. cc), ((λ f. cc), tt))) i _ (subst (λ (s : List Entry). At s i (Waits n k r v)) (one-at reopened_entries l a.0 a.1).1 a.2) refl);
   dropped = λ n k l i y at drops. absurd (each-at (λ (j : ℕ) (z : Entry). z ≡ Withdrawn n k → ⊥) reopened_entries ((λ f. cc), ((λ f. cc), ((λ f. cc), tt))) i _ (subst (λ (s : List Entry). At s i (Withdrawn n k)) (one-at reopened_entries l y at).1 drops) refl);
   finished = λ n k l e y at ends. absurd (each-at (λ (j : ℕ) (z : Entry). z ≡ Finished n k → ⊥) reopened_entries ((λ f. cc), ((λ f. cc), ((λ f. cc), tt))) e _ (subst (λ (s : List Entry). At s e (Finished n k)) (one-at reopened_entries l y at).1 ends) refl);
   done = λ life channel number x at h. absurd (no-use o h.0 _ outcome.Done (subst (λ (s : List Line). At s h.0 (Noticed (On channel (Request Put number)) outcome.Done)) (one-at (reopened_lines o) life x at).1 h.1) tt);

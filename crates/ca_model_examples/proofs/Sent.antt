@@ -1,22 +1,23 @@
 -- What is legal in small histories, by tests that compute.
 use Rattle.std.proofs.Common.{◌≡◌, ℕ, zero, suc, ◌<◌, ◌≤◌, ◌%◌, ◌⊎◌, inl, inr, List, [], ◌∷◌, refl, sym, ap, subst, ◌∙◌, arith}
-use Rattle.std.specs.Prelude.{Bool, true, false, not, ◌&&◌, ◌||◌, ◌==◌, take}
+use Rattle.std.specs.Prelude.{Bool, true, false, not, ◌&&◌, ◌||◌, ◌==◌, None, Option, take}
 use Rattle.std.proofs.lemmas.Bool.{not-false, and_from, and_parts, eq-eqb, eqb-true, or_cases}
 use Rattle.ca_text.specs.Limits.{arena_slots}
 use Rattle.ca_text.specs.Place.{At}
 use Rattle.ca_text.proofs.Places.{some_is}
 use Rattle.ca_wire.specs.Fields.{Fields}
 use Rattle.ca_text.specs.declared.command.Command.TheVariants as command
-use Rattle.ca_model.specs.Speech.{Id, Cid, Ioid, SubId, Gives, Is, sid_in}
-use Rattle.ca_model.specs.History.{Subscribe, Intent, On, Sent, Step, Circuit, Entry, Line, Called, World}
-use Rattle.ca_model.specs.Channels.{OfCircuits}
+use Rattle.ca_model.specs.Speech.{Id, Cid, Ioid, SubId, Gives, In, Is, sid_in}
+use Rattle.ca_dbr.specs.Elements.{Elements}
+use Rattle.ca_model.specs.History.{Kind, Put, Read, Request, Subscribe, Write, Intent, On, OfCircuit, Sent, Step, Circuit, Entry, Line, Called, World}
+use Rattle.ca_model.specs.Channels.{IsUse, Meant, OfCircuits}
 use Rattle.ca_model.specs.Sends.{Conduct, HasChannel, IsDisconnect, IsOnChannel, ReadsBetween, SameIndex}
 use Rattle.ca_model.specs.Legal.{Legal, client_conduct, server_conduct}
 use Rattle.ca_model_examples.specs.Worlds.{AnyDue, created_told, creating, world}
 use Rattle.ca_model_examples.specs.Parts.{Sending, CalledSo, MaySend, SentSo}
 use Rattle.ca_model_examples.specs.Parts as part
 use Rattle.ca_model_examples.proofs.Lists.{none-at}
-use Rattle.ca_model_examples.proofs.Quiet.{of-circuit, of-life, any, any-at, clash, idle, is_called, is_noticed, is_removed, is_subscription, its, none}
+use Rattle.ca_model_examples.proofs.Quiet.{of-circuit, of-life, any, any-at, clash, idle, is_called, is_noticed, is_removed, is_subscription, is_use, is-use, its, none}
 
 -- no two messages clash
 abbrev pub spread : {A : Type 0} → (A → A → Bool) → List A → Bool
@@ -130,6 +131,64 @@ abbrev pub subscribes : Line → Bool
 subscribes (Called i e) = is_subscription i
 subscribes l = false
 
+-- two intents to use a record that are the same
+abbrev pub same_kind : Kind → Kind → Bool
+same_kind Read Read = true
+same_kind Put Put = true
+same_kind Write Write = true
+same_kind k l = false
+
+abbrev pub same_use : Intent → Intent → Bool
+same_use (On a (Request k n)) (On b (Request l m)) = (a == b && n == m) && same_kind k l
+same_use (On a (Subscribe n)) (On b (Subscribe m)) = a == b && n == m
+same_use i j = false
+
+kind-is : (k l : Kind) → same_kind k l ≡ true → k ≡ l
+kind-is Read Read h = refl
+kind-is Put Put h = refl
+kind-is Write Write h = refl
+kind-is k l h = absurd cc
+
+use-is : (i j : Intent) → same_use i j ≡ true → i ≡ j
+use-is (On a (Request k n)) (On b (Request l m)) h =
+    let both_of = and_parts (a == b && n == m) (same_kind k l) h in
+    let numbers = and_parts (a == b) (n == m) both_of.0 in
+    let channel : a ≡ b = eqb-true a b numbers.0 in
+    let number : n ≡ m = eqb-true n m numbers.1 in
+    let kind : k ≡ l = kind-is k l both_of.1 in
+    λ t. On (channel t) (Request (kind t) (number t))
+use-is (On a (Subscribe n)) (On b (Subscribe m)) h =
+    let numbers = and_parts (a == b) (n == m) h in
+    let channel : a ≡ b = eqb-true a b numbers.0 in
+    let number : n ≡ m = eqb-true n m numbers.1 in
+    λ t. On (channel t) (Subscribe (number t))
+use-is i j h = absurd cc
+
+-- the line calls what is meant so
+abbrev pub calls_it : Intent → Line → Bool
+calls_it i (Called j e) = same_use i j
+calls_it i l = false
+
+abbrev pub intent_in : Line → Intent
+intent_in (Called i e) = i
+intent_in l = OfCircuit
+
+line-called : (i : Intent) (l : Line) → calls_it i l ≡ true → (given : Option Elements) × (l ≡ Called i given)
+line-called i (Called j e) h = (e, ap (λ (z : Intent). Called z e) (sym (use-is i j h)))
+line-called i l h = absurd cc
+
+there : {A : Type 0} (t : A → Bool) (xs : List A) → any t xs ≡ true → (i : ℕ) × (v : A) × At xs i v × (t v ≡ true)
+there t [] h = absurd cc
+there t (x ∷ xs) h = elim (or_cases (t x) (any t xs) h) [
+  | inl first ↦ (0, x, refl, first)
+  | inr later ↦ (let r = there t xs later in (suc r.0, r.1, r.2, r.3))
+]
+
+so-then : (a b : Bool) → (a && not b) ≡ false → a ≡ true → b ≡ true
+so-then true true h e = refl
+so-then true false h e = absurd cc
+so-then false b h e = absurd cc
+
 abbrev pub has_update : Fields → Bool
 has_update m = is 1 m && not (idle m.payload)
 
@@ -156,11 +215,12 @@ send_test part.Sids c x y = spread sids_clash (server_conduct c).sent
 send_test part.Updates c x y = not (any has_update (server_conduct c).sent)
 send_test part.Confirmations c x y = not (any confirms (server_conduct c).sent)
 send_test part.Disconnects c x y = not (any (is 27) (server_conduct c).sent)
+send_test part.HasCall c x y = not (any (λ (s : Sent). is_use s.intent && not (any (calls_it s.intent) x)) c.up)
 send_test part.ToldRemoved c x y = not c.server_open || not (any is_removed y)
 send_test part.Apart c x y = spread (λ (s r : Sent). one_subscription s.intent r.intent) c.up
 send_test part.Anew c x y = not (any (λ (h : Step). any subscribes (take h.logged x)) c.heard)
 send_test part.Ended c x y = not (any (λ (s : Sent). is_subscription s.intent) c.up) || not (any (λ (h : Step). told_by h x) c.heard)
-send_test part.HasAdd c x y = not (any subscribes x)
+send_test part.HasAdd c x y = c.client == 0 && not (any (λ (l : Line). subscribes l && not (any (λ (s : Sent). same_use (intent_in l) s.intent) c.up)) x)
 
 any-not : {A : Type 0} (t : A → Bool) (xs : List A) → any t xs ≡ false → (i : ℕ) (v : A) → At xs i v → t v ≡ true → ⊥
 any-not t xs e i v at p = clash p (any-at t xs e i v at)
@@ -176,6 +236,14 @@ not-true-false false h = refl
 apart-so : (s r : Sent) (channel number : ℕ) → s.intent ≡ On channel (Subscribe number) → r.intent ≡ On channel (Subscribe number) → one_subscription s.intent r.intent ≡ true
 apart-so s r channel number e f = subst (λ (i : Intent). one_subscription i r.intent ≡ true) (sym e) (subst (λ (i : Intent). one_subscription (On channel (Subscribe number)) i ≡ true) (sym f) (one-subscription channel number))
 
+called-in : (c : Circuit) (x : List Line) → not (any (λ (s : Sent). is_use s.intent && not (any (calls_it s.intent) x)) c.up) ≡ true → (k : ℕ) (intent : Intent) → IsUse intent → Meant c k intent → (given : Option Elements) × In x (Called intent given)
+called-in c x t k intent uses meant =
+    let s : Sent = meant.0 in
+    let missing : (is_use s.intent && not (any (calls_it s.intent) x)) ≡ false = any-at (λ (z : Sent). is_use z.intent && not (any (calls_it z.intent) x)) c.up (not-true-false _ t) k s meant.1 in
+    let it = there (calls_it s.intent) x (so-then (is_use s.intent) (any (calls_it s.intent) x) missing (ap is_use meant.2 ∙ is-use intent uses)) in
+    let line = line-called s.intent it.1 it.3 in
+    (line.0, (it.0, subst (λ (l : Line). At x it.0 l) (line.1 ∙ ap (λ (z : Intent). Called z line.0) meant.2) it.2))
+
 pub quiet-sent : (p : Sending) (c : Circuit) (x : List Line) (y : List Entry) → send_test p c x y ≡ true → SentSo p 0 c x y
 quiet-sent part.OnChannel c x y t = λ k m at on. absurd (none on_channel (client_conduct c).sent t k m at (on-channel-so m on))
 quiet-sent part.Cancels c x y t = λ k m at e. absurd (none (is 2) (client_conduct c).sent t k m at (is-so 2 m e))
@@ -184,6 +252,7 @@ quiet-sent part.Sids c x y t = λ i k a b m r lt p q g h s. absurd (spread-at si
 quiet-sent part.Updates c x y t = λ k m at e full. absurd (none has_update (server_conduct c).sent t k m at (and_from (is 1 m) (not (idle m.payload)) (is-so 1 m e) (some-payload m.payload full)))
 quiet-sent part.Confirmations c x y t = λ k m at e empty. absurd (none confirms (server_conduct c).sent t k m at (and_from (is 1 m) (idle m.payload) (is-so 1 m e) (no-payload m.payload empty)))
 quiet-sent part.Disconnects c x y t = λ k m at e. absurd (none (is 27) (server_conduct c).sent t k m at (is-so 27 m e))
+quiet-sent part.HasCall c x y t = called-in c x t
 quiet-sent part.ToldRemoved c x y t = λ j k sid r e made gone uncleared up.
     absurd (elim (or_cases (not c.server_open) (not (any is_removed y)) t) [
       | inl a ↦ clash up (not-true-false c.server_open a)
@@ -203,7 +272,12 @@ quiet-sent part.Ended c x y t = λ channel k l number h live lt meant.
 quiet-sent part.HasAdd c x y t = tt
 
 pub quiet-called : (p : Sending) (c : Circuit) (x : List Line) (y : List Entry) → send_test p c x y ≡ true → CalledSo p (world (c ∷ []) x y) 0 x
-quiet-called part.HasAdd c x y t = λ channel number h. absurd (none subscribes x t h.0 _ h.1 refl)
+quiet-called part.HasAdd c x y t = λ channel number h.
+    let intent : Intent = On channel (Subscribe number) in
+    let parts = and_parts (c.client == 0) _ t in
+    let missing = any-at (λ (l : Line). subscribes l && not (any (λ (s : Sent). same_use (intent_in l) s.intent) c.up)) x (not-true-false _ parts.1) h.0 (Called intent None) h.1 in
+    let it = there (λ (s : Sent). same_use intent s.intent) c.up (so-then true (any (λ (s : Sent). same_use intent s.intent) c.up) missing refl) in
+    (0, it.0, (c, refl, eqb-true c.client 0 parts.0, (it.1, it.2, sym (use-is intent (it.1).intent it.3))))
 quiet-called p c x y t = tt
 
 -- ---- a world of one circuit between the first lives
@@ -237,6 +311,7 @@ all-legal w each = record {
         confirmations = its AnyDue w (SentSo part.Confirmations) (each part.Confirmations).0 n c h.0 h.1 h.2;
         disconnects = its AnyDue w (SentSo part.Disconnects) (each part.Disconnects).0 n c h.0 h.1 h.2;
       };
+      called = its AnyDue w (SentSo part.HasCall) (each part.HasCall).0 n c h.0 h.1 h.2;
       told = its AnyDue w (SentSo part.ToldRemoved) (each part.ToldRemoved).0 n c h.0 h.1 h.2;
       apart = its AnyDue w (SentSo part.Apart) (each part.Apart).0 n c h.0 h.1 h.2;
       anew = its AnyDue w (SentSo part.Anew) (each part.Anew).0 n c h.0 h.1 h.2;
@@ -254,6 +329,7 @@ each-legal w l part.Sids = (λ n c at. (let h = l.circuits n c at in (h.0, h.1, 
 each-legal w l part.Updates = (λ n c at. (let h = l.circuits n c at in (h.0, h.1, h.2, h.3.server.updates)), λ life x at. tt)
 each-legal w l part.Confirmations = (λ n c at. (let h = l.circuits n c at in (h.0, h.1, h.2, h.3.server.confirmations)), λ life x at. tt)
 each-legal w l part.Disconnects = (λ n c at. (let h = l.circuits n c at in (h.0, h.1, h.2, h.3.server.disconnects)), λ life x at. tt)
+each-legal w l part.HasCall = (λ n c at. (let h = l.circuits n c at in (h.0, h.1, h.2, h.3.called)), λ life x at. tt)
 each-legal w l part.ToldRemoved = (λ n c at. (let h = l.circuits n c at in (h.0, h.1, h.2, h.3.told)), λ life x at. tt)
 each-legal w l part.Apart = (λ n c at. (let h = l.circuits n c at in (h.0, h.1, h.2, h.3.apart)), λ life x at. tt)
 each-legal w l part.Anew = (λ n c at. (let h = l.circuits n c at in (h.0, h.1, h.2, h.3.anew)), λ life x at. tt)

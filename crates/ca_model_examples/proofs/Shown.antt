@@ -5,8 +5,8 @@ use Rattle.ca_text.specs.Place.{At}
 use Rattle.ca_dbr.specs.declared.value.Outcome.TheVariants as outcome
 use Rattle.ca_wire.specs.Fields.{Fields}
 use Rattle.ca_model.specs.Speech.{Id, Speaks}
-use Rattle.ca_model.specs.History.{Reply, Circuit, Entry, Line, Sent, Told, Step, Applied, Withdrawn, Finished, Called, Noticed, World}
-use Rattle.ca_model.specs.Channels.{IsBusyUntil, IsDropped, IsLost, IsOwnWrite, IsReply, IsRequest, Stands, before}
+use Rattle.ca_model.specs.History.{Reply, Circuit, Entry, Line, Sent, Told, Step, Applied, Waits, Withdrawn, Finished, Called, Noticed, World}
+use Rattle.ca_model.specs.Channels.{CameIn, IsBusyUntil, IsDropped, IsLost, IsOwnWrite, IsReply, IsRequest, Stands, before}
 use Rattle.ca_model.specs.Headline.{Answered, HasCause, Reads, TakesOwn}
 use Rattle.ca_requests.specs.Meaning.{Means}
 use Rattle.ca_model.specs.Updates.{Shows}
@@ -30,6 +30,10 @@ abbrev pub OwnAt : World → ℕ → Entry → Type 0
 OwnAt w i (Applied n k r v b) = IsOwnWrite w n k 0 i r v
 OwnAt w i e = Unit {0}
 
+abbrev pub CameAt : World → ℕ → Entry → Type 0
+CameAt w i (Waits n k r v) = CameIn w n k 0 i
+CameAt w i e = Unit {0}
+
 abbrev pub DroppedAt : World → List Entry → ℕ → Entry → Type 0
 DroppedAt w y i (Withdrawn n k) = IsDropped w n k 0 i y
 DroppedAt w y i e = Unit {0}
@@ -50,6 +54,12 @@ module _ (c : Circuit) (x : List Line) (y : List Entry) (e : c.client ≡ 0) (f 
       (let z = one-at y l a.0 a.2 in
       let at : At y i (Applied n k r v a.1) = subst (λ (e : List Entry). At e i (Applied n k r v a.1)) z.1 a.3 in
       subst (λ (m : ℕ). IsOwnWrite (world (c ∷ []) x y) n k m i r v) (sym z.0) (each-at (OwnAt (world (c ∷ []) x y)) y all i _ at)))
+
+  pub came-each : Each (CameAt (world (c ∷ []) x y)) y → Holds AnyDue part.CameToWait (world (c ∷ []) x y)
+  came-each all = holds AnyDue part.CameToWait c x y e f tt tt (λ n k l i r v a.
+      (let z = one-at y l a.0 a.1 in
+      let at : At y i (Waits n k r v) = subst (λ (e : List Entry). At e i (Waits n k r v)) z.1 a.2 in
+      subst (λ (m : ℕ). CameIn (world (c ∷ []) x y) n k m i) (sym z.0) (each-at (CameAt (world (c ∷ []) x y)) y all i _ at)))
 
   pub dropped-each : Each (DroppedAt (world (c ∷ []) x y) y) y → Holds AnyDue part.Dropped (world (c ∷ []) x y)
   dropped-each all = holds AnyDue part.Dropped c x y e f tt tt (λ n k l i z at drops.

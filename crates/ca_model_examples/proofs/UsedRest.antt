@@ -7,7 +7,7 @@ use Rattle.ca_dbr.specs.declared.value.Outcome.TheVariants as outcome
 use Rattle.ca_dbr.specs.Elements.{Elements, longs}
 use Rattle.ca_wire.specs.Fields.{Fields}
 use Rattle.ca_model.specs.Speech.{In, Stored}
-use Rattle.ca_model.specs.History.{Create, Clear, Request, Subscribe, Read, Put, Intent, On, OfCircuit, Reply, Circuit, Entry, Line, Sent, Added, Applied, Finished, Withdrawn, Called, Noticed, Updated}
+use Rattle.ca_model.specs.History.{Create, Clear, Request, Subscribe, Read, Put, Intent, On, OfCircuit, Reply, Circuit, Entry, Line, Sent, Added, Applied, Finished, Waits, Withdrawn, Called, Noticed, Updated}
 use Rattle.ca_model.specs.Channels.{IsApplied, IsOwnWrite, IsRequest, IsUse, Lasts, Stands, updates}
 use Rattle.ca_model.specs.Headline.{CompletesOnce, NotTwice, Reads}
 use Rattle.ca_requests.specs.Meaning.{Means}
@@ -220,6 +220,9 @@ module _
         subst (λ (z : ℕ). IsOwnWrite used_world z k l i r v) (sym e.2) (subst (λ (z : ℕ). IsOwnWrite used_world 0 z l i r v) (sym e.3) (
         subst (λ (z : ℕ). IsOwnWrite used_world 0 1 z i r v) (sym e.0) (subst (λ (z : ℕ). IsOwnWrite used_world 0 1 0 z r v) (sym e.1) (
         subst (λ (z : ℕ). IsOwnWrite used_world 0 1 0 1 z v) (sym e.4) (subst (λ (z : Stored). IsOwnWrite used_world 0 1 0 1 0 z) (sym e.5) own-write))))));
+    waits = λ n k l i r v a.
+        (let here : At used_entries i (Waits n k r v) = subst (λ (s : List Entry). At s i (Waits n k r v)) (one-at used_entries l a.0 a.1).1 a.2 in
+        absurd (each-at (λ (j : ℕ) (s : Entry). s ≡ Waits n k r v → ⊥) used_entries ((λ f. cc), ((λ f. cc), tt)) i _ here refl));
     dropped = λ n k l i y at drops.
         (let z = one-at used_entries l y at in
         let here : At used_entries i (Withdrawn n k) = subst (λ (s : List Entry). At s i (Withdrawn n k)) z.1 drops in

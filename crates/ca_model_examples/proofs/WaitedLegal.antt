@@ -11,7 +11,9 @@ use Rattle.ca_model.specs.Channels.{Meant}
 use Rattle.ca_model.specs.Legal.{IsSent, Legal, LegalCircuit, client_conduct, server_conduct}
 use Rattle.ca_model_examples.specs.Worlds.{created_told, creating}
 use Rattle.ca_model_examples.specs.Waited.{waited, waited_entries, waited_lines, waited_world}
+use Rattle.ca_model_examples.specs.Parts as part
 use Rattle.ca_model_examples.proofs.Lists.{each-at, at-take, none-at}
+use Rattle.ca_model_examples.proofs.Sent.{quiet-sent}
 use Rattle.ca_model_examples.proofs.WaitedActs.{no-removed}
 use Rattle.ca_model_examples.proofs.WaitedRest.{each-circuit, each-life}
 
@@ -152,6 +154,7 @@ legal-circuit : LegalCircuit 0 waited waited_lines waited_entries
 legal-circuit = record {
   client = waited-client;
   server = waited-server;
+  called = quiet-sent part.HasCall waited waited_lines waited_entries refl;
   told = λ j k sid r e made gone uncleared up. absurd (no-removed e r gone);
   apart = λ k l channel number lt a b. absurd (no-subscription k channel number a);
   anew = λ channel k number h live standing. absurd (none-called standing.0.0 channel number (at-take h.logged waited_lines standing.0.0 _ standing.0.1));

@@ -6,8 +6,8 @@ use Rattle.ca_dbr.specs.declared.value.Outcome.{Outcome}
 use Rattle.ca_dbr.specs.declared.value.Outcome.TheVariants as outcome
 use Rattle.ca_dbr.specs.Elements.{Elements, longs}
 use Rattle.ca_model.specs.Speech.{In, Stored}
-use Rattle.ca_model.specs.History.{Circuit, Intent, On, OfCircuit, Create, Request, Subscribe, Put, Line, Entry, Sent, Applied, Withdrawn, Finished, Clear, Reply, Called, Noticed, Updated}
-use Rattle.ca_model.specs.Channels.{IsApplied, IsBusyUntil, IsLost, IsOwnWrite, IsUse, Joins, OfCircuits, OfClients, Stands}
+use Rattle.ca_model.specs.History.{Circuit, Intent, On, OfCircuit, Create, Request, Subscribe, Put, Line, Entry, Sent, Applied, Waits, Withdrawn, Finished, Clear, Reply, Called, Noticed, Updated}
+use Rattle.ca_model.specs.Channels.{CameIn, IsApplied, IsBusyUntil, IsLost, IsOwnWrite, IsUse, IsWaiting, Joins, OfCircuits, OfClients, Stands}
 use Rattle.ca_model.specs.Headline.{ActsOnRecord, AnswersOwn, CompletesOnce, FollowsRecord, NotTwice, Reads, Sees}
 use Rattle.ca_model.specs.Known.{IsSafe}
 use Rattle.ca_requests.specs.Meaning.{Means}
@@ -238,10 +238,29 @@ notice-in life i x intent o at here =
       | inr e ↦ absurd (no-line i (Noticed intent o) (subst (λ (z : List Line). At z i (Noticed intent o)) e.1 here))
     ]
 
+abbrev came-place : Entry → ℕ × ℕ
+came-place (Waits n k r v) = (n, k)
+came-place e = (0, 0)
+
+-- the put that waits came in its step
+came-waiting : (n k l i r : ℕ) (v : Stored) → IsWaiting waited_world n k l i r v → CameIn waited_world n k l i
+came-waiting n k l i r v a =
+    let z = one-at waited_entries l a.0 a.1 in
+    let at : At waited_entries i (Waits n k r v) = subst (λ (s : List Entry). At s i (Waits n k r v)) z.1 a.2 in
+    subst (λ (m : ℕ). CameIn waited_world n k m i) (sym z.0)
+    (each-at (λ (j : ℕ) (e : Entry). e ≡ Waits n k r v → CameIn waited_world n k 0 j) waited_entries (
+      (λ f. absurd cc),
+      (
+        (λ f. absurd cc),
+        ((λ f. subst (λ (m : ℕ × ℕ). CameIn waited_world m.0 m.1 0 2) (ap came-place f) (waited, refl, refl, inl (step 2 2 3, refl, omega arith, omega arith))), ((λ f. absurd cc), ((λ f. absurd cc), tt))),
+      ),
+    ) i _ at refl)
+
 pub waited-writes : NotTwice TrueDue Shows Means waited_world
 waited-writes = record {
   once = λ n k l m i j r q v u a b. (let e = applied-is n k l i r v a in let f = applied-is n k m j q u b in (e.0 ∙ sym f.0, once-at n k i j r q v u e.1 f.1));
   own = λ n k l i r v a. (let e = applied-is n k l i r v a in owned n k l i r v e.0 e.1);
+  waits = came-waiting;
   dropped = λ n k l i y at drops. absurd (no-withdrawal i n k (subst (λ (s : List Entry). At s i (Withdrawn n k)) (one-at waited_entries l y at).1 drops));
   finished = λ n k l e y at ends.
       (let z = one-at waited_entries l y at in

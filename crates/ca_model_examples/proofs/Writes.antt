@@ -9,14 +9,14 @@ use Rattle.ca_dbr.specs.declared.value.Meta.{Meta}
 use Rattle.ca_records.specs.Record.{RecordState}
 use Rattle.ca_model.specs.Speech.{In, IsWritten, Stored}
 use Rattle.ca_model.specs.History.{Request, Put, On, Circuit, Entry, Line, Added, Removed, Waits, Applied, Finished, Withdrawn, Opened, Called}
-use Rattle.ca_model.specs.Channels.{IsBusyUntil, IsDropped, HasWaited, IsOwnWrite, IsTaken}
+use Rattle.ca_model.specs.Channels.{CameIn, IsBusyUntil, HasWaited, IsOwnWrite, IsTaken}
 use Rattle.ca_model_examples.specs.Worlds.{AnyDue, alarmed, long, putting, temp, temp_name, world}
 use Rattle.ca_model_examples.specs.Parts.{Part, Holds, BreaksOnly, IsSafeNow, InCircuit, InLife, InWorld}
 use Rattle.ca_model_examples.specs.Parts as part
-use Rattle.ca_model_examples.specs.Unsafe.{finished, dropped, made_gone, made_23, made_alarmed, made_twice, made_once, closing, made, opened, put_called, put_closing, unhandled}
+use Rattle.ca_model_examples.specs.Unsafe.{finished, dropped, made_gone, made_23, made_alarmed, made_twice, made_once, closing, made, opened, put_called, put_closing, unhandled, waiting}
 use Rattle.ca_model_examples.proofs.Lists.{each-at, none-at, one-at}
 use Rattle.ca_model_examples.proofs.Quiet.{none, few-same, quiet, holds, whole, is_called, is_finished, is_removed}
-use Rattle.ca_model_examples.proofs.Shown.{DroppedAt, OwnAt, SentAt, dropped-each, finished-each, own-each, sent-each}
+use Rattle.ca_model_examples.proofs.Shown.{DroppedAt, OwnAt, SentAt, came-each, dropped-each, finished-each, own-each, sent-each}
 use Rattle.ca_model_examples.proofs.Names.{was-there}
 
 put-sent : (c : Circuit) (x : List Line) (y : List Entry) → c.client ≡ 0 → At c.up 0 (putting 0 8 22) → SentAt (world (c ∷ []) x y) 1 (Called (On 0 (Request Put 0)) (Some (longs (pos 22 ∷ []))))
@@ -185,30 +185,40 @@ dropped-as = record { c = closing; on = (refl, refl); e = 1; r = 0; v = long 22;
 
 drop-each : (p : Part) → Holds AnyDue p (put_closing dropped)
 drop-each part.SentOnce = closing-sent dropped
+drop-each part.CameToWait = came-each closing put_called dropped refl refl (tt, ((closing, refl, refl, closed 1), (tt, tt)))
 drop-each part.Dropped = dropped-each closing put_called dropped refl refl (tt, (tt, (dropped-as, tt)))
 drop-each p = quiet AnyDue p closing put_called dropped refl refl refl refl refl
 
 pub dropped-safe : IsSafeNow (put_closing dropped)
 dropped-safe = whole AnyDue _ drop-each
 
-drop-rest : (p : Part) → (p ≡ part.Dropped → ⊥) → Holds AnyDue p (world (unhandled ∷ []) put_called dropped)
-drop-rest part.Dropped ne = absurd (ne refl)
-drop-rest part.SentOnce ne = sent-each unhandled put_called dropped refl refl (tt, (put-sent unhandled put_called dropped refl refl, tt))
-drop-rest p ne = quiet AnyDue p unhandled put_called dropped refl refl refl refl refl
+-- ---- a put that waits
 
-not-dropped : IsDropped (world (unhandled ∷ []) put_called dropped) 0 0 0 2 dropped → ⊥
-not-dropped d =
-    let is : unhandled ≡ d.c = sym (one-at unhandled 0 d.c d.on.0).1 in
-    elim d.why [
-      | inl gone ↦ none is_removed (Added 0 temp ∷ Waits 0 0 0 (long 22) ∷ []) refl gone.0 _ gone.1 refl
-      | inr more ↦ elim more [
-        | inl cleared ↦ none-at cleared.0 cleared.2 (subst (λ (z : Circuit). At z.handled cleared.0 cleared.2) (sym is) cleared.5)
-        | inr shut ↦ (let t : true ≡ false = subst (λ (z : Circuit). z.server_open ≡ false) (sym is) shut in cc)
-      ]
+wait-each : (p : Part) → Holds AnyDue p (put_closing waiting)
+wait-each part.SentOnce = closing-sent waiting
+wait-each part.CameToWait = came-each closing put_called waiting refl refl (tt, ((closing, refl, refl, closed 1), tt))
+wait-each p = quiet AnyDue p closing put_called waiting refl refl refl refl refl
+
+pub waits-safe : IsSafeNow (put_closing waiting)
+waits-safe = whole AnyDue _ wait-each
+
+unhandled-rest : (p : Part) → (p ≡ part.CameToWait → ⊥) → Holds AnyDue p (world (unhandled ∷ []) put_called waiting)
+unhandled-rest part.CameToWait ne = absurd (ne refl)
+unhandled-rest part.SentOnce ne = sent-each unhandled put_called waiting refl refl (tt, (put-sent unhandled put_called waiting refl refl, tt))
+unhandled-rest p ne = quiet AnyDue p unhandled put_called waiting refl refl refl refl refl
+
+not-come : (i : ℕ) → CameIn (world (unhandled ∷ []) put_called waiting) 0 0 0 i → ⊥
+not-come i came =
+    let is : unhandled ≡ came.0 = sym (one-at unhandled 0 came.0 came.1).1 in
+    elim came.3 [
+      | inl handles ↦ none-at 0 handles.0 (subst (λ (z : Circuit). At z.handled 0 handles.0) (sym is) handles.1)
+      | inr shut ↦ (let t : true ≡ false = subst (λ (z : Circuit). z.server_open ≡ false) (sym is) shut.1 in cc)
     ]
 
-pub dropped-for-nothing : BreaksOnly part.Dropped (world (unhandled ∷ []) put_called dropped)
-dropped-for-nothing = (drop-rest, λ h. not-dropped (h.2 0 0 0 2 dropped refl refl))
+pub waits-unhandled : BreaksOnly part.CameToWait (world (unhandled ∷ []) put_called waiting)
+waits-unhandled = (unhandled-rest, λ h. not-come 1 (h.2 0 0 0 1 0 (long 22) (waiting, refl, refl)))
+
+-- ---- finishes
 
 busy-until : (more : List Entry) → IsBusyUntil (finished true more) 0 0 2
 busy-until more = (1, 0, long 22, refl, omega arith, λ j m l u after early at. absurd (omega (arith, after, early)))

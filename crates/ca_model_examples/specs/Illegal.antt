@@ -1,11 +1,12 @@
 -- Vocabulary: small histories in which one part of what is legal is broken, and no other, beside
 -- legal ones that differ in one place.
 use Rattle.std.specs.Prelude.{ℕ, false, List, [], ◌∷◌, None}
+use Rattle.std.specs.List.{flat_map}
 use Rattle.ca_text.specs.declared.command.Command.TheVariants as command
 use Rattle.ca_wire.specs.Messages.{cancel_reply, create_request, created_reply, event_add_request}
 use Rattle.ca_wire.specs.Messages.{put_request, rights_reply}
-use Rattle.ca_model.specs.History.{Cancel, Request, Write, Create, Subscribe, On, Sent, Told, Step}
-use Rattle.ca_model.specs.History.{Circuit, Line, Called, Opened, World}
+use Rattle.ca_model.specs.History.{Cancel, Request, Write, Create, Subscribe, Intent, On, Sent, Told}
+use Rattle.ca_model.specs.History.{Step, Circuit, Line, Called, Opened, World}
 use Rattle.ca_model_examples.specs.Worlds.{adding, circuit, created_told, creating, reading, reply}
 use Rattle.ca_model_examples.specs.Worlds.{step, temp_name, wanted, world}
 use Rattle.ca_model_examples.specs.Unsafe.{cancelling, echo, opened, temp_there, updated}
@@ -110,9 +111,23 @@ added_again =
       intent = On 0 (Subscribe 1);
     }
 
--- TEMP is there, and its channel was opened, or subscribed too.
-abbrev pub sent_in : Circuit → World
-sent_in c = world (c ∷ []) opened temp_there
+-- the call of a message that is meant so, if it uses a record
+abbrev pub call_of : Intent → List Line
+call_of (On channel (Request kind number)) = Called (On channel (Request kind number)) None ∷ []
+call_of (On channel (Subscribe number)) = Called (On channel (Subscribe number)) None ∷ []
+call_of intent = []
 
+-- The channel to TEMP was opened, and what uses it was called.
+abbrev pub calls : List Sent → List Line
+calls up = Opened 0 temp_name ∷ flat_map (λ (s : Sent). call_of s.intent) up
+
+-- TEMP is there; what goes out was called, or nobody called anything.
+abbrev pub sent_in : Circuit → World
+sent_in c = world (c ∷ []) (calls c.up) temp_there
+
+abbrev pub uncalled_in : Circuit → World
+uncalled_in c = world (c ∷ []) opened temp_there
+
+-- Subscription 1 was called alone.
 abbrev pub subscribed_in : Circuit → World
 subscribed_in c = world (c ∷ []) subscribe_called temp_there

@@ -21,7 +21,7 @@ pub data Part : Type 0 where
   Asked Caused DisconnectedOnce Own Answered HandledEach HandledWithin HandledRise HeardEach HeardWithin HeardRise : Part
   Told Lost CompletedOnce OneCall SentOnce AtOne : Part
   -- 3. NotTwice
-  AppliedOnce OwnWrite Dropped Finished Done Failed : Part
+  AppliedOnce OwnWrite CameToWait Dropped Finished Done Failed : Part
   -- 4. Follows, of each accepted EVENT_ADD; Sees
   Rising Matches ShowsPost Newest SeesOwn SeesInOrder : Part
 
@@ -97,6 +97,7 @@ module _ (Due : ℕ → Circuit → List Entry → Fields → List Fields → Op
   abbrev pub InWorld : Part → World → Type 0
   InWorld AppliedOnce w = FieldOf (λ (p : NotTwice Due Shows Means w). p.once)
   InWorld OwnWrite w = FieldOf (λ (p : NotTwice Due Shows Means w). p.own)
+  InWorld CameToWait w = FieldOf (λ (p : NotTwice Due Shows Means w). p.waits)
   InWorld Dropped w = FieldOf (λ (p : NotTwice Due Shows Means w). p.dropped)
   InWorld Finished w = FieldOf (λ (p : NotTwice Due Shows Means w). p.finished)
   InWorld Done w = FieldOf (λ (p : NotTwice Due Shows Means w). p.done)
@@ -120,7 +121,7 @@ IsSafeNow w = Safe AnyDue Shows Means w
 -- The fields of `Legal`, down to those of `LegalClient` and `LegalServer`.
 pub data Sending : Type 0 where
   OnChannel Cancels Ids Sids Updates Confirmations Disconnects : Sending
-  ToldRemoved Apart Anew Ended HasAdd : Sending
+  HasCall ToldRemoved Apart Anew Ended HasAdd : Sending
 
 -- What a part says of each circuit, and of the log of each life of a client.
 abbrev pub SentSo : Sending → ℕ → Circuit → List Line → List Entry → Type 0
@@ -131,6 +132,7 @@ SentSo Sids n c x y = FieldOf (λ (p : LegalCircuit n c x y). p.server.sids)
 SentSo Updates n c x y = FieldOf (λ (p : LegalCircuit n c x y). p.server.updates)
 SentSo Confirmations n c x y = FieldOf (λ (p : LegalCircuit n c x y). p.server.confirmations)
 SentSo Disconnects n c x y = FieldOf (λ (p : LegalCircuit n c x y). p.server.disconnects)
+SentSo HasCall n c x y = FieldOf (λ (p : LegalCircuit n c x y). p.called)
 SentSo ToldRemoved n c x y = FieldOf (λ (p : LegalCircuit n c x y). p.told)
 SentSo Apart n c x y = FieldOf (λ (p : LegalCircuit n c x y). p.apart)
 SentSo Anew n c x y = FieldOf (λ (p : LegalCircuit n c x y). p.anew)

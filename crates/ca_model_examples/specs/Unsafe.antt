@@ -117,6 +117,9 @@ made_gone = Added 0 temp ∷ Removed 0 ∷ made ∷ []
 abbrev pub dropped : List Entry
 dropped = Added 0 temp ∷ Waits 0 0 0 (long 22) ∷ Withdrawn 0 0 ∷ []
 
+abbrev pub waiting : List Entry
+waiting = Added 0 temp ∷ Waits 0 0 0 (long 22) ∷ []
+
 abbrev pub finished : Bool → List Entry → List Entry
 finished busies more = Added 0 temp ∷ Applied 0 0 0 (long 22) busies ∷ Finished 0 0 ∷ more
 
@@ -168,6 +171,13 @@ rights_for cid =
 abbrev pub used : Sent → List Told → Step → Circuit
 used m down handled =
     circuit (creating ∷ m ∷ []) (created_told ∷ down) (step 0 1 1 ∷ handled ∷ []) []
+
+-- A put is handled, and comes to wait; this follows in the server's log.
+abbrev pub waiting_put : Circuit
+waiting_put = used (putting 0 8 22) [] (step 1 1 2)
+
+abbrev pub waiting_for : List Entry → List Entry
+waiting_for more = Added 0 temp ∷ Waits 0 1 0 (long 22) ∷ more
 
 -- no record has it
 abbrev pub other_name : List ℕ

@@ -4,14 +4,14 @@ ghost use Rattle.ca_model.specs.Legal.{Legal};
 ghost use Rattle.ca_model_examples.specs.Worlds.{putting, clearing, adding, created_told};
 ghost use Rattle.ca_model_examples.specs.Worlds.{disconnected, step, world};
 ghost use Rattle.ca_model_examples.specs.Parts.{Anew, Apart, Cancels, Confirmations, Disconnects};
-ghost use Rattle.ca_model_examples.specs.Parts.{Ended, HasAdd, Ids, MaySend, OnChannel, Sending};
+ghost use Rattle.ca_model_examples.specs.Parts.{Ended, HasAdd, HasCall, Ids, MaySend, OnChannel, Sending};
 ghost use Rattle.ca_model_examples.specs.Parts.{SendsWrong, Sids, ToldRemoved, Updates};
 ghost use Rattle.ca_model_examples.specs.Unsafe.{cancelling, opened, temp_removed, temp_there};
 ghost use Rattle.ca_model_examples.specs.Illegal.{added_again, both_asked, both_created, called_at};
 ghost use Rattle.ca_model_examples.specs.Illegal.{cancel_called, confirm_out, created_read};
 ghost use Rattle.ca_model_examples.specs.Illegal.{goes_out, live_again, read_out, reads_out, alone};
 ghost use Rattle.ca_model_examples.specs.Illegal.{writing, unasked, sent_in, subscribed_in};
-ghost use Rattle.ca_model_examples.specs.Illegal.{told_closed, told_so, update_out};
+ghost use Rattle.ca_model_examples.specs.Illegal.{told_closed, told_so, uncalled_in, update_out};
 
 /// The parts are those of what is legal, and no more.
 pub fn the_parts_are_all_that_is_legal()
@@ -19,10 +19,11 @@ pub fn the_parts_are_all_that_is_legal()
     ensures parts { (w : World) → Legal w → (p : Sending) → MaySend p w }
 {}
 
-/// A read goes out once the creation's reply was read; a cancel is for an EVENT_ADD; and two ids
+/// A read goes out once it was called and the creation's reply was read; a cancel is for an EVENT_ADD; and two ids
 /// of a kind that are in use have two indexes.
 pub fn what_a_client_may_send()
     ensures read { Legal (sent_in (read_out (created_read ∷ []))) }
+    ensures read_uncalled { SendsWrong HasCall (uncalled_in (read_out (created_read ∷ []))) }
     ensures read_too_soon { SendsWrong OnChannel (sent_in (read_out [])) }
     ensures put_alone { SendsWrong OnChannel (sent_in (alone (putting 0 8 22))) }
     ensures write_alone { SendsWrong OnChannel (sent_in (alone writing)) }
@@ -63,10 +64,12 @@ pub fn what_must_be_sent()
         (world (told_so (created_told ∷ []) ∷ []) opened temp_removed) }
 {}
 
-/// A subscription that was called has an EVENT_ADD, one for each creation of its channel after
-/// which that is live, and none once it was cancelled.
+/// A subscription has an EVENT_ADD if it was called, and only then: one for each creation of its
+/// channel after which that is live, and none once it was cancelled.
 pub fn a_subscription_has_one_event_add()
     ensures two { Legal (sent_in (goes_out (adding 0 9 ∷ adding 1 10 ∷ []))) }
+    ensures uncalled { SendsWrong HasCall
+        (uncalled_in (goes_out (adding 0 9 ∷ adding 1 10 ∷ []))) }
     ensures one_twice { SendsWrong Apart (sent_in (goes_out (adding 0 9 ∷ adding 0 10 ∷ []))) }
     ensures called { Legal (subscribed_in (called_at 1 (adding 1 9 ∷ []))) }
     ensures unsent { SendsWrong HasAdd (subscribed_in (called_at 1 [])) }

@@ -7,7 +7,8 @@ ghost use Rattle.ca_model.specs.History.{GaveUp, Opened, Update, World};
 ghost use Rattle.ca_model.specs.History as history;
 ghost use Rattle.ca_model_examples.specs.Worlds.{AnyDue, reading, reply, step, temp_name, world};
 ghost use Rattle.ca_model_examples.specs.Parts.{BreaksOnly, Holds, IsSafeNow, Part, Acts, Answered};
-ghost use Rattle.ca_model_examples.specs.Parts.{AppliedOnce, Asked, AtOne, Caused, CompletedOnce};
+ghost use Rattle.ca_model_examples.specs.Parts.{AppliedOnce, Asked, AtOne, CameToWait, Caused};
+ghost use Rattle.ca_model_examples.specs.Parts.{CompletedOnce};
 ghost use Rattle.ca_model_examples.specs.Parts.{DisconnectedOnce, Done, Dropped, Failed, Finished};
 ghost use Rattle.ca_model_examples.specs.Parts.{HandledEach, HandledRise, HandledWithin, HeardEach};
 ghost use Rattle.ca_model_examples.specs.Parts.{HeardRise, HeardWithin, Live, Lost, Matches};
@@ -27,7 +28,8 @@ ghost use Rattle.ca_model_examples.specs.Unsafe.{read_at, read_called, read_lost
 ghost use Rattle.ca_model_examples.specs.Unsafe.{rights_for, saw, silent, status_of, subscribed};
 ghost use Rattle.ca_model_examples.specs.Unsafe.{subscriber, temp_removed, temp_there};
 ghost use Rattle.ca_model_examples.specs.Unsafe.{two_of_a_name, unhandled, unread, uncreated_read};
-ghost use Rattle.ca_model_examples.specs.Unsafe.{updated, value_21};
+ghost use Rattle.ca_model_examples.specs.Unsafe.{updated, value_21, waiting, waiting_for};
+ghost use Rattle.ca_model_examples.specs.Unsafe.{waiting_put};
 
 /// The parts are those of what is safe, and no more. That the server takes a step only for a
 /// message that came is in `Answered` already, so no history breaks it alone.
@@ -77,11 +79,16 @@ pub fn a_put_is_made_once()
     ensures not_handled { BreaksOnly OwnWrite (world (unhandled ∷ []) put_called made_once) }
 {}
 
-/// A put that waits is dropped if its server's end closed, and not while that is open. A put is
-/// finished once, and only if it made its record busy.
+/// A put comes to wait when it is handled, or as its server's end closed on it. It is dropped if
+/// that end closed, and not while it is open. A put is finished once, and only if it made its
+/// record busy.
 pub fn a_put_ends_once()
     ensures dropped { IsSafeNow (put_closing dropped) }
-    ensures dropped_for_nothing { BreaksOnly Dropped (world (unhandled ∷ []) put_called dropped) }
+    ensures waits { IsSafeNow (put_closing waiting) }
+    ensures waits_unhandled { BreaksOnly CameToWait (world (unhandled ∷ []) put_called waiting) }
+    ensures still_waits { IsSafeNow (world (waiting_put ∷ []) put_called (waiting_for [])) }
+    ensures dropped_for_nothing { BreaksOnly Dropped
+        (world (waiting_put ∷ []) put_called (waiting_for (history.Withdrawn 0 1 ∷ []))) }
     ensures finished { IsSafeNow (put_closing (finished true [])) }
     ensures finished_twice { BreaksOnly Finished
         (put_closing (finished true (history.Finished 0 0 ∷ []))) }
