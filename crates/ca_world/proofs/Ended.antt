@@ -1,21 +1,22 @@
 -- Runs of events, where they end, and what is promised there.
-use Rattle.std.proofs.Common.{◌≡◌, ℕ, zero, suc, ◌+◌, ◌≤◌, inl, inr, List, [], ◌∷◌, ◌++◌, Option, Some, None, Err, length, take, refl, sym, ap, subst, ◌∙◌, arith}
+use Rattle.std.proofs.Common.{◌≡◌, ℕ, zero, suc, ◌+◌, ◌≤◌, List, [], ◌∷◌, ◌++◌, Option, Some, None, Err, length, take, refl, sym, ap, subst, arith}
 use Rattle.std.specs.Prelude.{slice_get}
-use Rattle.std.specs.List.{FoldsTo, range_with_len}
+use Rattle.std.specs.List.{FoldsTo}
 use Rattle.ca_text.specs.declared.refusal.Refusal.{Refusal}
 use Rattle.ca_text.specs.declared.refusal.Refusal.TheVariants.{BadEvent, OutOfMemory}
 use Rattle.ca_text.specs.Place.{At}
 use Rattle.ca_text.proofs.Places.{At-within, some_is}
 use Rattle.ca_events.specs.Events.{moment_of}
 use Rattle.ca_model.specs.Worlds.{IsLegalWorld, IsSafeWorld}
-use Rattle.ca_model.specs.ClientEvents.{TicksOne}
 use Rattle.ca_model.specs.Events.{Event, Tick}
-use Rattle.ca_model.specs.Runs.{CanBe, Happens, Runs, StopsAt, TicksAll}
+use Rattle.ca_model.specs.Runs.{Happens}
 use Rattle.ca_model.specs.World.{Setting, World, opening}
+use Rattle.ca_laws_parts.specs.Worlds.{AllStream}
+use Rattle.ca_laws_parts.proofs.BytesRuns.{runs-stand}
 use Rattle.ca_laws_runs.proofs.Promised.{promised}
 use Rattle.ca_laws_runs.proofs.Joint.{folds-snoc}
 use Rattle.ca_world.specs.declared.step.AfterEvent.TheVariants.{Stopped}
-use Rattle.ca_world_data.specs.Does.{Does}
+use Rattle.ca_world_data.specs.Does.{Does, MayLack}
 use Rattle.ca_world.specs.Halted.{HasStopped}
 use Rattle.ca_world.specs.Running.{EndsBefore, HasRun}
 use Rattle.ca_world.specs.Stepping.{Steps}
@@ -28,6 +29,10 @@ came-promised w (s, es, ok, are, folds) = promised s es None w ok are (w, folds,
 
 pub stopped-promised : (w : World) → HasStopped w → IsSafeWorld w × IsLegalWorld w
 stopped-promised w (s, es, stopped, ok, are, runs) = promised s es stopped w ok are runs
+
+-- the bytes on its circuits are messages
+pub stopped-streams : (w : World) → HasStopped w → AllStream w
+stopped-streams w (s, es, stopped, ok, are, runs) = (runs-stand s es stopped w ok runs).streams
 
 -- a run may end in each world
 pub came-stopped : (w : World) → CameAbout w → HasStopped w
@@ -50,37 +55,32 @@ pub moment-is : (e : Event) (moment : ℕ) → moment_of e ≡ Some moment → e
 moment-is (Tick n) moment is = ap Tick (some_is n moment is)
 moment-is e moment is = absurd cc
 
--- ---- the event at which a run stopped
-
--- within a moment the last one is still that before
-ticks-moment : (moment : ℕ) (w : World) (ns : List ℕ) (new : World) → TicksAll moment w ns new → new.moment ≡ w.moment
-ticks-moment moment w [] new same = ap (λ (v : World). v.moment) (sym same)
-ticks-moment moment w (n ∷ ns) new (mid, one, rest) = ticks-moment moment mid ns new rest ∙ one-moment moment w n mid one
-  where
-    one-moment : (moment : ℕ) (w : World) (n : ℕ) (mid : World) → TicksOne moment w n mid → mid.moment ≡ w.moment
-    one-moment moment w n mid (x, at, t, sent, core, ticks, is) = ap (λ (v : World). v.moment) is
-
--- it left nothing
-stops-same : (mid : World) (e : Event) (w : World) → w ≡ mid → StopsAt mid (Some e) w
-stops-same mid (Tick moment) w is = inl is
-stops-same mid e w is = is
-
--- or the beginning of a moment
-stops-within : (mid : World) (e : Event) (w : World) → Steps mid e (Stopped w) → StopsAt mid (Some e) w × CanBe w e
-stops-within mid (Tick moment) w (n, x, le, ticks, at, lacks) =
-    (inr (n, x, le, ticks, at, lacks), (let same : w.moment ≡ mid.moment = ticks-moment moment mid (range_with_len 0 n) w ticks in omega (arith, le, same)))
-stops-within mid e w d = absurd d
-
 -- ---- where a run ends
 
+-- it lacked memory, and left nothing
+lacks-so : (before : World) (e : Event) (w : World) → MayLack before e × (w ≡ before) → EndsBefore before (Some e) (Some OutOfMemory) w
+lacks-so before (Tick moment) w d = absurd d.0
+lacks-so before e w d = d
+
+-- or the beginning of a moment
+stops-within : (before : World) (e : Event) (w : World) → Steps before e (Stopped w) → EndsBefore before (Some e) (Some OutOfMemory) w
+stops-within before (Tick moment) w d = d
+stops-within before e w d = absurd d
+
+-- what holds in each world
+abbrev pub Holds : World → Type 0
+Holds w = IsSafeWorld w × IsLegalWorld w × AllStream w
+
 -- all that holds there
-run-at : (s : Setting) (es : List Event) (n : ℕ) (next : Option Event) (refusal : Option Refusal) (w : World) → n ≤ length es → slice_get es n ≡ next → Runs s (take n es) next w → EndsBefore w next refusal → IsSafeWorld w × IsLegalWorld w → HasRun s es n refusal w
-run-at s es n next refusal w within is runs why both = record {
+run-at : (s : Setting) (es : List Event) (n : ℕ) (next : Option Event) (refusal : Option Refusal) (before w : World) → n ≤ length es → slice_get es n ≡ next → FoldsTo Happens (opening s) (take n es) before → EndsBefore before next refusal w → Holds w → HasRun s es n refusal w
+run-at s es n next refusal before w within is folds why holds = record {
   within = within;
-  runs = subst (λ (o : Option Event). Runs s (take n es) o w) (sym is) runs;
-  why = subst (λ (o : Option Event). EndsBefore w o refusal) (sym is) why;
-  safe = both.0;
-  legal = both.1;
+  before = before;
+  runs = (before, folds, refl);
+  why = subst (λ (o : Option Event). EndsBefore before o refusal w) (sym is) why;
+  safe = holds.0;
+  legal = holds.1;
+  bytes = holds.2;
 }
 
 past-end : {A : Type 0} (xs : List A) → slice_get xs (length xs) ≡ None
@@ -88,29 +88,28 @@ past-end [] = refl
 past-end (x ∷ xs) = past-end xs
 
 -- after the last event
-pub run-all : (s : Setting) (es : List Event) (n : ℕ) (w : World) → n ≡ length es → FoldsTo Happens (opening s) (take n es) w → IsSafeWorld w × IsLegalWorld w → HasRun s es n None w
-run-all s es n w is folds both =
-    run-at s es n None None w (omega (arith, is)) (subst (λ (k : ℕ). slice_get es k ≡ None) (sym is) (past-end es)) (w, folds, refl) tt both
+pub run-all : (s : Setting) (es : List Event) (n : ℕ) (w : World) → n ≡ length es → FoldsTo Happens (opening s) (take n es) w → Holds w → HasRun s es n None w
+run-all s es n w is folds holds =
+    run-at s es n None None w w (omega (arith, is)) (subst (λ (k : ℕ). slice_get es k ≡ None) (sym is) (past-end es)) folds refl holds
 
 -- before one that was refused
-pub run-refused : (s : Setting) (es : List Event) (n : ℕ) (mid : World) (e : Event) (r : Refusal) (w : World) → At es n e → FoldsTo Happens (opening s) (take n es) mid → Does mid e (Err r) w → IsSafeWorld w × IsLegalWorld w → HasRun s es n (Some r) w
-run-refused s es n mid e OutOfMemory w at folds d both =
+pub run-refused : (s : Setting) (es : List Event) (n : ℕ) (mid : World) (e : Event) (r : Refusal) (w : World) → At es n e → FoldsTo Happens (opening s) (take n es) mid → Does mid e (Err r) w → Holds w → HasRun s es n (Some r) w
+run-refused s es n mid e OutOfMemory w at folds d holds =
     let within = At-within es n e at in
-    run-at s es n (Some e) (Some OutOfMemory) w (omega (arith, within)) at (mid, folds, stops-same mid e w d.1) (subst (λ (v : World). CanBe v e) (sym d.1) d.0) both
-run-refused s es n mid e BadEvent w at folds d both =
+    run-at s es n (Some e) (Some OutOfMemory) mid w (omega (arith, within)) at folds (lacks-so mid e w d) holds
+run-refused s es n mid e BadEvent w at folds d holds =
     let within = At-within es n e at in
-    run-at s es n (Some e) (Some BadEvent) w (omega (arith, within)) at (mid, folds, stops-same mid e w d.1) (subst (λ (v : World). CanBe v e → ⊥) (sym d.1) d.0) both
-run-refused s es n mid e _ w at folds d both = absurd d
+    run-at s es n (Some e) (Some BadEvent) mid w (omega (arith, within)) at folds d holds
+run-refused s es n mid e _ w at folds d holds = absurd d
 
 -- within a moment
-pub run-stopped : (s : Setting) (es : List Event) (n : ℕ) (mid : World) (e : Event) (w : World) → At es n e → FoldsTo Happens (opening s) (take n es) mid → Steps mid e (Stopped w) → IsSafeWorld w × IsLegalWorld w → HasRun s es n (Some OutOfMemory) w
-run-stopped s es n mid e w at folds d both =
+pub run-stopped : (s : Setting) (es : List Event) (n : ℕ) (mid : World) (e : Event) (w : World) → At es n e → FoldsTo Happens (opening s) (take n es) mid → Steps mid e (Stopped w) → Holds w → HasRun s es n (Some OutOfMemory) w
+run-stopped s es n mid e w at folds d holds =
     let within = At-within es n e at in
-    let stops = stops-within mid e w d in
-    run-at s es n (Some e) (Some OutOfMemory) w (omega (arith, within)) at (mid, folds, stops.0) stops.1 both
+    run-at s es n (Some e) (Some OutOfMemory) mid w (omega (arith, within)) at folds (stops-within mid e w d) holds
 
 -- as it is handed out
-pub run-as : (s : Setting) (es : List Event) (n n' : ℕ) (o o' : Option Refusal) (w w' : World) → n' ≡ n → o' ≡ o → w' ≡ w → (IsSafeWorld w × IsLegalWorld w → HasRun s es n o w) → IsSafeWorld w' → IsLegalWorld w' → HasRun s es n' o' w'
-run-as s es n n' o o' w w' is_n is_o is_w has safe legal =
+pub run-as : (s : Setting) (es : List Event) (n n' : ℕ) (o o' : Option Refusal) (w w' : World) → n' ≡ n → o' ≡ o → w' ≡ w → (Holds w → HasRun s es n o w) → IsSafeWorld w' → IsLegalWorld w' → AllStream w' → HasRun s es n' o' w'
+run-as s es n n' o o' w w' is_n is_o is_w has safe legal bytes =
     subst (λ (z : ℕ × (Option Refusal × World)). HasRun s es z.0 z.1.0 z.1.1) (λ t. (sym is_n t, (sym is_o t, sym is_w t)))
-    (has (subst (λ (v : World). IsSafeWorld v) is_w safe, subst (λ (v : World). IsLegalWorld v) is_w legal))
+    (has (subst (λ (v : World). IsSafeWorld v) is_w safe, subst (λ (v : World). IsLegalWorld v) is_w legal, subst (λ (v : World). AllStream v) is_w bytes))

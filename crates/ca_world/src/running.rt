@@ -1,5 +1,6 @@
 ghost use Rattle.std.specs.Prelude.{◌≡◌, IfOk, map};
 ghost use Rattle.ca_events.specs.Events.{event_of};
+ghost use Rattle.ca_laws_parts.specs.Worlds.{AllStream};
 ghost use Rattle.ca_model.specs.Worlds.{IsLegalWorld, IsSafeWorld};
 ghost use Rattle.ca_world.specs.Running.{HasRun};
 
@@ -40,8 +41,9 @@ impl Progress for Silence {
 /// Runs events in order over the real cores, from the world before any event, as far as they can be
 /// done and memory allows.
 ///
-/// Whatever the events are, the world where the run ended is safe, and legal. Refused if there was
-/// no memory for the world before any event.
+/// Whatever the events are, the world where the run ended is safe, and legal, and the bytes on its
+/// circuits are those of the messages that were sent and not read. Refused if there was no memory
+/// for the world before any event.
 pub fn run(config: Config, events: &[Event]) -> Result<Ran, AllocError>
     ensures { IfOk result (λ r. HasRun
         config
@@ -102,6 +104,7 @@ fn ended(world: Stopped, done: usize, refusal: Option<Refusal>) -> Ran
     ensures refusal { result.refusal ≡ refusal }
     ensures safe { IsSafeWorld result.world }
     ensures legal { IsLegalWorld result.world }
+    ensures bytes { AllStream result.world }
 {
     world.know();
     Ran {

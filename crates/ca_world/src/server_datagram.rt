@@ -19,9 +19,10 @@ impl World {
         if server >= self.servers.len() {
             return Err(Refusal::BadEvent);
         }
-        let Ok(_answers) = self.servers[server].core.datagram(bytes) else {
-            return Err(Refusal::OutOfMemory);
-        };
+        match self.servers[server].core.datagram(bytes) {
+            Ok(_answers) => {}
+            Err(refusal) => return Err(refusal),
+        }
         Ok(())
     }
 }

@@ -1,4 +1,5 @@
 ghost use Rattle.std.specs.Prelude.{◌≡◌, length, map};
+ghost use Rattle.ca_laws_parts.specs.Worlds.{AllStream};
 ghost use Rattle.ca_model.specs.Worlds.{IsLegalWorld, IsSafeWorld};
 ghost use Rattle.ca_world_data.specs.Logs.{lines_in};
 ghost use Rattle.ca_world_data.specs.Opening.{entries_in};
@@ -68,10 +69,12 @@ impl World {
 }
 
 impl Stopped {
-    /// Tells that what happened in it is safe and legal, whatever it was. It does nothing.
+    /// Tells that what happened in it is safe and legal, whatever it was, and that the bytes on its
+    /// circuits are those of the messages that were sent and not read. It does nothing.
     pub fn know(&self)
         ensures safe { IsSafeWorld self.now }
         ensures legal { IsLegalWorld self.now }
+        ensures bytes { AllStream self.now }
     {
         let _ = &self.moment;
     }

@@ -1,5 +1,6 @@
 ghost use Rattle.ca_model.specs.Events as event;
 ghost use Rattle.ca_world_data.specs.Does.{Does};
+ghost use Rattle.ca_world_data.specs.ServerCuts.{IsServing};
 ghost use Rattle.ca_world_data.specs.Ups.{HandsUp, LeavesUp};
 
 use crate::world::World;
@@ -45,6 +46,7 @@ fn hand_up(
     at_server: Handle,
     n: usize,
 ) -> Result<(), Refusal>
+    requires { IsServing server.old.core at_server }
     ensures { HandsUp side.old server.old at_client at_server n result side.new server.new }
 {
     let bytes = side.core.out_bytes(at_client);
@@ -67,6 +69,7 @@ fn leave_up(
     at_server: Handle,
     n: usize,
 ) -> Result<(), Refusal>
+    requires { IsServing server.old.core at_server }
     ensures { LeavesUp joined.old server.old at_server n result joined.new server.new }
 {
     let bytes = joined.left_up.bytes();

@@ -1,14 +1,15 @@
 -- Bytes reach a server, from what its parts became.
-use Rattle.std.proofs.Common.{◌≡◌, ℕ, ◌≤◌, true, false, List, Result, Ok, Err, length, take, drop, sym, ap, subst, ◌∙◌}
+use Rattle.std.proofs.Common.{◌≡◌, ◌≢◌, ℕ, ◌≤◌, true, false, List, Result, Ok, Err, length, take, drop, sym, ap, subst, ◌∙◌}
 use Rattle.std.specs.Prelude.{map, slice_set}
 use Rattle.ca_arena.specs.declared.handle.Handle.{Handle}
 use Rattle.ca_text.specs.declared.refusal.Refusal.{Refusal}
-use Rattle.ca_text.specs.declared.refusal.Refusal.TheVariants.{BadEvent, OutOfMemory}
+use Rattle.ca_text.specs.declared.refusal.Refusal.TheVariants.{BadEvent, CircuitClosed, OutOfMemory}
 use Rattle.ca_text.specs.Place.{At}
 use Rattle.ca_text.proofs.Places.{At-map, At-one}
 use Rattle.ca_model.specs.Client.{out_bytes}
 use Rattle.ca_model.specs.ClientEnds.{handed_over}
 use Rattle.ca_model.specs.History.{Entry, Line}
+use Rattle.ca_model.specs.Server.{Server}
 use Rattle.ca_model.specs.ServerSteps.{Gives}
 use Rattle.ca_model.specs.ClientEvents.{up_taken, waiting_up}
 use Rattle.ca_model.specs.Events.{Up}
@@ -22,9 +23,16 @@ use Rattle.ca_world_data.specs.Does.{Does}
 use Rattle.ca_world_data.specs.declared.ends.Ends.{Ends}
 use Rattle.ca_world_data.specs.Ends.{AreEnds, NoEnds, ends_of}
 use Rattle.ca_world_data.specs.Seen.{client_of, joined_of, server_of}
+use Rattle.ca_world_data.specs.ServerCuts.{IsServing}
 use Rattle.ca_world_data.specs.Ups.{HandsUp, LeavesUp}
 use Rattle.ca_world_data.proofs.Indexes.{KeepsEnds, ends-stay}
 use Rattle.ca_world_data.proofs.Worlds.{if-false, if-true, joins, none-joined, one-at, same-circuit, set-map, set-same, world_of}
+
+-- An open end that refuses bytes was given some.
+pub given-some : (y y' : Server) (g : Handle) (bytes : List ℕ) (n : ℕ) (e : Refusal) → IsServing y g → Gives y g (take n bytes) (Err e) y' → n ≢ 0
+given-some y y' g bytes n CircuitClosed serves d = absurd (d.0 serves.0 serves.1)
+given-some y y' g bytes n OutOfMemory serves d = λ none. d.1 (ap (λ (k : ℕ). take k bytes) none)
+given-some y y' g bytes n _ serves d = absurd d
 
 module _ (cs : List ClientSide) (ss : List ServerSide) (ks : List Joined) (cl : List (List Line)) (sl : List (List Entry)) (m : ℕ) where
   -- no circuit
@@ -72,7 +80,7 @@ module _ (cs : List ClientSide) (ss : List ServerSide) (ks : List Joined) (cl : 
         )
     up-handed x' y' (Err OutOfMemory) on d =
         let waits : waiting_up (client_of x) (joined_of j) ≡ out_bytes x.core j.at_client = if-true j.lists.client_open (out_bytes x.core j.at_client) j.left_up on in (
-          (there, subst (λ (t : List ℕ). n ≤ length t) (sym waits) d.0),
+          ((there, subst (λ (t : List ℕ). n ≤ length t) (sym waits) d.0), d.3),
           (λ i. world_of (slice_set cs j.client (d.1 i)) (slice_set ss j.server (d.2 i)) ks cl sl m) ∙ (λ i. world_of (set-same cs j.client x client i) (set-same ss j.server y server i) ks cl sl m),
         )
     up-handed x' y' (Err BadEvent) on d =
@@ -103,7 +111,7 @@ module _ (cs : List ClientSide) (ss : List ServerSide) (ks : List Joined) (cl : 
         )
     up-left j' y' (Err OutOfMemory) off d =
         let waits : waiting_up (client_of x) (joined_of j) ≡ j.left_up = if-false j.lists.client_open (out_bytes x.core j.at_client) j.left_up off in (
-          (there, subst (λ (t : List ℕ). n ≤ length t) (sym waits) d.0),
+          ((there, subst (λ (t : List ℕ). n ≤ length t) (sym waits) d.0), d.3),
           (λ i. world_of cs (slice_set ss j.server (d.2 i)) (slice_set ks k (d.1 i)) cl sl m) ∙ (λ i. world_of cs (set-same ss j.server y server i) (set-same ks k j at i) cl sl m),
         )
     up-left j' y' (Err BadEvent) off d =

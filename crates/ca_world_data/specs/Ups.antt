@@ -1,5 +1,5 @@
 -- Working: bytes reach a server.
-use Rattle.std.specs.Prelude.{ℕ, ◌≡◌, ◌≤◌, Ok, Err, Result, drop, length, take}
+use Rattle.std.specs.Prelude.{ℕ, ◌≡◌, ◌≢◌, ◌≤◌, Ok, Err, Result, drop, length, take}
 use Rattle.ca_arena.specs.declared.handle.Handle.{Handle}
 use Rattle.ca_text.specs.declared.refusal.Refusal.{Refusal}
 use Rattle.ca_text.specs.declared.refusal.Refusal.TheVariants as refusal
@@ -18,7 +18,7 @@ HandsUp x y h g n (Ok _) x' y' =
     × (y' ≡ record y { core = y'.core })
     × (x' ≡ record x { core = handed_over h n x.core })
 HandsUp x y h g n (Err refusal.OutOfMemory) x' y' =
-    (n ≤ length (out_bytes x.core h)) × (x' ≡ x) × (y' ≡ y)
+    (n ≤ length (out_bytes x.core h)) × (x' ≡ x) × (y' ≡ y) × (n ≢ 0)
 HandsUp x y h g n (Err refusal.BadEvent) x' y' =
     (n ≤ length (out_bytes x.core h) → ⊥) × (x' ≡ x) × (y' ≡ y)
 HandsUp x y h g n (Err _) x' y' = ⊥
@@ -29,6 +29,7 @@ abbrev pub LeavesUp : Joined → ServerSide → (at_server : Handle) → (n : �
 LeavesUp j y g n (Ok _) j' y' =
     (n ≤ length j.left_up) × Gives y.core g (take n j.left_up) (Ok tt) y'.core
     × (y' ≡ record y { core = y'.core }) × (j' ≡ record j { left_up = drop n j.left_up })
-LeavesUp j y g n (Err refusal.OutOfMemory) j' y' = (n ≤ length j.left_up) × (j' ≡ j) × (y' ≡ y)
+LeavesUp j y g n (Err refusal.OutOfMemory) j' y' =
+    (n ≤ length j.left_up) × (j' ≡ j) × (y' ≡ y) × (n ≢ 0)
 LeavesUp j y g n (Err refusal.BadEvent) j' y' = (n ≤ length j.left_up → ⊥) × (j' ≡ j) × (y' ≡ y)
 LeavesUp j y g n (Err _) j' y' = ⊥

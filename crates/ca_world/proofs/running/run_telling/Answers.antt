@@ -21,7 +21,7 @@ returns-in-Err g c =
     let w : World = c.happen.new.self in
     run-as c.args.config es n c.ended.result.done (Some c.in-Err.refusal) c.ended.result.refusal w c.ended.result.world c.ended.ensures.done c.ended.ensures.refusal (c.ended.ensures.world ∙ c.stop.ensures)
     (λ both. run-refused c.args.config es n c.loop-place.world (event_of e) c.in-Err.refusal w at c.loop-place.invariant c.in-Err.ensures both)
-    c.ended.ensures.safe c.ended.ensures.legal
+    c.ended.ensures.safe c.ended.ensures.legal c.ended.ensures.bytes
 
 pub returns-in-Refused : goal.returns-in-Refused
 returns-in-Refused g c =
@@ -32,7 +32,7 @@ returns-in-Refused g c =
     let r = c.ended-in-Refused in
     run-as c.args.config es n r.result.done (Some c.in-Refused.refusal) r.result.refusal c.in-Refused.last r.result.world r.ensures.done r.ensures.refusal (r.ensures.world ∙ c.stop-in-Refused.ensures)
     (λ both. run-refused c.args.config es n c.loop-place.world (event_of e) c.in-Refused.refusal c.in-Refused.last at c.loop-place.invariant c.in-Refused.ensures both)
-    r.ensures.safe r.ensures.legal
+    r.ensures.safe r.ensures.legal r.ensures.bytes
 
 pub returns-in-Stopped : goal.returns-in-Stopped
 returns-in-Stopped g c =
@@ -43,7 +43,7 @@ returns-in-Stopped g c =
     let r = c.ended-in-Stopped in
     run-as c.args.config es n r.result.done (Some OutOfMemory) r.result.refusal c.in-Stopped.last r.result.world r.ensures.done r.ensures.refusal r.ensures.world
     (λ both. run-stopped c.args.config es n c.loop-place.world (event_of e) c.in-Stopped.last at c.loop-place.invariant c.in-Stopped.ensures both)
-    r.ensures.safe r.ensures.legal
+    r.ensures.safe r.ensures.legal r.ensures.bytes
 
 pub loop-place-preserved : goal.loop-place-preserved
 loop-place-preserved g c =
@@ -65,4 +65,4 @@ returns g c =
     let r = c.ended-2 in
     run-as c.args.config es n r.result.done None r.result.refusal c.loop-place.world r.result.world (r.ensures.done ∙ sym all) r.ensures.refusal (r.ensures.world ∙ c.stop-2.ensures)
     (λ both. run-all c.args.config es n c.loop-place.world (all ∙ sym same) c.loop-place.invariant both)
-    r.ensures.safe r.ensures.legal
+    r.ensures.safe r.ensures.legal r.ensures.bytes

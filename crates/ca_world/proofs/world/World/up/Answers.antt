@@ -1,4 +1,4 @@
-use Rattle.std.proofs.Common.{◌≡◌, ℕ, ◌<◌, length, List, refl, arith, subst}
+use Rattle.std.proofs.Common.{◌≡◌, ℕ, ◌<◌, length, List, refl, sym, arith, subst}
 use Rattle.std.specs.Prelude.{map, slice_set}
 use Rattle.ca_text.specs.Place.{At}
 use Rattle.ca_text.proofs.Places.{At-map, At-within}
@@ -11,9 +11,12 @@ use Rattle.ca_world_data.specs.declared.ends.Ends.{Ends}
 use Rattle.ca_world_data.specs.declared.joined.Joined.{Joined}
 use Rattle.ca_world_data.specs.declared.server.ServerSide.{ServerSide}
 use Rattle.ca_world_data.specs.Does.{Does}
+use Rattle.ca_world_data.specs.Opening.{entries_in}
 use Rattle.ca_world_data.specs.Seen.{entry_of, joined_of, line_of}
+use Rattle.ca_world_data.specs.ServerCuts.{IsServing}
 use Rattle.ca_world_data.specs.Indexed.{client_numbers, server_numbers}
 use Rattle.ca_world_data.proofs.Indexes.{indexed-circuit, indexed-same, numbers-set}
+use Rattle.ca_world.proofs.Cuttings.{cut-serves}
 use Rattle.ca_world.proofs.Lasting.{all-stand}
 use Rattle.ca_world_data.proofs.Ups.{handed-keeps, left-keeps, up-by-client, up-by-left, up-none, up-off}
 use Rattle.ca_world_data.proofs.Worlds.{ends-client, ends-here, ends-server, found, is-open, no-ends-here, not-open, set-map, world_of}
@@ -38,6 +41,34 @@ returns-then-not-ends c =
     let a = ends-here cs ss ks c.deref.result.now c.len.result c.len-2.result c.args.circuit c.in-Some.ends (omega (arith, c.len.ensures)) (omega (arith, c.len-2.ensures)) c.deref.ensures.value c.in-Some.ensures in
     subst (λ (v : World). (CanBe v (Up c.args.circuit c.args.n) → ⊥) × (v ≡ v)) c.self.view_is
     (up-off cs ss ks _ _ w.moment c.args.circuit c.args.n c.in-Some.ends a (not-open c.in-Some.ends.server_open c.if-not-ends.true), refl)
+
+pub hand_up-requires : goal.hand_up-requires
+hand_up-requires c =
+    let w = c.self.inside in
+    let cs : List ClientSide = w.clients.items in
+    let ss : List ServerSide = w.servers.items in
+    let ks : List Joined = w.circuits.items in
+    let e : Ends = c.in-Some.ends in
+    let k : ℕ = c.args.circuit in
+    let a = ends-here cs ss ks c.deref.result.now c.len.result c.len-2.result k e (omega (arith, c.len.ensures)) (omega (arith, c.len-2.ensures)) c.deref.ensures.value c.in-Some.ensures in
+    let y : ServerSide = c.index_mut-server.result.now in
+    let server : At ss e.server y = found ss e.server y y (ends-server (length cs) (length ss) ks k e a) c.index_mut-server.ensures.value in
+    subst (λ (z : Ends). IsServing y.core z.at_server) (sym a.is)
+    (cut-serves cs ss ks (map (λ log. map line_of log.items) w.client_logs.items) (entries_in w.server_logs.items) w.moment k e a a.j y a.at server (is-open e.server_open c.if-not-ends.false) c.self.invariant.reached)
+
+pub leave_up-requires : goal.leave_up-requires
+leave_up-requires c =
+    let w = c.self.inside in
+    let cs : List ClientSide = w.clients.items in
+    let ss : List ServerSide = w.servers.items in
+    let ks : List Joined = w.circuits.items in
+    let e : Ends = c.in-Some.ends in
+    let k : ℕ = c.args.circuit in
+    let a = ends-here cs ss ks c.deref.result.now c.len.result c.len-2.result k e (omega (arith, c.len.ensures)) (omega (arith, c.len-2.ensures)) c.deref.ensures.value c.in-Some.ensures in
+    let y : ServerSide = c.index_mut-server.result.now in
+    let server : At ss e.server y = found ss e.server y y (ends-server (length cs) (length ss) ks k e a) c.index_mut-server.ensures.value in
+    subst (λ (z : Ends). IsServing y.core z.at_server) (sym a.is)
+    (cut-serves cs ss ks (map (λ log. map line_of log.items) w.client_logs.items) (entries_in w.server_logs.items) w.moment k e a a.j y a.at server (is-open e.server_open c.if-not-ends.false) c.self.invariant.reached)
 
 pub returns-then-ends : goal.returns-then-ends
 returns-then-ends c =
