@@ -15,6 +15,8 @@ mod dbr;
 #[cfg(test)]
 mod dgram;
 #[cfg(test)]
+mod display;
+#[cfg(test)]
 mod drawn;
 #[cfg(test)]
 mod ids;

@@ -1,0 +1,123 @@
+-- What an image with display data is made of.
+use Rattle.std.proofs.Common.{◌≡◌, ℕ, ◌+◌, ◌<◌, List, ◌++◌, take, refl, sym, ap, subst, ◌∙◌, append_assoc, arith, Result, Ok, Err, OnOk, IfErr, IsOk, inl, inr, length, true≢false}
+use Rattle.std.proofs.lemmas.List.{take_at}
+use Rattle.ca_text.specs.declared.refusal.Refusal.{Refusal}
+use Rattle.ca_text.specs.declared.refusal.Refusal.TheVariants as refusal
+use Rattle.ca_dbr.specs.declared.data_type.BaseType.{BaseType}
+use Rattle.ca_dbr.specs.declared.data_type.BaseType.TheVariants as base
+use Rattle.ca_dbr.specs.declared.data_type.Form.TheVariants as plain_form
+use Rattle.ca_dbr.specs.declared.data_type.DataType.{DataType}
+use Rattle.ca_dbr.specs.declared.value.Meta.{Meta}
+use Rattle.ca_dbr.specs.Types.{base_number, type_number}
+use Rattle.ca_dbr.specs.Elements.{Elements, strings, ints, floats, enums, chars, longs, doubles, base_of, bytes_of}
+use Rattle.ca_dbr.specs.Image.{image, meta_bytes, Writes}
+use Rattle.ca_dbr.specs.Shown.{shown, WritesShown}
+use Rattle.ca_dbr.proofs.OneReading.{base_number-one, base_number-small, type_number-one}
+use Rattle.ca_display.specs.declared.display_type.DisplayForm.{DisplayForm}
+use Rattle.ca_display.specs.declared.display_type.DisplayType.{DisplayType}
+use Rattle.ca_display.specs.declared.display_type.DisplayForm.TheVariants as form
+use Rattle.ca_display.specs.Types.{form_number, display_number, limit_count}
+use Rattle.ca_display.specs.Limits.{limits_in}
+use Rattle.ca_display.specs.Data.{DisplayData}
+use Rattle.ca_display.specs.Image.{limit_bytes, data_bytes, display_image, DisplayTypes, WritesDisplay}
+
+-- no metadata
+abbrev pub zero_meta : Meta
+zero_meta = record { status = 0; severity = 0; seconds = 0; nanos = 0 }
+
+abbrev pub plain : BaseType → DataType
+plain b = record { base = b; form = plain_form.Plain }
+
+plain-number : (b : BaseType) → type_number (plain b) ≡ base_number b
+plain-number b = omega arith
+
+pub plain-one : (t : DataType) (b : BaseType) → type_number t ≡ base_number b → t ≡ plain b
+plain-one t b e = type_number-one t (plain b) (e ∙ sym (plain-number b))
+
+pub image-plain : (t : DataType) (b : BaseType) (e : Elements) (m : Meta) → type_number t ≡ base_number b → image t e m ≡ bytes_of e
+image-plain t b e m n = ap (λ (s : DataType). image s e m) (plain-one t b n)
+
+pub base_of-limits : (b : BaseType) (ns : List ℕ) → base_of (limits_in b ns) ≡ b
+base_of-limits base.String ns = refl
+base_of-limits base.Int ns = refl
+base_of-limits base.Float ns = refl
+base_of-limits base.Enum ns = refl
+base_of-limits base.Char ns = refl
+base_of-limits base.Long ns = refl
+base_of-limits base.Double ns = refl
+
+-- three pieces, one after another
+pub three_pieces : (o a b c o1 o2 o3 : List ℕ) → o1 ≡ o ++ a → o2 ≡ o1 ++ b → o3 ≡ o2 ++ c → o3 ≡ o ++ (a ++ (b ++ c))
+three_pieces o a b c o1 o2 o3 p q r =
+    r ∙ ap (λ (x : List ℕ). x ++ c) (q ∙ ap (λ (x : List ℕ). x ++ b) p) ∙ append_assoc (o ++ a) b c ∙ append_assoc o a (b ++ c)
+
+-- limits that were put after units
+pub limits_put : (b : BaseType) (f : DisplayForm) (d : DisplayData) (number : ℕ) (e : Elements) (m : Meta) (old mid new : List ℕ) (r : Result (Unit {0}) Refusal) → number ≡ base_number b → e ≡ limits_in b (take (limit_count f) d.limits) → mid ≡ old ++ d.units → Writes number e m mid r new → OnOk r (new ≡ old ++ limit_bytes b f d)
+limits_put b f d number e m old mid new (Ok _) n is front w =
+    w.2 ∙ ap (λ (x : List ℕ). mid ++ x) (image-plain w.0 b e m (w.1.numbered ∙ n) ∙ ap bytes_of is) ∙ ap (λ (x : List ℕ). x ++ bytes_of (limits_in b (take (limit_count f) d.limits))) front ∙ append_assoc old d.units (bytes_of (limits_in b (take (limit_count f) d.limits)))
+limits_put b f d number e m old mid new (Err _) n is front w = tt
+
+-- limits are refused for memory alone
+pub limits_refused : (b : BaseType) (number : ℕ) (ns : List ℕ) (e : Elements) (m : Meta) (old new : List ℕ) (r : Result (Unit {0}) Refusal) → number ≡ base_number b → e ≡ limits_in b ns → Writes number e m old r new → IfErr r (λ x. x ≡ refusal.OutOfMemory)
+limits_refused b number ns e m old new (Ok _) n is w = tt
+limits_refused b number ns e m old new (Err refusal.OutOfMemory) n is w = refl
+limits_refused b number ns e m old new (Err refusal.BadType) n is w =
+    absurd (w.0 (plain b) (record { numbered = plain-number b ∙ sym n; based = sym (ap base_of is ∙ base_of-limits b ns) }))
+limits_refused b number ns e m old new (Err _) n is w = absurd w
+
+-- elements that were put after all else
+pub display_put : (t : DisplayType) (count : ℕ) (e : Elements) (m zero : Meta) (d : DisplayData) (number : ℕ) (old front mid new : List ℕ) → number ≡ base_number t.base → front ≡ meta_bytes plain_form.Status m ++ data_bytes t.base t.form d → mid ≡ old ++ front → WritesShown number count e zero mid (Ok tt) new → (f : Elements) × (shown e count t.base ≡ Ok f) × (new ≡ old ++ display_image t f m d)
+display_put t count e m zero d number old front mid new n is_front is_mid w =
+    let numbered : type_number w.0 ≡ base_number t.base = w.1 ∙ n in
+    let f = w.2.0 in
+    let meta = meta_bytes plain_form.Status m in
+    let middle = data_bytes t.base t.form d in
+    (f, ap (λ (s : DataType). shown e count s.base) (sym (plain-one w.0 t.base numbered)) ∙ w.2.1, w.2.2 ∙ ap (λ (x : List ℕ). mid ++ x) (image-plain w.0 t.base f zero numbered) ∙ ap (λ (x : List ℕ). x ++ bytes_of f) (is_mid ∙ ap (λ (x : List ℕ). old ++ x) is_front) ∙ append_assoc old (meta ++ middle) (bytes_of f) ∙ ap (λ (x : List ℕ). old ++ x) (append_assoc meta middle (bytes_of f)))
+
+-- elements of the type itself are shown
+same-shown : (e : Elements) (count : ℕ) (r : Refusal) → shown e count (base_of e) ≡ Err r → ⊥
+same-shown (strings xs) count r h = true≢false (sym (subst (λ (x : Result Elements Refusal). IsOk x) h refl))
+same-shown (ints xs) count r h = true≢false (sym (subst (λ (x : Result Elements Refusal). IsOk x) h refl))
+same-shown (floats xs) count r h = true≢false (sym (subst (λ (x : Result Elements Refusal). IsOk x) h refl))
+same-shown (enums xs) count r h = true≢false (sym (subst (λ (x : Result Elements Refusal). IsOk x) h refl))
+same-shown (chars xs) count r h = true≢false (sym (subst (λ (x : Result Elements Refusal). IsOk x) h refl))
+same-shown (longs xs) count r h = true≢false (sym (subst (λ (x : Result Elements Refusal). IsOk x) h refl))
+same-shown (doubles xs) count r h = true≢false (sym (subst (λ (x : Result Elements Refusal). IsOk x) h refl))
+
+for_memory : (b : BaseType) (count : ℕ) (e : Elements) (zero : Meta) (given : ℕ) (mid after : List ℕ) (r : Refusal) → given ≡ base_number b → base_of e ≡ b → WritesShown given count e zero mid (Err r) after → r ≡ refusal.OutOfMemory
+for_memory b count e zero given mid after r n based w =
+    elim w.1 [
+      | inl unknown ↦ absurd (omega (arith, base_number-small b, unknown.0, n))
+      | inr known ↦
+          let is : known.0.base ≡ base_of e = ap (λ (s : DataType). s.base) (plain-one known.0 b (known.1 ∙ n)) ∙ sym based in
+          elim known.2 [
+            | inl fault ↦ absurd (same-shown e count r (ap (λ (c : BaseType). shown e count c) (sym is) ∙ fault))
+            | inr memory ↦ memory.0
+          ]
+    ]
+
+-- such elements are refused for memory alone, and nothing is left then
+pub display_refused : (t : DisplayType) (count : ℕ) (e : Elements) (m zero : Meta) (d : DisplayData) (number given n : ℕ) (old front mid after new : List ℕ) (r : Refusal) → given ≡ base_number t.base → DisplayTypes number e t → n ≡ length old → mid ≡ old ++ front → new ≡ take n after → WritesShown given count e zero mid (Err r) after → WritesDisplay number count e m d old (Err r) new
+display_refused t count e m zero d number given n old front mid after new r is types len is_mid is_new w =
+    let same : new ≡ old = is_new ∙ ap (λ (x : List ℕ). take n x) (w.0 ∙ is_mid) ∙ take_at old front n (sym len) in
+    subst (λ (x : Refusal). WritesDisplay number count e m d old (Err x) new) (sym (for_memory t.base count e zero given mid after r is (sym types.based) w)) (t, types, same)
+
+forms-one : (f g : DisplayForm) (b c : ℕ) → b < 7 → c < 7 → b + form_number f ≡ c + form_number g → (f ≡ g) × (b ≡ c)
+forms-one form.Graphic form.Graphic b c p q e = (refl, omega arith)
+forms-one form.Graphic form.Control b c p q e = absurd (omega arith)
+forms-one form.Control form.Graphic b c p q e = absurd (omega arith)
+forms-one form.Control form.Control b c p q e = (refl, omega arith)
+
+-- a number names one type
+pub display_number-one : (s t : DisplayType) → display_number s ≡ display_number t → s ≡ t
+display_number-one s t e =
+    let parts = forms-one s.form t.form (base_number s.base) (base_number t.base) (base_number-small s.base) (base_number-small t.base) e in
+    let based = base_number-one s.base t.base parts.1 in
+    let made : BaseType → DisplayForm → DisplayType = λ b f. record { base = b; form = f } in
+    ap (λ (b : BaseType). made b s.form) based ∙ ap (λ (f : DisplayForm). made t.base f) parts.0
+
+-- elements of another type than the one of this number
+pub other_type : (t : DisplayType) (number : ℕ) (e : Elements) → display_number t ≡ number → (base_number (base_of e) ≡ base_number t.base → ⊥) → (s : DisplayType) → DisplayTypes number e s → ⊥
+other_type t number e n other s types =
+    let same : s ≡ t = display_number-one s t (types.numbered ∙ sym n) in
+    other (ap base_number (sym types.based ∙ ap (λ (x : DisplayType). x.base) same))

@@ -1,0 +1,7 @@
+use Rattle.std.proofs.Common.{◌≡◌, ◌++◌, take}
+use Rattle.std.specs.List.{flat_map}
+use Rattle.ca_dbr.specs.Elements.{string_bytes}
+use Rattle.ca_display.proofs.image.put_names.Given as goal
+
+abbrev pub invariant-loop-name : goal.invariant-loop-name
+invariant-loop-name l = l.out.items ≡ l.initial.out.items ++ flat_map string_bytes (take l.name-index l.names)

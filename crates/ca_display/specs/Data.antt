@@ -1,0 +1,57 @@
+-- What display data is.
+use Rattle.std.specs.Prelude.{ℕ, ◌≡◌, ◌<◌, ◌≤◌, ◌-◌, ◌^◌, ℤ, List, [], ◌∷◌, ◌++◌, length, replicate}
+use Rattle.std.specs.Prelude.{All, Contains, FitsSigned}
+use Rattle.std.specs.Int.{w16}
+use Rattle.ca_text.specs.declared.refusal.Refusal.{Refusal}
+use Rattle.ca_text.specs.declared.refusal.Refusal.TheVariants as refusal
+use Rattle.ca_display.specs.declared.display.Limits.{Limits}
+use Rattle.ca_display.specs.declared.display.Display.{Display}
+
+-- Units are the 8 bytes of a field, a state's name is the 26 of one; limits are bit patterns of
+-- DOUBLEs, in the order that images have them.
+pub record DisplayData : Type 0 where
+  pub units : List ℕ
+  pub precision : ℤ
+  pub limits : List ℕ
+  pub states : List (List ℕ)
+
+-- upper and lower limit of the display; of alarm, of warning, each upper one first; of control
+abbrev pub limits_of : Limits → List ℕ
+limits_of l =
+    l.upper_display ∷ l.lower_display ∷ l.upper_alarm ∷ l.upper_warning ∷ l.lower_warning
+    ∷ l.lower_alarm ∷ l.upper_control ∷ l.lower_control ∷ []
+
+-- the display data of the program
+abbrev pub data_of : Display → DisplayData
+data_of d =
+    record {
+      units = d.units;
+      precision = d.precision;
+      limits = limits_of d.limits;
+      states = d.states.items;
+    }
+
+-- each part is one of its kind, and there are at most 16 states
+pub record IsData (d : DisplayData) : Type 0 where
+  pub units : length d.units ≡ 8
+  pub precision : FitsSigned w16 d.precision
+  pub limits : length d.limits ≡ 8
+  pub patterns : All (λ n. n < 2 ^ 64) d.limits
+  pub states : length d.states ≤ 16
+  pub names : All (λ x. length x ≡ 26) d.states
+
+-- a text fits a field of n bytes, and a zero byte is after it
+pub record FitsField (size : ℕ) (text : List ℕ) : Type 0 where
+  pub within : length text < size
+  pub whole : Contains text 0 → ⊥
+
+-- the text with zero bytes up to the size of the field
+abbrev pub in_field : ℕ → List ℕ → List ℕ
+in_field size text = text ++ replicate (size - length text) 0
+
+-- why one more state is refused: there are 16, the name does not fit, or there is no memory
+abbrev pub StateRefused : List (List ℕ) → List ℕ → Refusal → Type 0
+StateRefused states name refusal.BadCount = 16 ≤ length states
+StateRefused states name refusal.NameLength = (length states < 16) × (FitsField 26 name → ⊥)
+StateRefused states name refusal.OutOfMemory = (length states < 16) × FitsField 26 name
+StateRefused states name _ = ⊥

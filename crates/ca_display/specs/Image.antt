@@ -1,0 +1,74 @@
+-- Images with display data: the structs dbr_gr_short to dbr_ctrl_double of the protocol
+-- specification.
+use Rattle.std.specs.Prelude.{ℕ, ◌≡◌, ◌++◌, ◌-◌, ◌*◌, ◌+◌, ◌≤◌, ◌<◌, List, [], length, take}
+use Rattle.std.specs.Prelude.{replicate, Result, Ok, Err}
+use Rattle.std.specs.List.{flat_map}
+use Rattle.ca_text.specs.declared.refusal.Refusal.{Refusal}
+use Rattle.ca_text.specs.declared.refusal.Refusal.TheVariants as refusal
+use Rattle.ca_dbr.specs.declared.data_type.BaseType.{BaseType}
+use Rattle.ca_dbr.specs.declared.data_type.BaseType.TheVariants as base
+use Rattle.ca_dbr.specs.declared.data_type.Form.TheVariants as plain_form
+use Rattle.ca_dbr.specs.declared.value.Meta.{Meta}
+use Rattle.ca_dbr.specs.Types.{element_size}
+use Rattle.ca_dbr.specs.Elements.{Elements, base_of, bytes_2, bytes_of, signed_bytes_2}
+use Rattle.ca_dbr.specs.Elements.{string_bytes}
+use Rattle.ca_dbr.specs.Image.{meta_bytes}
+use Rattle.ca_dbr.specs.Shown.{shown}
+use Rattle.ca_display.specs.declared.display_type.DisplayForm.{DisplayForm}
+use Rattle.ca_display.specs.declared.display_type.DisplayType.{DisplayType}
+use Rattle.ca_display.specs.Types.{display_number, limit_count, data_size}
+use Rattle.ca_display.specs.Limits.{limits_in}
+use Rattle.ca_display.specs.Data.{DisplayData}
+
+-- units, and the limits in the type of the image
+abbrev pub limit_bytes : BaseType → DisplayForm → DisplayData → List ℕ
+limit_bytes b f d = d.units ++ bytes_of (limits_in b (take (limit_count f) d.limits))
+
+-- precision, two zero bytes, units and limits
+abbrev pub real_bytes : BaseType → DisplayForm → DisplayData → List ℕ
+real_bytes b f d = signed_bytes_2 d.precision ++ (replicate 2 0 ++ limit_bytes b f d)
+
+-- how many states there are, and 16 names, of which the missing ones are zero bytes
+abbrev pub state_bytes : DisplayData → List ℕ
+state_bytes d =
+    bytes_2 (length d.states)
+    ++ (flat_map string_bytes d.states ++ replicate ((16 - length d.states) * 26) 0)
+
+-- the display data that is in an image of a type
+abbrev pub data_bytes : BaseType → DisplayForm → DisplayData → List ℕ
+data_bytes base.String f d = []
+data_bytes base.Int f d = limit_bytes base.Int f d
+data_bytes base.Float f d = real_bytes base.Float f d
+data_bytes base.Enum f d = state_bytes d
+data_bytes base.Char f d = limit_bytes base.Char f d ++ replicate 1 0
+data_bytes base.Long f d = limit_bytes base.Long f d
+data_bytes base.Double f d = real_bytes base.Double f d
+
+-- status and severity, the display data, and the elements
+abbrev pub display_image : DisplayType → Elements → Meta → DisplayData → List ℕ
+display_image t e m d = meta_bytes plain_form.Status m ++ (data_bytes t.base t.form d ++ bytes_of e)
+
+-- how many bytes an image of n elements takes
+abbrev pub size_of_display : DisplayType → ℕ → ℕ
+size_of_display t count = 4 + data_size t.base t.form + count * element_size t.base
+
+-- a type with this number, for elements of this base type
+pub record DisplayTypes (number : ℕ) (e : Elements) (t : DisplayType) : Type 0 where
+  pub numbered : display_number t ≡ number
+  pub based : t.base ≡ base_of e
+
+-- The image of n elements of these with display data was to be written after the old bytes, with
+-- this answer, and left new: a count below theirs takes the first ones, and after all of them there
+-- are elements of zero bytes.
+abbrev pub WritesDisplay : ℕ → ℕ → Elements → Meta → DisplayData → List ℕ
+    → Result (Unit {0}) Refusal → List ℕ → Type 0
+WritesDisplay number count e m d old (Ok _) new =
+    (t : DisplayType) × DisplayTypes number e t × (length d.states ≤ 16)
+    × ((f : Elements) × (shown e count t.base ≡ Ok f) × (new ≡ old ++ display_image t f m d))
+WritesDisplay number count e m d old (Err refusal.BadType) new =
+    ((t : DisplayType) → DisplayTypes number e t → ⊥) × (new ≡ old)
+WritesDisplay number count e m d old (Err refusal.BadCount) new =
+    (16 < length d.states) × (new ≡ old)
+WritesDisplay number count e m d old (Err refusal.OutOfMemory) new =
+    (t : DisplayType) × DisplayTypes number e t × (new ≡ old)
+WritesDisplay number count e m d old (Err _) new = ⊥

@@ -1,0 +1,20 @@
+//! Display data of records: units, precision, limits and the names of states; their images in
+//! payloads of graphic and control types, and what such a record's values convert to.
+#![tactic(auto)]
+
+mod alarm;
+mod display;
+mod display_type;
+mod image;
+mod laws;
+mod limits;
+mod number;
+mod reading;
+
+pub use alarm::alarm_of;
+pub use display::{Display, Limits};
+pub use display_type::{DisplayForm, DisplayType};
+pub use image::{display_size, write_display};
+pub use laws::one_display;
+pub use number::{Number, double_of_text, float_of_text};
+pub use reading::read_display;
