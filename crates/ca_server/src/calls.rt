@@ -8,7 +8,7 @@ ghost use Rattle.ca_model.specs.ServerSteps.{Accepts, Cuts, Gives, Pumps, Sends,
 ghost use Rattle.ca_records.specs.Record.{unset};
 ghost use Rattle.ca_text.specs.declared.refusal.Refusal.TheVariants.{OutOfMemory};
 ghost use Rattle.ca_server_circuit.specs.Circuits.{is_open};
-ghost use Rattle.ca_server_core.specs.Asking.{AreAllAmong, MayWrite, NamesUnder, busy_circuit, busy_value};
+ghost use Rattle.ca_server_core.specs.Asking.{AreAllAmong, NamesUnder, busy_circuit, busy_value};
 
 use crate::state::State;
 use ca_arena::Handle;
@@ -85,13 +85,6 @@ impl<L: Ledger> State<L> {
             × (self.new.credits.items ≡ self.old.credits.items) }
     {
         self.core.cut(circuit);
-    }
-
-    /// Whether the next message of a circuit may be a write, by the low byte of its command.
-    pub fn may_write(&self, circuit: Handle) -> bool
-        ensures { MayWrite self.now.core circuit result }
-    {
-        self.core.may_write(circuit)
     }
 
     /// The name of the record of the open channel of this SID on a circuit, if that record was not

@@ -1,10 +1,9 @@
 -- Vocabulary: what is asked of a circuit before its next message is handled, of its channels by
 -- their SIDs, and of its client (section "Virtual Circuit").
-use Rattle.std.specs.Prelude.{ℕ, ◌≡◌, ◌==◌, ◌||◌, Bool, false, List, [], ◌∷◌, Option, None, Some}
+use Rattle.std.specs.Prelude.{ℕ, ◌≡◌, ◌==◌, ◌||◌, Bool, false, List, Option, None, Some}
 use Rattle.ca_arena.specs.declared.handle.Handle.{Handle}
 use Rattle.ca_ids.specs.Table.{held}
 use Rattle.ca_ids.specs.Wire.{wire_of}
-use Rattle.ca_link.specs.Link.{TakesFirst}
 use Rattle.ca_text.specs.Command.{command_number}
 use Rattle.ca_text.specs.declared.command.Command.TheVariants as command
 use Rattle.ca_wire.specs.Fields.{Fields}
@@ -30,25 +29,6 @@ abbrev pub peer_on : ServerCircuit → Option Peer
 peer_on (Open e) = Some e.peer
 peer_on (Ended w left) = None
 
--- ---- whether the next message may write
-
 -- the number is that of a command that writes
 abbrev pub is_write : ℕ → Bool
 is_write n = n == command_number command.Write || n == command_number command.WriteNotify
-
--- the low byte of the command that is first is that of a command that writes
-abbrev pub may_write : List ℕ → Bool
-may_write [] = false
-may_write (high ∷ []) = false
-may_write (high ∷ low ∷ rest) = is_write low
-
--- the same of a circuit, if its end is open
-abbrev pub may_write_at : ServerCircuit → Bool
-may_write_at (Open e) = may_write e.link.input.bytes
-may_write_at (Ended w left) = false
-
--- the next message, if it came, is no write
-abbrev pub FirstWritesNothing : ServerEnd → Type 0
-FirstWritesNothing e =
-    (m : Fields) (rest : List ℕ) → TakesFirst e.link m rest
-    → (m.command ≡ command_number command.Write → ⊥) × (m.command ≡ command_number command.WriteNotify → ⊥)

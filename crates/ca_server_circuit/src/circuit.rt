@@ -10,7 +10,7 @@ ghost use Rattle.ca_server_circuit.specs.Clearing.{ArePuts};
 ghost use Rattle.ca_server_circuit.specs.Concerned.{ConcernsOn, bytes_on, channels_on};
 ghost use Rattle.ca_server_circuit.specs.Ending.{ArePutsAt, EndsAt, IsLeft, WithdrawsAll};
 ghost use Rattle.ca_server_circuit.specs.Finishing.{RepliesAt};
-ghost use Rattle.ca_server_circuit.specs.Peeking.{NamesAt, may_write_at, peer_on};
+ghost use Rattle.ca_server_circuit.specs.Peeking.{NamesAt, peer_on};
 ghost use Rattle.ca_server_circuit.specs.Posting.{PostsAt, WatchesAt};
 ghost use Rattle.ca_server_circuit.specs.Pumping.{PumpsAt};
 ghost use Rattle.ca_server_circuit.specs.Removing.{LosesAt, MayLose};
@@ -373,17 +373,6 @@ impl Circuit {
         match &self.state {
             State::Open(end) => Some(end.host.as_slice()),
             State::Ended(_, _) => None,
-        }
-    }
-
-    /// Whether the next message may be a write, by the low byte of its command: not if
-    /// its end is not open.
-    pub fn may_write(&self) -> bool
-        ensures { result ≡ may_write_at self.now }
-    {
-        match &self.state {
-            State::Open(end) => end.may_write(),
-            State::Ended(_, _) => false,
         }
     }
 }

@@ -16,7 +16,6 @@ pub mod Posted
 pub mod Pumped
 pub mod Added
 pub mod Removed
-pub mod Peeked
 pub mod Histories
 pub mod Ordered
 pub mod Served

@@ -1,5 +1,5 @@
 -- Vocabulary: what a caller asks of a server between its calls.
-use Rattle.std.specs.Prelude.{ℕ, ◌≡◌, Bool, true, false, List, [], ◌∷◌, Option, Some, None, if◌then◌else◌, is_some, option_map}
+use Rattle.std.specs.Prelude.{ℕ, ◌≡◌, List, [], ◌∷◌, Option, Some, None, if◌then◌else◌, is_some, option_map}
 use Rattle.ca_arena.specs.declared.handle.Handle.{Handle}
 use Rattle.ca_dbr.specs.Elements.{Elements}
 use Rattle.ca_records.specs.declared.puts.Put.{Put}
@@ -10,7 +10,7 @@ use Rattle.ca_model.specs.Server.{Server, ServerCircuit, ServerEnd, Subscription
 use Rattle.ca_model.specs.ServerSteps.{HasEnd}
 use Rattle.ca_model.specs.Speech.{In}
 use Rattle.ca_server_watchers.specs.Watching.{IsAmong}
-use Rattle.ca_server_circuit.specs.Peeking.{FirstWritesNothing, NamesAt, may_write, peer_on}
+use Rattle.ca_server_circuit.specs.Peeking.{NamesAt, peer_on}
 
 -- the circuit of the put that waits longest
 abbrev pub first_circuit : List WaitingPut → Option Handle
@@ -67,9 +67,3 @@ peer_under None = None
 abbrev pub NamesUnder : Option ServerCircuit → (sid : ℕ) → Option (List ℕ) → Type 0
 NamesUnder (Some c) sid name = NamesAt c sid name
 NamesUnder None sid name = name ≡ None
-
--- `may_write`: the next message of a circuit may write, by the low byte of its command; or it is no
--- write, or its end is not open.
-abbrev pub MayWrite : Server → Handle → Bool → Type 0
-MayWrite y h true = (e : ServerEnd) × HasEnd y h e × (may_write e.link.input.bytes ≡ true)
-MayWrite y h false = (e : ServerEnd) → HasEnd y h e → FirstWritesNothing e
