@@ -23,7 +23,7 @@ from importlib.machinery import SourceFileLoader
 from importlib.util import module_from_spec, spec_from_loader
 
 TOP = os.path.dirname(os.path.dirname(os.path.realpath(__file__)))
-BENCHMARKS = ["answer", "conduct", "replay", "serve", "circuits", "fan_out", "library", "client_threads", "client", "server", "calls", "parts", "board", "python"]
+BENCHMARKS = ["answer", "conduct", "replay", "serve", "circuits", "fan_out", "library", "client_threads", "channels", "client", "server", "calls", "parts", "board", "python"]
 # What the library for C is called among the crates of a benchmark.
 LIBRARY = "lib"
 ROUNDS = 11
