@@ -1,3 +1,4 @@
+//! Display data of a record, and how it is made.
 ghost use Rattle.std.specs.Prelude.{◌≡◌, ◌++◌, ◌∷◌, [], ◌<◌, length, IfOk, IfErr, OnErr};
 ghost use Rattle.ca_display.specs.Data.{data_of, limits_of, FitsField, in_field, StateRefused};
 ghost use Rattle.ca_text.specs.declared.refusal.Refusal.TheVariants.{NameLength};
@@ -5,7 +6,7 @@ ghost use Rattle.ca_text.specs.declared.refusal.Refusal.TheVariants.{NameLength}
 use ca_text::Refusal;
 use std::alloc::Global;
 
-/// The most states that a record has names for.
+// The most states that a record has names for.
 pub(crate) const STATE_LIMIT: usize = 16;
 
 /// The limits of a record, each the bit pattern of a DOUBLE.
@@ -112,8 +113,8 @@ impl Display {
     }
 }
 
-/// The text in a field of this size, with zero bytes after it. Refused as NameLength if no zero
-/// byte fits after it, or one is in it.
+// The text in a field of this size, with zero bytes after it. Refused as NameLength if no zero
+// byte fits after it, or one is in it.
 fn fixed<const SIZE: usize>(text: &[u8]) -> Result<[u8; SIZE], Refusal>
     ensures made { IfOk result (λ field. field ≡ in_field SIZE text.now) }
     ensures fits { IfOk result (λ _. FitsField SIZE text.now) }

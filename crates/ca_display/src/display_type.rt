@@ -1,3 +1,4 @@
+//! The types of images with display data, by their numbers.
 ghost use Rattle.std.specs.Prelude.{◌≡◌, ◌<◌, ◌⊎◌, MatchOption};
 ghost use Rattle.ca_display.specs.declared.display_type.DisplayType.{DisplayType};
 ghost use Rattle.ca_display.specs.Types.{display_number, limit_count};

@@ -1,3 +1,4 @@
+//! Images with display data, written: what is before the elements, and the elements.
 ghost use Rattle.std.specs.Prelude.{◌≡◌, ◌≤◌, ◌<◌, ◌⊎◌, ◌++◌, ◌-◌, ◌*◌, ◌^◌, min, length};
 ghost use Rattle.std.specs.Prelude.{replicate, IfOk, IfErr, OnOk, MatchResult};
 ghost use Rattle.std.specs.List.{flat_map};
@@ -19,7 +20,7 @@ use ca_dbr::{BaseType, Meta, Value, write_shown, write_value};
 use ca_text::Refusal;
 use std::alloc::{AllocError, Global};
 
-/// How many bytes are between status and severity and the elements.
+// How many bytes are between status and severity and the elements.
 pub(crate) fn data_size(data_type: DisplayType) -> usize
     ensures { result ≡ data_size data_type.base data_type.form }
 {
@@ -52,7 +53,7 @@ pub fn display_size(number: u16, count: u32) -> Result<usize, Refusal>
     }
 }
 
-/// Puts n zero bytes at the end.
+// Puts n zero bytes at the end.
 fn put_zeros(count: usize, out: &mut Vec<u8>) -> Result<(), AllocError>
     requires { count ≤ 416 }
     ensures { OnOk result (out.new.items ≡ out.old.items ++ replicate count 0) }
@@ -61,7 +62,7 @@ fn put_zeros(count: usize, out: &mut Vec<u8>) -> Result<(), AllocError>
     out.resize(len, 0)
 }
 
-/// Puts units and limits at the end.
+// Puts units and limits at the end.
 fn put_limits(data_type: DisplayType, display: &Display, out: &mut Vec<u8>) -> Result<(), Refusal>
     ensures ok { OnOk result (out.new.items ≡ out.old.items
         ++ limit_bytes data_type.base data_type.form (data_of display.now)) }
@@ -77,7 +78,7 @@ fn put_limits(data_type: DisplayType, display: &Display, out: &mut Vec<u8>) -> R
     write_value(data_type.base.number(), &limits, &Meta::ZERO, out)
 }
 
-/// Puts precision, padding, units and limits at the end.
+// Puts precision, padding, units and limits at the end.
 #[tactic(auto, unfolding(ca_dbr::specs::Elements::signed_bytes_2))]
 fn put_real(data_type: DisplayType, display: &Display, out: &mut Vec<u8>) -> Result<(), Refusal>
     ensures ok { OnOk result (out.new.items ≡ out.old.items
@@ -89,7 +90,7 @@ fn put_real(data_type: DisplayType, display: &Display, out: &mut Vec<u8>) -> Res
     put_limits(data_type, display, out)
 }
 
-/// Puts these names at the end.
+// Puts these names at the end.
 #[tactic(auto, unfolding(ca_dbr::specs::Elements::string_bytes))]
 fn put_names(names: &[[u8; 26]], out: &mut Vec<u8>) -> Result<(), AllocError>
     ensures { OnOk result (out.new.items ≡ out.old.items ++ flat_map string_bytes names.now) }
@@ -100,7 +101,7 @@ fn put_names(names: &[[u8; 26]], out: &mut Vec<u8>) -> Result<(), AllocError>
     Ok(())
 }
 
-/// Puts the number of states, their names and those that are missing at the end.
+// Puts the number of states, their names and those that are missing at the end.
 #[tactic(auto, unfolding(ca_dbr::specs::Elements::bytes_2))]
 fn put_states(names: &[[u8; 26]], out: &mut Vec<u8>) -> Result<(), Refusal>
     requires { length names.now ≤ 16 }
@@ -115,7 +116,7 @@ fn put_states(names: &[[u8; 26]], out: &mut Vec<u8>) -> Result<(), Refusal>
     Ok(())
 }
 
-/// Puts the display data that is in an image at the end.
+// Puts the display data that is in an image at the end.
 fn put_data(data_type: DisplayType, display: &Display, out: &mut Vec<u8>) -> Result<(), Refusal>
     requires { length display.now.states.items ≤ 16 }
     ensures ok { OnOk result (out.new.items ≡ out.old.items
@@ -137,7 +138,7 @@ fn put_data(data_type: DisplayType, display: &Display, out: &mut Vec<u8>) -> Res
     }
 }
 
-/// What is before the elements of an image.
+// What is before the elements of an image.
 #[tactic(auto, unfolding(ca_dbr::specs::Elements::bytes_2))]
 fn front_of(
     alloc: Global,

@@ -1,3 +1,4 @@
+//! What is written with display data is read again.
 ghost use Rattle.std.specs.Prelude.{◌≡◌, ℕ, ◌++◌, List, length};
 ghost use Rattle.ca_dbr.specs.declared.data_type.Form.TheVariants as plain_form;
 ghost use Rattle.ca_dbr.specs.declared.value.Meta.{Meta};

@@ -1,3 +1,4 @@
+//! Limits in the type of an image, and as DOUBLEs again.
 ghost use Rattle.std.specs.Prelude.{◌≡◌, ℕ, map, take, IfOk};
 ghost use Rattle.ca_dbr.specs.Elements.{elements};
 ghost use Rattle.ca_display.specs.Limits.{int_limit, char_limit, long_limit, float_limit};
@@ -11,7 +12,7 @@ use std::num::{
     f64_to_bits_with_nan, nearest_f64_to_f32_with_nan, nearest_i64_to_f64, saturating_f64_to_i32,
 };
 
-/// An element that a limit may be shown as.
+// An element that a limit may be shown as.
 trait Limit: Copy + Drop {
     ghost narrowed: { ℕ → Self };
 
@@ -97,7 +98,7 @@ impl Limit for u64 {
     }
 }
 
-/// These limits in a type.
+// These limits in a type.
 fn of_doubles<T: Limit>(alloc: Global, limits: &[u64]) -> Result<Vec<T>, AllocError>
     ensures { IfOk result (λ v. v.items ≡ map T.narrowed limits.now) }
 {
@@ -108,7 +109,7 @@ fn of_doubles<T: Limit>(alloc: Global, limits: &[u64]) -> Result<Vec<T>, AllocEr
     Ok(items)
 }
 
-/// These limits in the type of an image: none in STRING and ENUM.
+// These limits in the type of an image: none in STRING and ENUM.
 pub(crate) fn limits_in(alloc: Global, base: BaseType, limits: &[u64]) -> Result<Value, AllocError>
     ensures { IfOk result (λ value. elements value ≡ limits_in base limits.now) }
 {
@@ -123,7 +124,7 @@ pub(crate) fn limits_in(alloc: Global, base: BaseType, limits: &[u64]) -> Result
     }
 }
 
-/// The DOUBLEs that these are.
+// The DOUBLEs that these are.
 fn as_doubles<T: Limit>(alloc: Global, items: &[T]) -> Result<Vec<u64>, AllocError>
     ensures { IfOk result (λ v. v.items ≡ map T.widened items.now) }
 {
@@ -134,7 +135,7 @@ fn as_doubles<T: Limit>(alloc: Global, items: &[T]) -> Result<Vec<u64>, AllocErr
     Ok(doubles)
 }
 
-/// Limits that an image shows, as DOUBLEs.
+// Limits that an image shows, as DOUBLEs.
 pub(crate) fn doubles_of(alloc: Global, shown: &Value) -> Result<Vec<u64>, AllocError>
     ensures { IfOk result (λ v. v.items ≡ as_doubles (elements shown.now)) }
 {

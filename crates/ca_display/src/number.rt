@@ -1,3 +1,4 @@
+//! A number in each type, as a record with display data converts it.
 ghost use Rattle.std.specs.Prelude.{◌≡◌, ℤ, unsigned_abs};
 ghost use Rattle.ca_dbr.specs.Conversion.{in_signed, in_unsigned};
 ghost use Rattle.ca_display.specs.Number.{whole_of, in_type, as_float, as_double, float_text};

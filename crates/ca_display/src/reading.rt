@@ -1,3 +1,4 @@
+//! Images with display data, read.
 ghost use Rattle.std.specs.Prelude.{◌≡◌, ◌≤◌, ◌<◌, ◌⊎◌, ◌+◌, ◌-◌, ◌*◌, ◌++◌, All, length, take};
 ghost use Rattle.std.specs.Prelude.{drop, FitsSigned, IfOk, IfErr};
 ghost use Rattle.std.specs.Int.{w16, from_be_bytes};
@@ -17,7 +18,7 @@ ghost use Rattle.ca_dbr.specs.declared.data_type.Form.TheVariants as plain_form;
 ghost use Rattle.ca_dbr.specs.Image.{meta_bytes};
 ghost use Rattle.ca_dbr.specs.Reading.{carried, IsMeta};
 
-use crate::display::{Display, Limits};
+use crate::display::{Display, Limits, STATE_LIMIT};
 use crate::display_type::DisplayType;
 use crate::image::data_size;
 use crate::limits::doubles_of;
@@ -25,8 +26,8 @@ use ca_dbr::{BaseType, Meta, Value, read_value};
 use ca_text::Refusal;
 use std::alloc::{AllocError, Global};
 
-/// These limits, at most eight, in the order in which images have them; the others are zero.
-fn limits_of(doubles: &[u64]) -> Limits
+// These limits, at most eight, in the order in which images have them; the others are zero.
+fn to_limits(doubles: &[u64]) -> Limits
     requires { length doubles.now ≤ 8 }
     ensures { limits_of result ≡ in_field 8 doubles.now }
 {
@@ -44,7 +45,7 @@ fn limits_of(doubles: &[u64]) -> Limits
     }
 }
 
-/// The units at the front.
+// The units at the front.
 fn read_units(bytes: &[u8]) -> [u8; 8]
     requires { 8 ≤ length bytes.now }
     ensures { result ≡ take 8 bytes.now }
@@ -54,7 +55,7 @@ fn read_units(bytes: &[u8]) -> [u8; 8]
     units
 }
 
-/// The limits that these bytes show.
+// The limits that these bytes show.
 fn read_limits(alloc: Global, data_type: DisplayType, bytes: &[u8]) -> Result<Limits, Refusal>
     requires { length bytes.now ≡ limit_count data_type.form * element_size data_type.base }
     ensures read { IfOk result (λ l. (shown : Elements) × (bytes.now ≡ bytes_of shown)
@@ -65,10 +66,10 @@ fn read_limits(alloc: Global, data_type: DisplayType, bytes: &[u8]) -> Result<Li
     let count = data_type.limit_count() as u32;
     let (shown, _) = read_value(alloc, data_type.base.number(), count, bytes)?;
     let doubles = doubles_of(alloc, &shown)?;
-    Ok(limits_of(&doubles))
+    Ok(to_limits(&doubles))
 }
 
-/// The display data of an image of a type with whole numbers: units, limits and padding.
+// The display data of an image of a type with whole numbers: units, limits and padding.
 fn read_whole(alloc: Global, data_type: DisplayType, bytes: &[u8]) -> Result<Display, Refusal>
     requires { 8 + limit_count data_type.form * element_size data_type.base ≤ length bytes.now }
     ensures read { IfOk result (λ d. ReadsWhole data_type.base data_type.form
@@ -88,7 +89,7 @@ fn read_whole(alloc: Global, data_type: DisplayType, bytes: &[u8]) -> Result<Dis
     })
 }
 
-/// A precision.
+// A precision.
 #[tactic(auto, unfolding(ca_dbr::specs::Elements::signed_bytes_2))]
 fn read_precision(bytes: &[u8]) -> i16
     requires { length bytes.now ≡ 2 }
@@ -98,7 +99,7 @@ fn read_precision(bytes: &[u8]) -> i16
     i16::from_be_bytes([bytes[0], bytes[1]])
 }
 
-/// The display data of an image of FLOAT or DOUBLE: precision, padding, units and limits.
+// The display data of an image of FLOAT or DOUBLE: precision, padding, units and limits.
 fn read_real(alloc: Global, data_type: DisplayType, bytes: &[u8]) -> Result<Display, Refusal>
     requires { length bytes.now ≡ 12 + limit_count data_type.form * element_size data_type.base }
     ensures read { IfOk result (λ d. ReadsReal data_type.base data_type.form bytes.now
@@ -116,7 +117,7 @@ fn read_real(alloc: Global, data_type: DisplayType, bytes: &[u8]) -> Result<Disp
     })
 }
 
-/// A number of 16 bits.
+// A number of 16 bits.
 #[tactic(auto, unfolding(ca_dbr::specs::Elements::bytes_2))]
 fn read_number(bytes: &[u8]) -> u16
     requires { length bytes.now ≡ 2 }
@@ -126,7 +127,7 @@ fn read_number(bytes: &[u8]) -> u16
     u16::from_be_bytes([bytes[0], bytes[1]])
 }
 
-/// One name of these bytes.
+// One name of these bytes.
 fn read_name(bytes: &[u8]) -> [u8; 26]
     requires { length bytes.now ≡ 26 }
     ensures { result ≡ bytes.now }
@@ -136,7 +137,7 @@ fn read_name(bytes: &[u8]) -> [u8; 26]
     name
 }
 
-/// n names at the front.
+// n names at the front.
 #[tactic(auto, unfolding(ca_dbr::specs::Elements::string_bytes))]
 fn read_names(alloc: Global, count: usize, bytes: &[u8]) -> Result<Vec<[u8; 26]>, AllocError>
     requires { count * 26 ≤ length bytes.now }
@@ -155,19 +156,19 @@ fn read_names(alloc: Global, count: usize, bytes: &[u8]) -> Result<Vec<[u8; 26]>
     Ok(names)
 }
 
-/// The states of an image of ENUM: their number, and 16 names. Refused as BadCount if there are
-/// more.
+// The states of an image of ENUM: their number, and 16 names. Refused as BadCount if there are
+// more.
 fn read_states(alloc: Global, bytes: &[u8]) -> Result<Display, Refusal>
     requires { length bytes.now ≡ 418 }
     ensures read { IfOk result (λ d. ReadsStates bytes.now (data_of d)) }
     ensures err { IfErr result (λ e. (e ≡ OutOfMemory)
         ⊎ ((e ≡ BadCount) × (16 < from_be_bytes w16 (take 2 bytes.now)))) }
 {
-    let count = read_number(&bytes[..2]);
-    if count > 16 {
+    let count = usize::from(read_number(&bytes[..2]));
+    if count > STATE_LIMIT {
         return Err(Refusal::BadCount);
     }
-    let states = read_names(alloc, usize::from(count), &bytes[2..])?;
+    let states = read_names(alloc, count, &bytes[2..])?;
     Ok(Display {
         units: [0; 8],
         precision: 0,
@@ -176,7 +177,7 @@ fn read_states(alloc: Global, bytes: &[u8]) -> Result<Display, Refusal>
     })
 }
 
-/// The display data of an image of a type.
+// The display data of an image of a type.
 fn read_data(alloc: Global, data_type: DisplayType, bytes: &[u8]) -> Result<Display, Refusal>
     requires { length bytes.now ≡ data_size data_type.base data_type.form }
     ensures read { IfOk result (λ d. ReadsData data_type.base data_type.form bytes.now
@@ -200,7 +201,7 @@ fn read_data(alloc: Global, data_type: DisplayType, bytes: &[u8]) -> Result<Disp
     }
 }
 
-/// The status and severity at the front.
+// The status and severity at the front.
 fn read_alarm(bytes: &[u8]) -> Meta
     requires { 4 ≤ length bytes.now }
     ensures front { bytes.now ≡ meta_bytes plain_form.Status result ++ drop 4 bytes.now }

@@ -15,4 +15,4 @@ returns-clause-read c =
     let r = c.in_ok-shown.ensures.read in
     let body : ReadsElements b count bytes e = plain_body r.0 b count bytes e _ (r.1 ∙ c.number.ensures) r.2 in
     let sized : length bytes ≡ count * element_size b = c.requires ∙ ap (λ (n : ℕ). n * element_size b) (sym c.limit_count-count.ensures) in
-    (e, exact_body b count bytes e (λ one. limit_count-many c.args.data_type.form (sym c.limit_count-count.ensures ∙ one)) sized body, body.based, body.counted ∙ c.limit_count-count.ensures, body.valued, c.limits_of.ensures ∙ ap (λ (x : List ℕ). in_field 8 x) (c.deref.ensures.value ∙ c.in_ok-doubles.ensures))
+    (e, exact_body b count bytes e (λ one. limit_count-many c.args.data_type.form (sym c.limit_count-count.ensures ∙ one)) sized body, body.based, body.counted ∙ c.limit_count-count.ensures, body.valued, c.to_limits.ensures ∙ ap (λ (x : List ℕ). in_field 8 x) (c.deref.ensures.value ∙ c.in_ok-doubles.ensures))
