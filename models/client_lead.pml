@@ -68,7 +68,7 @@
 
 mtype = { NOWHERE, AT_SOCKETS, AT_CALL, NOBODY, THREAD, CALLER };
 
-/* Under the lock: Locked, and Lead. */
+/* Under the lock: LockedClient, and Lead. */
 bit lock;
 mtype watcher = NOBODY;
 byte wished;
@@ -89,9 +89,9 @@ bit rx_update;
 bit socket_edge;        /* a circuit's socket, at the poll for the sockets */
 bit socket_wake;        /* sockets_waker, there too */
 bit call_wake;          /* thread_waker, at the thread's own poll */
-bit polling;            /* Shared.sockets is locked */
+bit polling;            /* SharedClient.sockets is locked */
 
-/* Words that take no lock: Shared. */
+/* Words that take no lock: SharedClient. */
 mtype asleep = NOWHERE;
 bit asked;
 bit stale[N];
@@ -119,7 +119,7 @@ bit engine_over;
 bit was_cut, was_cleared;
 bit stalled[N];
 
-/* Locked::send. */
+/* LockedClient::send. */
 inline send_out() {
     unsent = 0;
     for (k : 0 .. N - 1) {
@@ -131,7 +131,7 @@ inline send_out() {
     k = 0
 }
 
-/* Locked::move_all. `came` is whether something did. */
+/* LockedClient::move_all. `came` is whether something did. */
 inline receive(came) {
     came = 0;
     send_out();
@@ -159,10 +159,10 @@ inline end_all() {
     k = 0
 }
 
-/* Locked::calls. */
+/* LockedClient::calls. */
 #define CALLS (hears || ending || told)
 
-/* Shared::wake. */
+/* SharedClient::wake. */
 inline wake() {
     d_step {
         if
@@ -174,7 +174,7 @@ inline wake() {
     }
 }
 
-/* Shared::pass. */
+/* SharedClient::pass. */
 inline add_turn() {
     d_step {
         for (k : 0 .. N - 1) { stale[k] = 1 };
@@ -194,7 +194,7 @@ inline pass() {
     }
 }
 
-/* Shared::leave. */
+/* SharedClient::leave. */
 inline leave(calls) {
 #if PLANT == 7
     if
@@ -217,14 +217,14 @@ inline leave(calls) {
 #endif
 }
 
-/* Shared::call_all. */
+/* SharedClient::call_all. */
 inline call_all() {
     pass();
     socket_wake = 1;
     wake()
 }
 
-/* Shared::watch. Nobody ever finds the mutex of the sockets taken. */
+/* SharedClient::watch. Nobody ever finds the mutex of the sockets taken. */
 inline watch(late) {
     d_step { assert(!polling); polling = 1 };
     if
@@ -276,7 +276,7 @@ inline issue(me) {
     lock = 0
 }
 
-/* Shared::flush, Shared::send_now. */
+/* SharedClient::flush, SharedClient::send_now. */
 inline flush() {
     d_step { was = asked; asked = 0 };
     if
@@ -327,7 +327,7 @@ end_at_call:
             :: else
             fi;
 #endif
-            if                          /* 10 ms may have passed: Lead::rise, Shared::tick */
+            if                          /* 10 ms may have passed: Lead::rise, SharedClient::tick */
             :: (wished != 0 || crowded != 0) && MAY_TICK ->
                 if
                 :: wished != 0 -> wished--
@@ -341,7 +341,7 @@ end_at_call:
             fi;
             any = told;                 /* told_before */
 #ifdef CUTS
-            if                          /* what Locked::send_all finds */
+            if                          /* what LockedClient::send_all finds */
             :: watcher == CALLER && !was_cut ->
                 d_step {
                     was_cut = 1;
@@ -354,7 +354,7 @@ end_at_call:
             fi;
 #endif
             d_step {
-                if                      /* Locked::serve */
+                if                      /* LockedClient::serve */
 #if PLANT == 12
                 :: watcher == CALLER -> send_out()
 #else
@@ -373,7 +373,7 @@ end_at_call:
                 :: else ->
                     if
                     :: any -> place = NOWHERE
-                    :: else ->          /* Shared::doze begins: Lead::is_left, Lead::take */
+                    :: else ->          /* SharedClient::doze begins: Lead::is_left, Lead::take */
                         asked = 0;
                         left_to = watcher == CALLER || (wished != 0 && crowded == 0 && !hears);
                         place = AT_SOCKETS
@@ -424,7 +424,7 @@ end_at_call:
 #ifdef LISTENS
         if
         :: heard && update_came && !update_heard ->
-            /* The listener waits for a reply that only this thread would read: Shared::park. */
+            /* The listener waits for a reply that only this thread would read: SharedClient::park. */
             waiting++;
             if
 #if PLANT != 11
@@ -474,7 +474,7 @@ next:
 turn:
     /* Context::wait_once. */
     stale[me] = 0;
-    /* Shared::hold_to_lead, Shared::is_crowded. */
+    /* SharedClient::hold_to_lead, SharedClient::is_crowded. */
     d_step {
         if
         :: waiting != 0 -> crowded = LATELY
@@ -490,7 +490,7 @@ turn:
     d_step {
         lock == 0 -> lock = 1;
         TAKEN(me);
-        wished = LATELY;                /* Locked::may_lead */
+        wished = LATELY;                /* LockedClient::may_lead */
         was = !hears && watcher == NOBODY && !ending;
         if
         :: was ->
@@ -560,7 +560,7 @@ left:
     :: filled[me] -> goto got
     :: else
     fi;
-    /* Shared::park. */
+    /* SharedClient::park. */
 #if PLANT != 2
     waiting++;
 #endif

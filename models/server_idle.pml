@@ -10,7 +10,7 @@
  * at once what is there as a socket comes in. Where there is no descriptor for a poll the circuit stays parked. Without PARKS each circuit has its poll for ever.
  *
  * A circuit has `rx`, messages in its socket; `input`, messages in the core; `due`, updates that wait in the core for a pump; `output`, bytes in the core that wait
- * to be sent; `line`, bytes that the thread took out and has not written; `room`, whether the socket takes bytes. Edges (`edge`, `bell`) are kept until a poll takes
+ * to be sent; `line`, bytes that the thread took out, all that there were, and has not written; `room`, whether the socket takes bytes. Edges (`edge`, `bell`) are kept until a poll takes
  * them. No wait of the server ends by time, but for the pauses of a thread without memory and of what a closed circuit left, which are left out,
  * and for that of PATIENCE.
  *
@@ -98,7 +98,7 @@
 
 mtype = { LATER, COUNT, OVER, BUSY, IDLE, CLOSED };
 
-/* The mutex, and what lies under it: Locked, and the core. */
+/* The mutex, and what lies under it: LockedServer, and the core. */
 bit lock;
 byte input[C];
 byte due[C];
@@ -110,10 +110,10 @@ bit has_waker[C];       /* Bell.waker: it has that of the poll which the circuit
 bit busy;               /* the slow record */
 byte busy_of;
 byte waits[C];
-bit given;              /* its name is in Locked.busy */
+bit given;              /* its name is in LockedServer.busy */
 bit ending;
 
-byte handed[C];         /* Locked.rings */
+byte handed[C];         /* LockedServer.rings */
 
 /* The conditions that a record became busy, and that there are bells for the ringing thread. */
 bit unseen, sleeps;
@@ -134,7 +134,7 @@ bit token[C];           /* the parker's */
 bit end_told;           /* the polling thread's waker */
 byte line[C];
 bit entered[C];
-bit gone[C];            /* Locked.gone has it: the thread is at its end */
+bit gone[C];            /* LockedServer.gone has it: the thread is at its end */
 
 byte ended_threads;
 
@@ -210,7 +210,7 @@ inline post(c) {
     k = 0
 }
 
-/* Locked::reach: the bells of those that the put reached are taken. */
+/* LockedServer::reach: the bells of those that the put reached are taken. */
 inline reach(c) {
     for (k : 0 .. LAST) {
         if
@@ -294,7 +294,7 @@ inline cut(c) {
 inline unpark() {
     if
     :: true ->
-        /* Line::leave */
+        /* CircuitSocket::leave */
         d_step { life[c] = 1 - life[c]; own[c] = 1; edge[c] = rx[c] != 0 || shut[c] || room[c]; bell[c] = 0 };
         d_step { joined[c] = 0; told[c] = 0; asks_room[c] = 0 };
 #if PLANT != 18
@@ -313,12 +313,12 @@ inline park() {
 #if PLANT != 16
     d_step { lock == 0 -> has_waker[c] = 0 };
 #endif
-    /* Line::drop_own */
+    /* CircuitSocket::drop_own */
     d_step { own[c] = 0; edge[c] = 0; bell[c] = 0 }
 }
 #endif
 
-/* A circuit's thread: Circuit::run. */
+/* A circuit's thread: CircuitThread::run. */
 proctype Circuit(byte c) {
     mtype moved = LATER, turn = IDLE;
     bit is_given, is_handed, slow, all, again, has_no_room, came;
@@ -376,7 +376,7 @@ proctype Circuit(byte c) {
                 :: slow = 0
                 fi;
 #endif
-                /* Locked::step */
+                /* LockedServer::step */
                 if
                 :: slow && busy -> waits[c]++
                 :: else ->
@@ -399,7 +399,7 @@ proctype Circuit(byte c) {
                 :: else ->
                     all = 1;
                     if
-                    :: output[c] != 0 && line[c] == 0 -> output[c]--; line[c] = 1
+                    :: output[c] != 0 && line[c] == 0 -> line[c] = output[c]; output[c] = 0
                     :: else
                     fi;
                     all = output[c] == 0;
@@ -438,11 +438,14 @@ proctype Circuit(byte c) {
         :: turn == CLOSED -> ring_all(); line[c] = 0; break       /* write_left, which ends by itself */
         :: else
         fi;
-        /* Line::write; a circuit whose socket took some is busy, too */
+        /* CircuitSocket::write; a circuit whose socket took some is busy, too */
         has_no_room = 0;
         if
         :: line[c] != 0 && shut[c] -> line[c] = 0; moved = OVER
         :: line[c] != 0 && !shut[c] && room[c] -> d_step { line[c] = 0; came = 1 }; FILL(c)
+#ifdef FULL
+        :: line[c] > 1 && !shut[c] && room[c] -> d_step { line[c]--; came = 1; room[c] = 0 }; has_no_room = 1
+#endif
         :: line[c] != 0 && !shut[c] && !room[c] -> has_no_room = 1
         :: line[c] == 0
         fi;
@@ -456,7 +459,7 @@ proctype Circuit(byte c) {
 #endif
         if
         :: has_no_room ->
-            /* Line::is_full */
+            /* CircuitSocket::is_full */
             if
             :: own[c] ->
 end_full:
@@ -518,7 +521,7 @@ waiting:
 #if PLANT == 10
                 bell[c] = 0;
 #endif
-                /* Line::is_idle */
+                /* CircuitSocket::is_idle */
                 if
                 :: own[c] ->
 end_idle:
@@ -679,7 +682,7 @@ end_asleep:
         d_step { lock == 0 -> work = busy && !ending };
         if
         :: work ->
-            /* The device processes, with no lock held. Then Locked::finish. */
+            /* The device processes, with no lock held. Then LockedServer::finish. */
             atomic {
                 lock == 0 -> lock = 1;
 #if PLANT != 5
@@ -750,7 +753,7 @@ end:
     od
 }
 
-/* accept_one, late; and Shared::end, join_all and join_helpers. */
+/* accept_one, late; and SharedServer::end, join_all and join_helpers. */
 proctype Main() {
     byte k;
 

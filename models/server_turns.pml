@@ -1,5 +1,5 @@
 /*
- * Which slow record is processed next: Processor::run, process and Locked::finish of crates/ca_serve/src.
+ * Which slow record is processed next: Processor::run, process and LockedServer::finish of crates/ca_serve/src.
  *
  * Two processing threads, and three slow records. Of the first two another put waits whenever one is finished, for ever; the third is put once. `busy` is the queue
  * of records; the mutex is left out, since each hold of it is one step here. A call of the device may take any time, and ends.
@@ -15,7 +15,7 @@ chan busy = [3] of { byte };
 byte since;             /* puts that were finished since the third record was put, until it was taken up; 3 stands for more */
 bit put, taken, done;
 
-/* Locked::finish, after the device's call. */
+/* LockedServer::finish, after the device's call. */
 inline finish(name) {
     if
     :: name == 2 -> done = 1

@@ -1,7 +1,7 @@
 -- Which words ask for no line.
 use Rattle.std.proofs.Common.{◌≡◌, ℕ, ◌+◌, List, [], ◌∷◌, Option, None, sym, ap, ◌∙◌, subst, codes, arith, length}
 use Rattle.clap.specs.Words.{Text}
-use Rattle.ca.specs.declared.line.Line.TheVariants.{Answer, Repeater, Replay}
+use Rattle.ca.specs.declared.line.CommandLine.TheVariants.{Answer, Repeater, Replay}
 use Rattle.ca.specs.declared.answer.line.AnswerLine.{AnswerLine}
 use Rattle.ca.specs.declared.repeater.line.RepeaterLine.{RepeaterLine}
 use Rattle.ca.specs.declared.replay.line.ReplayLine.{ReplayLine}

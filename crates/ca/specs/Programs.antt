@@ -2,8 +2,8 @@
 use Rattle.std.specs.Prelude.{ℕ, ◌≡◌, ◌⊎◌, List, Option, None, Some, Result, ⊤}
 use Rattle.clap.specs.Words.{Text}
 use Rattle.ca_link.specs.declared.source.Fault.{Fault}
-use Rattle.ca.specs.declared.line.Line.{Line}
-use Rattle.ca.specs.declared.line.Line.TheVariants.{Answer, Repeater, Replay}
+use Rattle.ca.specs.declared.line.CommandLine.{CommandLine}
+use Rattle.ca.specs.declared.line.CommandLine.TheVariants.{Answer, Repeater, Replay}
 use Rattle.ca.specs.declared.repeater.line.RepeaterLine.{RepeaterLine}
 use Rattle.ca.specs.Lines.{IsLine}
 use Rattle.ca.specs.Repeating.{RepeatsFrom}
@@ -23,7 +23,7 @@ module _ (D : Type 0) {S K : Type 0} (gives : S → List ℕ → S → Type 0)
     (faults' : K → ℕ) (s0 s : S) (k0 k : K) (status : ℕ) where
   -- This line was done, or none: from s0 to s the source was read, and from k0 to k the sink took
   -- what is due. A repeater ran over a D.
-  abbrev pub Does : Option Line → Type 0
+  abbrev pub Does : Option CommandLine → Type 0
   Does (Some (Answer line)) =
       Answers gives takes calls calls' faults faults' s0 s k0 k (file_in line) status
   Does (Some (Repeater line)) =
@@ -37,5 +37,5 @@ module _ (D : Type 0) {S K : Type 0} (gives : S → List ℕ → S → Type 0)
   -- What the words ask for was done; or there was no memory to read them.
   abbrev pub Ends : List Text → Type 0
   Ends words =
-      ((line : Option Line) × IsLine words line × Does line)
+      ((line : Option CommandLine) × IsLine words line × Does line)
       ⊎ Leaves gives takes calls calls' faults faults' s0 s k0 k status 1

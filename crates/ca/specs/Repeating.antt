@@ -7,56 +7,58 @@ use Rattle.std.specs.declared.alloc.Global.{Global}
 use Rattle.ca_text.specs.declared.refusal.Refusal.{Refusal}
 use Rattle.ca_text.specs.declared.refusal.Refusal.TheVariants.{Device, OutOfMemory}
 use Rattle.ca_link.specs.declared.source.Fault.{Fault}
-use Rattle.ca_repeat.specs.declared.address.Address.{Address}
+use Rattle.ca_repeat.specs.declared.address.UdpAddress.{UdpAddress}
 use Rattle.ca_repeat.specs.Addresses.{same}
 use Rattle.ca_repeat.specs.Sent.{Sent}
 use Rattle.ca_repeat.specs.Fan.{Receives}
 use Rattle.ca.specs.declared.repeater.line.RepeaterLine.{RepeaterLine}
 use Rattle.ca_link.specs.Exits.{status_of}
 
-module _ {D : Type 0} (went refuses : D → Address → List ℕ → D → Type 0) where
+module _ {D : Type 0} (went refuses : D → UdpAddress → List ℕ → D → Type 0) where
   -- One datagram is sent, or refused: then the member to whom it went is dropped.
-  abbrev pub SendsOne : D → List Address → Sent → D → List Address → Type 0
+  abbrev pub SendsOne : D → List UdpAddress → Sent → D → List UdpAddress → Type 0
   SendsOne s members d t after =
       (went s d.to d.bytes t × (after ≡ members))
       ⊎ (refuses s d.to d.bytes t × (after ≡ filter (λ m. not (same m d.to)) members))
 
   -- These are sent, in order.
-  abbrev pub Sends : D → List Address → List Sent → D → List Address → Type 0
+  abbrev pub Sends : D → List UdpAddress → List Sent → D → List UdpAddress → Type 0
   Sends s members [] t after = (t ≡ s) × (after ≡ members)
   Sends s members (d ∷ sends) t after =
-      (mid : D) × (known : List Address) × SendsOne s members d mid known
+      (mid : D) × (known : List UdpAddress) × SendsOne s members d mid known
       × Sends mid known sends t after
 
-  module _ (came : D → Address → List ℕ → D → Type 0) where
+  module _ (came : D → UdpAddress → List ℕ → D → Type 0) where
     -- One datagram came, and what is due for it was sent.
-    pub record Round (s : D) (members : List Address) (t : D) (after : List Address) : Type 0 where
-      pub from : Address
+    pub record Round (s : D) (members : List UdpAddress) (t : D)
+        (after : List UdpAddress) : Type 0 where
+      pub from : UdpAddress
       pub bytes : List ℕ
       pub got : D
       pub came_in : came s from bytes got
       pub sends : Vec Sent Global
-      pub enrolled : List Address
+      pub enrolled : List UdpAddress
       pub receives : Receives members from bytes (Ok sends) enrolled
       pub sent : Sends got enrolled sends.items t after
 
     -- n rounds, the first with no members
-    abbrev pub Rounds : ℕ → D → D → List Address → Type 0
+    abbrev pub Rounds : ℕ → D → D → List UdpAddress → Type 0
     Rounds zero s0 s members = (s ≡ s0) × (members ≡ [])
     Rounds (suc n) s0 s members =
-        (mid : D) × (known : List Address) × Rounds n s0 mid known × Round mid known s members
+        (mid : D) × (known : List UdpAddress) × Rounds n s0 mid known × Round mid known s members
 
     module _ (fails : D → D → Type 0) where
       -- A datagram came, and memory lacked for what is due for it.
-      pub record Lacks (s : D) (members : List Address) (t : D)
-          (after : List Address) : Type 0 where
-        pub from : Address
+      pub record Lacks (s : D) (members : List UdpAddress) (t : D)
+          (after : List UdpAddress) : Type 0 where
+        pub from : UdpAddress
         pub bytes : List ℕ
         pub came_in : came s from bytes t
         pub receives : Receives members from bytes (Err OutOfMemory) after
 
       -- One datagram was waited for, with this outcome.
-      abbrev pub Takes : D → List Address → Result (Unit {0}) Refusal → D → List Address → Type 0
+      abbrev pub Takes : D → List UdpAddress → Result (Unit {0}) Refusal → D → List UdpAddress
+          → Type 0
       Takes s members (Ok _) t after = Round s members t after
       Takes s members (Err Device) t after = fails s t
       Takes s members (Err OutOfMemory) t after = Lacks s members t after
@@ -66,13 +68,14 @@ module _ {D : Type 0} (went refuses : D → Address → List ℕ → D → Type 
       -- `Device` if a receive failed after fewer; and out of memory before it began, or at a
       -- datagram that came after fewer.
       abbrev pub Repeats : ℕ → D → Result (Unit {0}) Refusal → D → Type 0
-      Repeats n s0 (Ok _) s = (members : List Address) × Rounds n s0 s members
+      Repeats n s0 (Ok _) s = (members : List UdpAddress) × Rounds n s0 s members
       Repeats n s0 (Err Device) s =
-          (i : ℕ) × (mid : D) × (members : List Address) × (i < n) × Rounds i s0 mid members
+          (i : ℕ) × (mid : D) × (members : List UdpAddress) × (i < n) × Rounds i s0 mid members
           × fails mid s
       Repeats n s0 (Err OutOfMemory) s =
           (s ≡ s0) ⊎
-          ((i : ℕ) × (mid : D) × (members after : List Address) × (i < n) × Rounds i s0 mid members
+          ((i : ℕ) × (mid : D) × (members after : List UdpAddress) × (i < n)
+          × Rounds i s0 mid members
           × Lacks mid members s after)
       Repeats n s0 (Err _) s = ⊥
 

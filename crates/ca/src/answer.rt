@@ -1,3 +1,5 @@
+//! The line `answer`: one circuit, from standard input to standard output or over any other
+//! streams.
 mod line;
 mod run;
 mod standing;

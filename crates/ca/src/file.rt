@@ -1,3 +1,4 @@
+//! The bytes of a file, for `answer` and `replay`, which judge all of it before they begin.
 ghost use Rattle.std.specs.Prelude.{IfOk};
 ghost use Rattle.ca.specs.Files.{Gives};
 

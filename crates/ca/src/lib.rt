@@ -11,7 +11,7 @@ mod replay;
 mod words;
 
 pub use answer::{AnswerLine, answer_file, answer_run, serve, standing_records};
-pub use line::{Line, read_line};
+pub use line::{CommandLine, read_line};
 pub use program::run;
-pub use repeater::{Datagrams, RepeaterLine, Socket, repeat, repeater_bound, repeater_run};
+pub use repeater::{Datagrams, RepeaterLine, RepeaterSocket, repeat, repeater_bound, repeater_run};
 pub use replay::{ReplayLine, replay_file, replay_run};

@@ -1,10 +1,12 @@
+//! `run`: the words lead to the run of one line. Its contract says how the program may end, over
+//! any system and any streams.
 ghost use Rattle.std.specs.Prelude.{◌<◌, ◌^◌, map, string_bytes};
 ghost use Rattle.ca.specs.Programs.{Ends};
-ghost use Rattle.ca.specs.declared.repeater.socket.Socket.{Socket};
+ghost use Rattle.ca.specs.declared.repeater.socket.RepeaterSocket.{RepeaterSocket};
 
 use crate::answer::{answer_file, answer_run};
-use crate::line::{Line, read_line};
-use crate::repeater::{Socket, repeater_bound};
+use crate::line::{CommandLine, read_line};
+use crate::repeater::{RepeaterSocket, repeater_bound};
 use crate::replay::replay_file;
 use ca_link::{Sink, Source, not_understood, report};
 use std::alloc::Global;
@@ -28,18 +30,25 @@ pub fn run<R: Net + Files, S: Source, K: Sink, W: Write>(
     requires source_faults { S.fault_count source.old < 2 ^ 63 }
     requires sink_calls { K.call_count sink.old < 2 ^ 63 }
     requires sink_faults { K.fault_count sink.old < 2 ^ 63 }
-    ensures { Ends (Socket R) S.gives K.takes S.call_count K.call_count S.fault_count K.fault_count
+    ensures { Ends
+        (RepeaterSocket R) S.gives K.takes S.call_count K.call_count S.fault_count K.fault_count
         source.old source.new sink.old sink.new result (map string_bytes words.now) }
 {
     match read_line(alloc, words) {
-        Ok(Some(Line::Answer(line))) => match line.records {
+        Ok(Some(CommandLine::Answer(line))) => match line.records {
             None => answer_run(alloc, None, source, sink, err),
             Some(file) => answer_file(alloc, File::open(system, file), source, sink, err),
         },
-        Ok(Some(Line::Repeater(line))) => {
-            repeater_bound(alloc, Socket::bind(system, line.port), line, sink, err)
+        Ok(Some(CommandLine::Repeater(line))) => {
+            repeater_bound(
+                alloc,
+                RepeaterSocket::bind(system, line.port),
+                line,
+                sink,
+                err,
+            )
         }
-        Ok(Some(Line::Replay(line))) => {
+        Ok(Some(CommandLine::Replay(line))) => {
             replay_file(
                 alloc,
                 File::open(system, line.file),

@@ -1,3 +1,4 @@
+//! The line `replay`: the script of a file is run by `ca_replay`, and its report written.
 mod file;
 mod line;
 mod run;

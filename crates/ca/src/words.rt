@@ -1,3 +1,5 @@
+//! What all lines need of their words: whether the first is theirs, and whether one is `--`, which
+//! no line takes.
 ghost use Rattle.std.specs.Prelude.{◌≡◌, ◌∷◌, ℕ, List, MatchOption, codes, map, string_bytes};
 ghost use Rattle.std.specs.List.{list_any};
 ghost use Rattle.std.specs.Str.{bytes_eq};

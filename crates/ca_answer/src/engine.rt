@@ -16,7 +16,7 @@ ghost use Rattle.ca_answer.specs.Serving.{Comes, Drains, Hands, MakesRoom, Pumpe
 use ca_arena::Handle;
 use ca_link::Sink;
 use ca_records::{Records, Rule};
-use ca_server_core::{Cause, ServerCore, Step};
+use ca_server_core::{CoreStep, EndCause, ServerCore};
 use ca_text::{ENGINE_TURNS, OUTPUT_LIMIT, Refusal, SERVER_PORT};
 use ca_wire::Pipe;
 use std::marker::Model;
@@ -24,13 +24,13 @@ use std::marker::Model;
 /// A server with one circuit, and how many bytes wait on it to be handed to the sink: the answers
 /// to the messages that were handled.
 #[derive(Drop)]
-pub(crate) struct Engine {
+pub(crate) struct StreamEngine {
     core: ServerCore,
     circuit: Handle,
     waiting: usize,
 }
 
-impl Model for Engine {
+impl Model for StreamEngine {
     ghost use Rattle.ca_answer.specs.Engines.{EngineState};
 
     ghost Value = { EngineState };
@@ -38,15 +38,15 @@ impl Model for Engine {
     ghost view = { λ x. record { core = x.core; circuit = x.circuit; waiting = x.waiting } };
 }
 
-impl Engine {
+impl StreamEngine {
     // A server with these records under these rules, and one circuit on which no byte came.
-    pub(crate) fn new(records: &Records, rules: Vec<Rule>) -> Result<Engine, Refusal>
+    pub(crate) fn new(records: &Records, rules: Vec<Rule>) -> Result<StreamEngine, Refusal>
         ensures ok { IfOk result (IsNew rules.items records.now) }
         ensures err { IfErr result (λ e. e ≡ refusal.OutOfMemory) }
     {
         let mut core = ServerCore::new(SERVER_PORT, 0, records, rules)?;
         let circuit = core.accept()?;
-        Ok(Engine {
+        Ok(StreamEngine {
             core,
             circuit,
             waiting: 0,
@@ -97,26 +97,26 @@ impl Engine {
     {
         let mut waiting = 0;
         match self.serve_next(&mut waiting) {
-            Step::Handled(_) => {
+            CoreStep::Handled(_) => {
                 self.keep(waiting, sink, turns)?;
                 Ok(true)
             }
-            Step::Closed(cause, left) => {
+            CoreStep::Closed(cause, left) => {
                 self.hand_left(&left, sink, turns)?;
                 Err(refusal_of(cause))
             }
-            Step::NeedBytes => {
+            CoreStep::NeedBytes => {
                 self.flush(sink, turns)?;
                 Ok(false)
             }
             // It cannot happen: fewer bytes wait than that.
-            Step::OutputFull => Ok(false),
+            CoreStep::OutputFull => Ok(false),
         }
     }
 
     // Handles the next message, finishes the record that it made busy, and pumps once. It says how
     // many bytes wait then.
-    fn serve_next(&mut self, waiting: &mut usize) -> Step
+    fn serve_next(&mut self, waiting: &mut usize) -> CoreStep
         ensures served { ServesAndPumps self.old.core self.old.circuit (stepped result) waiting.new
             self.new.core }
         ensures stays { self.new ≡ record self.old { core = self.new.core } }
@@ -250,12 +250,12 @@ fn hand<K: Sink>(sink: &mut K, turns: &mut u64, bytes: &[u8]) -> Result<(), Refu
 }
 
 // The refusal for which the end of a circuit ended.
-fn refusal_of(cause: Cause) -> Refusal
+fn refusal_of(cause: EndCause) -> Refusal
     ensures { result ≡ refusal_for (why_is cause) }
 {
     match cause {
-        Cause::Misaligned => Refusal::Misaligned,
-        Cause::TooLarge => Refusal::TooLarge,
+        EndCause::Misaligned => Refusal::Misaligned,
+        EndCause::TooLarge => Refusal::TooLarge,
         _ => Refusal::OutOfMemory,
     }
 }

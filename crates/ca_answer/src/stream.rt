@@ -3,7 +3,7 @@ ghost use Rattle.std.specs.Prelude.{◌+◌, ◌<◌, ◌≤◌, ◌^◌};
 ghost use Rattle.ca_text.specs.Limits.{engine_turns};
 ghost use Rattle.ca_answer.specs.Answering.{Streams};
 
-use crate::engine::Engine;
+use crate::engine::StreamEngine;
 use ca_link::{Sink, Source};
 use ca_records::{Records, Rule};
 use ca_text::{ENGINE_TURNS, Refusal};
@@ -34,7 +34,7 @@ pub fn answer_stream<S: Source, K: Sink>(
         ≤ S.call_count source.old + K.call_count sink.old + engine_turns }
 {
     let mut buffer = vec![in *rules.allocator(); 0u8; READ_SIZE]?;
-    let mut engine = Engine::new(records, rules)?;
+    let mut engine = StreamEngine::new(records, rules)?;
     let mut turns = 0;
     while turns < ENGINE_TURNS {
         turns += 1;

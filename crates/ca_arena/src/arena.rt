@@ -128,7 +128,8 @@ impl<T> Arena<T> {
     fn handle_after(&self, count: usize, index: usize) -> Option<Handle>
         requires { count < length self.now.freed → index ≡ slice_index_or self.now.freed count 0 }
         ensures { result
-            ≡ (if nat_lt count (free_slots self.now) then Some (handle_after self.now count) else None) }
+            ≡ (if nat_lt count (free_slots self.now) then Some (handle_after self.now count)
+            else None) }
     {
         if count < self.freed {
             return Some(Handle {

@@ -1,3 +1,4 @@
+//! Rounds on an arena, and on a slab to compare it with, whose keys are used again.
 use ca_arena::{Arena, Handle};
 use ca_text::Refusal;
 use slab::Slab;

@@ -14,7 +14,7 @@ pub(crate) fn show_all<W: Write>(
     out: &mut W,
 ) -> Result<(), Refusal> {
     show_tickets(alloc, out)?;
-    let agreed = racing::give_up_beside_fill(rt, alloc)?;
+    let agreed = racing::give_up_during_fill(rt, alloc)?;
     tell(
         out,
         "rounds in which a give-up found what was stored beside it",

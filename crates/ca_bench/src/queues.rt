@@ -1,3 +1,5 @@
+//! Rounds on a circuit's queue of updates, and on a ring to compare it with, which knows no
+//! subscription.
 ghost use Rattle.std.specs.Prelude.{◌≡◌, ◌<◌, true, OnOk};
 ghost use Rattle.ca_queue.specs.Keys.{is_among};
 ghost use Rattle.ca_bench.specs.Begun.{HasBelow};

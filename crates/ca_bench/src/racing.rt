@@ -45,7 +45,7 @@ fn race(
 
 /// Whichever comes first: an outcome that was stored is found, and no other. In how many of
 /// 64 rounds that was so.
-pub(crate) fn give_up_beside_fill(
+pub(crate) fn give_up_during_fill(
     rt: &(impl Threads + Sync),
     alloc: Global,
 ) -> Result<usize, Refusal> {

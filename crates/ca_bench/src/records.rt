@@ -1,3 +1,5 @@
+//! Rounds on the records of a server, of which one is found by its name: puts with their finish,
+//! and posts.
 use ca_arena::Handle;
 use ca_dbr::{Meta, Value};
 use ca_records::{Put, ServedRecords};

@@ -19,7 +19,7 @@ const TURNS: u64 = 1_000_000;
 /// What is measured: at this port, by this many callers, with this many reads of TEMP each and this
 /// many outstanding at each.
 #[derive(Clone, Copy)]
-pub(crate) struct Course {
+pub(crate) struct Measurement {
     pub(crate) port: u16,
     pub(crate) callers: u64,
     pub(crate) reads: u64,
@@ -27,11 +27,11 @@ pub(crate) struct Course {
 }
 
 /// What the words ask for, if they ask for it.
-pub(crate) fn read_words(words: &[String]) -> Option<Course> {
+pub(crate) fn read_words(words: &[String]) -> Option<Measurement> {
     let [port, callers, reads, window] = words else {
         return None;
     };
-    Some(Course {
+    Some(Measurement {
         port: port.as_str().parse::<u16>().ok()?,
         callers: callers.as_str().parse::<u64>().ok()?,
         reads: reads.as_str().parse::<u64>().ok()?,
@@ -44,7 +44,7 @@ pub(crate) fn took<R: Threads + Wait + Clock + Copy + Send + 'static>(
     rt: R,
     alloc: Global,
     context: &Arc<Context<Nobody>>,
-    course: Course,
+    course: Measurement,
 ) -> Result<u128, Refusal> {
     let channel = context.open(&rt, b"TEMP", 0)?;
     if !context.wait_live(&rt, channel, TURNS) {
@@ -72,12 +72,12 @@ fn start_all<R: Threads + Wait + Clock + Copy + Send + 'static>(
     alloc: Global,
     context: &Arc<Context<Nobody>>,
     channel: Handle,
-    course: Course,
+    course: Measurement,
     read: &Arc<AtomicU64>,
 ) -> Result<Vec<JoinHandle<()>>, Refusal> {
     let mut threads = Vec::new(alloc);
     for _ in 0..course.callers {
-        let reader = Reader {
+        let reader = TimedCaller {
             alloc,
             context: Arc::try_clone(context)?,
             channel,
@@ -92,7 +92,7 @@ fn start_all<R: Threads + Wait + Clock + Copy + Send + 'static>(
 
 /// A caller, with its part of the reads.
 #[derive(Drop)]
-struct Reader {
+struct TimedCaller {
     alloc: Global,
     context: Arc<Context<Nobody>>,
     channel: Handle,
@@ -101,7 +101,7 @@ struct Reader {
     read: Arc<AtomicU64>,
 }
 
-impl Work for Reader {
+impl Work for TimedCaller {
     fn run<R: Wait + Clock>(self, rt: &R) {
         let reads = self.reads;
         if read_all(rt, &self).is_ok() {
@@ -111,7 +111,7 @@ impl Work for Reader {
 }
 
 // This many reads, of which a window's are outstanding at once.
-fn read_all<R: Wait + Clock>(rt: &R, reader: &Reader) -> Result<(), Refusal> {
+fn read_all<R: Wait + Clock>(rt: &R, reader: &TimedCaller) -> Result<(), Refusal> {
     let mut caller = reader.context.caller(rt)?;
     let mut tickets = Vec::new(reader.alloc);
     tickets.reserve(reader.window)?;

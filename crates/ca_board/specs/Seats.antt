@@ -30,7 +30,12 @@ seen_by_core s = let log = s.me.0.core in
 
 abbrev pub seen_by_caller : BoardSeat → CallerView
 seen_by_caller s =
-    record { board = s.table_id; takes = s.me.0.caller.takes; gives = s.me.0.caller.gives; seen = s.me.0.caller.seen }
+    record {
+      board = s.table_id;
+      takes = s.me.0.caller.takes;
+      gives = s.me.0.caller.gives;
+      seen = s.me.0.caller.seen;
+    }
 
 -- each ticket is of a cell of the board
 abbrev pub IsInside : List Ticket → Type 0
@@ -39,7 +44,8 @@ IsInside ts = (i : ℕ) (t : Ticket) → get_elem? ts i ≡ some t → t.cell < 
 -- the core's seat holds no slot
 abbrev pub IsIdle : BoardSeat → Type 0
 IsIdle s =
-    let log = s.me.0.core in s.me ≡ (core_view (core_log log.arms log.fills log.refused log.recycles 0) no_caller, [])
+    let log = s.me.0.core in
+    s.me ≡ (core_view (core_log log.arms log.fills log.refused log.recycles 0) no_caller, [])
 
 -- the core armed the ticket, of a cell of the board, and did not fill it
 abbrev pub IsWaiting : BoardSeat → Ticket → Type 0
@@ -56,4 +62,5 @@ pub record IsCoreSeat (s : BoardSeat) (free : List Ticket) (room : ℕ) : Type 0
 -- a caller's seat holds no slot
 abbrev pub IsCallerSeat : BoardSeat → Type 0
 IsCallerSeat s =
-    s.me ≡ (caller_view (caller_log s.me.0.caller.takes s.me.0.caller.gives s.me.0.caller.seen 0 0), [])
+    s.me
+    ≡ (caller_view (caller_log s.me.0.caller.takes s.me.0.caller.gives s.me.0.caller.seen 0 0), [])

@@ -16,7 +16,7 @@ use crate::steps::{
     Recycles, Returns, Takes, TakesBack,
 };
 use crate::ticket::{Filled, Ticket};
-use crate::word::{State, has_ended, is_past, is_waiting, word};
+use crate::word::{CellState, has_ended, is_past, is_waiting, word};
 use ca_dbr::Outcome;
 use ca_text::{BOARD_CELLS, LAST_GENERATION, Refusal};
 use std::alloc::{AllocError, Global};
@@ -71,17 +71,17 @@ impl Board {
         let Some(ticket) = core.free.pop() else {
             return Err(Refusal::NoCell);
         };
-        let waiting = word(ticket, State::Waiting);
+        let waiting = word(ticket, CellState::Waiting);
         self.cells
             .shared
             .store::<Arms>(&mut core.seat, ticket.cell, waiting);
         Ok(ticket)
     }
 
-    /// Hands over the outcome of a ticket that was armed and not filled yet, or gives it back if
-    /// the ticket was given up, also after its cell was recycled.
     // In line, since an outcome that is handed on through memory has the processor wait for
     // what was just written.
+    /// Hands over the outcome of a ticket that was armed and not filled yet, or gives it back if
+    /// the ticket was given up, also after its cell was recycled.
     #[inline(always)]
     pub fn fill(&self, core: &mut CoreSeat, ticket: Ticket, outcome: Outcome) -> Filled
         requires board { core.old.board ≡ self.now }
@@ -90,8 +90,8 @@ impl Board {
     {
         let words = &self.cells.shared;
         let cell = ticket.cell;
-        let waiting = word(ticket, State::Waiting);
-        let done = word(ticket, State::Done);
+        let waiting = word(ticket, CellState::Waiting);
+        let done = word(ticket, CellState::Done);
         if !self.grab(&mut core.seat, ticket) {
             return Filled::GivenUp(outcome);
         }
@@ -124,7 +124,7 @@ impl Board {
         if is_waiting(words.load::<Looks>(seat, ticket.cell)) {
             return true;
         }
-        let waiting = word(ticket, State::Waiting);
+        let waiting = word(ticket, CellState::Waiting);
         if words.compare_exchange::<Grabs>(seat, ticket.cell, waiting, waiting) != waiting {
             return false;
         }
@@ -142,9 +142,9 @@ impl Board {
         if cell >= BOARD_CELLS {
             return None;
         }
-        let done = word(ticket, State::Done);
-        let taken = word(ticket, State::Taken);
-        let empty = word(ticket, State::Empty);
+        let done = word(ticket, CellState::Done);
+        let taken = word(ticket, CellState::Taken);
+        let empty = word(ticket, CellState::Empty);
         if words.compare_exchange::<Takes>(&mut caller.seat, cell, done, taken) != done {
             return None;
         }
@@ -179,8 +179,8 @@ impl Board {
             return false;
         }
         let words = &self.cells.shared;
-        let waiting = word(ticket, State::Waiting);
-        let given_up = word(ticket, State::GivenUp);
+        let waiting = word(ticket, CellState::Waiting);
+        let given_up = word(ticket, CellState::GivenUp);
         let seat = &mut caller.seat;
         if words.compare_exchange::<GivesUp>(seat, ticket.cell, waiting, given_up) != waiting {
             return false;
@@ -222,7 +222,7 @@ impl Board {
             cell,
             generation: (ended / 8) as u32 + 1,
         };
-        let free = word(next, State::Free);
+        let free = word(next, CellState::Free);
         if words.compare_exchange::<Recycles>(&mut core.seat, cell, ended, free) != ended {
             return false;
         }
@@ -241,7 +241,7 @@ impl Board {
         let words = &self.cells.shared;
         let cell = ticket.cell;
         if ticket.generation >= LAST_GENERATION {
-            let given_up = word(ticket, State::GivenUp);
+            let given_up = word(ticket, CellState::GivenUp);
             words.store::<TakesBack>(&mut core.seat, cell, given_up);
             words.split_seat::<Meets>(&mut core.seat);
             return;
@@ -250,7 +250,7 @@ impl Board {
             cell,
             generation: ticket.generation + 1,
         };
-        let freed = word(next, State::Free);
+        let freed = word(next, CellState::Free);
         words.store::<TakesBack>(&mut core.seat, cell, freed);
         words.split_seat::<Meets>(&mut core.seat);
         core.free.push_reserved(next);

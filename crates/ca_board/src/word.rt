@@ -7,7 +7,7 @@ use crate::ticket::Ticket;
 /// What a cell is: free; its ticket waits for an outcome; the outcome is there; a caller takes it;
 /// it was taken, and the slot is back; or the ticket was given up.
 #[derive(Clone, Copy)]
-pub(crate) enum State {
+pub(crate) enum CellState {
     Free,
     Waiting,
     Done,
@@ -17,7 +17,7 @@ pub(crate) enum State {
 }
 
 /// The word of a ticket's cell in this state.
-pub(crate) fn word(ticket: Ticket, state: State) -> u64
+pub(crate) fn word(ticket: Ticket, state: CellState) -> u64
     ensures { result ≡ word_of ticket state }
 {
     u64::from(ticket.generation) * 8 + number(state)
@@ -30,7 +30,7 @@ pub(crate) fn has_ended(word: u64) -> bool
     ensures other { IsFalse result
         → (word ≢ 8 * (word / 8) + 4) × (word ≢ 8 * (word / 8) + 5) }
 {
-    word % 8 == number(State::Empty) || word % 8 == number(State::GivenUp)
+    word % 8 == number(CellState::Empty) || word % 8 == number(CellState::GivenUp)
 }
 
 /// The cell of a ticket, with this word, is past the ticket's outcome: that was taken, or the
@@ -39,7 +39,7 @@ pub(crate) fn is_past(word: u64, ticket: Ticket) -> bool
     ensures past { IsTrue result → 8 * ticket.generation + 2 < word }
     ensures not_yet { IsFalse result → word ≤ 8 * ticket.generation + 2 }
 {
-    word > self::word(ticket, State::Done)
+    word > self::word(ticket, CellState::Done)
 }
 
 /// The cell with this word waits.
@@ -47,20 +47,20 @@ pub(crate) fn is_waiting(word: u64) -> bool
     ensures waits { IsTrue result → word ≡ 8 * (word / 8) + 1 }
     ensures other { IsFalse result → word ≢ 8 * (word / 8) + 1 }
 {
-    word % 8 == number(State::Waiting)
+    word % 8 == number(CellState::Waiting)
 }
 
 // The number of a state in a word.
-fn number(state: State) -> u64
+fn number(state: CellState) -> u64
     ensures is { result ≡ state_number state }
     ensures small { result < 8 }
 {
     match state {
-        State::Free => 0,
-        State::Waiting => 1,
-        State::Done => 2,
-        State::Taken => 3,
-        State::Empty => 4,
-        State::GivenUp => 5,
+        CellState::Free => 0,
+        CellState::Waiting => 1,
+        CellState::Done => 2,
+        CellState::Taken => 3,
+        CellState::Empty => 4,
+        CellState::GivenUp => 5,
     }
 }

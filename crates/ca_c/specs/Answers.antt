@@ -1,5 +1,6 @@
 -- Vocabulary: what a call answers to C, as numbers.
-use Rattle.std.specs.Prelude.{ℕ, ℤ, pos, neg_ℤ, ◌≡◌, ◌%◌, ◌/◌, ◌*◌, ◌+◌, ◌++◌, List, [], Option, Some, None, Result, Ok, Err, drop, length, min, take}
+use Rattle.std.specs.Prelude.{ℕ, ℤ, pos, neg_ℤ, ◌≡◌, ◌%◌, ◌/◌, ◌*◌, ◌+◌, ◌++◌, List, [], Option}
+use Rattle.std.specs.Prelude.{Some, None, Result, Ok, Err, drop, length, min, take}
 use Rattle.ca_arena.specs.declared.handle.Handle.{Handle}
 use Rattle.ca_text.specs.declared.refusal.Refusal.{Refusal}
 use Rattle.ca_dbr.specs.declared.data_type.DataType.{DataType}
@@ -42,7 +43,8 @@ Tells f (Err r) before after = after ≡ before
 
 -- the bytes are copied to the room, as many as it has room for, and they wait still
 abbrev pub Shows : (bytes : List ℕ) → ℕ → (before after : List ℕ) → Type 0
-Shows bytes n before after = (n ≡ min (length bytes) (length before)) × (after ≡ take n bytes ++ drop n before)
+Shows bytes n before after =
+    (n ≡ min (length bytes) (length before)) × (after ≡ take n bytes ++ drop n before)
 
 -- bytes that there may be are shown
 abbrev pub ShowsAny : Option (List ℕ) → ℕ → (before after : List ℕ) → Type 0
@@ -51,7 +53,9 @@ ShowsAny None n before after = (n ≡ 0) × (after ≡ before)
 
 -- the bytes are copied as far as the room takes them, and it is told how many they are
 abbrev pub ShowsAll : (bytes : List ℕ) → (size : ℕ) → (before after : List ℕ) → Type 0
-ShowsAll bytes size before after = let k : ℕ = min (length bytes) (length before) in (size ≡ length bytes) × (after ≡ take k bytes ++ drop k before)
+ShowsAll bytes size before after =
+    let k : ℕ = min (length bytes) (length before) in
+    (size ≡ length bytes) × (after ≡ take k bytes ++ drop k before)
 
 -- the same of bytes that there may be
 abbrev pub ShowsAllOf : Option (List ℕ) → (size : ℕ) → (before after : List ℕ) → Type 0
@@ -59,20 +63,27 @@ ShowsAllOf (Some bytes) size before after = ShowsAll bytes size before after
 ShowsAllOf None size before after = (size ≡ 0) × (after ≡ before)
 
 -- the image of a value is copied as far as the room takes it, and its size is told
-abbrev pub ShowsImage : Result (Unit {0}) Refusal → (image : List ℕ) → (size_before size_after : ℕ) → (before after : List ℕ) → Type 0
+abbrev pub ShowsImage : Result (Unit {0}) Refusal → (image : List ℕ) → (size_before size_after : ℕ)
+    → (before after : List ℕ) → Type 0
 ShowsImage (Ok _) image size_before size_after before after = ShowsAll image size_after before after
-ShowsImage (Err e) image size_before size_after before after = (size_after ≡ size_before) × (after ≡ before)
+ShowsImage (Err e) image size_before size_after before after =
+    (size_after ≡ size_before) × (after ≡ before)
 
 -- the image of this value in this type is copied, or refused
-abbrev pub CopiesValue : (number : ℕ) → Elements → Meta → Result (Unit {0}) Refusal → (size_before size_after : ℕ) → (before after : List ℕ) → Type 0
+abbrev pub CopiesValue : (number : ℕ) → Elements → Meta → Result (Unit {0}) Refusal
+    → (size_before size_after : ℕ) → (before after : List ℕ) → Type 0
 CopiesValue number value meta r size_before size_after before after =
-    (image : List ℕ) × (Writes number value meta [] r image × ShowsImage r image size_before size_after before after)
+    (image : List ℕ)
+    × (Writes number value meta [] r image × ShowsImage r image size_before size_after before after)
 
 -- the same, with the number that says which
-abbrev pub ShowsValue : (number : ℕ) → Elements → Meta → ℤ → (size_before size_after : ℕ) → (before after : List ℕ) → Type 0
+abbrev pub ShowsValue : (number : ℕ) → Elements → Meta → ℤ → (size_before size_after : ℕ)
+    → (before after : List ℕ) → Type 0
 ShowsValue number value meta n size_before size_after before after =
-    (r : Result (Unit {0}) Refusal) × ((n ≡ code_of r) × CopiesValue number value meta r size_before size_after before after)
+    (r : Result (Unit {0}) Refusal)
+    × ((n ≡ code_of r) × CopiesValue number value meta r size_before size_after before after)
 
 -- the image is that of this value with this metadata
 abbrev pub IsImage : (number count : ℕ) → (image : List ℕ) → Elements → Meta → Type 0
-IsImage number count image value meta = (form : DataType) × (type_number form ≡ number) × Reads form count image value meta
+IsImage number count image value meta =
+    (form : DataType) × (type_number form ≡ number) × Reads form count image value meta

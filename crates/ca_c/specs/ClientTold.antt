@@ -28,29 +28,38 @@ why_number why.Asked = 6
 abbrev pub standing : ℕ → CvzChannel
 standing n = record { state = n; data_type = 0; greatest = 0; rights = 0 }
 
-abbrev pub channel_told : ChannelState → CvzChannel
-channel_told state.Searching = standing 0
-channel_told state.Connecting = standing 1
-channel_told state.Creating = standing 2
-channel_told (state.Live data_type greatest rights) = record { state = 3; data_type = data_type; greatest = greatest; rights = rights }
-channel_told state.Leaving = standing 4
+abbrev pub c_channel : ChannelState → CvzChannel
+c_channel state.Searching = standing 0
+c_channel state.Connecting = standing 1
+c_channel state.Creating = standing 2
+c_channel (state.Live data_type greatest rights) =
+    record { state = 3; data_type = data_type; greatest = greatest; rights = rights }
+c_channel state.Leaving = standing 4
 
 -- what brings no value
 abbrev pub became : (of kind outcome status : ℕ) → CvzNotice
-became of kind what status = record { of = of; kind = kind; outcome = what; status = status; data_type = 0; count = 0 }
+became of kind what status =
+    record { of = of; kind = kind; outcome = what; status = status; data_type = 0; count = 0 }
 
-abbrev pub outcome_told : (of kind : ℕ) → Outcome → CvzNotice
-outcome_told of kind (outcome.Value value meta) =
-    record { of = of; kind = kind; outcome = 0; status = 0; data_type = base_number (base_of (elements value)); count = count_of (elements value) }
-outcome_told of kind outcome.Done = became of kind 1 0
-outcome_told of kind (outcome.Failed status) = became of kind 2 status.number
-outcome_told of kind (outcome.Unreadable refusal) = became of kind 3 (refusal_number refusal)
-outcome_told of kind outcome.Disconnected = became of kind 4 0
+abbrev pub outcome_notice : (of kind : ℕ) → Outcome → CvzNotice
+outcome_notice of kind (outcome.Value value meta) =
+    record {
+      of = of;
+      kind = kind;
+      outcome = 0;
+      status = 0;
+      data_type = base_number (base_of (elements value));
+      count = count_of (elements value);
+    }
+outcome_notice of kind outcome.Done = became of kind 1 0
+outcome_notice of kind (outcome.Failed status) = became of kind 2 status.number
+outcome_notice of kind (outcome.Unreadable refusal) = became of kind 3 (refusal_number refusal)
+outcome_notice of kind outcome.Disconnected = became of kind 4 0
 
-abbrev pub notice_told : Notice → CvzNotice
-notice_told (notice.Live h) = became (number_of h) 1 0 0
-notice_told (notice.Lost h) = became (number_of h) 2 0 0
-notice_told (notice.Completed h what) = outcome_told (number_of h) 3 what
-notice_told (notice.Update h what) = outcome_told (number_of h) 4 what
-notice_told (notice.SubscriptionEnded h status) = became (number_of h) 5 0 status.number
-notice_told (notice.WriteRefused h status) = became (number_of h) 6 0 status.number
+abbrev pub c_notice : Notice → CvzNotice
+c_notice (notice.Live h) = became (number_of h) 1 0 0
+c_notice (notice.Lost h) = became (number_of h) 2 0 0
+c_notice (notice.Completed h what) = outcome_notice (number_of h) 3 what
+c_notice (notice.Update h what) = outcome_notice (number_of h) 4 what
+c_notice (notice.SubscriptionEnded h status) = became (number_of h) 5 0 status.number
+c_notice (notice.WriteRefused h status) = became (number_of h) 6 0 status.number

@@ -2,7 +2,8 @@
 
 ghost use Rattle.std.specs.Prelude.{◌≡◌, ◌≤◌, ◌++◌, drop, length, min, take};
 ghost use Rattle.ca_dbr.specs.Elements.{elements};
-ghost use Rattle.ca_c.specs.Answers.{CopiesValue, ShowsAll, ShowsValue, code_of, handle_of, number_of, refusal_code};
+ghost use Rattle.ca_c.specs.Answers.{CopiesValue, ShowsAll, ShowsValue, code_of, handle_of};
+ghost use Rattle.ca_c.specs.Answers.{number_of, refusal_code};
 
 use ca_arena::Handle;
 use ca_dbr::{Meta, Value, write_value};

@@ -3,7 +3,12 @@
 ghost use Rattle.std.specs.Prelude.{◌≡◌, None, IfErr, IfOk, map};
 ghost use Rattle.ca_object.specs.Calling.{Calls};
 ghost use Rattle.ca_c.specs.Answers.{no_object};
-ghost use Rattle.ca_c.specs.Clients.{Begins, IsBegun, MayNotBegin, DoesChannel, DoesClear, DoesClose, DoesConnected, DoesCut, DoesDatagram, DoesEnded, DoesGive, DoesLeft, DoesNext, DoesOpen, DoesOutput, DoesPut, DoesRead, DoesSearch, DoesSent, DoesStep, DoesSubscribe, DoesTick, DoesUnsubscribe, DoesValue, DoesWanted, DoesWrite, address_of, setting_of};
+ghost use Rattle.ca_c.specs.Clients.{Begins, IsBegun, MayNotBegin, DoesChannel, DoesClear};
+ghost use Rattle.ca_c.specs.Clients.{DoesClose, DoesConnected, DoesCut, DoesDatagram, DoesEnded};
+ghost use Rattle.ca_c.specs.Clients.{DoesGive, DoesLeft, DoesNext, DoesOpen, DoesOutput, DoesPut};
+ghost use Rattle.ca_c.specs.Clients.{DoesRead, DoesSearch, DoesSent, DoesStep, DoesSubscribe};
+ghost use Rattle.ca_c.specs.Clients.{DoesTick, DoesUnsubscribe, DoesValue, DoesWanted, DoesWrite};
+ghost use Rattle.ca_c.specs.Clients.{address_of, setting_of};
 
 use crate::answers::{NO_OBJECT, refused};
 use crate::client_object::ClientObject;
@@ -224,7 +229,8 @@ pub extern "C" fn cvz_client_subscribe(
     subscription: &mut u64,
 ) -> i32
     ensures call { Calls no_object client.old.value result client.new.value
-        (λ s n t. DoesSubscribe s n t channel data_type count mask subscription.old subscription.new) }
+        (λ s n t.
+        DoesSubscribe s n t channel data_type count mask subscription.old subscription.new) }
     ensures kept { client.old.value ≡ None → subscription.new ≡ subscription.old }
 {
     let Some(mut object) = client.take(alloc) else {

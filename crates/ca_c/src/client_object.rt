@@ -2,15 +2,19 @@
 
 ghost use Rattle.std.specs.Prelude.{◌≡◌};
 ghost use Rattle.ca_c.specs.Answers.{Tells, code_of, number_of};
-ghost use Rattle.ca_c.specs.Clients.{DoesChannel, DoesClear, DoesClose, DoesConnected, DoesCut, DoesDatagram, DoesEnded, DoesGive, DoesLeft, DoesNext, DoesOpen, DoesOutput, DoesPut, DoesRead, DoesSearch, DoesSent, DoesStep, DoesSubscribe, DoesTick, DoesUnsubscribe, DoesValue, DoesWanted, DoesWrite, outcome_value, value_of, wanted_told};
+ghost use Rattle.ca_c.specs.Clients.{DoesChannel, DoesClear, DoesClose, DoesConnected, DoesCut};
+ghost use Rattle.ca_c.specs.Clients.{DoesDatagram, DoesEnded, DoesGive, DoesLeft, DoesNext};
+ghost use Rattle.ca_c.specs.Clients.{DoesOpen, DoesOutput, DoesPut, DoesRead, DoesSearch, DoesSent};
+ghost use Rattle.ca_c.specs.Clients.{DoesStep, DoesSubscribe, DoesTick, DoesUnsubscribe, DoesValue};
+ghost use Rattle.ca_c.specs.Clients.{DoesWanted, DoesWrite, outcome_value, value_of, c_wanted};
 
 use crate::answers::{code, filled, handle, number, refused, shown};
 use crate::client_structs::{
-    CvzAddress, CvzChannel, CvzNotice, CvzWanted, address, channel_told, notice_told, why_number,
+    CvzAddress, CvzChannel, CvzNotice, CvzWanted, address, c_channel, c_notice, why_number,
 };
 use ca_arena::Handle;
 use ca_client_core::{
-    ClientCore, Closing, Datagram, Left, Notice, Notices, Stepped, WantedCircuit,
+    AddressedDatagram, ClientCore, Closing, Left, Notice, Notices, Stepped, WantedCircuit,
 };
 use ca_dbr::{Meta, Outcome, Value, read_value};
 use ca_text::{Mask, Refusal};
@@ -28,7 +32,7 @@ pub struct ClientObject {
     /// What is left to be sent on the circuit that was told closed last.
     pub left: Pipe,
     /// The searches of the last tick, and how many of them C has taken.
-    pub searches: Vec<Datagram>,
+    pub searches: Vec<AddressedDatagram>,
     pub taken: usize,
     /// The circuits that the last tick ended.
     pub ended: Vec<Left>,
@@ -47,7 +51,7 @@ impl ClientObject {
     {
         match self.core.channel_state(handle(channel)) {
             Ok(state) => {
-                *told = channel_told(state);
+                *told = c_channel(state);
                 0
             }
             Err(refusal) => refused(refusal),
@@ -154,7 +158,7 @@ impl ClientObject {
         let Some(found) = wanted.get(place) else {
             return 0;
         };
-        *told = wanted_told(found);
+        *told = c_wanted(found);
         1
     }
 
@@ -305,7 +309,7 @@ impl ClientObject {
         let Some(notice) = notices.next() else {
             return 0;
         };
-        *told = notice_told(&notice);
+        *told = c_notice(&notice);
         self.value = value_of(notice);
         1
     }
@@ -342,8 +346,8 @@ fn given(answer: Result<Handle, Refusal>, out: &mut u64) -> i32
 }
 
 /// What is told of a circuit that is wanted.
-fn wanted_told(found: &WantedCircuit) -> CvzWanted
-    ensures { result ≡ wanted_told found.now }
+fn c_wanted(found: &WantedCircuit) -> CvzWanted
+    ensures { result ≡ c_wanted found.now }
 {
     CvzWanted {
         circuit: number(found.circuit),

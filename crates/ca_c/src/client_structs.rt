@@ -4,7 +4,8 @@ ghost use Rattle.std.specs.Prelude.{◌≡◌};
 ghost use Rattle.ca_dbr.specs.Elements.{base_of, count_of, elements};
 ghost use Rattle.ca_dbr.specs.Types.{base_number};
 ghost use Rattle.ca_client_tables.specs.Closings.{why_is};
-ghost use Rattle.ca_c.specs.ClientTold.{became, channel_told, notice_told, outcome_told, standing, why_number};
+ghost use Rattle.ca_c.specs.ClientTold.{became, c_channel, c_notice, outcome_notice, standing};
+ghost use Rattle.ca_c.specs.ClientTold.{why_number};
 
 use crate::answers::number;
 use ca_client_core::{Address, ChannelState, Notice, Why};
@@ -68,8 +69,8 @@ pub(crate) fn address(given: CvzAddress) -> Address
     }
 }
 
-pub(crate) fn channel_told(state: ChannelState) -> CvzChannel
-    ensures { result ≡ channel_told state }
+pub(crate) fn c_channel(state: ChannelState) -> CvzChannel
+    ensures { result ≡ c_channel state }
 {
     match state {
         ChannelState::Searching => standing(0),
@@ -109,14 +110,14 @@ pub(crate) fn why_number(why: Why) -> u32
     }
 }
 
-pub(crate) fn notice_told(notice: &Notice) -> CvzNotice
-    ensures { result ≡ notice_told notice.now }
+pub(crate) fn c_notice(notice: &Notice) -> CvzNotice
+    ensures { result ≡ c_notice notice.now }
 {
     match notice {
         Notice::Live(channel) => became(number(*channel), 1, 0, 0),
         Notice::Lost(channel) => became(number(*channel), 2, 0, 0),
-        Notice::Completed(request, outcome) => outcome_told(number(*request), 3, outcome),
-        Notice::Update(subscription, outcome) => outcome_told(number(*subscription), 4, outcome),
+        Notice::Completed(request, outcome) => outcome_notice(number(*request), 3, outcome),
+        Notice::Update(subscription, outcome) => outcome_notice(number(*subscription), 4, outcome),
         Notice::SubscriptionEnded(subscription, status) => {
             became(number(*subscription), 5, 0, status.number)
         }
@@ -124,11 +125,11 @@ pub(crate) fn notice_told(notice: &Notice) -> CvzNotice
     }
 }
 
-fn outcome_told(of: u64, kind: u32, outcome: &Outcome) -> CvzNotice
-    ensures { result ≡ outcome_told of kind outcome.now }
+fn outcome_notice(of: u64, kind: u32, outcome: &Outcome) -> CvzNotice
+    ensures { result ≡ outcome_notice of kind outcome.now }
 {
     match outcome {
-        Outcome::Value(value, _) => value_told(of, kind, value),
+        Outcome::Value(value, _) => value_notice(of, kind, value),
         Outcome::Done => became(of, kind, 1, 0),
         Outcome::Failed(status) => became(of, kind, 2, status.number),
         Outcome::Unreadable(refusal) => became(of, kind, 3, refusal.number() as u32),
@@ -136,7 +137,7 @@ fn outcome_told(of: u64, kind: u32, outcome: &Outcome) -> CvzNotice
     }
 }
 
-fn value_told(of: u64, kind: u32, value: &Value) -> CvzNotice
+fn value_notice(of: u64, kind: u32, value: &Value) -> CvzNotice
     ensures { result ≡ record {
       of = of;
       kind = kind;

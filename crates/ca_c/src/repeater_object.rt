@@ -1,11 +1,12 @@
 //! A repeater as C has it: its core, and what a call made that C has not taken yet.
 
 ghost use Rattle.std.specs.Prelude.{◌≡◌};
-ghost use Rattle.ca_c.specs.Repeaters.{DoesDatagram, DoesOutgoing, DoesRefused, place_of, place_told};
+ghost use Rattle.ca_c.specs.Repeaters.{DoesDatagram, DoesOutgoing, DoesRefused, place_of};
+ghost use Rattle.ca_c.specs.Repeaters.{c_address};
 
 use crate::answers::{filled, refused};
 use crate::client_structs::CvzAddress;
-use ca_repeat::{Address, Outgoing, RepeaterCore};
+use ca_repeat::{Outgoing, RepeaterCore, UdpAddress};
 
 /// A repeater's core, with what C may take of its last datagram.
 #[derive(Drop)]
@@ -37,7 +38,7 @@ impl RepeaterObject {
         let Some(next) = self.sends.get(self.taken) else {
             return 0;
         };
-        *to = place_told(next.to());
+        *to = c_address(next.to());
         let n = filled(next.bytes(), room);
         self.taken += 1;
         n
@@ -51,17 +52,17 @@ impl RepeaterObject {
     }
 }
 
-fn place(given: CvzAddress) -> Address
+fn place(given: CvzAddress) -> UdpAddress
     ensures { result ≡ place_of given }
 {
-    Address {
+    UdpAddress {
         ip: given.host,
         port: given.port,
     }
 }
 
-fn place_told(at: Address) -> CvzAddress
-    ensures { result ≡ place_told at }
+fn c_address(at: UdpAddress) -> CvzAddress
+    ensures { result ≡ c_address at }
 {
     CvzAddress {
         host: at.ip,

@@ -5,7 +5,12 @@ ghost use Rattle.ca_script.specs.Grammar.{Refuses};
 ghost use Rattle.ca_script.specs.RecordFiles.{SaysFile};
 ghost use Rattle.ca_object.specs.Calling.{Calls};
 ghost use Rattle.ca_c.specs.Answers.{no_object};
-ghost use Rattle.ca_c.specs.Servers.{Begins, IsBegun, IsLoaded, Loads, DoesAccept, DoesAdd, DoesAnswer, DoesApplied, DoesBeacon, DoesBusy, DoesCut, DoesDatagram, DoesFinish, DoesFirst, DoesGive, DoesHost, DoesLeft, DoesName, DoesOutput, DoesPost, DoesPump, DoesRemove, DoesSent, DoesStamp, DoesStep, DoesUser, DoesValue, DoesWaiting};
+ghost use Rattle.ca_c.specs.Servers.{Begins, IsBegun, IsLoaded, Loads, DoesAccept, DoesAdd};
+ghost use Rattle.ca_c.specs.Servers.{DoesAnswer, DoesApplied, DoesBeacon, DoesBusy, DoesCut};
+ghost use Rattle.ca_c.specs.Servers.{DoesDatagram, DoesFinish, DoesFirst, DoesGive, DoesHost};
+ghost use Rattle.ca_c.specs.Servers.{DoesLeft, DoesName, DoesOutput, DoesPost, DoesPump};
+ghost use Rattle.ca_c.specs.Servers.{DoesRemove, DoesSent, DoesStamp, DoesStep, DoesUser};
+ghost use Rattle.ca_c.specs.Servers.{DoesValue, DoesWaiting};
 
 use crate::answers::{NO_OBJECT, refused};
 use crate::cvz_server::CvzServer;
@@ -368,7 +373,8 @@ pub extern "C" fn cvz_server_value(
     size: &mut usize,
 ) -> i32
     ensures call { Calls no_object server.old.value result server.new.value
-        (λ s n t. DoesValue s n t name.now number count.old count.new size.old size.new room.old room.new) }
+        (λ s n t.
+        DoesValue s n t name.now number count.old count.new size.old size.new room.old room.new) }
     ensures kept_count { server.old.value ≡ None → count.new ≡ count.old }
     ensures kept_room { server.old.value ≡ None → room.new ≡ room.old }
     ensures kept_size { server.old.value ≡ None → size.new ≡ size.old }

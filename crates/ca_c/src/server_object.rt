@@ -2,13 +2,17 @@
 
 ghost use Rattle.std.specs.Prelude.{◌≡◌};
 ghost use Rattle.ca_dbr.specs.Elements.{count_of};
-ghost use Rattle.ca_c.specs.Servers.{DoesAccept, DoesAdd, DoesAnswer, DoesApplied, DoesBeacon, DoesBusy, DoesCut, DoesDatagram, DoesFinish, DoesFirst, DoesGive, DoesHost, DoesLeft, DoesName, DoesOutput, DoesPost, DoesPump, DoesRemove, DoesSent, DoesStamp, DoesStep, DoesUser, DoesValue, DoesWaiting};
+ghost use Rattle.ca_c.specs.Servers.{DoesAccept, DoesAdd, DoesAnswer, DoesApplied, DoesBeacon};
+ghost use Rattle.ca_c.specs.Servers.{DoesBusy, DoesCut, DoesDatagram, DoesFinish, DoesFirst};
+ghost use Rattle.ca_c.specs.Servers.{DoesGive, DoesHost, DoesLeft, DoesName, DoesOutput, DoesPost};
+ghost use Rattle.ca_c.specs.Servers.{DoesPump, DoesRemove, DoesSent, DoesStamp, DoesStep, DoesUser};
+ghost use Rattle.ca_c.specs.Servers.{DoesValue, DoesWaiting};
 
 use crate::answers::{code, copied, copied_value, filled, handle, number, refused, shown};
-use crate::step::{CvzStep, step_number, told_of};
+use crate::step::{CvzStep, c_step, step_number};
 use ca_dbr::{Meta, read_value};
 use ca_records::Record;
-use ca_server_core::{ServerCore, Step};
+use ca_server_core::{CoreStep, ServerCore};
 use ca_text::Refusal;
 use ca_wire::{Pipe, Sid};
 use std::alloc::Global;
@@ -48,9 +52,9 @@ impl ServerObject {
         ensures { DoesStep self.old result self.new circuit told.new }
     {
         let did = self.core.step(handle(circuit));
-        *told = told_of(&did);
+        *told = c_step(&did);
         let answer = step_number(&did);
-        if let Step::Closed(_, left) = did {
+        if let CoreStep::Closed(_, left) = did {
             self.left = left;
         }
         answer

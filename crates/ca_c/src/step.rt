@@ -1,10 +1,10 @@
 //! What a step did, as numbers.
 
 ghost use Rattle.std.specs.Prelude.{◌≡◌};
-ghost use Rattle.ca_c.specs.Steps.{cause_number, handled, step_number, told_of};
-ghost use Rattle.ca_server_core.specs.declared.stepping.Step.TheVariants.{Handled};
+ghost use Rattle.ca_c.specs.Steps.{cause_number, handled, step_number, c_step};
+ghost use Rattle.ca_server_core.specs.declared.stepping.CoreStep.TheVariants.{Handled};
 
-use ca_server_core::{Cause, Effect, Step};
+use ca_server_core::{CoreStep, Effect, EndCause};
 
 /// What a step told beside what it answered.
 #[repr(C)]
@@ -21,24 +21,24 @@ pub struct CvzStep {
 }
 
 /// What a step answers: 0 needs bytes, 1 handled, 2 output full, 3 closed.
-pub(crate) fn step_number(did: &Step) -> i32
+pub(crate) fn step_number(did: &CoreStep) -> i32
     ensures { result ≡ step_number did.now }
 {
     match did {
-        Step::NeedBytes => 0,
-        Step::Handled(_) => 1,
-        Step::OutputFull => 2,
-        Step::Closed(_, _) => 3,
+        CoreStep::NeedBytes => 0,
+        CoreStep::Handled(_) => 1,
+        CoreStep::OutputFull => 2,
+        CoreStep::Closed(_, _) => 3,
     }
 }
 
 /// What it tells beside that.
-pub(crate) fn told_of(did: &Step) -> CvzStep
-    ensures { result ≡ told_of did.now }
+pub(crate) fn c_step(did: &CoreStep) -> CvzStep
+    ensures { result ≡ c_step did.now }
 {
     match did {
-        Step::Handled(effect) => handled_effect(*effect),
-        Step::Closed(cause, _) => CvzStep {
+        CoreStep::Handled(effect) => handled_effect(*effect),
+        CoreStep::Closed(cause, _) => CvzStep {
             effect: 0,
             sid: 0,
             subscription: 0,
@@ -49,7 +49,7 @@ pub(crate) fn told_of(did: &Step) -> CvzStep
 }
 
 fn handled_effect(effect: Effect) -> CvzStep
-    ensures { result ≡ told_of (Handled effect) }
+    ensures { result ≡ c_step (Handled effect) }
 {
     match effect {
         Effect::Quiet => handled(0, 0, 0),
@@ -78,13 +78,13 @@ fn handled(effect: u32, sid: u32, subscription: u32) -> CvzStep
     }
 }
 
-fn cause_number(cause: Cause) -> u32
+fn cause_number(cause: EndCause) -> u32
     ensures { result ≡ cause_number cause }
 {
     match cause {
-        Cause::OutOfMemory => 1,
-        Cause::Misaligned => 2,
-        Cause::TooLarge => 3,
-        Cause::Cut => 4,
+        EndCause::OutOfMemory => 1,
+        EndCause::Misaligned => 2,
+        EndCause::TooLarge => 3,
+        EndCause::Cut => 4,
     }
 }

@@ -1,3 +1,5 @@
+//! The number of the interface, by which a program finds whether the library serves the header that
+//! it was compiled with.
 ghost use Rattle.std.specs.Prelude.{◌≡◌};
 ghost use Rattle.ca_c.specs.Answers.{version};
 

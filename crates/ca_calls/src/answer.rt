@@ -1,3 +1,4 @@
+//! Answers as text: how each thing that a core returns is written in a line.
 use ca_arena::Handle;
 use ca_client_core::{Address, Notice, Notices};
 use ca_dbr::{Meta, Outcome, Value, write_value};
@@ -13,15 +14,15 @@ const NOTICES: u32 = 100_000;
 
 /// An answer as text: words in one line.
 #[derive(Drop)]
-pub struct Answer {
+pub struct AnswerText {
     alloc: Global,
     text: String,
 }
 
-impl Answer {
+impl AnswerText {
     /// No answer yet.
-    pub fn new(alloc: Global) -> Answer {
-        Answer {
+    pub fn new(alloc: Global) -> AnswerText {
+        AnswerText {
             alloc,
             text: String::new(alloc),
         }

@@ -1,6 +1,6 @@
 //! The calls of a client.
 
-use crate::answer::Answer;
+use crate::answer::AnswerText;
 use crate::rounds;
 use crate::words::Words;
 use ca_client_core::{ChannelState, ClientCore, Closing, Left, Stepped, Ticked, Why};
@@ -28,7 +28,7 @@ pub fn call(
     core: &mut ClientCore,
     call: &str,
     words: Words<'_>,
-    answer: &mut Answer,
+    answer: &mut AnswerText,
 ) -> Result<(), Refusal> {
     match call.as_bytes() {
         b"open" => open(core, words, answer),
@@ -48,7 +48,7 @@ fn call_on_circuits(
     core: &mut ClientCore,
     call: &str,
     words: Words<'_>,
-    answer: &mut Answer,
+    answer: &mut AnswerText,
 ) -> Result<(), Refusal> {
     match call.as_bytes() {
         b"wanted" => wanted(core, answer),
@@ -71,9 +71,13 @@ fn call_on_circuits(
 }
 
 /// `open NAME PRIORITY NOW`. The name `-` is the empty one.
-fn open(core: &mut ClientCore, mut words: Words<'_>, answer: &mut Answer) -> Result<(), Refusal> {
+fn open(
+    core: &mut ClientCore,
+    mut words: Words<'_>,
+    answer: &mut AnswerText,
+) -> Result<(), Refusal> {
     let name = words.word()?.as_bytes();
-    let priority = words.short()?;
+    let priority = words.number16()?;
     let now = words.number()?;
     let name = if name == b"-".as_slice() {
         b"".as_slice()
@@ -84,7 +88,7 @@ fn open(core: &mut ClientCore, mut words: Words<'_>, answer: &mut Answer) -> Res
 }
 
 /// `state CHANNEL`.
-fn state(core: &ClientCore, mut words: Words<'_>, answer: &mut Answer) -> Result<(), Refusal> {
+fn state(core: &ClientCore, mut words: Words<'_>, answer: &mut AnswerText) -> Result<(), Refusal> {
     match core.channel_state(words.handle()?)? {
         ChannelState::Searching => answer.word("searching"),
         ChannelState::Connecting => answer.word("connecting"),
@@ -100,9 +104,13 @@ fn state(core: &ClientCore, mut words: Words<'_>, answer: &mut Answer) -> Result
 }
 
 /// `read CHANNEL TYPE COUNT`.
-fn read(core: &mut ClientCore, mut words: Words<'_>, answer: &mut Answer) -> Result<(), Refusal> {
+fn read(
+    core: &mut ClientCore,
+    mut words: Words<'_>,
+    answer: &mut AnswerText,
+) -> Result<(), Refusal> {
     let channel = words.handle()?;
-    let data_type = words.short()?;
+    let data_type = words.number16()?;
     answer.handle(core.read(channel, data_type, words.count()?)?)
 }
 
@@ -118,7 +126,7 @@ fn write_notify(
     alloc: Global,
     core: &mut ClientCore,
     mut words: Words<'_>,
-    answer: &mut Answer,
+    answer: &mut AnswerText,
 ) -> Result<(), Refusal> {
     let channel = words.handle()?;
     let (value, _) = words.value(alloc)?;
@@ -129,10 +137,10 @@ fn write_notify(
 fn subscribe(
     core: &mut ClientCore,
     mut words: Words<'_>,
-    answer: &mut Answer,
+    answer: &mut AnswerText,
 ) -> Result<(), Refusal> {
     let channel = words.handle()?;
-    let data_type = words.short()?;
+    let data_type = words.number16()?;
     let count = words.count()?;
     answer.handle(core.subscribe(channel, data_type, count, words.mask()?)?)
 }
@@ -143,12 +151,16 @@ fn unsubscribe(core: &mut ClientCore, mut words: Words<'_>) -> Result<(), Refusa
 }
 
 /// `clear CHANNEL`.
-fn clear(core: &mut ClientCore, mut words: Words<'_>, answer: &mut Answer) -> Result<(), Refusal> {
+fn clear(
+    core: &mut ClientCore,
+    mut words: Words<'_>,
+    answer: &mut AnswerText,
+) -> Result<(), Refusal> {
     answer.notices(core.clear(words.handle()?)?)
 }
 
 /// `wanted`.
-fn wanted(core: &ClientCore, answer: &mut Answer) -> Result<(), Refusal> {
+fn wanted(core: &ClientCore, answer: &mut AnswerText) -> Result<(), Refusal> {
     for found in &core.wanted()? {
         answer.handle(found.circuit)?;
         answer.address(found.address)?;
@@ -161,7 +173,7 @@ fn wanted(core: &ClientCore, answer: &mut Answer) -> Result<(), Refusal> {
 fn connected(
     core: &mut ClientCore,
     mut words: Words<'_>,
-    answer: &mut Answer,
+    answer: &mut AnswerText,
 ) -> Result<(), Refusal> {
     match core.connected(words.handle()?) {
         None => Ok(()),
@@ -181,7 +193,11 @@ fn give(
 }
 
 /// `step CIRCUIT`.
-fn step(core: &mut ClientCore, mut words: Words<'_>, answer: &mut Answer) -> Result<(), Refusal> {
+fn step(
+    core: &mut ClientCore,
+    mut words: Words<'_>,
+    answer: &mut AnswerText,
+) -> Result<(), Refusal> {
     match core.step(words.handle()?) {
         Stepped::Notices(notices) => answer.notices(notices),
         Stepped::NeedBytes => answer.word("needs bytes"),
@@ -195,7 +211,7 @@ fn hear(
     alloc: Global,
     core: &mut ClientCore,
     mut words: Words<'_>,
-    answer: &mut Answer,
+    answer: &mut AnswerText,
 ) -> Result<(), Refusal> {
     let circuit = words.handle()?;
     core.give(circuit, &words.bytes(alloc)?, false)?;
@@ -212,7 +228,7 @@ fn hear(
 }
 
 /// `out CIRCUIT`.
-fn out(core: &ClientCore, mut words: Words<'_>, answer: &mut Answer) -> Result<(), Refusal> {
+fn out(core: &ClientCore, mut words: Words<'_>, answer: &mut AnswerText) -> Result<(), Refusal> {
     answer.bytes(core.out_bytes(words.handle()?))
 }
 
@@ -228,7 +244,11 @@ fn sent(core: &mut ClientCore, mut words: Words<'_>) -> Result<(), Refusal> {
 }
 
 /// `take CIRCUIT`: what is to be sent, which is then sent.
-fn take(core: &mut ClientCore, mut words: Words<'_>, answer: &mut Answer) -> Result<(), Refusal> {
+fn take(
+    core: &mut ClientCore,
+    mut words: Words<'_>,
+    answer: &mut AnswerText,
+) -> Result<(), Refusal> {
     let circuit = words.handle()?;
     let bytes = core.out_bytes(circuit);
     let n = bytes.len();
@@ -238,12 +258,20 @@ fn take(core: &mut ClientCore, mut words: Words<'_>, answer: &mut Answer) -> Res
 }
 
 /// `cut CIRCUIT`.
-fn cut(core: &mut ClientCore, mut words: Words<'_>, answer: &mut Answer) -> Result<(), Refusal> {
+fn cut(
+    core: &mut ClientCore,
+    mut words: Words<'_>,
+    answer: &mut AnswerText,
+) -> Result<(), Refusal> {
     closed(core.cut(words.handle()?), answer)
 }
 
 /// `close CIRCUIT`.
-fn close(core: &mut ClientCore, mut words: Words<'_>, answer: &mut Answer) -> Result<(), Refusal> {
+fn close(
+    core: &mut ClientCore,
+    mut words: Words<'_>,
+    answer: &mut AnswerText,
+) -> Result<(), Refusal> {
     closed(core.close(words.handle()?), answer)
 }
 
@@ -255,7 +283,11 @@ fn datagram(alloc: Global, core: &mut ClientCore, mut words: Words<'_>) -> Resul
 }
 
 /// `tick NOW`.
-fn tick(core: &mut ClientCore, mut words: Words<'_>, answer: &mut Answer) -> Result<(), Refusal> {
+fn tick(
+    core: &mut ClientCore,
+    mut words: Words<'_>,
+    answer: &mut AnswerText,
+) -> Result<(), Refusal> {
     let Ticked {
         datagrams,
         closings,
@@ -271,7 +303,7 @@ fn tick(core: &mut ClientCore, mut words: Words<'_>, answer: &mut Answer) -> Res
     Ok(())
 }
 
-fn left(closing: Left, answer: &mut Answer) -> Result<(), Refusal> {
+fn left(closing: Left, answer: &mut AnswerText) -> Result<(), Refusal> {
     let Left {
         circuit,
         notices,
@@ -284,7 +316,7 @@ fn left(closing: Left, answer: &mut Answer) -> Result<(), Refusal> {
 }
 
 /// Why, the notices, and the bytes that are left.
-fn closed(closing: Closing, answer: &mut Answer) -> Result<(), Refusal> {
+fn closed(closing: Closing, answer: &mut AnswerText) -> Result<(), Refusal> {
     let Closing { why, notices, left } = closing;
     answer.word("closed")?;
     answer.word(word_of(why))?;

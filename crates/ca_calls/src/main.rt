@@ -23,18 +23,18 @@ mod server;
 mod table;
 mod words;
 
-use crate::answer::Answer;
+use crate::answer::AnswerText;
 use crate::table::Table;
 use std::io;
 
 fn main(rt: HostRuntime) -> io::Result<()> {
     let mut table = Table::new(rt.alloc());
-    let mut answer = Answer::new(rt.alloc());
+    let mut answer = AnswerText::new(rt.alloc());
     answer_all(&rt, &mut table, &mut answer)
 }
 
 /// Does what the lines of standard input say.
-fn answer_all(rt: &HostRuntime, table: &mut Table, answer: &mut Answer) -> io::Result<()> {
+fn answer_all(rt: &HostRuntime, table: &mut Table, answer: &mut AnswerText) -> io::Result<()> {
     for line in rt.lines(rt.alloc()) {
         answer_line(rt, line?.as_str(), table, answer)?;
     }
@@ -45,7 +45,7 @@ fn answer_line(
     rt: &HostRuntime,
     line: &str,
     table: &mut Table,
-    answer: &mut Answer,
+    answer: &mut AnswerText,
 ) -> io::Result<()> {
     if line.is_empty() || line.starts_with("#") {
         return println!(rt; "{line}");

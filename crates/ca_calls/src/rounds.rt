@@ -5,7 +5,7 @@
 use crate::words::Words;
 use ca_arena::Handle;
 use ca_client_core::{ClientCore, Stepped};
-use ca_server_core::{ServerCore, Step};
+use ca_server_core::{CoreStep, ServerCore};
 use ca_text::Refusal;
 use std::alloc::Global;
 
@@ -16,7 +16,7 @@ const LONG: u16 = 5;
 /// issued, sent and completed. The bytes are what is after the IOID in its reply.
 pub fn reads(alloc: Global, core: &mut ClientCore, mut words: Words<'_>) -> Result<(), Refusal> {
     let circuit = words.handle()?;
-    let channels = words.short()?;
+    let channels = words.number16()?;
     let rounds = words.count()?;
     let value = words.bytes(alloc)?;
     for _ in 0..rounds {
@@ -65,7 +65,7 @@ pub fn ticks(core: &mut ClientCore, mut words: Words<'_>) -> Result<(), Refusal>
 /// `handles CIRCUITS ROUNDS BYTES`: in each round each circuit is given a message, handles it, and
 /// sends what there is to be sent.
 pub fn handles(alloc: Global, core: &mut ServerCore, mut words: Words<'_>) -> Result<(), Refusal> {
-    let circuits = words.short()?;
+    let circuits = words.number16()?;
     let rounds = words.count()?;
     let message = words.bytes(alloc)?;
     for _ in 0..rounds {
@@ -78,7 +78,7 @@ pub fn handles(alloc: Global, core: &mut ServerCore, mut words: Words<'_>) -> Re
 
 fn handle(core: &mut ServerCore, circuit: Handle, message: &[u8]) -> Result<(), Refusal> {
     core.give(circuit, message)?;
-    let Step::Handled(_) = core.step(circuit) else {
+    let CoreStep::Handled(_) = core.step(circuit) else {
         return Err(Refusal::BadText);
     };
     send(core, circuit);
@@ -88,10 +88,10 @@ fn handle(core: &mut ServerCore, circuit: Handle, message: &[u8]) -> Result<(), 
 /// `posts CIRCUITS ROUNDS NAME MASK TYPE COUNT BYTES`: in each round a record is posted to, and
 /// each circuit sends its updates.
 pub fn posts(alloc: Global, core: &mut ServerCore, mut words: Words<'_>) -> Result<(), Refusal> {
-    let circuits = words.short()?;
+    let circuits = words.number16()?;
     let rounds = words.count()?;
     let name = words.word()?.as_bytes();
-    let mask = words.short()?;
+    let mask = words.number16()?;
     let (value, meta) = words.value(alloc)?;
     for _ in 0..rounds {
         core.post(name, value.copy(alloc)?, meta, mask)?;

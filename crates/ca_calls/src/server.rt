@@ -1,10 +1,10 @@
 //! The calls of a server.
 
-use crate::answer::Answer;
+use crate::answer::AnswerText;
 use crate::rounds;
 use crate::words::Words;
 use ca_script::{RecordFile, read_records};
-use ca_server_core::{Cause, Effect, ServerCore, Step};
+use ca_server_core::{CoreStep, Effect, EndCause, ServerCore};
 use ca_text::Refusal;
 use ca_wire::Pipe;
 use std::alloc::Global;
@@ -15,7 +15,7 @@ const MESSAGES: u32 = 100_000;
 /// `PORT NOW`, with these lines of records and rules.
 pub fn begin(alloc: Global, mut words: Words<'_>, lines: &[u8]) -> Result<ServerCore, Refusal> {
     let RecordFile { records, rules } = read_records(alloc, lines)?;
-    let port = words.short()?;
+    let port = words.number16()?;
     Ok(ServerCore::new(port, words.number()?, &records, rules)?)
 }
 
@@ -25,7 +25,7 @@ pub fn call(
     core: &mut ServerCore,
     call: &str,
     words: Words<'_>,
-    answer: &mut Answer,
+    answer: &mut AnswerText,
 ) -> Result<(), Refusal> {
     match call.as_bytes() {
         b"accept" => answer.handle(core.accept()?),
@@ -46,7 +46,7 @@ fn call_on_records(
     core: &mut ServerCore,
     call: &str,
     words: Words<'_>,
-    answer: &mut Answer,
+    answer: &mut AnswerText,
 ) -> Result<(), Refusal> {
     match call.as_bytes() {
         b"post" => post(alloc, core, words),
@@ -71,17 +71,21 @@ fn give(alloc: Global, core: &mut ServerCore, mut words: Words<'_>) -> Result<()
 }
 
 /// `step CIRCUIT`: the effect of the message that it handled, with its ids in decimal.
-fn step(core: &mut ServerCore, mut words: Words<'_>, answer: &mut Answer) -> Result<(), Refusal> {
+fn step(
+    core: &mut ServerCore,
+    mut words: Words<'_>,
+    answer: &mut AnswerText,
+) -> Result<(), Refusal> {
     match core.step(words.handle()?) {
-        Step::Handled(effect) => did(effect, answer),
-        Step::NeedBytes => answer.word("needs bytes"),
-        Step::OutputFull => answer.word("output full"),
-        Step::Closed(cause, left) => closed(cause, &left, answer),
+        CoreStep::Handled(effect) => did(effect, answer),
+        CoreStep::NeedBytes => answer.word("needs bytes"),
+        CoreStep::OutputFull => answer.word("output full"),
+        CoreStep::Closed(cause, left) => closed(cause, &left, answer),
     }
 }
 
 /// An effect: nothing if it is quiet.
-fn did(effect: Effect, answer: &mut Answer) -> Result<(), Refusal> {
+fn did(effect: Effect, answer: &mut AnswerText) -> Result<(), Refusal> {
     match effect {
         Effect::Quiet => Ok(()),
         Effect::Queued(sid) => on("queued", &[sid], answer),
@@ -99,7 +103,7 @@ fn did(effect: Effect, answer: &mut Answer) -> Result<(), Refusal> {
 }
 
 /// A word, and ids.
-fn on(word: &str, ids: &[u32], answer: &mut Answer) -> Result<(), Refusal> {
+fn on(word: &str, ids: &[u32], answer: &mut AnswerText) -> Result<(), Refusal> {
     answer.word(word)?;
     for id in ids {
         answer.number(u64::from(*id))?;
@@ -113,16 +117,16 @@ fn handle(
     alloc: Global,
     core: &mut ServerCore,
     mut words: Words<'_>,
-    answer: &mut Answer,
+    answer: &mut AnswerText,
 ) -> Result<(), Refusal> {
     let circuit = words.handle()?;
     core.give(circuit, &words.bytes(alloc)?)?;
     for _ in 0..MESSAGES {
         match core.step(circuit) {
-            Step::Handled(_) => {}
-            Step::NeedBytes => break,
-            Step::OutputFull => return answer.word("output full"),
-            Step::Closed(cause, left) => return closed(cause, &left, answer),
+            CoreStep::Handled(_) => {}
+            CoreStep::NeedBytes => break,
+            CoreStep::OutputFull => return answer.word("output full"),
+            CoreStep::Closed(cause, left) => return closed(cause, &left, answer),
         }
     }
     core.pump(circuit);
@@ -138,7 +142,7 @@ fn pump(core: &mut ServerCore, mut words: Words<'_>) -> Result<(), Refusal> {
 }
 
 /// `out CIRCUIT`.
-fn out(core: &ServerCore, mut words: Words<'_>, answer: &mut Answer) -> Result<(), Refusal> {
+fn out(core: &ServerCore, mut words: Words<'_>, answer: &mut AnswerText) -> Result<(), Refusal> {
     answer.bytes(core.out_bytes(words.handle()?))
 }
 
@@ -154,7 +158,11 @@ fn sent(core: &mut ServerCore, mut words: Words<'_>) -> Result<(), Refusal> {
 }
 
 /// `take CIRCUIT`: what is to be sent, which is then sent.
-fn take(core: &mut ServerCore, mut words: Words<'_>, answer: &mut Answer) -> Result<(), Refusal> {
+fn take(
+    core: &mut ServerCore,
+    mut words: Words<'_>,
+    answer: &mut AnswerText,
+) -> Result<(), Refusal> {
     let circuit = words.handle()?;
     let bytes = core.out_bytes(circuit);
     let n = bytes.len();
@@ -172,7 +180,7 @@ fn cut(core: &mut ServerCore, mut words: Words<'_>) -> Result<(), Refusal> {
 /// `post NAME MASK TYPE COUNT BYTES`: the type may carry an alarm and a time stamp.
 fn post(alloc: Global, core: &mut ServerCore, mut words: Words<'_>) -> Result<(), Refusal> {
     let name = words.word()?.as_bytes();
-    let mask = words.short()?;
+    let mask = words.number16()?;
     let (value, meta) = words.value(alloc)?;
     core.post(name, value, meta, mask)
 }
@@ -201,7 +209,7 @@ fn datagram(
     alloc: Global,
     core: &ServerCore,
     mut words: Words<'_>,
-    answer: &mut Answer,
+    answer: &mut AnswerText,
 ) -> Result<(), Refusal> {
     for reply in &core.datagram(&words.bytes(alloc)?)? {
         answer.word("datagram")?;
@@ -211,7 +219,11 @@ fn datagram(
 }
 
 /// `beacon NOW`.
-fn beacon(core: &mut ServerCore, mut words: Words<'_>, answer: &mut Answer) -> Result<(), Refusal> {
+fn beacon(
+    core: &mut ServerCore,
+    mut words: Words<'_>,
+    answer: &mut AnswerText,
+) -> Result<(), Refusal> {
     match core.beacon(words.number()?) {
         Some(bytes) => answer.bytes(&bytes),
         None => answer.word("nothing"),
@@ -226,13 +238,13 @@ fn stamp(core: &mut ServerCore, mut words: Words<'_>) -> Result<(), Refusal> {
 }
 
 /// The cause, and the bytes that are left.
-fn closed(cause: Cause, left: &Pipe, answer: &mut Answer) -> Result<(), Refusal> {
+fn closed(cause: EndCause, left: &Pipe, answer: &mut AnswerText) -> Result<(), Refusal> {
     answer.word("closed")?;
     answer.word(match cause {
-        Cause::OutOfMemory => "out of memory",
-        Cause::Misaligned => "misaligned",
-        Cause::TooLarge => "too large",
-        Cause::Cut => "cut",
+        EndCause::OutOfMemory => "out of memory",
+        EndCause::Misaligned => "misaligned",
+        EndCause::TooLarge => "too large",
+        EndCause::Cut => "cut",
     })?;
     answer.word("left")?;
     answer.bytes(left.bytes())

@@ -1,4 +1,6 @@
-use crate::answer::Answer;
+//! A table's core and its lines: one that begins a core, adds a record or repeats a call is done
+//! here, any other by `client.rt` or `server.rt`.
+use crate::answer::AnswerText;
 use crate::words::Words;
 use crate::{client, server};
 use ca_client_core::ClientCore;
@@ -34,7 +36,7 @@ impl Table {
 
     /// Does what a line says, and answers it. A line that is not understood is answered as
     /// a refusal by BadText.
-    pub fn answer(&mut self, line: &str, answer: &mut Answer) {
+    pub fn answer(&mut self, line: &str, answer: &mut AnswerText) {
         answer.clear();
         if let Err(refusal) = self.do_line(line, answer) {
             answer.clear();
@@ -42,7 +44,7 @@ impl Table {
         }
     }
 
-    fn do_line(&mut self, line: &str, answer: &mut Answer) -> Result<(), Refusal> {
+    fn do_line(&mut self, line: &str, answer: &mut AnswerText) -> Result<(), Refusal> {
         let (call, rest) = line.split_once(" ").unwrap_or((line, ""));
         match call.as_bytes() {
             b"record" => self.add_record(line),
@@ -77,7 +79,7 @@ impl Table {
     }
 
     /// `N CALL`.
-    fn repeat(&mut self, rest: &str, answer: &mut Answer) -> Result<(), Refusal> {
+    fn repeat(&mut self, rest: &str, answer: &mut AnswerText) -> Result<(), Refusal> {
         let Some((times, line)) = rest.split_once(" ") else {
             return Err(Refusal::BadText);
         };
@@ -89,7 +91,7 @@ impl Table {
         Ok(())
     }
 
-    fn call(&mut self, call: &str, rest: &str, answer: &mut Answer) -> Result<(), Refusal> {
+    fn call(&mut self, call: &str, rest: &str, answer: &mut AnswerText) -> Result<(), Refusal> {
         let words = Words::new(rest);
         match &mut self.core {
             Core::None => Err(Refusal::BadText),

@@ -1,3 +1,5 @@
+//! The words of a call, each taken as what the call asks for: a number, a handle, an address, a
+//! value.
 use ca_arena::Handle;
 use ca_client_core::Address;
 use ca_dbr::{Meta, Value, read_value};
@@ -36,7 +38,7 @@ impl<'a> Words<'a> {
     }
 
     /// A number of 16 bits.
-    pub fn short(&mut self) -> Result<u16, Refusal> {
+    pub fn number16(&mut self) -> Result<u16, Refusal> {
         match self.word()?.parse::<u16>() {
             Ok(number) => Ok(number),
             Err(_) => Err(Refusal::BadText),
@@ -64,7 +66,7 @@ impl<'a> Words<'a> {
 
     /// A mask, of which at least one bit has a meaning.
     pub fn mask(&mut self) -> Result<Mask, Refusal> {
-        Mask::new(self.short()?).ok_or(Refusal::BadText)
+        Mask::new(self.number16()?).ok_or(Refusal::BadText)
     }
 
     /// An address as `A.B.C.D:PORT`.
@@ -92,7 +94,7 @@ impl<'a> Words<'a> {
 
     /// A value with its metadata, as `TYPE COUNT BYTES`, the last words.
     pub fn value(mut self, alloc: Global) -> Result<(Value, Meta), Refusal> {
-        let data_type = self.short()?;
+        let data_type = self.number16()?;
         let count = self.count()?;
         read_value(alloc, data_type, count, &self.bytes(alloc)?)
     }

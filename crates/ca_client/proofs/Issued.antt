@@ -21,8 +21,8 @@ use Rattle.ca_model.specs.ClientCalls.{ClientPuts, ClientReads, IsLive, LiveChan
 use Rattle.ca_model.specs.Placed.{IsPlaced}
 use Rattle.ca_model.proofs.Changes.{placed-issued}
 use Rattle.ca_model.proofs.Placed.{keeps-sending}
-use Rattle.ca_client.specs.declared.ask.Request.{Request}
-use Rattle.ca_client.specs.declared.ask.Request.TheVariants as request
+use Rattle.ca_client.specs.declared.ask.RequestCall.{RequestCall}
+use Rattle.ca_client.specs.declared.ask.RequestCall.TheVariants as request
 use Rattle.ca_client.specs.Awaited.{IsState, StateView, Waits}
 use Rattle.ca_client.specs.Calls.{HasArmedOne, HasIssued, HasIssuedUnderLock}
 use Rattle.ca_client.proofs.Tickets.{OnlyRecycled, awaited_issue, awaited_recycled, awaited_refused}
@@ -50,7 +50,7 @@ puts-refused : (x : Client) (h : Handle) (a : Elements) (e : Refusal) (sent : Li
 puts-refused x h a refusal.OutOfMemory sent y f = f.1.1
 puts-refused x h a e sent y f = f.1.1
 
-pub issued-refused : (x : Client) (asked : Request) (e : Refusal) (y : Client) → HasIssued x asked (Err e) y → y ≡ x
+pub issued-refused : (x : Client) (asked : RequestCall) (e : Refusal) (y : Client) → HasIssued x asked (Err e) y → y ≡ x
 issued-refused x (request.Read h data_type count) e y f = reads-refused x h (record { data_type = data_type; count = count }) e f.0 y f.1
 issued-refused x (request.Put h value) e y f = puts-refused x h (elements value) e f.0 y f.1
 
@@ -64,7 +64,7 @@ record Issued (x : Client) (q : Handle) (y : Client) : Type 0 where
   sent : List Sending
   new : y ≡ sending sent (issued channel live asked q x)
 
-issued-so : (x : Client) (asked : Request) (q : Handle) (y : Client) → HasIssued x asked (Ok q) y → Issued x q y
+issued-so : (x : Client) (asked : RequestCall) (q : Handle) (y : Client) → HasIssued x asked (Ok q) y → Issued x q y
 issued-so x (request.Read h data_type count) q y f =
     let a : Shape = record { data_type = data_type; count = count } in
     record {
@@ -86,7 +86,7 @@ issued-so x (request.Put h value) q y f = record {
   new = f.1.4.1;
 }
 
-pub state-issued : (x : Client) (v mid armed : CoreView) (board : TableId) (ts : List Ticket) (t : Ticket) (asked : Request) (q : Handle) (y : Client) → IsState x v board ts → OnlyRecycled v mid → armed ≡ with_arm mid t → ¬ (Has mid.arms t) → IsDue armed t → HasIssued x asked (Ok q) y
+pub state-issued : (x : Client) (v mid armed : CoreView) (board : TableId) (ts : List Ticket) (t : Ticket) (asked : RequestCall) (q : Handle) (y : Client) → IsState x v board ts → OnlyRecycled v mid → armed ≡ with_arm mid t → ¬ (Has mid.arms t) → IsDue armed t → HasIssued x asked (Ok q) y
     → IsState y armed board (slice_set ts q.index t)
 state-issued x v mid armed board ts t asked q y s o e new due f =
     let i = issued-so x asked q y f in
@@ -106,13 +106,13 @@ state-issued x v mid armed board ts t asked q y s o e new due f =
     }
 
 -- no cell could be armed
-pub issued-none : (old : StateView) (asked : Request) (e : Refusal) (new : StateView) (r : Result (Handle × Ticket) Refusal) → IsErrAnd r (λ (f : Refusal). f ≡ e) → new.tickets ≡ old.tickets → new.core ≡ old.core → HasArmedOne old.seat (Err e) new.seat
+pub issued-none : (old : StateView) (asked : RequestCall) (e : Refusal) (new : StateView) (r : Result (Handle × Ticket) Refusal) → IsErrAnd r (λ (f : Refusal). f ≡ e) → new.tickets ≡ old.tickets → new.core ≡ old.core → HasArmedOne old.seat (Err e) new.seat
     → HasIssuedUnderLock old asked r new
 issued-none old asked e new (Ok h) is tickets core none = absurd is
 issued-none old asked e new (Err f) is tickets core none = (tickets, core, inl (subst (λ (x : Refusal). HasArmedOne old.seat (Err x) new.seat) (sym is) none))
 
 -- the core refused, and the ticket was taken back
-pub issued-undone : (old : StateView) (asked : Request) (e : Refusal) (new : StateView) (r : Result (Handle × Ticket) Refusal) (t : Ticket) (armed : CoreView) → IsErrAnd r (λ (f : Refusal). f ≡ e) → new.tickets ≡ old.tickets → HasArmedOne old.seat (Ok t) armed → HasIssued old.core asked (Err e) new.core → HasTakenBack armed t new.seat
+pub issued-undone : (old : StateView) (asked : RequestCall) (e : Refusal) (new : StateView) (r : Result (Handle × Ticket) Refusal) (t : Ticket) (armed : CoreView) → IsErrAnd r (λ (f : Refusal). f ≡ e) → new.tickets ≡ old.tickets → HasArmedOne old.seat (Ok t) armed → HasIssued old.core asked (Err e) new.core → HasTakenBack armed t new.seat
     → HasIssuedUnderLock old asked r new
 issued-undone old asked e new (Ok h) t armed is tickets arms refused back = absurd is
 issued-undone old asked e new (Err f) t armed is tickets arms refused back =

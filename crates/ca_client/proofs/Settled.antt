@@ -24,7 +24,7 @@ use Rattle.ca_model.proofs.Placed.{keeps-on, keeps-sending}
 use Rattle.ca_client_core.specs.declared.stepping.Stepped.{Stepped}
 use Rattle.ca_client_core.specs.declared.stepping.Stepped.TheVariants as step
 use Rattle.ca_client_core.specs.Stepping.{stepped_as}
-use Rattle.ca_client.specs.declared.ask.Ask.TheVariants as ask
+use Rattle.ca_client.specs.declared.ask.CoreCall.TheVariants as ask
 use Rattle.ca_client.specs.declared.answer.Answer.{Answer}
 use Rattle.ca_client.specs.Calls.{HasAnswered, HasSteppedUnderLock, told_in}
 use Rattle.ca_client.specs.Replies.{IsOther}

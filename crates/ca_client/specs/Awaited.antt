@@ -1,6 +1,7 @@
 -- Statement: the state under the lock. Each request that waits has a ticket of its own, which is to
 -- be filled; and what completions do with tickets.
-use Rattle.std.specs.Prelude.{◌≡◌, ◌⊎◌, ◌<◌, List, [], ◌∷◌, Some, filter, is_none, length, slice_index_or}
+use Rattle.std.specs.Prelude.{◌≡◌, ◌⊎◌, ◌<◌, List, [], ◌∷◌, Some, filter, is_none, length}
+use Rattle.std.specs.Prelude.{slice_index_or}
 use Rattle.atomic_table.specs.Seated.{TableId}
 use Rattle.ca_text.specs.Limits.{arena_slots}
 use Rattle.ca_arena.specs.declared.handle.Handle.{Handle}
@@ -31,7 +32,8 @@ abbrev pub Waits : Client → Handle → Type 0
 Waits x q = (r : Request) × (under x.requests q ≡ Some r) × (r.stage ≡ Open)
 
 -- Each of these requests has a ticket that is to be filled, and no two have one.
-pub record AreAwaited (seat : CoreView) (tickets : List Ticket) (asked : Handle → Type 0) : Type 0 where
+pub record AreAwaited (seat : CoreView) (tickets : List Ticket)
+    (asked : Handle → Type 0) : Type 0 where
   pub each : (q : Handle) → asked q → (q.index < length tickets) × IsDue seat (ticket_of tickets q)
   pub once : (p q : Handle) → asked p → asked q → ticket_of tickets p ≡ ticket_of tickets q → p ≡ q
 
@@ -51,7 +53,8 @@ pub record IsListed (x : Client) : Type 0 where
   pub once : AreApart x.issued
 
 -- what the fields keep
-pub record IsState (core : Client) (seat : CoreView) (board : TableId) (tickets : List Ticket) : Type 0 where
+pub record IsState (core : Client) (seat : CoreView) (board : TableId)
+    (tickets : List Ticket) : Type 0 where
   pub same : seat.board ≡ board
   pub wide : length tickets ≡ arena_slots
   pub placed : IsPlaced core
@@ -72,7 +75,8 @@ Fills v t o w = (w ≡ with_fill v t o) ⊎ (w ≡ with_refusal v t)
 -- outcome, and no other.
 abbrev pub FillsAll : List Ticket → CoreView → List Completion → CoreView → Type 0
 FillsAll tickets v [] w = w ≡ v
-FillsAll tickets v (c ∷ cs) w = (u : CoreView) × Fills v (ticket_of tickets c.0) c.1 u × FillsAll tickets u cs w
+FillsAll tickets v (c ∷ cs) w =
+    (u : CoreView) × Fills v (ticket_of tickets c.0) c.1 u × FillsAll tickets u cs w
 
 -- Working: the tickets can be filled one after another, whatever becomes of each fill.
 abbrev pub Fillable : List Ticket → CoreView → List Completion → Type 0

@@ -1,5 +1,6 @@
 -- Statement: what the functions that are lent the state under the lock do.
-use Rattle.std.specs.Prelude.{◌≡◌, ◌⊎◌, ℕ, zero, suc, ◌<◌, List, [], ◌∷◌, Some, None, Result, Ok, Err, slice_set}
+use Rattle.std.specs.Prelude.{◌≡◌, ◌⊎◌, ℕ, zero, suc, ◌<◌, List, [], ◌∷◌, Some, None, Result, Ok}
+use Rattle.std.specs.Prelude.{Err, slice_set}
 use Rattle.ca_text.specs.Limits.{board_cells}
 use Rattle.ca_text.specs.declared.refusal.Refusal.{Refusal}
 use Rattle.ca_text.specs.declared.refusal.Refusal.TheVariants.{OutOfMemory}
@@ -13,11 +14,12 @@ use Rattle.ca_model.specs.Answers.{Closing, Notice, Sending}
 use Rattle.ca_model.specs.Answers as core
 use Rattle.ca_model.specs.Client.{Client}
 use Rattle.ca_model.specs.ClientCalls.{ClientClears, ClientPuts, ClientReads}
-use Rattle.ca_model.specs.ClientEnds.{ClientBegins, ClientCloses, ClientConnects, ClientCuts, ClientSetting, ClientSteps, ClientTicks}
-use Rattle.ca_client.specs.declared.ask.Ask.{Ask}
-use Rattle.ca_client.specs.declared.ask.Ask.TheVariants as ask
-use Rattle.ca_client.specs.declared.ask.Request.{Request}
-use Rattle.ca_client.specs.declared.ask.Request.TheVariants as request
+use Rattle.ca_model.specs.ClientEnds.{ClientBegins, ClientCloses, ClientConnects, ClientCuts}
+use Rattle.ca_model.specs.ClientEnds.{ClientSetting, ClientSteps, ClientTicks}
+use Rattle.ca_client.specs.declared.ask.CoreCall.{CoreCall}
+use Rattle.ca_client.specs.declared.ask.CoreCall.TheVariants as ask
+use Rattle.ca_client.specs.declared.ask.RequestCall.{RequestCall}
+use Rattle.ca_client.specs.declared.ask.RequestCall.TheVariants as request
 use Rattle.ca_client.specs.declared.answer.Answer.{Answer}
 use Rattle.ca_client.specs.declared.answer.Answer.TheVariants as answer
 use Rattle.ca_client_core.specs.Notices.{completions}
@@ -53,23 +55,27 @@ HasArmedOne old (Ok t) new = HasArmed old (Ok t) new ⊎ (AreInUse old × HasArm
 HasArmedOne old (Err e) new = AreInUse old × HasArmedAfter old (Err e) new
 
 -- what the core answers to a request, and leaves
-abbrev pub HasIssued : Client → Request → Result Handle Refusal → Client → Type 0
+abbrev pub HasIssued : Client → RequestCall → Result Handle Refusal → Client → Type 0
 HasIssued old (request.Read h data_type count) result new =
-    (sent : List Sending) × ClientReads old h (record { data_type = data_type; count = count }) result sent new
-HasIssued old (request.Put h value) result new = (sent : List Sending) × ClientPuts old h (elements value) result sent new
+    (sent : List Sending)
+    × ClientReads old h (record { data_type = data_type; count = count }) result sent new
+HasIssued old (request.Put h value) result new =
+    (sent : List Sending) × ClientPuts old h (elements value) result sent new
 
 -- A request was made: a cell was armed, the core made its call, and the ticket is at the request's
 -- index. Or it was refused: as NoCell, since each cell is in use, and the core was not asked; or by
 -- the core, which it left as it was, and the ticket was taken back: its cell is free again, unless
 -- its generation was the last.
-abbrev pub HasIssuedUnderLock : StateView → Request → Result (Handle × Ticket) Refusal → StateView → Type 0
+abbrev pub HasIssuedUnderLock : StateView → RequestCall → Result (Handle × Ticket) Refusal
+    → StateView → Type 0
 HasIssuedUnderLock old asked (Ok r) new =
     HasArmedOne old.seat (Ok r.1) new.seat × HasIssued old.core asked (Ok r.0) new.core
     × (new.tickets ≡ slice_set old.tickets r.0.index r.1)
 HasIssuedUnderLock old asked (Err e) new =
     (new.tickets ≡ old.tickets) × (new.core ≡ old.core)
     × (HasArmedOne old.seat (Err e) new.seat
-    ⊎ ((t : Ticket) × (armed : CoreView) × HasArmedOne old.seat (Ok t) armed × HasIssued old.core asked (Err e) new.core × HasTakenBack armed t new.seat))
+    ⊎ ((t : Ticket) × (armed : CoreView) × HasArmedOne old.seat (Ok t) armed
+    × HasIssued old.core asked (Err e) new.core × HasTakenBack armed t new.seat))
 
 -- ---- step
 
@@ -89,24 +95,36 @@ IsReplied ns = ((q : Handle) × (o : Outcome) × (ns ≡ core.Completed q o ∷ 
 
 -- What the core answered with all its notices, and left: the answer that is handed back is that
 -- without the completions.
-abbrev pub HasAnswered : Client → Ask → List Notice → Answer → Client → Type 0
-HasAnswered old (ask.Step c) ns (answer.Notices told) new = (sent : List Sending) × ClientSteps old c (core.Notices ns) sent new
-HasAnswered old (ask.Step c) ns answer.Filled new = IsReplied ns × ((sent : List Sending) × ClientSteps old c (core.Notices ns) sent new)
-HasAnswered old (ask.Step c) ns answer.NeedBytes new = (ns ≡ []) × ((sent : List Sending) × ClientSteps old c core.NeedBytes sent new)
-HasAnswered old (ask.Step c) ns (answer.Closed k) new = (sent : List Sending) × ClientSteps old c (core.Closed (record k { notices = ns })) sent new
-HasAnswered old (ask.Cut c) ns (answer.Closed k) new = (sent : List Sending) × ClientCuts old c (record k { notices = ns }) sent new
-HasAnswered old (ask.Close c) ns (answer.Closed k) new = (sent : List Sending) × ClientCloses old c (record k { notices = ns }) sent new
-HasAnswered old (ask.Connect c) ns answer.Connected new = (ns ≡ []) × ((sent : List Sending) × ClientConnects old c None sent new)
-HasAnswered old (ask.Connect c) ns (answer.Closed k) new = (sent : List Sending) × ClientConnects old c (Some (record k { notices = ns })) sent new
-HasAnswered old (ask.Clear h) ns (answer.Notices told) new = (sent : List Sending) × ClientClears old h (Ok ns) sent new
-HasAnswered old (ask.Clear h) ns (answer.Refused e) new = (ns ≡ []) × ((sent : List Sending) × ClientClears old h (Err e) sent new)
-HasAnswered old (ask.Tick now) ns (answer.Ticked t) new = (sent : List Sending) × ClientTicks old now (Ok (record t { notices = ns })) sent new
-HasAnswered old (ask.Tick now) ns (answer.Refused e) new = (ns ≡ []) × ((sent : List Sending) × ClientTicks old now (Err e) sent new)
+abbrev pub HasAnswered : Client → CoreCall → List Notice → Answer → Client → Type 0
+HasAnswered old (ask.Step c) ns (answer.Notices told) new =
+    (sent : List Sending) × ClientSteps old c (core.Notices ns) sent new
+HasAnswered old (ask.Step c) ns answer.Filled new =
+    IsReplied ns × ((sent : List Sending) × ClientSteps old c (core.Notices ns) sent new)
+HasAnswered old (ask.Step c) ns answer.NeedBytes new =
+    (ns ≡ []) × ((sent : List Sending) × ClientSteps old c core.NeedBytes sent new)
+HasAnswered old (ask.Step c) ns (answer.Closed k) new =
+    (sent : List Sending) × ClientSteps old c (core.Closed (record k { notices = ns })) sent new
+HasAnswered old (ask.Cut c) ns (answer.Closed k) new =
+    (sent : List Sending) × ClientCuts old c (record k { notices = ns }) sent new
+HasAnswered old (ask.Close c) ns (answer.Closed k) new =
+    (sent : List Sending) × ClientCloses old c (record k { notices = ns }) sent new
+HasAnswered old (ask.Connect c) ns answer.Connected new =
+    (ns ≡ []) × ((sent : List Sending) × ClientConnects old c None sent new)
+HasAnswered old (ask.Connect c) ns (answer.Closed k) new =
+    (sent : List Sending) × ClientConnects old c (Some (record k { notices = ns })) sent new
+HasAnswered old (ask.Clear h) ns (answer.Notices told) new =
+    (sent : List Sending) × ClientClears old h (Ok ns) sent new
+HasAnswered old (ask.Clear h) ns (answer.Refused e) new =
+    (ns ≡ []) × ((sent : List Sending) × ClientClears old h (Err e) sent new)
+HasAnswered old (ask.Tick now) ns (answer.Ticked t) new =
+    (sent : List Sending) × ClientTicks old now (Ok (record t { notices = ns })) sent new
+HasAnswered old (ask.Tick now) ns (answer.Refused e) new =
+    (ns ≡ []) × ((sent : List Sending) × ClientTicks old now (Err e) sent new)
 HasAnswered old asked ns _ new = ⊥
 
 -- The core made its call once; each completion filled its own request's ticket, and the other
 -- notices are handed back, in order.
-abbrev pub HasSteppedUnderLock : StateView → Ask → Answer → StateView → Type 0
+abbrev pub HasSteppedUnderLock : StateView → CoreCall → Answer → StateView → Type 0
 HasSteppedUnderLock old asked result new =
     (ns : List Notice) × HasAnswered old.core asked ns result new.core
     × FillsAll old.tickets old.seat (completions ns) new.seat
@@ -122,4 +140,6 @@ pub record IsFresh (setting : ClientSetting) (state : StateView) : Type 0 where
 -- Nothing was begun: the core refused; or it would have begun, and memory lacked for the
 -- board or the tickets.
 abbrev pub HasNotBegun : ClientSetting → Refusal → Type 0
-HasNotBegun setting e = ClientBegins setting (Err e) ⊎ ((e ≡ OutOfMemory) × ((x : Client) × ClientBegins setting (Ok x)))
+HasNotBegun setting e =
+    ClientBegins setting (Err e)
+    ⊎ ((e ≡ OutOfMemory) × ((x : Client) × ClientBegins setting (Ok x)))

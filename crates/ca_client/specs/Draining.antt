@@ -12,11 +12,13 @@ abbrev pub drained : Left → Left
 drained l = record l { notices = others l.notices }
 
 -- Of these ends the first i are drained.
-pub record Draining (tickets : List Ticket) (v₀ : CoreView) (ls : List Left) (v : CoreView) (items : List Left) (i : ℕ) : Type 0 where
+pub record Draining (tickets : List Ticket) (v₀ : CoreView) (ls : List Left) (v : CoreView)
+    (items : List Left) (i : ℕ) : Type 0 where
   pub before : List Left
   pub after : List Left
   pub split : ls ≡ before ++ after
   pub items_are : items ≡ map drained before ++ after
   pub count : length before ≡ i
   pub due : Fillable tickets v (completions (notices_of after))
-  pub fills : (w : CoreView) → FillsAll tickets v (completions (notices_of after)) w → FillsAll tickets v₀ (completions (notices_of ls)) w
+  pub fills : (w : CoreView) → FillsAll tickets v (completions (notices_of after)) w
+      → FillsAll tickets v₀ (completions (notices_of ls)) w

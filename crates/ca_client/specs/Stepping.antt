@@ -6,7 +6,7 @@ use Rattle.ca_client_core.specs.declared.stepping.Stepped.TheVariants as step
 use Rattle.ca_model.specs.Answers.{Notice}
 use Rattle.ca_client.specs.declared.answer.Answer.{Answer}
 use Rattle.ca_client.specs.declared.answer.Answer.TheVariants as answer
-use Rattle.ca_client.specs.declared.ask.Ask.TheVariants as ask
+use Rattle.ca_client.specs.declared.ask.CoreCall.TheVariants as ask
 use Rattle.ca_client.specs.declared.stepping.Replied.{Replied}
 use Rattle.ca_client.specs.declared.stepping.Replied.TheVariants as replied
 use Rattle.ca_client.specs.Awaited.{StateView, others}

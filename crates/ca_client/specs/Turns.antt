@@ -1,11 +1,12 @@
 -- Statement: what a socket's calls tell, and what goes between it and the core in one turn.
-use Rattle.std.specs.Prelude.{◌≡◌, ◌⊎◌, ℕ, zero, suc, ◌+◌, ◌<◌, ◌≤◌, Bool, List, [], length, take, Option, Some, None, Ok, Err}
+use Rattle.std.specs.Prelude.{◌≡◌, ◌⊎◌, ℕ, zero, suc, ◌+◌, ◌<◌, ◌≤◌, Bool, List, [], length, take}
+use Rattle.std.specs.Prelude.{Option, Some, None, Ok, Err}
 use Rattle.ca_text.specs.declared.refusal.Refusal.TheVariants.{CircuitClosed, OutOfMemory}
 use Rattle.ca_arena.specs.declared.handle.Handle.{Handle}
 use Rattle.ca_model.specs.Answers.{Closing, Sending}
 use Rattle.ca_model.specs.Client.{Client, out_bytes}
 use Rattle.ca_model.specs.ClientEnds.{ClientGives, handed_over}
-use Rattle.ca_client.specs.declared.ask.Ask.TheVariants.{Cut}
+use Rattle.ca_client.specs.declared.ask.CoreCall.TheVariants.{Cut}
 use Rattle.ca_client.specs.declared.answer.Answer.TheVariants.{Closed}
 use Rattle.ca_client.specs.declared.socket.Moved.{Moved}
 use Rattle.ca_client.specs.declared.socket.Moved.TheVariants.{Count, Later, Fault}
@@ -19,13 +20,15 @@ with_core x v = record v { core = x }
 module _ {S : Type 0} (faults : S → ℕ) where
   -- a read: n bytes came, which are at the front of the buffer; or none yet; or a fault, and none
   abbrev pub HasRead : (S → List ℕ → S → Type 0) → S → Moved → List ℕ → S → Type 0
-  HasRead gives s (Count n) buffer s' = (n ≤ length buffer) × gives s (take n buffer) s' × (faults s' ≡ faults s)
+  HasRead gives s (Count n) buffer s' =
+      (n ≤ length buffer) × gives s (take n buffer) s' × (faults s' ≡ faults s)
   HasRead gives s Later buffer s' = gives s [] s' × (faults s' ≡ faults s)
   HasRead gives s Fault buffer s' = gives s [] s' × (faults s' ≡ faults s + 1)
 
   -- a write: n of the bytes that were offered went; or none yet; or a fault, and none
   abbrev pub HasWritten : (S → List ℕ → S → Type 0) → S → List ℕ → Moved → S → Type 0
-  HasWritten takes s bytes (Count n) s' = (n ≤ length bytes) × takes s (take n bytes) s' × (faults s' ≡ faults s)
+  HasWritten takes s bytes (Count n) s' =
+      (n ≤ length bytes) × takes s (take n bytes) s' × (faults s' ≡ faults s)
   HasWritten takes s bytes Later s' = takes s [] s' × (faults s' ≡ faults s)
   HasWritten takes s bytes Fault s' = takes s [] s' × (faults s' ≡ faults s + 1)
 
@@ -57,7 +60,8 @@ module _ {S : Type 0} (faults : S → ℕ) where
     abbrev pub Cuts : S → StateView → Closing → S → StateView → Type 0
     Cuts s v k s' v' =
         (((faults s' ≡ faults s + 1) × (gives s [] s' ⊎ takes s [] s'))
-        ⊎ ((faults s' ≡ faults s) × ((bytes : List ℕ) × (more : Bool) × (sent : List Sending) × gives s bytes s'
+        ⊎ ((faults s' ≡ faults s)
+        × ((bytes : List ℕ) × (more : Bool) × (sent : List Sending) × gives s bytes s'
         × ClientGives v.core c bytes more (Err OutOfMemory) sent v.core)))
         × HasSteppedUnderLock v (Cut c) (Closed k) v'
 
@@ -69,4 +73,6 @@ module _ {S : Type 0} (faults : S → ℕ) where
     -- one turn: no more than this many calls, of which the last may have cut the circuit
     abbrev pub Turns : ℕ → S → StateView → Option Closing → S → StateView → Type 0
     Turns most s v None s' v' = (k : ℕ) × (k ≤ most) × Chain k s v s' v'
-    Turns most s v (Some closing) s' v' = (k : ℕ) × (k < most) × (mid : S) × (w : StateView) × Chain k s v mid w × Cuts mid w closing s' v'
+    Turns most s v (Some closing) s' v' =
+        (k : ℕ) × (k < most) × (mid : S) × (w : StateView) × Chain k s v mid w
+        × Cuts mid w closing s' v'

@@ -4,7 +4,7 @@ use ca_dbr::Value;
 
 /// A request on a channel, whose outcome comes later.
 #[derive(Debug, Drop)]
-pub enum Request {
+pub enum RequestCall {
     /// The value of this channel, as this type from 0 to 20 and with this many elements; a count of
     /// 0 asks for those that there are.
     Read(Handle, u16, u32),
@@ -14,7 +14,7 @@ pub enum Request {
 
 /// What the core is asked to do.
 #[derive(Clone, Copy, Debug, PartialEq, Eq)]
-pub enum Ask {
+pub enum CoreCall {
     /// To read the next message of this circuit.
     Step(Handle),
     /// To end this circuit, which was cut.

@@ -4,7 +4,7 @@ ghost use Rattle.ca_board.specs.History.{Has};
 ghost use Rattle.ca_board.specs.Views.{HasTakenBack, IsDue};
 ghost use Rattle.ca_client.specs.Calls.{HasArmedOne, HasIssued, HasIssuedUnderLock, RecyclesEach};
 
-use crate::ask::Request;
+use crate::ask::RequestCall;
 use crate::state::ClientState;
 use ca_arena::Handle;
 use ca_board::{Board, CoreSeat, Ticket};
@@ -17,7 +17,7 @@ use ca_text::{BOARD_CELLS, Refusal};
 /// taken back, and its cell is free again.
 pub fn issue_under_lock(
     state: &mut ClientState,
-    request: &Request,
+    request: &RequestCall,
 ) -> Result<(Handle, Ticket), Refusal>
     ensures { HasIssuedUnderLock state.old request.now result state.new }
 {
@@ -53,7 +53,7 @@ fn issue_or_take_back(
     board: &Board,
     seat: &mut CoreSeat,
     ticket: Ticket,
-    request: &Request,
+    request: &RequestCall,
 ) -> Result<Handle, Refusal>
     requires board { seat.old.board ≡ board.now }
     requires due { IsDue seat.old ticket }
@@ -72,12 +72,12 @@ fn issue_or_take_back(
 }
 
 // Makes the core's call.
-fn issue(core: &mut ClientCore, request: &Request) -> Result<Handle, Refusal>
+fn issue(core: &mut ClientCore, request: &RequestCall) -> Result<Handle, Refusal>
     ensures { HasIssued core.old request.now result core.new }
 {
     match request {
-        Request::Read(channel, data_type, count) => core.read(*channel, *data_type, *count),
-        Request::Put(channel, value) => core.write_notify(*channel, value),
+        RequestCall::Read(channel, data_type, count) => core.read(*channel, *data_type, *count),
+        RequestCall::Put(channel, value) => core.write_notify(*channel, value),
     }
 }
 

@@ -16,7 +16,7 @@ mod turning;
 mod wire;
 
 pub use answer::{Answer, Steps};
-pub use ask::{Ask, Request};
+pub use ask::{CoreCall, RequestCall};
 pub use caller::Caller;
 pub use issuing::issue_under_lock;
 pub use replying::step_all;

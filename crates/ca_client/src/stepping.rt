@@ -5,11 +5,11 @@ ghost use Rattle.ca_client.specs.Awaited.{Fillable, FillsAll, others};
 ghost use Rattle.ca_client.specs.Calls.{HasSteppedUnderLock};
 ghost use Rattle.ca_client.specs.Replies.{IsOther};
 ghost use Rattle.ca_client.specs.Stepping.{StepsReply, handed_over, notices_in};
-ghost use Rattle.ca_client.specs.declared.ask.Ask.TheVariants as ask;
+ghost use Rattle.ca_client.specs.declared.ask.CoreCall.TheVariants as ask;
 ghost use Rattle.ca_client.specs.declared.answer.Answer.TheVariants as answer;
 
 use crate::answer::Answer;
-use crate::ask::Ask;
+use crate::ask::CoreCall;
 use crate::filling::{fill_all, fill_one};
 use crate::state::ClientState;
 use crate::ticking::tick;
@@ -19,10 +19,10 @@ use ca_client_core::{Closing, Reply, Stepped};
 
 /// Makes one call of the core, hands the outcome of each request that it completes to the request's
 /// ticket, and hands back the other notices.
-pub fn step_under_lock(state: &mut ClientState, asked: Ask) -> Answer
+pub fn step_under_lock(state: &mut ClientState, asked: CoreCall) -> Answer
     ensures { HasSteppedUnderLock state.old asked result state.new }
 {
-    if let Ask::Step(circuit) = asked {
+    if let CoreCall::Step(circuit) = asked {
         return step(state, circuit);
     }
     step_any(state, asked)
@@ -31,16 +31,16 @@ pub fn step_under_lock(state: &mut ClientState, asked: Ask) -> Answer
 // Makes one call of the core, as `step_under_lock`. Most calls are steps, and a function pays for
 // the locals of all that it takes into itself: so the other calls are out of line.
 #[inline(never)]
-fn step_any(state: &mut ClientState, asked: Ask) -> Answer
+fn step_any(state: &mut ClientState, asked: CoreCall) -> Answer
     ensures { HasSteppedUnderLock state.old asked result state.new }
 {
     match asked {
-        Ask::Step(circuit) => step(state, circuit),
-        Ask::Cut(circuit) => Answer::Closed(cut(state, circuit)),
-        Ask::Close(circuit) => Answer::Closed(close(state, circuit)),
-        Ask::Connect(circuit) => connect(state, circuit),
-        Ask::Clear(channel) => clear(state, channel),
-        Ask::Tick(now) => tick(state, now),
+        CoreCall::Step(circuit) => step(state, circuit),
+        CoreCall::Cut(circuit) => Answer::Closed(cut(state, circuit)),
+        CoreCall::Close(circuit) => Answer::Closed(close(state, circuit)),
+        CoreCall::Connect(circuit) => connect(state, circuit),
+        CoreCall::Clear(channel) => clear(state, channel),
+        CoreCall::Tick(now) => tick(state, now),
     }
 }
 

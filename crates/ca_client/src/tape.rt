@@ -20,9 +20,14 @@ impl Socket for Tape {
     ghost use Rattle.std.specs.Prelude.{◌≡◌, ◌++◌, ◌+◌, length, slice_range};
 
     // The bytes are next on the tape, and the place goes on after them.
-    ghost gives = { λ a bytes b. (b.at ≡ a.at + length bytes) × (b.incoming.items ≡ a.incoming.items) × (bytes ≡ slice_range a.incoming.items a.at b.at) × (b.outgoing.items ≡ a.outgoing.items) };
+    ghost gives = { λ a bytes b.
+        (b.at ≡ a.at + length bytes) × (b.incoming.items ≡ a.incoming.items)
+        × (bytes ≡ slice_range a.incoming.items a.at b.at)
+        × (b.outgoing.items ≡ a.outgoing.items) };
 
-    ghost takes = { λ a bytes b. (b.outgoing.items ≡ a.outgoing.items ++ bytes) × (b.at ≡ a.at) × (b.incoming.items ≡ a.incoming.items) };
+    ghost takes = { λ a bytes b.
+        (b.outgoing.items ≡ a.outgoing.items ++ bytes) × (b.at ≡ a.at)
+        × (b.incoming.items ≡ a.incoming.items) };
 
     ghost fault_count = { λ t. t.failed };
 

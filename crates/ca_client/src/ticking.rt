@@ -4,7 +4,7 @@ ghost use Rattle.ca_client_core.specs.Notices.{completions};
 ghost use Rattle.ca_client_core.specs.Ticked.{lefts_of, notices_of};
 ghost use Rattle.ca_client.specs.Awaited.{Fillable, FillsAll, others};
 ghost use Rattle.ca_client.specs.Calls.{HasSteppedUnderLock};
-ghost use Rattle.ca_client.specs.declared.ask.Ask.TheVariants as ask;
+ghost use Rattle.ca_client.specs.declared.ask.CoreCall.TheVariants as ask;
 
 use crate::answer::Answer;
 use crate::filling::fill_all;

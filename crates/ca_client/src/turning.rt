@@ -1,5 +1,6 @@
 //! A turn of a circuit: bytes move between it and its socket.
-ghost use Rattle.std.specs.Prelude.{◌≡◌, ◌<◌, ◌≤◌, ◌^◌, ◌⊎◌, IsFalse, IsTrue, List, length, Ok, Err};
+ghost use Rattle.std.specs.Prelude.{◌≡◌, ◌<◌, ◌≤◌, ◌^◌, ◌⊎◌, IsFalse, IsTrue, List, length, Ok};
+ghost use Rattle.std.specs.Prelude.{Err};
 ghost use Rattle.ca_text.specs.declared.refusal.Refusal.TheVariants.{CircuitClosed, OutOfMemory};
 ghost use Rattle.ca_model.specs.Answers.{Sending};
 ghost use Rattle.ca_model.specs.Client.{out_bytes};
@@ -30,7 +31,7 @@ enum Turned {
 
 /// Moves bytes between a circuit and its socket, by at most 16 reads and writes. A fault of the
 /// socket cuts the circuit, and so do bytes for which there is no memory: then it answers as a
-/// step with `Ask::Cut`.
+/// step with `CoreCall::Cut`.
 pub fn turn_over<S: Socket>(
     state: &mut ClientState,
     circuit: Handle,

@@ -1,3 +1,4 @@
+//! Addresses of the core as those of the system, and back: the core knows IPv4 alone.
 use ca_client_core::Address;
 use std::net::{IpAddr, Ipv4Addr, SocketAddr};
 

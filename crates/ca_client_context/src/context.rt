@@ -1,3 +1,5 @@
+//! `Context`, through which callers in any thread use one client. All its calls are here; read a
+//! wait first (`wait_on`, `lead`, `follow`), in which a caller may move the bytes itself.
 ghost use Rattle.ca_board.specs.Views.{HasCollected, HasGivenUp};
 
 use crate::addresses::to_system;
@@ -5,11 +7,13 @@ use crate::deadline::{Deadline, time_of};
 use crate::engine::{Engine, Moments};
 use crate::lead::SocketPoll;
 use crate::links::Tries;
-use crate::listener::{Change, Ear, Ears, Listener};
-use crate::shared::{Locked, Shared};
+use crate::listener::{Change, Listener, SubscribedListener, SubscribedListeners};
+use crate::shared::{LockedClient, SharedClient};
 use ca_arena::Handle;
 use ca_board::Ticket;
-use ca_client::{Answer, Ask, Caller, ClientState, Request, issue_under_lock, step_under_lock};
+use ca_client::{
+    Answer, Caller, ClientState, CoreCall, RequestCall, issue_under_lock, step_under_lock,
+};
 use ca_client_core::{Address, ChannelState};
 use ca_dbr::{Outcome, Value};
 use ca_dgram::register;
@@ -33,7 +37,7 @@ const AT_ONCE: usize = 32;
 /// and output ends once it is dropped, as after `end`.
 #[derive(Drop)]
 pub struct Context<L: Listener> {
-    shared: Arc<Shared<L>>,
+    shared: Arc<SharedClient<L>>,
 }
 
 /// What a wait for an outcome ended with.
@@ -143,7 +147,7 @@ impl<L: Listener> Context<L> {
         data_type: u16,
         count: u32,
     ) -> Result<Ticket, Refusal> {
-        self.issue(rt, &Request::Read(channel, data_type, count))
+        self.issue(rt, &RequestCall::Read(channel, data_type, count))
     }
 
     /// Asks for the value of a channel as `get`, into the memory of a value that is no longer used.
@@ -157,7 +161,7 @@ impl<L: Listener> Context<L> {
     ) -> Result<Ticket, Refusal> {
         let mut guard = self.shared.hold(rt);
         guard.state.recycle(room);
-        self.issue_under(guard, &Request::Read(channel, data_type, count))
+        self.issue_under(guard, &RequestCall::Read(channel, data_type, count))
     }
 
     /// Makes requests in order, each as `get` and `put_notify` do, and adds their tickets: one hold
@@ -169,7 +173,7 @@ impl<L: Listener> Context<L> {
     pub fn request_all<R: Wait>(
         &self,
         rt: &R,
-        requests: &[Request],
+        requests: &[RequestCall],
         rooms: &mut Vec<Value>,
         tickets: &mut Vec<Ticket>,
     ) -> Result<(), Refusal> {
@@ -182,7 +186,7 @@ impl<L: Listener> Context<L> {
     fn request_some<R: Wait>(
         &self,
         rt: &R,
-        requests: &[Request],
+        requests: &[RequestCall],
         rooms: &mut Vec<Value>,
         tickets: &mut Vec<Ticket>,
     ) -> Result<(), Refusal> {
@@ -207,10 +211,10 @@ impl<L: Listener> Context<L> {
         channel: Handle,
         value: Value,
     ) -> Result<Ticket, Refusal> {
-        self.issue(rt, &Request::Put(channel, value))
+        self.issue(rt, &RequestCall::Put(channel, value))
     }
 
-    fn issue<R: Wait>(&self, rt: &R, request: &Request) -> Result<Ticket, Refusal> {
+    fn issue<R: Wait>(&self, rt: &R, request: &RequestCall) -> Result<Ticket, Refusal> {
         let guard = self.shared.hold(rt);
         self.issue_under(guard, request)
     }
@@ -218,13 +222,13 @@ impl<L: Listener> Context<L> {
     // Makes a request, and lets the lock go.
     fn issue_under(
         &self,
-        guard: MutexGuard<'_, Locked<L>>,
-        request: &Request,
+        guard: MutexGuard<'_, LockedClient<L>>,
+        request: &RequestCall,
     ) -> Result<Ticket, Refusal> {
         let mut guard = guard;
         let issued = issue_under_lock(&mut guard.state, request);
         let all = guard.note();
-        if guard.is_told() {
+        if guard.needs_thread() {
             self.shared.ask();
         }
         drop(guard);
@@ -478,7 +482,7 @@ enum Led {
     Left,
 }
 
-impl<L: Listener> Locked<L> {
+impl<L: Listener> LockedClient<L> {
     fn open(&mut self, name: &[u8], priority: u16) -> Result<Handle, Refusal> {
         let channel = self.state.open(name, priority, self.moment)?;
         self.spread.add(channel, priority);
@@ -493,7 +497,7 @@ impl<L: Listener> Locked<L> {
     }
 
     fn clear(&mut self, channel: Handle) -> Result<(), Refusal> {
-        match step_under_lock(&mut self.state, Ask::Clear(channel)) {
+        match step_under_lock(&mut self.state, CoreCall::Clear(channel)) {
             Answer::Refused(refusal) => Err(refusal),
             _ => {
                 self.spread.remove(channel);
@@ -516,7 +520,7 @@ impl<L: Listener> Locked<L> {
         match self.state.subscribe(channel, data_type, count, mask) {
             Ok(subscription) => {
                 self.lead.hear();
-                self.changes.push_reserved(Change::Hears(Ear {
+                self.changes.push_reserved(Change::Hears(SubscribedListener {
                     subscription,
                     listener,
                 }));
@@ -544,7 +548,7 @@ struct Parts<L: Listener> {
     thread_waker: Waker,
     events: Events<Global>,
     datagrams: UdpSocket,
-    ears: Ears<L>,
+    listeners: SubscribedListeners<L>,
     began: Instant,
 }
 
@@ -578,7 +582,7 @@ impl<L: Listener> Parts<L> {
             call_poll,
             datagrams,
             events: Events::with_capacity(alloc, 4)?,
-            ears: Ears::new(alloc)?,
+            listeners: SubscribedListeners::new(alloc)?,
             began,
         })
     }
@@ -598,13 +602,13 @@ fn joined<R: Net + Clock + Copy + Drop, L: Listener>(
         thread_waker,
         events,
         datagrams,
-        ears,
+        listeners,
         began,
     } = parts;
-    let locked = Locked::new(alloc, state)?;
+    let locked = LockedClient::new(alloc, state)?;
     let shared = Arc::new(
         alloc,
-        Shared::new(locked, sockets, sockets_waker, thread_waker),
+        SharedClient::new(locked, sockets, sockets_waker, thread_waker),
     )?;
     let engine = Engine {
         net: rt,
@@ -614,7 +618,7 @@ fn joined<R: Net + Clock + Copy + Drop, L: Listener>(
         events,
         datagrams,
         tries: Tries::new(alloc),
-        ears,
+        listeners,
         told: Vec::new(alloc),
         moments: Moments::new(began),
     };

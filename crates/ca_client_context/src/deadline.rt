@@ -1,3 +1,4 @@
+//! How much time a wait has left, and turns of 10 ms as a time.
 use crate::lead::TURN;
 use std::time::{Clock, Duration, Instant};
 

@@ -1,9 +1,11 @@
+//! The thread of input and output. Begin at `run` of `Engine`: it waits, takes one turn under the
+//! lock (`work`), and then calls the listeners with the lock released.
 use crate::addresses::{from_system, to_system};
 use crate::lead::{TURN, wait_at};
-use crate::links::{Brought, Heard, Tries, close_all, connect, forget, keep};
-use crate::listener::{Ears, Listener};
-use crate::shared::{Locked, Place, Shared};
-use ca_client::{Answer, Ask, ClientState, step_under_lock};
+use crate::links::{Brought, ListenerNotices, Tries, close_all, connect, forget, keep};
+use crate::listener::{Listener, SubscribedListeners};
+use crate::shared::{LockedClient, SharedClient, WaitPlace};
+use ca_client::{Answer, ClientState, CoreCall, step_under_lock};
 use ca_client_core::{Notice, Ticked};
 use ca_dbr::Outcome;
 use ca_text::Refusal;
@@ -52,7 +54,7 @@ pub fn start<R: Threads + Wait + Clock + Copy + Send + 'static, W: Work + Send +
 pub struct Engine<N: Net + Drop, L: Listener> {
     // Where it connects circuits.
     pub(crate) net: N,
-    pub(crate) shared: Arc<Shared<L>>,
+    pub(crate) shared: Arc<SharedClient<L>>,
     // What waits for the sockets.
     pub(crate) registry: Registry,
     // What waits to be called, while callers wait for the sockets.
@@ -60,8 +62,8 @@ pub struct Engine<N: Net + Drop, L: Listener> {
     pub(crate) events: Events<Global>,
     pub(crate) datagrams: UdpSocket,
     pub(crate) tries: Tries,
-    pub(crate) ears: Ears<L>,
-    pub(crate) told: Vec<Heard>,
+    pub(crate) listeners: SubscribedListeners<L>,
+    pub(crate) told: Vec<ListenerNotices>,
     pub(crate) moments: Moments,
 }
 
@@ -101,13 +103,13 @@ impl<N: Net + Drop, L: Listener> Work for Engine<N, L> {
             told: 0,
             owed: false,
         };
-        let mut place = Place::Nowhere;
+        let mut place = WaitPlace::Nowhere;
         for _ in rt.forever() {
             engine.rest(rt, place);
             let now = engine.moments.next(rt);
             let (next, brought) = engine.work(rt, now);
             let own = &mut engine;
-            tell_all(rt, &own.shared, &mut own.ears, &mut own.told);
+            tell_all(rt, &own.shared, &mut own.listeners, &mut own.told);
             match next {
                 Some(next) => place = next,
                 None => {
@@ -124,19 +126,19 @@ impl<N: Net + Drop, L: Listener> Work for Engine<N, L> {
 
 impl<N: Net + Drop, L: Listener> Engine<N, L> {
     // Waits at a place.
-    fn rest<R: Wait + Clock>(&mut self, rt: &R, place: Place) {
+    fn rest<R: Wait + Clock>(&mut self, rt: &R, place: WaitPlace) {
         let most = Duration::from_millis(TURN);
         match place {
-            Place::Nowhere => {}
-            Place::Sockets => self.shared.watch(rt, most),
-            Place::Call => wait_at(rt, &mut self.call_poll, &mut self.events, most),
+            WaitPlace::Nowhere => {}
+            WaitPlace::Sockets => self.shared.watch(rt, most),
+            WaitPlace::Call => wait_at(rt, &mut self.call_poll, &mut self.events, most),
         }
         self.shared.rise();
     }
 
     // A turn, with the lock. It says where the thread waits for the next, or that there is none,
     // since the client ends.
-    fn work<R: Wait>(&mut self, rt: &R, now: u64) -> (Option<Place>, Brought) {
+    fn work<R: Wait>(&mut self, rt: &R, now: u64) -> (Option<WaitPlace>, Brought) {
         self.shared.let_ask();
         // The context was dropped if nobody else has what the two share.
         let is_left = Arc::strong_count(&self.shared) == 1;
@@ -153,7 +155,7 @@ impl<N: Net + Drop, L: Listener> Engine<N, L> {
             &self.registry,
             &self.datagrams,
             &mut self.tries,
-            &mut self.ears,
+            &mut self.listeners,
             now,
         );
         swap(&mut locked.told, &mut self.told);
@@ -166,7 +168,7 @@ impl<N: Net + Drop, L: Listener> Engine<N, L> {
             self.shared.call_leader();
         }
         let place = if brought.any || brought.more {
-            Place::Nowhere
+            WaitPlace::Nowhere
         } else {
             self.shared.doze(locked)
         };
@@ -210,16 +212,16 @@ fn passed<R: Clock>(rt: &R, start: &Instant) -> u64 {
 // begin with is sent after that.
 fn turn<N: Net, L: Listener>(
     net: &N,
-    locked: &mut Locked<L>,
+    locked: &mut LockedClient<L>,
     registry: &Registry,
     datagrams: &UdpSocket,
     tries: &mut Tries,
-    ears: &mut Ears<L>,
+    listeners: &mut SubscribedListeners<L>,
     now: u64,
 ) -> Brought {
     // A caller found that a circuit ended.
     let told_before = !locked.told.is_empty();
-    ears.follow(&mut locked.changes);
+    listeners.follow(&mut locked.changes);
     let brought = locked.serve();
     let hears = hear(&mut locked.state, datagrams, now);
     let ended = tick(locked, datagrams, now);
@@ -256,12 +258,12 @@ fn hear(state: &mut ClientState, datagrams: &UdpSocket, now: u64) -> bool {
 
 // A moment: its searches are sent, and circuits that were silent too long are let go, as those that
 // were cut. It says whether there were any.
-fn tick<L: Listener>(locked: &mut Locked<L>, datagrams: &UdpSocket, now: u64) -> bool {
+fn tick<L: Listener>(locked: &mut LockedClient<L>, datagrams: &UdpSocket, now: u64) -> bool {
     // No moment is told without room for what it tells.
     if locked.told.reserve(locked.links.len()).is_err() {
         return false;
     }
-    let Answer::Ticked(ticked) = step_under_lock(&mut locked.state, Ask::Tick(now)) else {
+    let Answer::Ticked(ticked) = step_under_lock(&mut locked.state, CoreCall::Tick(now)) else {
         return false;
     };
     let Ticked {
@@ -287,39 +289,44 @@ fn tick<L: Listener>(locked: &mut Locked<L>, datagrams: &UdpSocket, now: u64) ->
 // Tells the listeners, in order.
 fn tell_all<R: Wait, L: Listener>(
     rt: &R,
-    shared: &Shared<L>,
-    ears: &mut Ears<L>,
-    told: &mut Vec<Heard>,
+    shared: &SharedClient<L>,
+    listeners: &mut SubscribedListeners<L>,
+    told: &mut Vec<ListenerNotices>,
 ) {
     for index in 0..told.len() {
-        tell_each(rt, shared, ears, &mut told[index]);
+        tell_each(rt, shared, listeners, &mut told[index]);
     }
     told.clear();
 }
 
 fn tell_each<R: Wait, L: Listener>(
     rt: &R,
-    shared: &Shared<L>,
-    ears: &mut Ears<L>,
-    heard: &mut Heard,
+    shared: &SharedClient<L>,
+    listeners: &mut SubscribedListeners<L>,
+    heard: &mut ListenerNotices,
 ) {
-    tell(rt, shared, ears, &heard.first);
+    tell(rt, shared, listeners, &heard.first);
     while let Some(notice) = heard.rest.next() {
-        tell(rt, shared, ears, &notice);
+        tell(rt, shared, listeners, &notice);
     }
 }
 
 // Channels that are live or lost are seen by `wait_live` and `channel_state`. A subscription that
 // was cancelled meanwhile is told nothing more.
-fn tell<R: Wait, L: Listener>(rt: &R, shared: &Shared<L>, ears: &mut Ears<L>, notice: &Notice) {
-    if ears.is_behind(shared.cancels()) {
-        ears.forget_cancelled(&shared.hold(rt).changes);
+fn tell<R: Wait, L: Listener>(
+    rt: &R,
+    shared: &SharedClient<L>,
+    listeners: &mut SubscribedListeners<L>,
+    notice: &Notice,
+) {
+    if listeners.is_behind(shared.cancels()) {
+        listeners.forget_cancelled(&shared.hold(rt).changes);
     }
     match notice {
-        Notice::Update(subscription, outcome) => ears.tell(*subscription, outcome),
+        Notice::Update(subscription, outcome) => listeners.tell(*subscription, outcome),
         Notice::SubscriptionEnded(subscription, status) => {
-            ears.tell(*subscription, &Outcome::Failed(*status));
-            ears.forget(*subscription);
+            listeners.tell(*subscription, &Outcome::Failed(*status));
+            listeners.forget(*subscription);
         }
         _ => {}
     }

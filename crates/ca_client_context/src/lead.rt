@@ -1,3 +1,6 @@
+//! Who waits for the sockets: the thread of input and output, or a caller in its place, which is
+//! said to lead. This is only the state, which is under the lock; `shared.rt` wakes and waits by
+//! it.
 use mio::{Events, Poll};
 use std::alloc::Global;
 use std::thread;

@@ -1,10 +1,12 @@
+//! The circuits that are connected, with their sockets. Under the lock they are connected, their
+//! bytes are moved, and what came is handed to the core.
 ghost use Rattle.std.specs.Prelude.{◌<◌};
 ghost use Rattle.std.specs.Vec.{vec_capacity, vec_len};
 
 use crate::addresses::to_system;
 use ca_arena::Handle;
 use ca_client::{
-    Answer, Ask, ClientState, Moved, Socket, Wire, step_all, step_under_lock, turn_over,
+    Answer, ClientState, CoreCall, Moved, Socket, Wire, step_all, step_under_lock, turn_over,
 };
 use ca_client_core::{Notice, Notices, WantedCircuit};
 use mio::net::TcpStream;
@@ -26,7 +28,7 @@ const CIRCUITS: Token = Token(2);
 
 // A circuit that is connected, and its socket.
 #[derive(Drop)]
-pub(crate) struct Link {
+pub(crate) struct ConnectedCircuit {
     pub(crate) circuit: Handle,
     wire: Watched<Wire>,
 }
@@ -130,7 +132,7 @@ pub(crate) fn connect<R: Net>(
     rt: &R,
     state: &mut ClientState,
     registry: &Registry,
-    links: &mut Vec<Link>,
+    links: &mut Vec<ConnectedCircuit>,
     tries: &mut Tries,
     now: u64,
 ) {
@@ -147,18 +149,18 @@ pub(crate) fn connect<R: Net>(
         }
         match reach(rt, registry, wanted[index]) {
             Some(link) => {
-                if let Answer::Connected = step_under_lock(state, Ask::Connect(circuit)) {
+                if let Answer::Connected = step_under_lock(state, CoreCall::Connect(circuit)) {
                     links.push_reserved(link);
                 }
             }
             None => {
-                step_under_lock(state, Ask::Cut(circuit));
+                step_under_lock(state, CoreCall::Cut(circuit));
             }
         }
     }
 }
 
-fn reach<R: Net>(rt: &R, registry: &Registry, wanted: WantedCircuit) -> Option<Link> {
+fn reach<R: Net>(rt: &R, registry: &Registry, wanted: WantedCircuit) -> Option<ConnectedCircuit> {
     let Ok(mut stream) = TcpStream::connect(rt, to_system(wanted.address)) else {
         return None;
     };
@@ -170,7 +172,7 @@ fn reach<R: Net>(rt: &R, registry: &Registry, wanted: WantedCircuit) -> Option<L
     let Ok(()) = registry.register(&mut stream, CIRCUITS, both) else {
         return None;
     };
-    Some(Link {
+    Some(ConnectedCircuit {
         circuit: wanted.circuit,
         wire: Watched {
             inner: Wire::new(stream),
@@ -184,18 +186,18 @@ fn reach<R: Net>(rt: &R, registry: &Registry, wanted: WantedCircuit) -> Option<L
 
 // Notices that listeners are to be told: one at least.
 #[derive(Drop)]
-pub(crate) struct Heard {
+pub(crate) struct ListenerNotices {
     pub(crate) first: Notice,
     pub(crate) rest: Notices,
 }
 
 // Keeps the notices for the listeners. There are none if a message completed requests alone.
-pub(crate) fn keep(told: &mut Vec<Heard>, notices: Notices)
+pub(crate) fn keep(told: &mut Vec<ListenerNotices>, notices: Notices)
     requires { vec_len told.old < vec_capacity told.old }
 {
     let mut rest = notices;
     if let Some(first) = rest.next() {
-        told.push_reserved(Heard { first, rest });
+        told.push_reserved(ListenerNotices { first, rest });
     }
 }
 
@@ -240,8 +242,8 @@ impl Brought {
 // Moves the bytes of all circuits, and reads their messages.
 pub(crate) fn serve(
     state: &mut ClientState,
-    links: &mut Vec<Link>,
-    told: &mut Vec<Heard>,
+    links: &mut Vec<ConnectedCircuit>,
+    told: &mut Vec<ListenerNotices>,
 ) -> Brought {
     let mut brought = Brought::nothing();
     for turn in 0..links.len() {
@@ -259,12 +261,12 @@ pub(crate) fn serve(
 }
 
 // Whether what waits to be sent on a circuit waits for room in its socket.
-pub(crate) fn is_any_full(links: &[Link]) -> bool {
+pub(crate) fn is_any_full(links: &[ConnectedCircuit]) -> bool {
     links.iter().any(|link| link.wire.full)
 }
 
 // Whether something waits to be sent on a circuit for which there may be room.
-pub(crate) fn is_any_behind(links: &[Link]) -> bool {
+pub(crate) fn is_any_behind(links: &[ConnectedCircuit]) -> bool {
     links.iter().any(|link| link.wire.behind)
 }
 
@@ -272,8 +274,8 @@ pub(crate) fn is_any_behind(links: &[Link]) -> bool {
 // and no circuit ended.
 pub(crate) fn send_all(
     state: &mut ClientState,
-    links: &mut Vec<Link>,
-    told: &mut Vec<Heard>,
+    links: &mut Vec<ConnectedCircuit>,
+    told: &mut Vec<ListenerNotices>,
 ) -> bool {
     let mut all = true;
     for turn in 0..links.len() {
@@ -310,9 +312,9 @@ impl Served {
 
 fn serve_at(
     state: &mut ClientState,
-    links: &mut Vec<Link>,
+    links: &mut Vec<ConnectedCircuit>,
     index: usize,
-    told: &mut Vec<Heard>,
+    told: &mut Vec<ListenerNotices>,
 ) -> Served {
     match links.get_mut(index) {
         Some(link) => serve_one(state, link, told),
@@ -322,9 +324,9 @@ fn serve_at(
 
 fn send_at(
     state: &mut ClientState,
-    links: &mut Vec<Link>,
+    links: &mut Vec<ConnectedCircuit>,
     index: usize,
-    told: &mut Vec<Heard>,
+    told: &mut Vec<ListenerNotices>,
 ) -> Served {
     match links.get_mut(index) {
         Some(link) => send_one(state, link, told),
@@ -332,7 +334,11 @@ fn send_at(
     }
 }
 
-fn send_one(state: &mut ClientState, link: &mut Link, told: &mut Vec<Heard>) -> Served {
+fn send_one(
+    state: &mut ClientState,
+    link: &mut ConnectedCircuit,
+    told: &mut Vec<ListenerNotices>,
+) -> Served {
     // Nothing is sent without room for what a fault reports.
     if told.reserve(1).is_err() || link.wire.faults() >= MOST_FAULTS {
         return Served::behind();
@@ -349,13 +355,17 @@ fn send_one(state: &mut ClientState, link: &mut Link, told: &mut Vec<Heard>) -> 
     }
 }
 
-fn serve_one(state: &mut ClientState, link: &mut Link, told: &mut Vec<Heard>) -> Served {
+fn serve_one(
+    state: &mut ClientState,
+    link: &mut ConnectedCircuit,
+    told: &mut Vec<ListenerNotices>,
+) -> Served {
     // Nothing is read without room for what it tells.
     if told.reserve(1).is_err() {
         return Served::On(Brought::nothing());
     }
     if link.wire.faults() >= MOST_FAULTS {
-        if let Answer::Closed(closing) = step_under_lock(state, Ask::Cut(link.circuit)) {
+        if let Answer::Closed(closing) = step_under_lock(state, CoreCall::Cut(link.circuit)) {
             keep(told, closing.notices);
         }
         return Served::Over;
@@ -372,7 +382,7 @@ fn serve_one(state: &mut ClientState, link: &mut Link, told: &mut Vec<Heard>) ->
     }
 }
 
-impl Link {
+impl ConnectedCircuit {
     // What is left to be moved after a turn, and may be: after bytes that make no message there may
     // be the end of the stream, of which nothing tells again.
     fn left(&self, brought: Brought) -> Brought {
@@ -386,7 +396,7 @@ impl Link {
 }
 
 // Handles the messages that came on a circuit.
-fn handle_all(state: &mut ClientState, circuit: Handle, told: &mut Vec<Heard>) -> Served {
+fn handle_all(state: &mut ClientState, circuit: Handle, told: &mut Vec<ListenerNotices>) -> Served {
     let mut brought = Brought::nothing();
     let mut left = STEPS;
     for _ in 0..STEPS {
@@ -417,14 +427,14 @@ fn handle_all(state: &mut ClientState, circuit: Handle, told: &mut Vec<Heard>) -
     })
 }
 
-fn forget_at(links: &mut Vec<Link>, index: usize) {
+fn forget_at(links: &mut Vec<ConnectedCircuit>, index: usize) {
     if index < links.len() {
         links.swap_remove(index);
     }
 }
 
 // The circuit has ended.
-pub(crate) fn forget(links: &mut Vec<Link>, circuit: Handle) {
+pub(crate) fn forget(links: &mut Vec<ConnectedCircuit>, circuit: Handle) {
     for index in 0..links.len() {
         if index < links.len() && links[index].circuit == circuit {
             forget_at(links, index);
@@ -433,9 +443,9 @@ pub(crate) fn forget(links: &mut Vec<Link>, circuit: Handle) {
 }
 
 // Ends all circuits.
-pub(crate) fn close_all(state: &mut ClientState, links: &mut Vec<Link>) {
+pub(crate) fn close_all(state: &mut ClientState, links: &mut Vec<ConnectedCircuit>) {
     for index in 0..links.len() {
-        step_under_lock(state, Ask::Close(links[index].circuit));
+        step_under_lock(state, CoreCall::Close(links[index].circuit));
     }
     links.clear();
 }

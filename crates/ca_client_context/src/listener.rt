@@ -1,3 +1,5 @@
+//! The trait `Listener`, and the table of listeners by subscription. The thread of input and output
+//! has that table for itself, and callers leave it their changes under the lock.
 use ca_arena::Handle;
 use ca_dbr::Outcome;
 use ca_text::ARENA_SLOTS;
@@ -25,7 +27,7 @@ impl Listener for Nobody {
 
 // A listener, and the subscription that it hears.
 #[derive(Drop)]
-pub(crate) struct Ear<L: Listener> {
+pub(crate) struct SubscribedListener<L: Listener> {
     pub(crate) subscription: Handle,
     pub(crate) listener: L,
 }
@@ -34,7 +36,7 @@ pub(crate) struct Ear<L: Listener> {
 #[derive(Drop)]
 pub(crate) enum Change<L: Listener> {
     // This one hears its subscription.
-    Hears(Ear<L>),
+    Hears(SubscribedListener<L>),
     // This subscription was cancelled.
     Ends(Handle),
 }
@@ -42,20 +44,20 @@ pub(crate) enum Change<L: Listener> {
 // The listeners, each at the index of its subscription. There is a place for each subscription
 // that a client can have.
 #[derive(Drop)]
-pub(crate) struct Ears<L: Listener> {
-    places: Vec<Option<Ear<L>>>,
+pub(crate) struct SubscribedListeners<L: Listener> {
+    places: Vec<Option<SubscribedListener<L>>>,
     // How many subscriptions were cancelled when that was last asked.
     cancels: u64,
 }
 
-impl<L: Listener> Ears<L> {
-    pub(crate) fn new(alloc: Global) -> Result<Ears<L>, AllocError> {
+impl<L: Listener> SubscribedListeners<L> {
+    pub(crate) fn new(alloc: Global) -> Result<SubscribedListeners<L>, AllocError> {
         let mut places = Vec::new(alloc);
         places.reserve(ARENA_SLOTS)?;
         for _ in 0..ARENA_SLOTS {
             places.push(None)?;
         }
-        Ok(Ears { places, cancels: 0 })
+        Ok(SubscribedListeners { places, cancels: 0 })
     }
 
     // Takes in what has changed, in the order of the calls that changed it.
@@ -63,7 +65,7 @@ impl<L: Listener> Ears<L> {
         changes.reverse();
         for _ in 0..changes.len() {
             match changes.pop() {
-                Some(Change::Hears(ear)) => self.adopt(ear),
+                Some(Change::Hears(subscribed)) => self.adopt(subscribed),
                 Some(Change::Ends(subscription)) => self.forget(subscription),
                 None => {}
             }
@@ -88,9 +90,12 @@ impl<L: Listener> Ears<L> {
     }
 
     // Takes a listener in. It takes the place of one whose subscription has ended.
-    fn adopt(&mut self, ear: Ear<L>) {
-        if let Some(place) = self.places.get_mut(usize::from(ear.subscription.index)) {
-            *place = Some(ear);
+    fn adopt(&mut self, subscribed: SubscribedListener<L>) {
+        if let Some(place) = self
+            .places
+            .get_mut(usize::from(subscribed.subscription.index))
+        {
+            *place = Some(subscribed);
         }
     }
 
@@ -99,8 +104,8 @@ impl<L: Listener> Ears<L> {
         let Some(place) = self.places.get_mut(usize::from(subscription.index)) else {
             return;
         };
-        if let Some(ear) = place {
-            if ear.subscription == subscription {
+        if let Some(subscribed) = place {
+            if subscribed.subscription == subscription {
                 *place = None;
             }
         }
@@ -109,9 +114,9 @@ impl<L: Listener> Ears<L> {
     // Has the listener of a subscription hear an outcome. A subscription that
     // was cancelled has none.
     pub(crate) fn tell(&mut self, subscription: Handle, outcome: &Outcome) {
-        if let Some(Some(ear)) = self.places.get_mut(usize::from(subscription.index)) {
-            if ear.subscription == subscription {
-                ear.listener.heard(outcome);
+        if let Some(Some(subscribed)) = self.places.get_mut(usize::from(subscription.index)) {
+            if subscribed.subscription == subscription {
+                subscribed.listener.heard(outcome);
             }
         }
     }

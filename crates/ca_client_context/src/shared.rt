@@ -1,9 +1,14 @@
+//! What callers and the thread of input and output share: what is under the lock, and the atomic
+//! words by which they wake each other without it. That no wake is lost depends on the order of
+//! writes and reads: see the comments of `doze`, `park`, `pass` and `leave`.
 use crate::lead::{LATELY, Lead, SocketPoll};
-use crate::links::{Brought, Heard, Link, is_any_behind, is_any_full, send_all, serve};
+use crate::links::{
+    Brought, ConnectedCircuit, ListenerNotices, is_any_behind, is_any_full, send_all, serve,
+};
 use crate::listener::{Change, Listener};
 use crate::spread::Spread;
 use ca_board::Ticket;
-use ca_client::{ClientState, Request, issue_under_lock};
+use ca_client::{ClientState, RequestCall, issue_under_lock};
 use ca_dbr::Value;
 use ca_text::Refusal;
 use mio::Waker;
@@ -43,7 +48,7 @@ const AT_CALL: u64 = 2;
 
 // Where the thread of input and output waits.
 #[derive(Clone, Copy, Drop)]
-pub(crate) enum Place {
+pub(crate) enum WaitPlace {
     // It takes another turn at once.
     Nowhere,
     // For the sockets.
@@ -54,12 +59,12 @@ pub(crate) enum Place {
 
 // What lies under the lock.
 #[derive(Drop)]
-pub(crate) struct Locked<L: Listener> {
+pub(crate) struct LockedClient<L: Listener> {
     pub(crate) state: ClientState,
-    pub(crate) links: Vec<Link>,
+    pub(crate) links: Vec<ConnectedCircuit>,
     pub(crate) spread: Spread,
     // What listeners have not been told yet.
-    pub(crate) told: Vec<Heard>,
+    pub(crate) told: Vec<ListenerNotices>,
     // What became of listeners, in the order of the calls. The thread of input and output
     // has not followed yet.
     pub(crate) changes: Vec<Change<L>>,
@@ -71,9 +76,9 @@ pub(crate) struct Locked<L: Listener> {
     pub(crate) ending: bool,
 }
 
-impl<L: Listener> Locked<L> {
-    pub(crate) fn new(alloc: Global, state: ClientState) -> Result<Locked<L>, AllocError> {
-        Ok(Locked {
+impl<L: Listener> LockedClient<L> {
+    pub(crate) fn new(alloc: Global, state: ClientState) -> Result<LockedClient<L>, AllocError> {
+        Ok(LockedClient {
             state,
             links: Vec::new(alloc),
             spread: Spread::new(alloc)?,
@@ -96,7 +101,7 @@ impl<L: Listener> Locked<L> {
     // more to be done for those that were made.
     pub(crate) fn request_each(
         &mut self,
-        requests: &[Request],
+        requests: &[RequestCall],
         rooms: &mut Vec<Value>,
         tickets: &mut Vec<Ticket>,
     ) -> (Result<(), Refusal>, bool) {
@@ -112,7 +117,7 @@ impl<L: Listener> Locked<L> {
 
     fn request_one(
         &mut self,
-        request: &Request,
+        request: &RequestCall,
         rooms: &mut Vec<Value>,
         tickets: &mut Vec<Ticket>,
     ) -> Result<bool, Refusal> {
@@ -126,7 +131,7 @@ impl<L: Listener> Locked<L> {
     }
 
     // Whether the thread of input and output is to be told of the request that was made.
-    pub(crate) fn is_told(&self) -> bool {
+    pub(crate) fn needs_thread(&self) -> bool {
         self.unsent % SOME == 1
     }
 
@@ -180,8 +185,8 @@ impl<L: Listener> Locked<L> {
 
 // What threads share.
 #[derive(Drop)]
-pub(crate) struct Shared<L: Listener> {
-    pub(crate) locked: Mutex<Locked<L>>,
+pub(crate) struct SharedClient<L: Listener> {
+    pub(crate) locked: Mutex<LockedClient<L>>,
     // Whoever waits for the sockets has it. What lies under the other lock says who that is, so
     // nobody waits for this one for long.
     sockets: Mutex<SocketPoll>,
@@ -206,14 +211,14 @@ pub(crate) struct Shared<L: Listener> {
     cancels: AtomicU64,
 }
 
-impl<L: Listener> Shared<L> {
+impl<L: Listener> SharedClient<L> {
     pub(crate) fn new(
-        locked: Locked<L>,
+        locked: LockedClient<L>,
         sockets: SocketPoll,
         sockets_waker: Waker,
         thread_waker: Waker,
-    ) -> Shared<L> {
-        Shared {
+    ) -> SharedClient<L> {
+        SharedClient {
             locked: Mutex::new(locked),
             sockets: Mutex::new(sockets),
             sockets_waker,
@@ -229,7 +234,7 @@ impl<L: Listener> Shared<L> {
     }
 
     // Takes the lock.
-    pub(crate) fn hold<R: Wait>(&self, rt: &R) -> MutexGuard<'_, Locked<L>> {
+    pub(crate) fn hold<R: Wait>(&self, rt: &R) -> MutexGuard<'_, LockedClient<L>> {
         for _ in 0..TRIES {
             if let Some(guard) = self.locked.try_lock() {
                 return guard;
@@ -261,18 +266,18 @@ impl<L: Listener> Shared<L> {
     // It says that it leaves the sockets to callers before it looks whether one waits that does not
     // lead. Such a caller says that it waits before it looks whether the sockets are left: so
     // either the thread waits for them, or the caller wakes it.
-    pub(crate) fn doze(&self, locked: &mut Locked<L>) -> Place {
+    pub(crate) fn doze(&self, locked: &mut LockedClient<L>) -> WaitPlace {
         self.asked.store(0, Ordering::SeqCst);
         let serves = self.crowded.load(Ordering::SeqCst) != 0 || is_any_full(&locked.links);
         if locked.lead.is_left(serves) {
             self.asleep.store(AT_CALL, Ordering::SeqCst);
             if locked.lead.is_led() || !self.is_awaited() {
-                return Place::Call;
+                return WaitPlace::Call;
             }
         }
         locked.lead.take();
         self.asleep.store(AT_SOCKETS, Ordering::SeqCst);
-        Place::Sockets
+        WaitPlace::Sockets
     }
 
     // Waits for the sockets, for this time or a turn at most.
@@ -283,7 +288,7 @@ impl<L: Listener> Shared<L> {
 
     // Takes the lock for a caller that leads, if this one may: no other waits, or did lately, and
     // nobody waits for the sockets.
-    pub(crate) fn hold_to_lead<R: Wait>(&self, rt: &R) -> Option<MutexGuard<'_, Locked<L>>> {
+    pub(crate) fn hold_to_lead<R: Wait>(&self, rt: &R) -> Option<MutexGuard<'_, LockedClient<L>>> {
         if self.is_crowded() {
             return None;
         }

@@ -1,3 +1,5 @@
+//! How many channels are open at each priority: so `open_spread` finds one whose circuit still has
+//! room for a subscription on one more channel.
 use ca_arena::Handle;
 use ca_text::ARENA_SLOTS;
 use std::alloc::{AllocError, Global};

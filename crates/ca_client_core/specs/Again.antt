@@ -26,7 +26,9 @@ subscribed_again c sid h x = with_messages c (add_messages sid (standing_to h x.
 
 -- a channel that is being created is live as this
 abbrev pub living : Handle → Native → ℕ → Handle → Client → Effect
-living c n rights h x = doing (event_adds c n.sid h x) (notice.Live h ∷ []) (with_standing (On c (phase.Live n rights)) h x)
+living c n rights h x =
+    doing (event_adds c n.sid h x) (notice.Live h ∷ [])
+    (with_standing (On c (phase.Live n rights)) h x)
 
 -- one that its caller cleared meanwhile is cleared now
 abbrev pub dooming : Handle → ℕ → Handle → Client → Effect

@@ -9,7 +9,8 @@ use Rattle.ca_model.specs.Client.{Client, Clearing, On, disconnections, sending,
 use Rattle.ca_model.specs.ClientCalls.{all_over, clear_sent}
 
 -- A live channel of this SID was cleared, with its CLEAR_CHANNEL; or there was no memory for that.
-abbrev pub ClearsLive : Client → (h c : Handle) → (sid : ℕ) → Result (List Notice) Refusal → Client → Type 0
+abbrev pub ClearsLive : Client → (h c : Handle) → (sid : ℕ) → Result (List Notice) Refusal → Client
+    → Type 0
 ClearsLive old h c sid (Ok told) new =
     (told ≡ disconnections (asks_on h) old)
     × (new ≡ sending (clear_sent c sid h ∷ []) (with_standing (On c Clearing) h (all_over c h old)))

@@ -20,20 +20,26 @@ IsReply n = (n ≡ command_number command.ReadNotify) ⊎ (n ≡ command_number 
 
 -- A message that was read on this circuit had its effect; or there was no memory for it,
 -- which changed nothing.
-abbrev pub HearsOr : Client → Handle → Fields → Result (List notice.Notice) AllocError → Client → Type 0
+abbrev pub HearsOr : Client → Handle → Fields → Result (List notice.Notice) AllocError → Client
+    → Type 0
 HearsOr old c m (Ok told) new = (e : Effect) × Hears old c m e × (told ≡ e.notices) × (new ≡ e.core)
 HearsOr old c m (Err _) new = (e : Effect) × Hears old c m e × TakesMemory old m e × (new ≡ old)
 
 -- The first message on this circuit, which has this header, was taken and had its effect; or
 -- there was no memory for it, which left it there, or took it and changed nothing else.
-abbrev pub HearsFirst : Client → Handle → Head → Result (List notice.Notice) AllocError → Client → Type 0
-HearsFirst old c head (Ok told) new = HearsOr (without_first c head old) c (first_on old c head) (Ok told) new
+abbrev pub HearsFirst : Client → Handle → Head → Result (List notice.Notice) AllocError → Client
+    → Type 0
+HearsFirst old c head (Ok told) new =
+    HearsOr (without_first c head old) c (first_on old c head) (Ok told) new
 HearsFirst old c head (Err _) new =
-    (e : Effect) × Hears (without_first c head old) c (first_on old c head) e × TakesMemory old (first_on old c head) e
+    (e : Effect) × Hears (without_first c head old) c (first_on old c head) e
+    × TakesMemory old (first_on old c head) e
     × ((new ≡ old) ⊎ (new ≡ without_first c head old))
 
 -- That message, a reply, was taken and completed its request; or there was no memory for its value,
 -- which left it there.
-abbrev pub HearsFirstReply : Client → Handle → Head → Result (Option (Handle × Outcome)) AllocError → Client → Type 0
-HearsFirstReply old c head (Ok told) new = HearsReply (without_first c head old) c (first_on old c head) (Ok told) new
+abbrev pub HearsFirstReply : Client → Handle → Head → Result (Option (Handle × Outcome)) AllocError
+    → Client → Type 0
+HearsFirstReply old c head (Ok told) new =
+    HearsReply (without_first c head old) c (first_on old c head) (Ok told) new
 HearsFirstReply old c head (Err e) new = HearsReply old c (first_on old c head) (Err e) new

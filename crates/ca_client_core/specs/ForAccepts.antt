@@ -1,5 +1,6 @@
 -- Vocabulary: what a recorder of histories asks of a client before a circuit is connected.
-use Rattle.std.specs.Prelude.{ℕ, ◌++◌, List, [], Option, Some, None, filter_map, if◌then◌else◌, map, option_and_then, option_to_list, slice_get}
+use Rattle.std.specs.Prelude.{ℕ, ◌++◌, List, [], Option, Some, None, filter_map, if◌then◌else◌, map}
+use Rattle.std.specs.Prelude.{option_and_then, option_to_list, slice_get}
 use Rattle.ca_arena.specs.declared.handle.Handle.{Handle}
 use Rattle.ca_ids.specs.Table.{under}
 use Rattle.ca_model.specs.Answers.{Sending}

@@ -10,6 +10,9 @@ use Rattle.ca_client_core.specs.ForHistories.{sending_of}
 
 -- The datagram was taken, and these were sent, no more than one for each 16 of its bytes; or there
 -- was no memory for a message in it, and nothing is changed.
-abbrev pub NotesDatagram : Client → Arrival → Result (Vec Sending Global) AllocError → Client → Type 0
-NotesDatagram old a (Ok sent) new = ClientReceives old a (Ok tt) (map sending_of sent.items) new × (16 * length sent.items ≤ length a.bytes)
+abbrev pub NotesDatagram : Client → Arrival → Result (Vec Sending Global) AllocError → Client
+    → Type 0
+NotesDatagram old a (Ok sent) new =
+    ClientReceives old a (Ok tt) (map sending_of sent.items) new
+    × (16 * length sent.items ≤ length a.bytes)
 NotesDatagram old a (Err _) new = (new ≡ old) × (NoneBegins a.bytes → ⊥)

@@ -17,7 +17,8 @@ use Rattle.ca_client_tables.specs.declared.foretelling.Creation.{Creation}
 -- a channel's CREATE_CHAN, if one goes
 abbrev pub creation_sent : Option Creation → List Sending
 creation_sent None = []
-creation_sent (Some o) = record { circuit = o.circuit; message = o.message; aim = answer.Create o.channel } ∷ []
+creation_sent (Some o) =
+    record { circuit = o.circuit; message = o.message; aim = answer.Create o.channel } ∷ []
 
 -- what a search reply that came from this address makes a client send
 abbrev pub found_sent : Client → Address → Fields → List Sending

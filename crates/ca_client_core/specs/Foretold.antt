@@ -30,7 +30,8 @@ AreSome hs false = hs ≡ []
 
 -- All that the client's moment makes it send was noted, and whether an end is to end.
 pub record IsTried (t : Ticking) (f : Foretold) : Type 0 where
-  pub sent : map sending_of f.sent.items ≡ (all_searched (due (circuits_of t).core) t.core.order (all_echoed t.core.order t)).sent
+  pub sent : map sending_of f.sent.items
+      ≡ (all_searched (due (circuits_of t).core) t.core.order (all_echoed t.core.order t)).sent
   pub some : f.ends ≡ true → silent_of t.core t.core.order ≢ []
   pub none : f.ends ≡ false → silent_of t.core t.core.order ≡ []
 

@@ -29,14 +29,17 @@ completed (Some (q, o)) = notice.Completed q o ∷ []
 
 -- a reply was read that is about this request, or about none; without memory for its
 -- value nothing happens
-abbrev pub HearsReplyTo : Client → Fields → Option (Handle × Request) → Result (Option (Handle × Outcome)) AllocError → Client → Type 0
+abbrev pub HearsReplyTo : Client → Fields → Option (Handle × Request)
+    → Result (Option (Handle × Outcome)) AllocError → Client → Type 0
 HearsReplyTo old m about (Ok told) new = Answers old m about (doing [] (completed told) new)
 HearsReplyTo old m (Some (q, r)) (Err e) new = (r.stage ≡ request.Open) × HasImage m × (new ≡ old)
 HearsReplyTo old m None (Err e) new = ⊥
 
 -- READ_NOTIFY and WRITE_NOTIFY
-abbrev pub HearsReply : Client → Handle → Fields → Result (Option (Handle × Outcome)) AllocError → Client → Type 0
-HearsReply old c m answer new = HearsReplyTo old m (answered_by c m.command m.p2 old.requests) answer new
+abbrev pub HearsReply : Client → Handle → Fields → Result (Option (Handle × Outcome)) AllocError
+    → Client → Type 0
+HearsReply old c m answer new =
+    HearsReplyTo old m (answered_by c m.command m.p2 old.requests) answer new
 
 -- the notice of an update
 abbrev pub updated : Option (Handle × Outcome) → List Notice
@@ -66,5 +69,6 @@ HasEffect old e (Err _) new = DoesSome old e × (new ≡ old)
 -- A search reply that came from this address was heard; or there was no memory for it,
 -- which changed nothing.
 abbrev pub FindsOr : Client → Address → Fields → Result (Unit {0}) AllocError → Client → Type 0
-FindsOr old from m (Ok _) new = (e : Effect) × Finds old from m e × (e.notices ≡ []) × (new ≡ e.core)
+FindsOr old from m (Ok _) new =
+    (e : Effect) × Finds old from m e × (e.notices ≡ []) × (new ≡ e.core)
 FindsOr old from m (Err _) new = (e : Effect) × Finds old from m e × DoesSome old e × (new ≡ old)

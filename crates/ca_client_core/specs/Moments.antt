@@ -1,12 +1,14 @@
 -- Working: what a moment does to a client's circuits, each kind of it after the other. No clause
 -- of a caller needs it.
-use Rattle.std.specs.Prelude.{ℕ, ◌≢◌, ◌≡◌, ◌&&◌, Bool, true, false, not, List, [], Option, filter, fold, if◌then◌else◌}
+use Rattle.std.specs.Prelude.{ℕ, ◌≢◌, ◌≡◌, ◌&&◌, Bool, true, false, not, List, [], Option, filter}
+use Rattle.std.specs.Prelude.{fold, if◌then◌else◌}
 use Rattle.ca_arena.specs.declared.handle.Handle.{Handle}
 use Rattle.ca_link.specs.declared.keep.Keep.{Keep}
 use Rattle.ca_link.specs.declared.keep.Keep.TheVariants.{Close, Echo}
 use Rattle.ca_search.specs.Searches.{Wanted}
 use Rattle.ca_model.specs.Client.{Client, Connection, connection_at}
-use Rattle.ca_model.specs.ClientEnds.{Ticking, all_searched_on, echoes, falls_silent, is_name_connected}
+use Rattle.ca_model.specs.ClientEnds.{Ticking, all_searched_on, echoes, falls_silent}
+use Rattle.ca_model.specs.ClientEnds.{is_name_connected}
 use Rattle.ca_client_tables.specs.Silences.{asked_in}
 
 -- an ECHO is asked for

@@ -1,5 +1,6 @@
 -- Vocabulary: the notices of the code as those of the vocabulary.
-use Rattle.std.specs.Prelude.{◌≡◌, ◌++◌, List, [], ◌∷◌, Option, Some, None, Result, Ok, Err, filter_map, map}
+use Rattle.std.specs.Prelude.{◌≡◌, ◌++◌, List, [], ◌∷◌, Option, Some, None, Result, Ok, Err}
+use Rattle.std.specs.Prelude.{filter_map, map}
 use Rattle.ca_arena.specs.declared.handle.Handle.{Handle}
 use Rattle.ca_dbr.specs.declared.value.Outcome.{Outcome}
 use Rattle.ca_dbr.specs.declared.value.Outcome.TheVariants as outcome
@@ -23,7 +24,8 @@ noticed (Some n) = notice_of n ∷ []
 -- these requests are complete with Disconnected, these channels are lost, and then this one
 abbrev pub told_by : List Handle → List Handle → Option Notice → List notice.Notice
 told_by requests channels last =
-    map (λ (q : Handle). notice.Completed q outcome.Disconnected) requests ++ (map notice.Lost channels ++ noticed last)
+    map (λ (q : Handle). notice.Completed q outcome.Disconnected) requests
+    ++ (map notice.Lost channels ++ noticed last)
 
 -- the first of the notices was taken
 abbrev pub TakesNotice : List notice.Notice → Option Notice → List notice.Notice → Type 0
@@ -51,7 +53,8 @@ completions ns = filter_map completion ns
 abbrev pub TakesCompletion : List notice.Notice → Option Completion → List notice.Notice → Type 0
 TakesCompletion old None new = (completions old ≡ []) × (new ≡ old)
 TakesCompletion old (Some c) new =
-    (before after : List notice.Notice) × (old ≡ before ++ completed c ∷ after) × (completions before ≡ []) × (new ≡ before ++ after)
+    (before after : List notice.Notice) × (old ≡ before ++ completed c ∷ after)
+    × (completions before ≡ []) × (new ≡ before ++ after)
 
 -- a notice reports a completion, or it is another
 abbrev pub Parts : Notice → Result Completion Notice → Type 0

@@ -1,5 +1,6 @@
 -- Working: the message of a write, and why it is refused. No clause of a caller needs it.
-use Rattle.std.specs.Prelude.{ℕ, ◌≡◌, ◌∷◌, Bool, false, [], not, Option, None, Some, Result, Ok, Err}
+use Rattle.std.specs.Prelude.{ℕ, ◌≡◌, ◌∷◌, Bool, false, [], not, Option, None, Some, Result, Ok}
+use Rattle.std.specs.Prelude.{Err}
 use Rattle.ca_text.specs.declared.command.Command.{Command}
 use Rattle.ca_text.specs.declared.refusal.Refusal.{Refusal}
 use Rattle.ca_text.specs.declared.refusal.Refusal.TheVariants as refusal
@@ -9,13 +10,15 @@ use Rattle.ca_records.specs.Rules.{may_write}
 use Rattle.ca_wire.specs.Fields.{Fields}
 use Rattle.ca_wire.specs.Messages.{put_request}
 use Rattle.ca_model.specs.Client.{Client, Native}
-use Rattle.ca_model.specs.ClientCalls.{IsLive, LiveChannel, first_refusal, is_misfit, is_over, put_fault, wanted_by_put}
+use Rattle.ca_model.specs.ClientCalls.{IsLive, LiveChannel, first_refusal, is_misfit, is_over}
+use Rattle.ca_model.specs.ClientCalls.{put_fault, wanted_by_put}
 use Rattle.ca_client_core.specs.declared.live.Live.{Live}
 use Rattle.ca_client_core.specs.Lives.{live_of}
 use Rattle.ca_client_tables.specs.Puts.{IsSmall}
 
 -- why a write to a live channel is refused
-abbrev pub live_put_fault : Client → (full : Bool) → Handle → Native → (rights : ℕ) → Elements → Option Refusal
+abbrev pub live_put_fault : Client → (full : Bool) → Handle → Native → (rights : ℕ) → Elements
+    → Option Refusal
 live_put_fault x full c n rights e =
     first_refusal ((not (may_write rights), refusal.NoAccess)
     ∷ (is_misfit n e, refusal.BadCount)

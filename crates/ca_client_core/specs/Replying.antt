@@ -11,9 +11,13 @@ use Rattle.ca_client_core.specs.declared.stepping.Reply.TheVariants as reply
 
 -- It was a step; or something else comes first, or there was no memory, and nothing was done.
 abbrev pub ReadsReply : Client → Handle → Reply → Client → Type 0
-ReadsReply old c (reply.Completed q o) new = (sent : List answer.Sending) × ClientSteps old c (answer.Notices (answer.Completed q o ∷ [])) sent new
-ReadsReply old c reply.Unawaited new = (sent : List answer.Sending) × ClientSteps old c (answer.Notices []) sent new
-ReadsReply old c reply.NeedBytes new = (sent : List answer.Sending) × ClientSteps old c answer.NeedBytes sent new
+ReadsReply old c (reply.Completed q o) new =
+    (sent : List answer.Sending)
+    × ClientSteps old c (answer.Notices (answer.Completed q o ∷ [])) sent new
+ReadsReply old c reply.Unawaited new =
+    (sent : List answer.Sending) × ClientSteps old c (answer.Notices []) sent new
+ReadsReply old c reply.NeedBytes new =
+    (sent : List answer.Sending) × ClientSteps old c answer.NeedBytes sent new
 ReadsReply old c reply.Other new = new ≡ old
 
 -- what became of a reply that came to this

@@ -1,5 +1,6 @@
 -- Vocabulary: what a moment did, as the vocabulary has it; and, working, the two halves of a tick.
-use Rattle.std.specs.Prelude.{◌≡◌, ◌≢◌, ◌≤◌, ◌+◌, ◌⊎◌, List, [], flat_map, fold, length, map, vec_capacity, vec_len}
+use Rattle.std.specs.Prelude.{◌≡◌, ◌≢◌, ◌≤◌, ◌+◌, ◌⊎◌, List, [], flat_map, fold, length, map}
+use Rattle.std.specs.Prelude.{vec_capacity, vec_len}
 use Rattle.ca_search.specs.Searcher.{with_all}
 use Rattle.ca_search.specs.Searches.{passed}
 use Rattle.ca_model.specs.Answers as answer
@@ -32,16 +33,22 @@ circuits_of t = fold ticks t t.core.order
 pub record IsPlanned (t : Ticking) (p : Plan) (y : Client) : Type 0 where
   pub ends : p.ends.items ≡ silent_of t.core t.core.order
   pub none : p.closings.items ≡ []
-  pub datagrams : p.datagrams.items ≡ flat_map (to_server (packed [] (due (circuits_of t).core))) t.core.servers
-  pub core : y ≡ (all_searched (due (circuits_of t).core) t.core.order (all_echoed t.core.order t)).core
+  pub datagrams : p.datagrams.items
+      ≡ flat_map (to_server (packed [] (due (circuits_of t).core))) t.core.servers
+  pub core : y
+      ≡ (all_searched (due (circuits_of t).core) t.core.order (all_echoed t.core.order t)).core
 
 abbrev pub Plans : Client → Plan → Client → Type 0
-Plans x p y = ((t : Ticking) → t.core ≡ x → IsPlanned t p y) × (length p.ends.items + vec_len p.closings ≤ vec_capacity p.closings)
+Plans x p y =
+    ((t : Ticking) → t.core ≡ x → IsPlanned t p y)
+    × (length p.ends.items + vec_len p.closings ≤ vec_capacity p.closings)
 
 -- Something takes memory.
 abbrev pub LacksMemory : Client → Type 0
 LacksMemory x =
-    (t : Ticking) → t.core ≡ x → ((circuits_of t).sent ≢ []) ⊎ (((circuits_of t).closings ≢ []) ⊎ (due (circuits_of t).core ≢ []))
+    (t : Ticking) → t.core ≡ x
+    → ((circuits_of t).sent ≢ [])
+    ⊎ (((circuits_of t).closings ≢ []) ⊎ (due (circuits_of t).core ≢ []))
 
 -- the tick after the ends, with its searches made
 abbrev pub made_of : Ticking → Client
@@ -51,4 +58,9 @@ made_of u = record u.core { searches = with_all (passed u.core.moment) u.core.se
 abbrev pub CarriesOut : Client → Plan → answer.Ticked → Client → Type 0
 CarriesOut x p a y = (t : Ticking) → Reports t x p.closings.items
     → (y ≡ made_of (all_ended p.ends.items t))
-    × (a ≡ record { notices = (all_ended p.ends.items t).notices; datagrams = p.datagrams.items; closings = (all_ended p.ends.items t).closings })
+    × (a
+    ≡ record {
+      notices = (all_ended p.ends.items t).notices;
+      datagrams = p.datagrams.items;
+      closings = (all_ended p.ends.items t).closings;
+    })

@@ -3,7 +3,8 @@ ghost use Rattle.std.specs.Prelude.{◌≡◌, ◌<◌, List, Some, is_none, tru
 ghost use Rattle.ca_requests.specs.Requests.{asks_on};
 ghost use Rattle.ca_model.specs.Answers.{Sending};
 ghost use Rattle.ca_model.specs.Client as client;
-ghost use Rattle.ca_model.specs.Client.{On, connection_at, disconnections, with_standing, without_channel};
+ghost use Rattle.ca_model.specs.Client.{On, connection_at, disconnections, with_standing};
+ghost use Rattle.ca_model.specs.Client.{without_channel};
 ghost use Rattle.ca_model.specs.ClientCalls.{ClientClears, all_over, unsubscribed_all, unwanted};
 ghost use Rattle.ca_client_core.specs.Clearing.{ClearsLive};
 ghost use Rattle.ca_client_core.specs.Turns.{MayTurn, WasLiveOn};
@@ -99,7 +100,8 @@ impl ClientCore {
         requires { WasLiveOn channel circuit self.old }
         ensures told { result ≡ disconnections (asks_on channel) self.old }
         ensures over { self.new
-            ≡ with_standing (On circuit client.Clearing) channel (all_over circuit channel self.old) }
+            ≡ with_standing (On circuit client.Clearing) channel
+            (all_over circuit channel self.old) }
     {
         let told = self.requests.end_channel(channel);
         self.monitors.end_channel(circuit, channel);

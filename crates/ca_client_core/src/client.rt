@@ -2,7 +2,7 @@
 use crate::searches::Searches;
 use ca_arena::Handle;
 use ca_beacon::BeaconTable;
-use ca_client_tables::{Address, Channels, Circuit, LiveChannels};
+use ca_client_tables::{Address, Channels, ClientCircuit, LiveChannels};
 use ca_ids::HeldTable;
 use ca_monitor::Monitors;
 use ca_requests::Requests;
@@ -24,7 +24,7 @@ pub struct ClientCore {
     pub(crate) channels: Channels,
     pub(crate) requests: Requests,
     pub(crate) monitors: Monitors,
-    pub(crate) circuits: HeldTable<Circuit>,
+    pub(crate) circuits: HeldTable<ClientCircuit>,
     /// The channels that are live on each circuit, by its index.
     pub(crate) lives: Vec<LiveChannels>,
     /// The circuits of name servers, in the order of their list, then the others, in the order in

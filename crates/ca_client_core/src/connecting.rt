@@ -6,12 +6,12 @@ ghost use Rattle.ca_client_core.specs.Connecting.{BeginsOn};
 
 use crate::client::ClientCore;
 use ca_arena::Handle;
-use ca_client_tables::{Circuit, begin_all, connect, new_connection};
+use ca_client_tables::{ClientCircuit, begin_all, connect, new_connection};
 use std::alloc::AllocError;
 
 impl ClientCore {
     // The circuit of this handle, if it is wanted and not connected.
-    pub(crate) fn unconnected(&self, circuit: Handle) -> Option<&Circuit>
+    pub(crate) fn unconnected(&self, circuit: Handle) -> Option<&ClientCircuit>
         ensures { option_copied result ≡ unconnected self.now circuit }
     {
         match self.circuits.by_handle(circuit) {

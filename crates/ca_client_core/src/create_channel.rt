@@ -7,7 +7,8 @@ ghost use Rattle.ca_model.specs.Hears.{created, native_in};
 ghost use Rattle.ca_client_tables.specs.Forms.{native_of};
 ghost use Rattle.ca_client_core.specs.Hearing.{HasEffect};
 ghost use Rattle.ca_client_tables.specs.Ends.{cut_back, with_message, with_messages};
-ghost use Rattle.ca_client_core.specs.Again.{add_message, add_messages, dooming, living, subscribed_again};
+ghost use Rattle.ca_client_core.specs.Again.{add_message, add_messages, dooming, living};
+ghost use Rattle.ca_client_core.specs.Again.{subscribed_again};
 ghost use Rattle.ca_client_core.specs.Turns.{MayTurn};
 
 use crate::client::ClientCore;

@@ -4,7 +4,8 @@ ghost use Rattle.ca_wire.specs.Reading.{BeginsHeader, NoHeader};
 ghost use Rattle.ca_requests.specs.Meaning.{message_of};
 ghost use Rattle.ca_requests.specs.Requests.{answered_by};
 ghost use Rattle.ca_model.specs.Client.{channel_on};
-ghost use Rattle.ca_model.specs.Hears.{Fails, any_failed, doing, failing, heard_by, subscription_failed, write_failed};
+ghost use Rattle.ca_model.specs.Hears.{Fails, any_failed, doing, failing, heard_by};
+ghost use Rattle.ca_model.specs.Hears.{subscription_failed, write_failed};
 ghost use Rattle.ca_client_tables.specs.declared.first.First.TheVariants.{Message};
 ghost use Rattle.ca_client_core.specs.First.{FirstOn, first_on, without_first};
 ghost use Rattle.ca_client_core.specs.Hearing.{request_over, subscription_over, write_refused};
@@ -103,7 +104,8 @@ impl ClientCore {
         error: &Header,
     ) -> Option<Handle>
         ensures { doing [] (subscription_over (message_of error.now []) result) self.new
-            ≡ subscription_failed self.old (message_of error.now []) (heard_by self.old circuit id) }
+            ≡ subscription_failed self.old (message_of error.now [])
+            (heard_by self.old circuit id) }
     {
         let Some(subscription) = self.heard_by(circuit, id) else {
             return None;

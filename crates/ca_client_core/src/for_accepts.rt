@@ -4,7 +4,8 @@ ghost use Rattle.ca_text.specs.Limits.{priority_limit};
 ghost use Rattle.ca_arena.specs.Arena.{place_at};
 ghost use Rattle.ca_ids.specs.Table.{held, held_at};
 ghost use Rattle.ca_model.specs.ClientEnds as answer;
-ghost use Rattle.ca_client_core.specs.ForAccepts.{connecting_sent, creations_among, creations_of_one, greeting_sent, wanted_in_place};
+ghost use Rattle.ca_client_core.specs.ForAccepts.{connecting_sent, creations_among};
+ghost use Rattle.ca_client_core.specs.ForAccepts.{creations_of_one, greeting_sent, wanted_in_place};
 ghost use Rattle.ca_client_core.specs.ForHistories.{sending_of};
 
 use crate::client::ClientCore;

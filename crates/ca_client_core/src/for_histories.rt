@@ -74,18 +74,18 @@ pub fn ask_refusal(
 
 /// What a subscription asks for: on this channel, as this type, with n elements.
 #[derive(Clone, Copy, Debug, PartialEq, Eq)]
-pub struct Asked {
+pub struct SubscriptionAsked {
     pub channel: Handle,
     pub data_type: u16,
     pub count: u32,
 }
 
 /// What this subscription asks for, if it is not over.
-pub fn subscribed(core: &ClientCore, subscription: Handle) -> Option<Asked>
+pub fn subscribed(core: &ClientCore, subscription: Handle) -> Option<SubscriptionAsked>
     ensures { AsksFor core.now subscription result }
 {
     match core.monitors.standing(subscription) {
-        Some(found) => Some(Asked {
+        Some(found) => Some(SubscriptionAsked {
             channel: found.channel,
             data_type: found.data_type,
             count: found.count,

@@ -2,11 +2,13 @@
 ghost use Rattle.std.specs.Prelude.{◌≡◌, ◌≢◌, [], true, Err, IfOk, List, OnErr, OnOk};
 ghost use Rattle.ca_text.specs.declared.refusal.Refusal.TheVariants.{OutOfMemory};
 ghost use Rattle.ca_wire.specs.Fields.{Fields};
-ghost use Rattle.ca_model.specs.ClientEnds.{ClientTicks, Ticking, all_searched_on, of_circuit, searches_on};
+ghost use Rattle.ca_model.specs.ClientEnds.{ClientTicks, Ticking, all_searched_on, of_circuit};
+ghost use Rattle.ca_model.specs.ClientEnds.{searches_on};
 ghost use Rattle.ca_client_core.specs.ForHistories.{sending_of};
 ghost use Rattle.ca_client_core.specs.Foretold.{AreSome, Foretells, Notes, Tries};
 ghost use Rattle.ca_client_core.specs.Marks.{undone};
-ghost use Rattle.ca_client_core.specs.Moments.{EchoIsDue, EchoesAll, all_echoed, all_searched, echo_step, is_echo_due, search_step};
+ghost use Rattle.ca_client_core.specs.Moments.{EchoIsDue, EchoesAll, all_echoed, all_searched};
+ghost use Rattle.ca_client_core.specs.Moments.{echo_step, is_echo_due, search_step};
 ghost use Rattle.ca_client_core.specs.Ticked.{LacksMemory};
 ghost use Rattle.ca_client_tables.specs.Ends.{with_messages};
 

@@ -53,7 +53,7 @@ mod unsubscribing;
 mod wanted;
 mod writing;
 
-pub use ca_client_tables::{Address, Datagram, WantedCircuit, Why};
+pub use ca_client_tables::{Address, AddressedDatagram, WantedCircuit, Why};
 pub use channel_state::ChannelState;
 pub use client::ClientCore;
 pub use closing::Closing;

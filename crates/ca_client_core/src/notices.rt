@@ -32,7 +32,8 @@ impl Model for Notices {
     ghost Value = { List notice.Notice };
 
     ghost view = { λ n.
-        told_by (drop n.disconnected_told n.disconnected.items) (drop n.lost_told n.lost.items) n.last };
+        told_by (drop n.disconnected_told n.disconnected.items)
+        (drop n.lost_told n.lost.items) n.last };
 }
 
 impl Notices {

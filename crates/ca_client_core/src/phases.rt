@@ -1,7 +1,8 @@
 //! How far a channel is on its circuit, and what brings it further.
 ghost use Rattle.std.specs.Prelude.{◌≡◌, OnErr, OnOk, option_map, true};
 ghost use Rattle.ca_model.specs.Client as client;
-ghost use Rattle.ca_model.specs.Client.{On, channel_on, searched_again, with_standing, without_channel};
+ghost use Rattle.ca_model.specs.Client.{On, channel_on, searched_again, with_standing};
+ghost use Rattle.ca_model.specs.Client.{without_channel};
 ghost use Rattle.ca_client_tables.specs.Forms.{native_of, phase_of};
 ghost use Rattle.ca_client_core.specs.Hearing.{found_as};
 ghost use Rattle.ca_client_tables.specs.Listed.{is_live_in};

@@ -1,6 +1,7 @@
 //! The searches of a client, and a moment before which none is due, so that a moment with nothing
 //! due looks at none of them.
-ghost use Rattle.std.specs.Prelude.{[], ◌≡◌, ◌≢◌, ◌≤◌, ◌++◌, ◌∷◌, ◌+◌, ◌<◌, IfOk, List, OnErr, OnOk, false, length, take, ℕ};
+ghost use Rattle.std.specs.Prelude.{[], ◌≡◌, ◌≢◌, ◌≤◌, ◌++◌, ◌∷◌, ◌+◌, ◌<◌, IfOk, List, OnErr};
+ghost use Rattle.std.specs.Prelude.{OnOk, false, length, take, ℕ};
 ghost use Rattle.std.specs.List.{list_any};
 ghost use Rattle.ca_ids.specs.Wire.{wire_of};
 ghost use Rattle.ca_search.specs.Searcher.{holds, with_all, with_one, without};

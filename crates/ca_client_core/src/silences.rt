@@ -1,9 +1,11 @@
 //! What the silence of a circuit asks of a client, and its ECHOs.
-ghost use Rattle.std.specs.Prelude.{◌≡◌, ◌≢◌, ◌<◌, [], true, IfOk, OnErr, OnOk, Some, length, slice_get};
+ghost use Rattle.std.specs.Prelude.{◌≡◌, ◌≢◌, ◌<◌, [], true, IfOk, OnErr, OnOk, Some, length};
+ghost use Rattle.std.specs.Prelude.{slice_get};
 ghost use Rattle.ca_link.specs.Link.{kept};
 ghost use Rattle.ca_model.specs.ClientEnds.{Ticking};
 ghost use Rattle.ca_client_core.specs.Marks.{undone};
-ghost use Rattle.ca_client_core.specs.Moments.{EchoIsDue, EchoesAll, asked_at, echo_step, is_close, is_echo, is_echo_due, is_silent, silent_of};
+ghost use Rattle.ca_client_core.specs.Moments.{EchoIsDue, EchoesAll, asked_at, echo_step, is_close};
+ghost use Rattle.ca_client_core.specs.Moments.{is_echo, is_echo_due, is_silent, silent_of};
 ghost use Rattle.ca_client_core.specs.Silences.{echoed};
 
 use crate::client::ClientCore;

@@ -28,8 +28,8 @@ pub enum Stepped {
     Closed(Closing),
 }
 
-/// What became of a reply that was to be read. Most messages are replies; any other report of a step
-/// is large.
+/// What became of a reply that was to be read. Most messages are replies; any other report of a
+/// step is large.
 #[derive(Debug, Drop)]
 pub enum Reply {
     /// It completed this request with this outcome.

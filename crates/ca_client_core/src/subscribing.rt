@@ -7,7 +7,7 @@ ghost use Rattle.ca_model.specs.ClientCalls.{ClientSubscribes};
 use crate::client::ClientCore;
 use ca_arena::Handle;
 use ca_ids::WireId;
-use ca_monitor::{Stage, Subscription};
+use ca_monitor::{Subscription, SubscriptionStage};
 use ca_text::{Mask, Refusal};
 use ca_wire::{Ioid, Message, Sid, Wanted, event_add_request};
 use std::alloc::AllocError;
@@ -54,7 +54,7 @@ impl ClientCore {
             data_type,
             count,
             mask,
-            stage: Stage::Stands,
+            stage: SubscriptionStage::Stands,
         };
         match self.add(vacant, live.circuit, added, &message) {
             Ok(()) => Ok(vacant),

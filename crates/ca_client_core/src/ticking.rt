@@ -1,5 +1,6 @@
 //! The time has passed: searches, ECHOs and the ends of silent circuits are due.
-ghost use Rattle.std.specs.Prelude.{List, ◌≡◌, ◌≢◌, ◌+◌, ◌<◌, ◌≤◌, [], IfOk, OnErr, flat_map, length, map, vec_capacity, vec_len};
+ghost use Rattle.std.specs.Prelude.{List, ◌≡◌, ◌≢◌, ◌+◌, ◌<◌, ◌≤◌, [], IfOk, OnErr, flat_map};
+ghost use Rattle.std.specs.Prelude.{length, map, vec_capacity, vec_len};
 ghost use Rattle.ca_search.specs.Searcher.{with_all};
 ghost use Rattle.ca_search.specs.Searches.{passed};
 ghost use Rattle.ca_model.specs.Answers.{Sending};
@@ -14,7 +15,7 @@ use crate::marks::CircuitMark;
 use crate::notices::Notices;
 use crate::searches::pass;
 use ca_arena::Handle;
-use ca_client_tables::{Datagram, Why, packed, to_servers};
+use ca_client_tables::{AddressedDatagram, Why, packed, to_servers};
 use ca_text::Refusal;
 use ca_wire::Pipe;
 use std::alloc::AllocError;
@@ -36,7 +37,7 @@ pub struct Left {
 #[derive(Debug, Drop)]
 pub struct Ticked {
     /// The searches that are due, to each server: to be sent.
-    pub datagrams: Vec<Datagram>,
+    pub datagrams: Vec<AddressedDatagram>,
     /// The circuits whose ends have ended, in order, each with its notices.
     pub closings: Vec<Left>,
 }
@@ -62,7 +63,7 @@ struct Plan {
     ends: Vec<Handle>,
     // Empty, with room for one for each of `ends`.
     closings: Vec<Left>,
-    datagrams: Vec<Datagram>,
+    datagrams: Vec<AddressedDatagram>,
 }
 
 impl ClientCore {
@@ -168,7 +169,7 @@ impl ClientCore {
     }
 
     // These datagrams to each server, in order.
-    fn to_servers(&self, packed: &[Vec<u8>]) -> Result<Vec<Datagram>, AllocError>
+    fn to_servers(&self, packed: &[Vec<u8>]) -> Result<Vec<AddressedDatagram>, AllocError>
         ensures ok { IfOk result (λ v. v.items
             ≡ flat_map (to_server (map (λ d. d.items) packed.now)) self.now.servers) }
         ensures some { OnErr result (packed.now ≢ []) }

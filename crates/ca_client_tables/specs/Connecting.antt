@@ -13,7 +13,8 @@ use Rattle.ca_model.specs.ClientEnds.{creating, is_connecting}
 -- the set-up of a circuit under this priority, by this user at this host
 abbrev pub greeting : ℕ → List ℕ → List ℕ → List Fields
 greeting priority user host =
-    version_request priority ∷ name_request command.ClientName user ∷ name_request command.HostName host ∷ []
+    version_request priority ∷ name_request command.ClientName user
+    ∷ name_request command.HostName host ∷ []
 
 -- the CREATE_CHAN of a channel
 abbrev pub creation : Handle × Channel → Fields
@@ -21,7 +22,8 @@ creation e = create_request (wire_of e.0) e.1.name
 
 -- those of the channels among these that wait for this circuit
 abbrev pub creations_of : Handle → List (Handle × Channel) → List Fields
-creations_of c es = map creation (filter (λ (e : Handle × Channel). is_on_in is_connecting c e.1) es)
+creations_of c es =
+    map creation (filter (λ (e : Handle × Channel). is_on_in is_connecting c e.1) es)
 
 abbrev pub creations_in : Handle → Table Channel → List Fields
 creations_in c t = creations_of c (held t)

@@ -1,6 +1,7 @@
 -- Working: the channels of a circuit that has ended, one after another. No clause
 -- of a caller needs it.
-use Rattle.std.specs.Prelude.{ℕ, ◌≡◌, Bool, not, List, Option, Some, None, filter_map, fold, if◌then◌else◌, map, option_map, option_to_list, true}
+use Rattle.std.specs.Prelude.{ℕ, ◌≡◌, Bool, not, List, Option, Some, None, filter_map, fold}
+use Rattle.std.specs.Prelude.{if◌then◌else◌, map, option_map, option_to_list, true}
 use Rattle.ca_arena.specs.declared.handle.Handle.{Handle}
 use Rattle.ca_arena.specs.Arena.{Place, place_at}
 use Rattle.ca_ids.specs.Table.{Table, held, held_at, kept_of, with_changed, with_freed}
@@ -41,7 +42,8 @@ gone s h = sought (with_freed h s.channels) (without (wire_of h) s.searches)
 -- it is searched for again
 abbrev pub again : ℕ → Sought → Handle → Sought
 again moment s h =
-    sought (with_changed (λ (here : Channel). record here { standing = Searching }) h s.channels) (with_one (search.resumed moment) (wire_of h) s.searches)
+    sought (with_changed (λ (here : Channel). record here { standing = Searching }) h s.channels)
+    (with_one (search.resumed moment) (wire_of h) s.searches)
 
 -- what stays at a place as those that were cleared go
 abbrev pub gone_at : Handle → Option Channel → Option Channel
@@ -55,14 +57,18 @@ abbrev pub back_at : Handle → Option Channel → Option Channel
 back_at c o = option_map (back c) o
 
 -- The channel at this index was taken, if the test names it: what holds its CID changed so.
-pub record StepsAt (f : Sought → Handle → Sought) (test : Phase → Bool) (g : Option Channel → Option Channel) (c : Handle) (i : ℕ) (old new : Sought) : Type 0 where
+pub record StepsAt (f : Sought → Handle → Sought) (test : Phase → Bool)
+    (g : Option Channel → Option Channel) (c : Handle) (i : ℕ) (old new : Sought) : Type 0 where
   pub folds : new ≡ fold f old (named_at test c i old.channels)
-  pub walks : new.channels ≡ with_place i (λ (p : Place Channel). record p { value = g p.value }) old.channels
+  pub walks : new.channels
+      ≡ with_place i (λ (p : Place Channel). record p { value = g p.value }) old.channels
 
 -- Each channel was, that the test names.
-pub record StepsAll (f : Sought → Handle → Sought) (test : Phase → Bool) (g : Option Channel → Option Channel) (c : Handle) (old new : Sought) : Type 0 where
+pub record StepsAll (f : Sought → Handle → Sought) (test : Phase → Bool)
+    (g : Option Channel → Option Channel) (c : Handle) (old new : Sought) : Type 0 where
   pub folds : new ≡ fold f old (named_in test c old.channels)
-  pub walks : new.channels ≡ map (λ (p : Place Channel). record p { value = g p.value }) old.channels
+  pub walks : new.channels
+      ≡ map (λ (p : Place Channel). record p { value = g p.value }) old.channels
 
 -- The channels of a circuit ended: those that were cleared went first, and then
 -- the others came back.

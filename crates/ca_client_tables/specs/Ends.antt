@@ -1,5 +1,6 @@
 -- Working: what waits on one circuit, and what is left of it. No clause of a caller needs it.
-use Rattle.std.specs.Prelude.{ℕ, ◌≡◌, ◌≢◌, ◌⊎◌, Bool, List, [], ◌∷◌, Option, Some, None, Result, Ok, Err, option_and_then, option_map, take, unwrap_or}
+use Rattle.std.specs.Prelude.{ℕ, ◌≡◌, ◌≢◌, ◌⊎◌, Bool, List, [], ◌∷◌, Option, Some, None, Result, Ok}
+use Rattle.std.specs.Prelude.{Err, option_and_then, option_map, take, unwrap_or}
 use Rattle.ca_arena.specs.declared.handle.Handle.{Handle}
 use Rattle.ca_ids.specs.Table.{Table, under}
 use Rattle.ca_text.specs.declared.command.Command.{Command}
@@ -17,15 +18,28 @@ waiting_in d = unwrap_or (option_map (λ (e : Connection). e.link.output) d.conn
 
 -- those of the circuit of this handle, if it is connected
 abbrev pub left_at : Table ClientCircuit → Handle → List ℕ
-left_at t c = unwrap_or (option_map (λ (e : Connection). e.link.output) (option_and_then (λ (d : ClientCircuit). d.connection) (under t c))) []
+left_at t c =
+    unwrap_or
+    (option_map (λ (e : Connection). e.link.output)
+    (option_and_then (λ (d : ClientCircuit). d.connection) (under t c)))
+    []
 
 -- the circuit of whose bytes the first n were handed over
 abbrev pub handed : ℕ → ClientCircuit → ClientCircuit
-handed n d = record d { connection = option_map (λ (e : Connection). record e { link = with_handed n e.link }) d.connection }
+handed n d =
+    record d {
+      connection = option_map
+          (λ (e : Connection). record e { link = with_handed n e.link }) d.connection;
+    }
 
 -- the circuit on which only the first n bytes still wait
 abbrev pub cut_in : ℕ → ClientCircuit → ClientCircuit
-cut_in n d = record d { connection = option_map (λ (e : Connection). record e { link = record e.link { output = take n e.link.output } }) d.connection }
+cut_in n d =
+    record d {
+      connection = option_map
+          (λ (e : Connection). record e { link = record e.link { output = take n e.link.output } })
+          d.connection;
+    }
 
 -- the link, with this command waiting after the others, if there is one
 abbrev pub with_command : Option Command → LinkState → LinkState
@@ -40,7 +54,8 @@ read_given moment bytes more e = record {
 }
 
 -- a read of an end, or of none
-abbrev pub GivesOn : ℕ → List ℕ → Bool → Option Connection → Result (Unit {0}) Refusal → Option Connection → Type 0
+abbrev pub GivesOn : ℕ → List ℕ → Bool → Option Connection → Result (Unit {0}) Refusal
+    → Option Connection → Type 0
 GivesOn moment bytes more None (Err refusal.CircuitClosed) new = new ≡ None
 GivesOn moment bytes more (Some e) (Ok _) new = new ≡ Some (read_given moment bytes more e)
 GivesOn moment bytes more (Some e) (Err refusal.OutOfMemory) new =
@@ -48,17 +63,24 @@ GivesOn moment bytes more (Some e) (Err refusal.OutOfMemory) new =
 GivesOn moment bytes more there _ new = ⊥
 
 -- a read on a circuit
-abbrev pub GivesAt : ℕ → List ℕ → Bool → ClientCircuit → Result (Unit {0}) Refusal → ClientCircuit → Type 0
+abbrev pub GivesAt : ℕ → List ℕ → Bool → ClientCircuit → Result (Unit {0}) Refusal → ClientCircuit
+    → Type 0
 GivesAt moment bytes more old answer new =
-    (there : Option Connection) × GivesOn moment bytes more old.connection answer there × (new ≡ record old { connection = there })
+    (there : Option Connection) × GivesOn moment bytes more old.connection answer there
+    × (new ≡ record old { connection = there })
 
 -- the circuit with this message waiting after the others, if it is connected
 abbrev pub queued : Fields → ClientCircuit → ClientCircuit
-queued m d = record d { connection = option_map (λ (e : Connection). record e { link = with_sent (m ∷ []) e.link }) d.connection }
+queued m d =
+    record d {
+      connection = option_map
+          (λ (e : Connection). record e { link = with_sent (m ∷ []) e.link }) d.connection;
+    }
 
 -- the client with these messages waiting on this circuit
 abbrev pub with_messages : Handle → List Fields → Client → Client
-with_messages c ms x = on_connection (λ (e : Connection). record e { link = with_sent ms e.link }) c x
+with_messages c ms x =
+    on_connection (λ (e : Connection). record e { link = with_sent ms e.link }) c x
 
 -- the end of which only the first n bytes still wait
 abbrev pub cut_end : ℕ → Connection → Connection
@@ -70,4 +92,5 @@ cut_back c n x = on_connection (cut_end n) c x
 
 -- the client with this message waiting on this circuit
 abbrev pub with_message : Handle → Fields → Client → Client
-with_message c m x = on_connection (λ (e : Connection). record e { link = with_sent (m ∷ []) e.link }) c x
+with_message c m x =
+    on_connection (λ (e : Connection). record e { link = with_sent (m ∷ []) e.link }) c x

@@ -1,5 +1,7 @@
 -- Working: parts of what a search reply does. No clause of a caller needs it.
-use Rattle.std.specs.Prelude.{ℕ, ◌≡◌, ◌++◌, ◌-◌, ◌==◌, ◌&&◌, Bool, false, List, [], ◌∷◌, Option, None, Some, Result, Ok, Err, find, if◌then◌else◌, is_some, length, nat_lt, option_and_then, option_map, take, ◌≢◌, ◌⊎◌}
+use Rattle.std.specs.Prelude.{ℕ, ◌≡◌, ◌++◌, ◌-◌, ◌==◌, ◌&&◌, Bool, false, List, [], ◌∷◌, Option}
+use Rattle.std.specs.Prelude.{None, Some, Result, Ok, Err, find, if◌then◌else◌, is_some, length}
+use Rattle.std.specs.Prelude.{nat_lt, option_and_then, option_map, take, ◌≢◌, ◌⊎◌}
 use Rattle.std.specs.declared.alloc.AllocError.{AllocError}
 use Rattle.ca_arena.specs.declared.handle.Handle.{Handle}
 use Rattle.ca_ids.specs.Table.{IsFull, MayGive, Table, by_wire, held, with_all_held, with_changed}
@@ -7,7 +9,8 @@ use Rattle.ca_ids.specs.Wire.{wire_of}
 use Rattle.ca_search.specs.Searcher.{with_one}
 use Rattle.ca_search.specs.Searches.{paused}
 use Rattle.ca_wire.specs.Fields.{Fields}
-use Rattle.ca_model.specs.Client.{Channel, Client, ClientCircuit, Connecting, Creating, On, Searching, Standing, new_circuit}
+use Rattle.ca_model.specs.Client.{Channel, Client, ClientCircuit, Connecting, Creating, On}
+use Rattle.ca_model.specs.Client.{Searching, Standing, new_circuit}
 use Rattle.ca_model.specs.Ends.{Address, same_address}
 use Rattle.ca_model.specs.Hears.{Effect, Finds, is_searched}
 use Rattle.ca_client_tables.specs.Ends.{cut_in, left_at, queued}
@@ -33,20 +36,24 @@ circuit_in a priority t = option_map as_found (find (goes_there a priority) (hel
 
 -- this one, if it is that circuit
 abbrev pub goes_to : Address → ℕ → Option (Handle × ClientCircuit) → Option (Handle × Bool)
-goes_to a priority o = option_and_then (λ (e : Handle × ClientCircuit). if goes_there a priority e then Some (as_found e) else None) o
+goes_to a priority o =
+    option_and_then
+    (λ (e : Handle × ClientCircuit). if goes_there a priority e then Some (as_found e) else None) o
 
 -- of the circuit that was found and another one the first by index, if that goes there
 abbrev pub first_of : Option (Handle × Bool) → Handle × Bool → Option (Handle × Bool)
 first_of None other = Some other
 first_of (Some found) other = if nat_lt found.0.index other.0.index then Some found else Some other
 
-abbrev pub first_to : Address → ℕ → Option (Handle × Bool) → Handle × ClientCircuit → Option (Handle × Bool)
+abbrev pub first_to : Address → ℕ → Option (Handle × Bool) → Handle × ClientCircuit
+    → Option (Handle × Bool)
 first_to a priority found e = if goes_there a priority e then first_of found (as_found e) else found
 
 -- the channel of this CID, if it is searched for
 abbrev pub searched_in : ℕ → Table Channel → Option (Handle × Channel)
 searched_in cid t =
-    option_and_then (λ (e : Handle × Channel). if is_searched e.1.standing then Some e else None) (by_wire t cid)
+    option_and_then (λ (e : Handle × Channel). if is_searched e.1.standing then Some e else None)
+    (by_wire t cid)
 
 -- the tables of a client that a search reply changes, beside its searches
 pub record Tables : Type 0 where
@@ -71,7 +78,8 @@ pub record Halfway : Type 0 where
 
 -- once they are opened
 abbrev pub opened : Halfway → Tables
-opened t = record { channels = t.channels; circuits = with_all_held t.opening t.circuits; order = t.order }
+opened t =
+    record { channels = t.channels; circuits = with_all_held t.opening t.circuits; order = t.order }
 
 -- the channel is there now
 abbrev pub stood : Standing → Handle → Table Channel → Table Channel
@@ -120,11 +128,13 @@ unopened t = record { channels = t.channels; circuits = t.circuits; order = t.or
 abbrev pub HasFound : Tables → Address → Fields → Option Handle → Tables → Type 0
 HasFound old from m found new =
     (x : Client) → tables_of x ≡ old
-    → (e : Effect) × Finds x from m e × (e.notices ≡ []) × (e.core ≡ paused_for found (with_tables new x))
+    → (e : Effect) × Finds x from m e × (e.notices ≡ [])
+    × (e.core ≡ paused_for found (with_tables new x))
 
 -- For such a reply memory is asked for.
 abbrev pub TakesSome : Tables → Address → Fields → Type 0
-TakesSome old from m = (x : Client) → tables_of x ≡ old → (e : Effect) × Finds x from m e × DoesSome x e
+TakesSome old from m =
+    (x : Client) → tables_of x ≡ old → (e : Effect) × Finds x from m e × DoesSome x e
 
 -- It had its effect; or there was no memory for it, which changed nothing.
 abbrev pub FindsIn : Tables → Address → Fields → Result (Option Handle) AllocError → Tables → Type 0
@@ -133,7 +143,8 @@ FindsIn old from m (Err _) new = (new ≡ old) × TakesSome old from m
 
 -- It had once the circuits are opened, and can be undone; or there was no memory for it,
 -- which changed nothing.
-abbrev pub FindsOne : Halfway → Address → Fields → Result (Option Found) AllocError → Halfway → Type 0
+abbrev pub FindsOne : Halfway → Address → Fields → Result (Option Found) AllocError → Halfway
+    → Type 0
 FindsOne old from m (Ok found) new =
     HasFound (opened old) from m (channel_of found) (opened new)
     × (undone found new ≡ old)
@@ -141,7 +152,8 @@ FindsOne old from m (Ok found) new =
 FindsOne old from m (Err _) new = (new ≡ old) × (old.opening ≡ [] → TakesSome (opened old) from m)
 
 -- A channel waits for a new circuit; or no more can be had; or there was no memory for one.
-abbrev pub WantsNew : Halfway → Address → ℕ → Handle → Result (Option Found) AllocError → Halfway → Type 0
+abbrev pub WantsNew : Halfway → Address → ℕ → Handle → Result (Option Found) AllocError → Halfway
+    → Type 0
 WantsNew old a priority h (Ok (Some f)) new =
     MayGive (opened old).circuits f.circuit × (f.channel ≡ h) × (f.how ≡ how.Wanted)
     × (new ≡ record {
@@ -151,12 +163,16 @@ WantsNew old a priority h (Ok (Some f)) new =
       order = old.order ++ f.circuit ∷ [];
     })
 WantsNew old a priority h (Ok None) new = IsFull (opened old).circuits × (new ≡ old)
-WantsNew old a priority h (Err _) new = (new ≡ old) × (old.opening ≡ [] → (c : Handle) × MayGive (opened old).circuits c)
+WantsNew old a priority h (Err _) new =
+    (new ≡ old) × (old.opening ≡ [] → (c : Handle) × MayGive (opened old).circuits c)
 
 -- A channel is created on a circuit by this message; or there was no memory for it.
-abbrev pub CreatesIn : Table Channel → Table ClientCircuit → (c h : Handle) → Fields → Result (Option Found) AllocError → Table Channel → Table ClientCircuit → Type 0
+abbrev pub CreatesIn : Table Channel → Table ClientCircuit → (c h : Handle) → Fields
+    → Result (Option Found) AllocError → Table Channel → Table ClientCircuit → Type 0
 CreatesIn channels circuits c h m (Ok found) channels' circuits' =
-    (found ≡ Some (record { channel = h; circuit = c; how = how.Created (length (left_at circuits c)) }))
+    (found
+    ≡ Some (record { channel = h; circuit = c; how = how.Created (length (left_at circuits c)) }))
     × (channels' ≡ stood (On c (Creating 0)) h channels)
     × (circuits' ≡ with_changed (queued m) c circuits)
-CreatesIn channels circuits c h m (Err _) channels' circuits' = (channels' ≡ channels) × (circuits' ≡ circuits)
+CreatesIn channels circuits c h m (Err _) channels' circuits' =
+    (channels' ≡ channels) × (circuits' ≡ circuits)

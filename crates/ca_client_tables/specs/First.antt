@@ -48,7 +48,8 @@ first_at bytes head = message_of head.header (payload_at bytes head)
 
 -- the end without it
 abbrev pub without_front : Head → Connection → Connection
-without_front head e = record e { link = with_rest (drop (head.start + head.header.size) e.link.input.bytes) e.link }
+without_front head e =
+    record e { link = with_rest (drop (head.start + head.header.size) e.link.input.bytes) e.link }
 
 -- the circuit without it
 abbrev pub without_head : Head → ClientCircuit → ClientCircuit

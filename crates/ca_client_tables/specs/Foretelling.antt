@@ -30,7 +30,8 @@ HeadsFirst (Some e) head = HeadsIn e head
 
 -- the CREATE_CHAN of a channel that was found, if the circuit to its server is connected
 abbrev pub creation_on : Handle → Channel → Option (Handle × Bool) → Option Creation
-creation_on h here (Some (c, true)) = Some (record { circuit = c; channel = h; message = create_request (wire_of h) here.name })
+creation_on h here (Some (c, true)) =
+    Some (record { circuit = c; channel = h; message = create_request (wire_of h) here.name })
 creation_on h here there = None
 
 -- a channel was found at this address, if it is searched for
@@ -40,4 +41,5 @@ creation_at a circuits None = None
 
 -- a search reply came from this address
 abbrev pub creation_by : Table Channel → Table ClientCircuit → Address → Fields → Option Creation
-creation_by channels circuits from m = creation_at (found_at from m) circuits (searched_in m.p2 channels)
+creation_by channels circuits from m =
+    creation_at (found_at from m) circuits (searched_in m.p2 channels)

@@ -28,6 +28,7 @@ cleared_in client.Searching = false
 cleared_in (client.On circuit p) = client.is_cleared p
 
 -- what stands unless it is cleared
-pub kept_standing : (s : client.Standing) → client.standing_unless_cleared s ≡ (if cleared_in s then None else Some s)
+pub kept_standing : (s : client.Standing)
+    → client.standing_unless_cleared s ≡ (if cleared_in s then None else Some s)
 kept_standing client.Searching = refl
 kept_standing (client.On circuit p) = refl

@@ -1,6 +1,7 @@
 -- Working: the channels that are live on each circuit, listed beside their table. No clause
 -- of a caller needs it.
-use Rattle.std.specs.Prelude.{ℕ, ◌≡◌, ◌⊎◌, Bool, true, false, List, [], ◌∷◌, Some, option_map, slice_index_or, unwrap_or}
+use Rattle.std.specs.Prelude.{ℕ, ◌≡◌, ◌⊎◌, Bool, true, false, List, [], ◌∷◌, Some, option_map}
+use Rattle.std.specs.Prelude.{slice_index_or, unwrap_or}
 use Rattle.ca_arena.specs.declared.handle.Handle.{Handle}
 use Rattle.ca_ids.specs.Table.{Table, under}
 use Rattle.ca_model.specs.Client.{Channel, On, Searching, Standing, is_live, is_on_in}
@@ -21,7 +22,8 @@ lives_in (On c p) = is_live p
 
 -- the channel of this handle is live
 abbrev pub is_live_in : Table Channel → Handle → Bool
-is_live_in t h = unwrap_or (option_map (λ (here : Channel). lives_in here.standing) (under t h)) false
+is_live_in t h =
+    unwrap_or (option_map (λ (here : Channel). lives_in here.standing) (under t h)) false
 
 -- what is live stays listed
 abbrev pub KeepsLive : Table Channel → List Handle → List Handle → Type 0
@@ -33,4 +35,6 @@ KeepsAll t old new = (i : ℕ) → KeepsLive t (list_at old i) (list_at new i)
 
 -- Each channel that is live is listed at the index of its circuit.
 abbrev pub AreListed : Table Channel → List (List Handle) → Type 0
-AreListed t lists = (h : Handle) (ch : Channel) (c : Handle) → under t h ≡ Some ch → is_on_in is_live c ch ≡ true → Has (list_at lists c.index) h
+AreListed t lists =
+    (h : Handle) (ch : Channel) (c : Handle) → under t h ≡ Some ch → is_on_in is_live c ch ≡ true
+    → Has (list_at lists c.index) h

@@ -6,7 +6,9 @@ use Rattle.ca_model.specs.Client.{ClientCircuit, Connection}
 
 -- the mark of an end, if there is one
 abbrev pub mark_by : Option Connection → Mark
-mark_by o = unwrap_or (option_map (λ (e : Connection). mark_of e.link) o) (record { waiting = 0; echoed = false })
+mark_by o =
+    unwrap_or (option_map (λ (e : Connection). mark_of e.link) o)
+    (record { waiting = 0; echoed = false })
 
 abbrev pub mark_in : ClientCircuit → Mark
 mark_in d = mark_by d.connection

@@ -1,6 +1,7 @@
 -- Working: the circuits of name servers, as they are made one after another. No clause
 -- of a caller needs it.
-use Rattle.std.specs.Prelude.{ℕ, ◌≡◌, ◌++◌, Bool, true, List, [], ◌∷◌, map, slice_index_or, take, ◌&&◌, is_some}
+use Rattle.std.specs.Prelude.{ℕ, ◌≡◌, ◌++◌, Bool, true, List, [], ◌∷◌, map, slice_index_or, take}
+use Rattle.std.specs.Prelude.{◌&&◌, is_some}
 use Rattle.std.specs.List.{list_any}
 use Rattle.ca_arena.specs.declared.handle.Handle.{Handle}
 use Rattle.ca_ids.specs.Table.{MayGive, Table, held, with_held}
@@ -20,12 +21,14 @@ abbrev pub seen_before : ℕ → List Address → Bool
 seen_before i names = is_among (slice_index_or names i nowhere) (take i names)
 
 -- these are the circuits of these name servers, in order
-pub record HasNames (names : List Address) (t : Table ClientCircuit) (order : List Handle) : Type 0 where
+pub record HasNames (names : List Address) (t : Table ClientCircuit)
+    (order : List Handle) : Type 0 where
   pub circuits : t ≡ name_circuits names
   pub listed : order ≡ map (λ (e : Handle × ClientCircuit). e.0) (held t)
 
 -- A circuit of a name server was added at the end.
-pub record Adds (a : Address) (t : Table ClientCircuit) (order : List Handle) (u : Table ClientCircuit) (after : List Handle) : Type 0 where
+pub record Adds (a : Address) (t : Table ClientCircuit) (order : List Handle)
+    (u : Table ClientCircuit) (after : List Handle) : Type 0 where
   pub handle : Handle
   pub may : MayGive t handle
   pub table : u ≡ with_held handle (new_circuit a 0 true) t

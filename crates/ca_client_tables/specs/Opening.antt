@@ -9,4 +9,5 @@ use Rattle.ca_model.specs.Client.{ClientCircuit}
 -- circuits is connected
 abbrev pub AreOpening : List (Handle × ClientCircuit) → Table ClientCircuit → Type 0
 AreOpening [] t = Unit {0}
-AreOpening (e ∷ es) t = MayGive t e.0 × (e.1.connection ≡ None) × AreOpening es (with_held e.0 e.1 t)
+AreOpening (e ∷ es) t =
+    MayGive t e.0 × (e.1.connection ≡ None) × AreOpening es (with_held e.0 e.1 t)

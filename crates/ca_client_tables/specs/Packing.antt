@@ -1,5 +1,6 @@
 -- Working: searches put into datagrams, one after another. No clause of a caller needs it.
-use Rattle.std.specs.Prelude.{ℕ, ◌≡◌, ◌++◌, Bool, true, false, List, ◌∷◌, Result, Ok, Err, length, nat_le}
+use Rattle.std.specs.Prelude.{ℕ, ◌≡◌, ◌++◌, Bool, true, false, List, ◌∷◌, Result, Ok, Err, length}
+use Rattle.std.specs.Prelude.{nat_le}
 use Rattle.std.specs.declared.alloc.AllocError.{AllocError}
 use Rattle.ca_text.specs.Limits.{datagram_limit}
 use Rattle.ca_dgram.specs.Search.{searched}
@@ -18,4 +19,5 @@ PutsSearch w old (Err _) new = Unit {0}
 
 -- It was put into the last datagram, or that is full.
 abbrev pub AddsSearch : Wanted → List (List ℕ) → List ℕ → List (List ℕ) → List ℕ → Type 0
-AddsSearch w full last more next = (ws : List Wanted) → full ++ packed last (w ∷ ws) ≡ more ++ packed next ws
+AddsSearch w full last more next =
+    (ws : List Wanted) → full ++ packed last (w ∷ ws) ≡ more ++ packed next ws

@@ -1,6 +1,7 @@
 -- Working: the messages of a datagram, received one after another, and undone. No clause
 -- of a caller needs it.
-use Rattle.std.specs.Prelude.{ℕ, ◌≡◌, ◌≢◌, ◌==◌, ◌<◌, ◌≤◌, ◌^◌, Bool, List, [], ◌∷◌, Option, Some, None, Result, Ok, Err, Vec, if◌then◌else◌}
+use Rattle.std.specs.Prelude.{ℕ, ◌≡◌, ◌≢◌, ◌==◌, ◌<◌, ◌≤◌, ◌^◌, Bool, List, [], ◌∷◌, Option, Some}
+use Rattle.std.specs.Prelude.{None, Result, Ok, Err, Vec, if◌then◌else◌}
 use Rattle.std.specs.FinMap as finite
 use Rattle.std.specs.Net.Addr.{ipv4_bits}
 use Rattle.std.specs.declared.alloc.AllocError.{AllocError}
@@ -46,7 +47,8 @@ HearsBeacon old from m (Err _) new = new ≡ old
 
 -- The same of a message of that command; one without a port does nothing.
 abbrev pub HearsIn : Servers → Address → Fields → Result Received AllocError → Servers → Type 0
-HearsIn old from m (Ok (received.Beacon b)) new = (m.count < 2 ^ 16) × HearsBeacon old from m (Ok b) new
+HearsIn old from m (Ok (received.Beacon b)) new =
+    (m.count < 2 ^ 16) × HearsBeacon old from m (Ok b) new
 HearsIn old from m (Ok received.Nothing) new = (2 ^ 16 ≤ m.count) × (new ≡ old)
 HearsIn old from m (Ok (received.Found f)) new = ⊥
 HearsIn old from m (Err _) new = new ≡ old
@@ -61,11 +63,13 @@ pub record Parts : Type 0 where
   pub beacons : Servers
 
 abbrev pub parts_of : Client → Parts
-parts_of x = record { channels = x.channels; circuits = x.circuits; order = x.order; beacons = x.beacons }
+parts_of x =
+    record { channels = x.channels; circuits = x.circuits; order = x.order; beacons = x.beacons }
 
 -- the client with these
 abbrev pub with_parts : Parts → Client → Client
-with_parts p x = record x { channels = p.channels; circuits = p.circuits; order = p.order; beacons = p.beacons }
+with_parts p x =
+    record x { channels = p.channels; circuits = p.circuits; order = p.order; beacons = p.beacons }
 
 -- the same while messages are received: some circuits are still to be opened
 pub record HalfParts : Type 0 where
@@ -77,18 +81,33 @@ pub record HalfParts : Type 0 where
 
 -- once they are opened
 abbrev pub opened_parts : HalfParts → Parts
-opened_parts p = record { channels = p.channels; circuits = with_all_held p.opening p.circuits; order = p.order; beacons = p.beacons }
+opened_parts p =
+    record {
+      channels = p.channels;
+      circuits = with_all_held p.opening p.circuits;
+      order = p.order;
+      beacons = p.beacons;
+    }
 
 -- without them
 abbrev pub unopened_parts : HalfParts → Parts
-unopened_parts p = record { channels = p.channels; circuits = p.circuits; order = p.order; beacons = p.beacons }
+unopened_parts p =
+    record { channels = p.channels; circuits = p.circuits; order = p.order; beacons = p.beacons }
 
 abbrev pub tables_in : HalfParts → Halfway
-tables_in p = record { channels = p.channels; circuits = p.circuits; opening = p.opening; order = p.order }
+tables_in p =
+    record { channels = p.channels; circuits = p.circuits; opening = p.opening; order = p.order }
 
 -- these parts with other tables
 abbrev pub in_tables : Halfway → HalfParts → HalfParts
-in_tables t p = record { channels = t.channels; circuits = t.circuits; opening = t.opening; order = t.order; beacons = p.beacons }
+in_tables t p =
+    record {
+      channels = t.channels;
+      circuits = t.circuits;
+      opening = t.opening;
+      order = t.order;
+      beacons = p.beacons;
+    }
 
 -- the parts as before a message was received
 abbrev pub received_undone : Received → HalfParts → HalfParts
@@ -113,7 +132,8 @@ settled_in moment (received.Found f) es = with_one search.paused (wire_of f.chan
 settled_in moment (received.Beacon b) es = boosted_if b.anomaly moment es
 
 -- after several, in order
-abbrev pub all_settled_in : ℕ → List Received → List (ℕ × search.Channel) → List (ℕ × search.Channel)
+abbrev pub all_settled_in : ℕ → List Received → List (ℕ × search.Channel)
+    → List (ℕ × search.Channel)
 all_settled_in moment [] es = es
 all_settled_in moment (d ∷ ds) es = all_settled_in moment ds (settled_in moment d es)
 
@@ -128,27 +148,34 @@ all_settled ds x = record x { searches = all_settled_in x.moment ds x.searches }
 abbrev pub HasReceived : Parts → Address → Fields → Received → Parts → Type 0
 HasReceived old from m d new =
     (x : Client) → parts_of x ≡ old
-    → (e : Effect) × Receives from x m e × (e.notices ≡ []) × (e.core ≡ settled d (with_parts new x))
+    → (e : Effect) × Receives from x m e × (e.notices ≡ [])
+    × (e.core ≡ settled d (with_parts new x))
 
 -- It had once the circuits are opened, and can be undone; or there was no memory for it,
 -- which changed nothing.
-abbrev pub ReceivesIn : HalfParts → Address → Fields → Result Received AllocError → HalfParts → Type 0
-ReceivesIn old from m (Ok d) new = HasReceived (opened_parts old) from m d (opened_parts new) × (received_undone d new ≡ old)
+abbrev pub ReceivesIn : HalfParts → Address → Fields → Result Received AllocError → HalfParts
+    → Type 0
+ReceivesIn old from m (Ok d) new =
+    HasReceived (opened_parts old) from m d (opened_parts new) × (received_undone d new ≡ old)
 ReceivesIn old from m (Err _) new = new ≡ old
 
 -- The circuits are opened; or there was no memory for them, and all that was received is undone.
-abbrev pub OpensOrUndoes : HalfParts → Vec Received Global → Result (Vec Received Global) AllocError → Parts → Type 0
+abbrev pub OpensOrUndoes : HalfParts → Vec Received Global → Result (Vec Received Global) AllocError
+    → Parts → Type 0
 OpensOrUndoes old done (Ok ds) new = (ds ≡ done) × (new ≡ opened_parts old)
-OpensOrUndoes old done (Err _) new = (old.opening ≢ []) × (new ≡ unopened_parts (all_undone done.items old))
+OpensOrUndoes old done (Err _) new =
+    (old.opening ≢ []) × (new ≡ unopened_parts (all_undone done.items old))
 
 -- These messages had their effects, one after another, except that the searches
 -- are still to follow.
 abbrev pub HaveReceived : Parts → Address → List Fields → List Received → Parts → Type 0
 HaveReceived old from ms ds new =
     (x : Client) → parts_of x ≡ old
-    → (e : Effect) × ReceivesAll from x ms e × (e.notices ≡ []) × (e.core ≡ all_settled ds (with_parts new x))
+    → (e : Effect) × ReceivesAll from x ms e × (e.notices ≡ [])
+    × (e.core ≡ all_settled ds (with_parts new x))
 
 -- They had; or there was no memory for one, and nothing is changed.
-abbrev pub ReceivesAllIn : Parts → Address → List Fields → Result (Vec Received Global) AllocError → Parts → Type 0
+abbrev pub ReceivesAllIn : Parts → Address → List Fields → Result (Vec Received Global) AllocError
+    → Parts → Type 0
 ReceivesAllIn old from ms (Ok ds) new = HaveReceived old from ms ds.items new
 ReceivesAllIn old from ms (Err _) new = (ms ≢ []) × (new ≡ old)

@@ -13,7 +13,8 @@ asked_in moment o = unwrap_or (option_map (λ (e : Connection). kept moment e.li
 
 -- an end on which an ECHO waits; if its silence asked for one this is noted
 abbrev pub echo_end : ℕ → Connection → Connection
-echo_end moment e = record e { link = noted (kept moment e.link) (with_sent (bare command.Echo ∷ []) e.link) }
+echo_end moment e =
+    record e { link = noted (kept moment e.link) (with_sent (bare command.Echo ∷ []) e.link) }
 
 -- the same of a circuit, if it is connected
 abbrev pub echo_in : ℕ → ClientCircuit → ClientCircuit

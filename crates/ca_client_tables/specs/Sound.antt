@@ -26,7 +26,9 @@ pub record IsClient (channels : Table Channel) (searches : List (ℕ × search.C
 
 -- And requests and subscriptions are where their channels are, channels are on circuits that are
 -- connected or wanted, and those that are live are listed.
-pub record IsSound (channels : Table Channel) (searches : List (ℕ × search.Channel)) (asked : Table Request) (subscribed : Table Subscription) (circuits : Table ClientCircuit) (lists : List (List Handle)) : Type 0 where
+pub record IsSound (channels : Table Channel) (searches : List (ℕ × search.Channel))
+    (asked : Table Request) (subscribed : Table Subscription) (circuits : Table ClientCircuit)
+    (lists : List (List Handle)) : Type 0 where
   pub client : IsClient channels searches
   pub placed : ArePlaced channels asked subscribed circuits
   pub listed : AreListed channels lists

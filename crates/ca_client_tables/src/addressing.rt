@@ -8,14 +8,14 @@ use std::marker::Model;
 
 /// A datagram to be sent.
 #[derive(Debug, Drop)]
-pub struct Datagram {
+pub struct AddressedDatagram {
     /// Where it goes.
     pub to: Address,
     /// Its bytes.
     pub bytes: Vec<u8>,
 }
 
-impl Model for Datagram {
+impl Model for AddressedDatagram {
     ghost use Rattle.ca_model.specs.Answers as answer;
 
     ghost Value = { answer.Datagram };
@@ -28,7 +28,7 @@ pub fn to_servers(
     alloc: Global,
     servers: &[Address],
     packed: &[Vec<u8>],
-) -> Result<Vec<Datagram>, AllocError>
+) -> Result<Vec<AddressedDatagram>, AllocError>
     ensures ok { IfOk result (λ v. v.items
         ≡ flat_map (to_server (map (λ d. d.items) packed.now)) servers.now) }
     ensures some { OnErr result (packed.now ≢ []) }
@@ -45,7 +45,7 @@ fn add_to_server(
     alloc: Global,
     server: Address,
     packed: &[Vec<u8>],
-    datagrams: &mut Vec<Datagram>,
+    datagrams: &mut Vec<AddressedDatagram>,
 ) -> Result<(), AllocError>
     ensures ok { OnOk result (datagrams.new.items
         ≡ datagrams.old.items ++ to_server (map (λ d. d.items) packed.now) server) }
@@ -53,7 +53,7 @@ fn add_to_server(
 {
     for index in 0..packed.len() {
         let bytes = Vec::from_slice(alloc, &packed[index])?;
-        datagrams.push(Datagram { to: server, bytes })?;
+        datagrams.push(AddressedDatagram { to: server, bytes })?;
     }
     Ok(())
 }

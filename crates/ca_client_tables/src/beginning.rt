@@ -1,10 +1,11 @@
 //! The circuits of name servers, as a client begins.
-ghost use Rattle.std.specs.Prelude.{◌≡◌, ◌≢◌, ◌<◌, ◌+◌, [], IfOk, OnErr, OnOk, if◌then◌else◌, length, take};
+ghost use Rattle.std.specs.Prelude.{◌≡◌, ◌≢◌, ◌<◌, ◌+◌, [], IfOk, OnErr, OnOk, if◌then◌else◌};
+ghost use Rattle.std.specs.Prelude.{length, take};
 ghost use Rattle.ca_model.specs.ClientEnds.{distinct};
 ghost use Rattle.ca_model.specs.Ends.{same_address};
 ghost use Rattle.ca_client_tables.specs.Names.{Adds, HasNames, is_among, seen_before};
 
-use crate::circuit::Circuit;
+use crate::circuit::ClientCircuit;
 use crate::ends::Address;
 use ca_arena::Handle;
 use ca_ids::HeldTable;
@@ -58,7 +59,7 @@ pub(crate) fn is_same(a: Address, b: Address) -> bool
 pub fn name_circuits(
     alloc: Global,
     names: &[Address],
-) -> Result<(HeldTable<Circuit>, Vec<Handle>), AllocError>
+) -> Result<(HeldTable<ClientCircuit>, Vec<Handle>), AllocError>
     ensures ok { IfOk result (λ made. HasNames names.now made.0 made.1.items) }
     ensures some { OnErr result (names.now ≢ []) }
 {
@@ -70,7 +71,7 @@ pub fn name_circuits(
 
 // Adds a circuit for each of these addresses, once.
 fn add_names(
-    circuits: &mut HeldTable<Circuit>,
+    circuits: &mut HeldTable<ClientCircuit>,
     order: &mut Vec<Handle>,
     names: &[Address],
 ) -> Result<(), AllocError>
@@ -86,7 +87,7 @@ fn add_names(
 
 // Adds a circuit for the address at this place, unless there is one.
 fn add_at(
-    circuits: &mut HeldTable<Circuit>,
+    circuits: &mut HeldTable<ClientCircuit>,
     order: &mut Vec<Handle>,
     names: &[Address],
     index: usize,
@@ -107,13 +108,13 @@ fn add_at(
 
 // Adds the circuit of a name server.
 fn add_name(
-    circuits: &mut HeldTable<Circuit>,
+    circuits: &mut HeldTable<ClientCircuit>,
     order: &mut Vec<Handle>,
     address: Address,
 ) -> Result<(), AllocError>
     ensures { OnOk result (Adds address circuits.old order.old.items circuits.new order.new.items) }
 {
-    let circuit = Circuit {
+    let circuit = ClientCircuit {
         address,
         priority: 0,
         is_name: true,

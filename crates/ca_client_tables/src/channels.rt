@@ -1,9 +1,11 @@
 //! The channels of a client, and which of them are on each circuit.
-ghost use Rattle.std.specs.Prelude.{◌≡◌, ◌<◌, ◌≤◌, ◌&&◌, [], ℕ, Some, length, option_copied, option_map, true};
+ghost use Rattle.std.specs.Prelude.{◌≡◌, ◌<◌, ◌≤◌, ◌&&◌, [], ℕ, Some, length, option_copied};
+ghost use Rattle.std.specs.Prelude.{option_map, true};
 ghost use Rattle.ca_text.specs.Limits.{arena_slots};
 ghost use Rattle.ca_arena.specs.Arena.{place_at};
 ghost use Rattle.ca_ids.specs.Holding.{Gives};
-ghost use Rattle.ca_ids.specs.Table.{Table, by_wire, held_at, is_full, under, with_all, with_changed, with_freed};
+ghost use Rattle.ca_ids.specs.Table.{Table, by_wire, held_at, is_full, under, with_all};
+ghost use Rattle.ca_ids.specs.Table.{with_changed, with_freed};
 ghost use Rattle.ca_ids.specs.Walks.{with_place};
 ghost use Rattle.ca_lists.specs.Lists.{Has, list_of};
 ghost use Rattle.ca_lists.specs.Walks.{AreListed, Covers};
@@ -12,7 +14,8 @@ ghost use Rattle.ca_model.specs.ClientEnds.{creating};
 ghost use Rattle.ca_client_tables.specs.Connecting.{creating_at};
 ghost use Rattle.ca_client_tables.specs.Ending.{EndsAll, sought};
 ghost use Rattle.ca_client_tables.specs.Forms.{standing_of};
-ghost use Rattle.ca_client_tables.specs.OnCircuits.{MayBeOn, circuit_of, indices_of, is_on_index, stood_on};
+ghost use Rattle.ca_client_tables.specs.OnCircuits.{MayBeOn, circuit_of, indices_of, is_on_index};
+ghost use Rattle.ca_client_tables.specs.OnCircuits.{stood_on};
 ghost use Rattle.ca_client_tables.specs.Sound.{IsClient};
 
 use crate::candidates::Candidates;

@@ -31,7 +31,7 @@ impl Model for Connection {
 /// A circuit to an address, under a priority: it is a name server's, or channels want it. It has an
 /// end once it is connected.
 #[derive(Debug, Drop)]
-pub struct Circuit {
+pub struct ClientCircuit {
     /// Where its server is.
     pub address: Address,
     /// Its priority, from 0 to 99.
@@ -42,7 +42,7 @@ pub struct Circuit {
     pub connection: Option<Connection>,
 }
 
-impl Model for Circuit {
+impl Model for ClientCircuit {
     ghost use Rattle.ca_model.specs.Client as client;
 
     ghost Value = { client.ClientCircuit };
@@ -60,7 +60,7 @@ impl Model for Circuit {
     ghost invariant = { λ c. c.priority ≤ priority_limit };
 }
 
-impl Circuit {
+impl ClientCircuit {
     /// Whether it is that of a name server, and connected.
     pub fn is_name_connected(&self) -> bool
         ensures { result ≡ is_name_in self.now }

@@ -13,7 +13,7 @@ ghost use Rattle.ca_client_tables.specs.Connecting.{creations_at, creations_in, 
 
 use crate::channel::{Channel, Phase, Standing, is_same};
 use crate::channels::Channels;
-use crate::circuit::{Circuit, Connection};
+use crate::circuit::{ClientCircuit, Connection};
 use ca_arena::Handle;
 use ca_ids::HeldTable;
 use ca_link::Link;
@@ -134,7 +134,7 @@ fn create_at(
 }
 
 /// A circuit has this end.
-pub fn connect(circuits: &mut HeldTable<Circuit>, circuit: Handle, connection: Connection)
+pub fn connect(circuits: &mut HeldTable<ClientCircuit>, circuit: Handle, connection: Connection)
     ensures { circuits.new
         ≡ with_changed
         (λ d. record d { connection = Some connection })
@@ -146,7 +146,7 @@ pub fn connect(circuits: &mut HeldTable<Circuit>, circuit: Handle, connection: C
     }
 }
 
-impl Circuit {
+impl ClientCircuit {
     // It has this end.
     fn connect(&mut self, connection: Connection)
         ensures { self.new ≡ record self.old { connection = Some connection } }

@@ -7,13 +7,15 @@ ghost use Rattle.ca_arena.specs.Arena.{place_at};
 ghost use Rattle.ca_search.specs.Searcher.{with_one};
 ghost use Rattle.ca_search.specs.Searches.{paused};
 ghost use Rattle.ca_model.specs.Hears.{found_at, is_searched};
-ghost use Rattle.ca_client_tables.specs.Finding.{CreatesIn, FindsIn, FindsOne, WantsNew, circuit_in, first_to, goes_to, searched_in, undone, unopened};
+ghost use Rattle.ca_client_tables.specs.Finding.{CreatesIn, FindsIn, FindsOne, WantsNew};
+ghost use Rattle.ca_client_tables.specs.Finding.{circuit_in, first_to, goes_to, searched_in};
+ghost use Rattle.ca_client_tables.specs.Finding.{undone, unopened};
 ghost use Rattle.ca_client_tables.specs.Opening.{AreOpening};
 
 use crate::beginning::is_same;
 use crate::channel::{Channel, Phase, Standing};
 use crate::channels::{Channels, set_standing};
-use crate::circuit::Circuit;
+use crate::circuit::ClientCircuit;
 use crate::ends::Address;
 use crate::queue::{queue_on, waiting_on};
 use crate::undoing::lose;
@@ -55,7 +57,7 @@ pub enum How {
 pub fn find(
     alloc: Global,
     channels: &mut Channels,
-    circuits: &mut HeldTable<Circuit>,
+    circuits: &mut HeldTable<ClientCircuit>,
     order: &mut Vec<Handle>,
     from: Address,
     message: &Message,
@@ -92,8 +94,8 @@ pub fn find(
 // What was found is undone, and nothing is to be opened.
 fn lose_found(
     channels: &mut Channels,
-    circuits: &mut HeldTable<Circuit>,
-    mut opening: Vec<(Handle, Circuit)>,
+    circuits: &mut HeldTable<ClientCircuit>,
+    mut opening: Vec<(Handle, ClientCircuit)>,
     order: &mut Vec<Handle>,
     found: Option<Found>,
 )
@@ -118,19 +120,29 @@ fn lose_found(
 pub(crate) fn find_one(
     alloc: Global,
     channels: &mut Channels,
-    circuits: &mut HeldTable<Circuit>,
-    opening: &mut Vec<(Handle, Circuit)>,
+    circuits: &mut HeldTable<ClientCircuit>,
+    opening: &mut Vec<(Handle, ClientCircuit)>,
     order: &mut Vec<Handle>,
     from: Address,
     message: &Message,
 ) -> Result<Option<Found>, AllocError>
     requires { AreOpening opening.old.items circuits.old }
     ensures finds { FindsOne
-        (record { channels = channels.old; circuits = circuits.old; opening = opening.old.items; order = order.old.items })
+        (record {
+          channels = channels.old;
+          circuits = circuits.old;
+          opening = opening.old.items;
+          order = order.old.items;
+        })
         from
         message.now
         result
-        (record { channels = channels.new; circuits = circuits.new; opening = opening.new.items; order = order.new.items }) }
+        (record {
+          channels = channels.new;
+          circuits = circuits.new;
+          opening = opening.new.items;
+          order = order.new.items;
+        }) }
     ensures opening { AreOpening opening.new.items circuits.new }
 {
     let Some((channel, found)) = searched_by(channels, message.p2()) else {
@@ -172,8 +184,8 @@ pub(crate) fn searched_by(channels: &Channels, cid: u32) -> Option<(Handle, &Cha
 // circuits can be had, nothing happens; nor without memory.
 fn want_new(
     channels: &mut Channels,
-    circuits: &HeldTable<Circuit>,
-    opening: &mut Vec<(Handle, Circuit)>,
+    circuits: &HeldTable<ClientCircuit>,
+    opening: &mut Vec<(Handle, ClientCircuit)>,
     order: &mut Vec<Handle>,
     address: Address,
     priority: u16,
@@ -181,12 +193,22 @@ fn want_new(
 ) -> Result<Option<Found>, AllocError>
     requires { priority ≤ priority_limit }
     ensures { WantsNew
-        (record { channels = channels.old; circuits = circuits.now; opening = opening.old.items; order = order.old.items })
+        (record {
+          channels = channels.old;
+          circuits = circuits.now;
+          opening = opening.old.items;
+          order = order.old.items;
+        })
         address
         priority
         channel
         result
-        (record { channels = channels.new; circuits = circuits.now; opening = opening.new.items; order = order.new.items }) }
+        (record {
+          channels = channels.new;
+          circuits = circuits.now;
+          opening = opening.new.items;
+          order = order.new.items;
+        }) }
 {
     let Ok(vacant) = circuits.vacant_after(opening) else {
         return Err(AllocError);
@@ -196,7 +218,7 @@ fn want_new(
     };
     opening.reserve(1)?;
     order.reserve(1)?;
-    let wanted = Circuit {
+    let wanted = ClientCircuit {
         address,
         priority,
         is_name: false,
@@ -216,7 +238,7 @@ fn want_new(
 // The channel is created on this circuit, by this message. Without memory nothing happens.
 fn create_on(
     channels: &mut Channels,
-    circuits: &mut HeldTable<Circuit>,
+    circuits: &mut HeldTable<ClientCircuit>,
     circuit: Handle,
     channel: Handle,
     message: &Message,
@@ -276,8 +298,8 @@ pub(crate) fn found_at(from: Address, message: &Message) -> Address
 // The circuit to this address, under this priority, and whether it is connected, once those that
 // are to be opened are.
 pub(crate) fn circuit_to(
-    circuits: &HeldTable<Circuit>,
-    opening: &[(Handle, Circuit)],
+    circuits: &HeldTable<ClientCircuit>,
+    opening: &[(Handle, ClientCircuit)],
     address: Address,
     priority: u16,
 ) -> Option<(Handle, bool)>
@@ -296,7 +318,7 @@ fn first_to(
     address: Address,
     priority: u16,
     found: Option<(Handle, bool)>,
-    opening: &(Handle, Circuit),
+    opening: &(Handle, ClientCircuit),
 ) -> Option<(Handle, bool)>
     ensures { result ≡ first_to address priority found opening.now }
 {
@@ -312,7 +334,7 @@ fn first_to(
 
 // The circuit to this address, under this priority, in the table, and whether it is connected.
 fn circuit_in_table(
-    circuits: &HeldTable<Circuit>,
+    circuits: &HeldTable<ClientCircuit>,
     address: Address,
     priority: u16,
 ) -> Option<(Handle, bool)>
@@ -328,7 +350,7 @@ fn circuit_in_table(
 
 // The circuit at this index, if it goes to this address under this priority.
 fn circuit_at(
-    circuits: &HeldTable<Circuit>,
+    circuits: &HeldTable<ClientCircuit>,
     address: Address,
     priority: u16,
     index: usize,

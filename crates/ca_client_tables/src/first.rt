@@ -1,12 +1,13 @@
 //! What comes first on a circuit, read where it came.
 ghost use Rattle.std.specs.Prelude.{◌≡◌};
 ghost use Rattle.ca_wire.specs.Reading.{IsWhole};
-ghost use Rattle.ca_client_tables.specs.First.{FirstAt, FirstIn, in_bytes, payload_at, without_front, without_head};
+ghost use Rattle.ca_client_tables.specs.First.{FirstAt, FirstIn, in_bytes, payload_at};
+ghost use Rattle.ca_client_tables.specs.First.{without_front, without_head};
 ghost use Rattle.ca_client_tables.specs.Closings.{why_is};
 ghost use Rattle.ca_model.specs.Ends.{why_of};
 
 use crate::bytes::know_bytes;
-use crate::circuit::{Circuit, Connection};
+use crate::circuit::{ClientCircuit, Connection};
 use crate::why::Why;
 use ca_text::Refusal;
 use ca_wire::{Head, One, read_one};
@@ -24,7 +25,7 @@ pub enum First {
     Bad(Why),
 }
 
-impl Circuit {
+impl ClientCircuit {
     /// What comes first, if it is connected.
     #[inline(always)]
     pub fn first(&self) -> First

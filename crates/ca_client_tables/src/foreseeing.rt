@@ -1,6 +1,7 @@
 //! The searches that are due once circuits have ended.
 ghost use Rattle.std.specs.Prelude.{◌≡◌, ◌≢◌, [], IfOk, OnErr};
-ghost use Rattle.ca_client_tables.specs.Ahead.{due_after, is_due_after, is_in, sought_by, sought_in};
+ghost use Rattle.ca_client_tables.specs.Ahead.{due_after, is_due_after, is_in, sought_by};
+ghost use Rattle.ca_client_tables.specs.Ahead.{sought_in};
 
 use crate::channel::{Channel, Standing, is_same};
 use crate::channels::Channels;

@@ -6,7 +6,7 @@ ghost use Rattle.ca_client_tables.specs.Foretelling.{HeadsFirst, HeadsIn, creati
 ghost use Rattle.ca_client_tables.specs.Opening.{AreOpening};
 
 use crate::channels::Channels;
-use crate::circuit::{Circuit, Connection};
+use crate::circuit::{ClientCircuit, Connection};
 use crate::ends::Address;
 use crate::finding::{circuit_to, found_at, searched_by};
 use ca_arena::Handle;
@@ -31,8 +31,8 @@ pub struct Creation {
 pub fn creation_by(
     alloc: Global,
     channels: &Channels,
-    circuits: &HeldTable<Circuit>,
-    opening: &[(Handle, Circuit)],
+    circuits: &HeldTable<ClientCircuit>,
+    opening: &[(Handle, ClientCircuit)],
     from: Address,
     reply: &Message,
 ) -> Result<Option<Creation>, AllocError>
@@ -60,7 +60,7 @@ pub fn creation_by(
     }))
 }
 
-impl Circuit {
+impl ClientCircuit {
     /// The first message that came, without its payload, if a complete one did.
     pub fn first_head(&self, alloc: Global) -> Option<Message>
         ensures { HeadsFirst self.now.connection result }

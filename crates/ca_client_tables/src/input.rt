@@ -4,12 +4,12 @@ ghost use Rattle.ca_monitor.specs.ReadRun.{sent_by_read};
 ghost use Rattle.ca_model.specs.Client as client;
 ghost use Rattle.ca_client_tables.specs.Ends.{GivesAt, read_given};
 
-use crate::circuit::{Circuit, Connection};
+use crate::circuit::{ClientCircuit, Connection};
 use ca_text::{Command, Refusal};
 use ca_wire::bare;
 use std::alloc::{AllocError, Global};
 
-impl Circuit {
+impl ClientCircuit {
     /// Takes bytes of a read at this moment, and whether the read left more waiting.
     ///
     /// Refused as CircuitClosed if it is not connected, then as OutOfMemory, only if there are
@@ -33,11 +33,12 @@ impl Circuit {
     }
 }
 
-impl Circuit {
+impl ClientCircuit {
     /// What a read makes the client send, by whether it left more waiting.
     pub fn sends_by_read(&self, more: bool) -> Option<Command>
         ensures { result
-            ≡ option_and_then (λ (e : client.Connection). sent_by_read more e.run) self.now.connection }
+            ≡ option_and_then
+            (λ (e : client.Connection). sent_by_read more e.run) self.now.connection }
     {
         match &self.connection {
             Some(connection) => {

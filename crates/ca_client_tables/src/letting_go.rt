@@ -1,10 +1,11 @@
 //! A circuit that has ended is dropped.
-ghost use Rattle.std.specs.Prelude.{◌≡◌, [], None, filter, if◌then◌else◌, not, option_map, unwrap_or};
+ghost use Rattle.std.specs.Prelude.{◌≡◌, [], None, filter, if◌then◌else◌, not, option_map};
+ghost use Rattle.std.specs.Prelude.{unwrap_or};
 ghost use Rattle.ca_ids.specs.Table.{same_handle, with_changed, with_freed};
 ghost use Rattle.ca_client_tables.specs.Ends.{left_at, waiting_in};
 
 use crate::channel::is_same;
-use crate::circuit::{Circuit, Connection};
+use crate::circuit::{ClientCircuit, Connection};
 use ca_arena::Handle;
 use ca_ids::HeldTable;
 use ca_wire::Pipe;
@@ -14,7 +15,7 @@ use std::alloc::Global;
 /// the bytes that waited.
 pub fn let_go(
     alloc: Global,
-    circuits: &mut HeldTable<Circuit>,
+    circuits: &mut HeldTable<ClientCircuit>,
     order: &mut Vec<Handle>,
     circuit: Handle,
     is_name: bool,
@@ -39,7 +40,7 @@ pub fn let_go(
 }
 
 // It is no longer connected.
-fn disconnect(alloc: Global, circuits: &mut HeldTable<Circuit>, circuit: Handle) -> Pipe
+fn disconnect(alloc: Global, circuits: &mut HeldTable<ClientCircuit>, circuit: Handle) -> Pipe
     ensures left { result ≡ left_at circuits.old circuit }
     ensures gone { circuits.new
         ≡ with_changed (λ d. record d { connection = None }) circuit circuits.old }
@@ -57,7 +58,7 @@ fn forget(order: &mut Vec<Handle>, circuit: Handle)
     order.retain(|other| !is_same(*other, circuit));
 }
 
-impl Circuit {
+impl ClientCircuit {
     // It is no longer connected. It returns the bytes that waited.
     fn disconnect(&mut self, alloc: Global) -> Pipe
         ensures left { result ≡ waiting_in self.old }
@@ -70,7 +71,7 @@ impl Circuit {
     fn into_left(self, alloc: Global) -> Pipe
         ensures { result ≡ waiting_in self }
     {
-        let Circuit { connection, .. } = self;
+        let ClientCircuit { connection, .. } = self;
         left_of(alloc, connection)
     }
 }

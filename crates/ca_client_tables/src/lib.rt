@@ -37,13 +37,13 @@ mod valued;
 mod wanted;
 mod why;
 
-pub use addressing::{Datagram, to_servers};
+pub use addressing::{AddressedDatagram, to_servers};
 pub use beacons::Beacon;
 pub use beginning::{count_names, name_circuits};
 pub use bytes::know_bytes;
 pub use channel::{Channel, Native, Phase, Standing};
 pub use channels::{Channels, begin_all, end_channels, set_standing};
-pub use circuit::{Circuit, Connection};
+pub use circuit::{ClientCircuit, Connection};
 pub use clearing::is_used;
 pub use connecting::{connect, new_connection};
 pub use ending::{bring_back, resume};

@@ -1,9 +1,11 @@
 //! The channels that are live on each circuit, so that its end can report without
 //! allocation which were lost.
-ghost use Rattle.std.specs.Prelude.{[], ◌≡◌, ◌≢◌, ◌+◌, ◌<◌, ◌≤◌, ◌++◌, ℕ, OnOk, length, vec_capacity, vec_len};
+ghost use Rattle.std.specs.Prelude.{[], ◌≡◌, ◌≢◌, ◌+◌, ◌<◌, ◌≤◌, ◌++◌, ℕ, OnOk, length};
+ghost use Rattle.std.specs.Prelude.{vec_capacity, vec_len};
 ghost use Rattle.ca_model.specs.Client.{is_live};
 ghost use Rattle.ca_client_tables.specs.Ending.{named_at, named_in};
-ghost use Rattle.ca_client_tables.specs.Listed.{Has, KeepsAll, KeepsLive, is_live_in, list_at, lives_in};
+ghost use Rattle.ca_client_tables.specs.Listed.{Has, KeepsAll, KeepsLive, is_live_in, list_at};
+ghost use Rattle.ca_client_tables.specs.Listed.{lives_in};
 
 use crate::channel::{Channel, Standing, is_same};
 use crate::channels::Channels;

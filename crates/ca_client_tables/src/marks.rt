@@ -3,10 +3,10 @@ ghost use Rattle.std.specs.Prelude.{◌≡◌};
 ghost use Rattle.ca_link.specs.Link.{mark_of};
 ghost use Rattle.ca_client_tables.specs.Marks.{end_restored, in_restored, mark_in};
 
-use crate::circuit::{Circuit, Connection};
+use crate::circuit::{ClientCircuit, Connection};
 use ca_link::Mark;
 
-impl Circuit {
+impl ClientCircuit {
     /// How its end is; without one there is nothing to take back.
     pub fn mark(&self) -> Mark
         ensures { result ≡ mark_in self.now }

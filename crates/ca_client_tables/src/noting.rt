@@ -6,7 +6,7 @@ ghost use Rattle.ca_client_tables.specs.Noting.{NotesAll, NotesOne, told_by};
 ghost use Rattle.ca_client_tables.specs.Opening.{AreOpening};
 
 use crate::channels::Channels;
-use crate::circuit::Circuit;
+use crate::circuit::ClientCircuit;
 use crate::ends::Address;
 use crate::foretelling::{Creation, creation_by};
 use crate::receiving::{Received, receive};
@@ -33,7 +33,7 @@ pub struct Noted {
 pub fn receive_all_noting(
     alloc: Global,
     channels: &mut Channels,
-    circuits: &mut HeldTable<Circuit>,
+    circuits: &mut HeldTable<ClientCircuit>,
     order: &mut Vec<Handle>,
     beacons: &mut BeaconTable,
     from: Address,
@@ -90,8 +90,8 @@ pub fn receive_all_noting(
 fn receive_noting(
     alloc: Global,
     channels: &mut Channels,
-    circuits: &mut HeldTable<Circuit>,
-    opening: &mut Vec<(Handle, Circuit)>,
+    circuits: &mut HeldTable<ClientCircuit>,
+    opening: &mut Vec<(Handle, ClientCircuit)>,
     order: &mut Vec<Handle>,
     beacons: &mut BeaconTable,
     from: Address,
@@ -137,8 +137,8 @@ fn receive_noting(
 fn sent_by(
     alloc: Global,
     channels: &Channels,
-    circuits: &HeldTable<Circuit>,
-    opening: &[(Handle, Circuit)],
+    circuits: &HeldTable<ClientCircuit>,
+    opening: &[(Handle, ClientCircuit)],
     from: Address,
     message: &Message,
 ) -> Result<Option<Creation>, AllocError>

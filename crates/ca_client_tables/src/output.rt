@@ -3,9 +3,9 @@ ghost use Rattle.std.specs.Prelude.{◌≡◌, ◌≤◌, length};
 ghost use Rattle.ca_client_tables.specs.Ends.{cut_back, cut_end, cut_in, handed, waiting_in};
 ghost use Rattle.ca_link.specs.Link.{with_handed};
 
-use crate::circuit::{Circuit, Connection};
+use crate::circuit::{ClientCircuit, Connection};
 
-impl Circuit {
+impl ClientCircuit {
     /// Only the first n of the bytes still wait.
     pub fn cut_back(&mut self, n: usize)
         ensures { self.new ≡ cut_in n self.old }

@@ -4,7 +4,7 @@ ghost use Rattle.ca_ids.specs.Table.{with_changed};
 ghost use Rattle.ca_link.specs.Link.{with_sent};
 ghost use Rattle.ca_client_tables.specs.Ends.{left_at, queued};
 
-use crate::circuit::{Circuit, Connection};
+use crate::circuit::{ClientCircuit, Connection};
 use ca_arena::Handle;
 use ca_ids::HeldTable;
 use ca_wire::Message;
@@ -12,7 +12,7 @@ use std::alloc::AllocError;
 
 // Puts a message after what waits on a circuit that is connected.
 pub(crate) fn queue_on(
-    circuits: &mut HeldTable<Circuit>,
+    circuits: &mut HeldTable<ClientCircuit>,
     circuit: Handle,
     message: &Message,
 ) -> Result<(), AllocError>
@@ -28,7 +28,7 @@ pub(crate) fn queue_on(
 }
 
 // How many bytes wait on a circuit; none if it is not connected.
-pub(crate) fn waiting_on(circuits: &HeldTable<Circuit>, circuit: Handle) -> usize
+pub(crate) fn waiting_on(circuits: &HeldTable<ClientCircuit>, circuit: Handle) -> usize
     ensures { result ≡ length (left_at circuits.now circuit) }
 {
     match circuits.by_handle(circuit) {
@@ -37,7 +37,7 @@ pub(crate) fn waiting_on(circuits: &HeldTable<Circuit>, circuit: Handle) -> usiz
     }
 }
 
-impl Circuit {
+impl ClientCircuit {
     /// Puts a message after what waits, if it is connected: only then it allocates. Without
     /// memory nothing changes.
     pub fn queue(&mut self, message: &Message) -> Result<(), AllocError>

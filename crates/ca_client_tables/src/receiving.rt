@@ -2,11 +2,12 @@
 ghost use Rattle.std.specs.Prelude.{◌≡◌, ℕ};
 ghost use Rattle.ca_text.specs.declared.command.Command.TheVariants as command;
 ghost use Rattle.ca_client_tables.specs.Opening.{AreOpening};
-ghost use Rattle.ca_client_tables.specs.Receiving.{HearsIn, ReceivesAllIn, ReceivesIn, all_settled_in, boosted_if, settled_in};
+ghost use Rattle.ca_client_tables.specs.Receiving.{HearsIn, ReceivesAllIn, ReceivesIn};
+ghost use Rattle.ca_client_tables.specs.Receiving.{all_settled_in, boosted_if, settled_in};
 
 use crate::beacons::{Beacon, beacon_port, hear_beacon};
 use crate::channels::Channels;
-use crate::circuit::Circuit;
+use crate::circuit::ClientCircuit;
 use crate::ends::Address;
 use crate::finding::{Found, find_one, pause_found};
 use crate::undoing::{open_or_undo, undo_all};
@@ -35,7 +36,7 @@ pub enum Received {
 pub fn receive_all(
     alloc: Global,
     channels: &mut Channels,
-    circuits: &mut HeldTable<Circuit>,
+    circuits: &mut HeldTable<ClientCircuit>,
     order: &mut Vec<Handle>,
     beacons: &mut BeaconTable,
     from: Address,
@@ -88,8 +89,8 @@ pub fn receive_all(
 pub(crate) fn receive(
     alloc: Global,
     channels: &mut Channels,
-    circuits: &mut HeldTable<Circuit>,
-    opening: &mut Vec<(Handle, Circuit)>,
+    circuits: &mut HeldTable<ClientCircuit>,
+    opening: &mut Vec<(Handle, ClientCircuit)>,
     order: &mut Vec<Handle>,
     beacons: &mut BeaconTable,
     from: Address,

@@ -3,13 +3,13 @@ ghost use Rattle.std.specs.Prelude.{◌≡◌, ◌<◌, IsSome, OnErr, OnOk, Som
 ghost use Rattle.ca_link.specs.Link.{kept};
 ghost use Rattle.ca_client_tables.specs.Silences.{asked_in, echo_end, echo_in};
 
-use crate::circuit::{Circuit, Connection};
+use crate::circuit::{ClientCircuit, Connection};
 use ca_link::Keep;
 use ca_text::Command;
 use ca_wire::bare;
 use std::alloc::{AllocError, Global};
 
-impl Circuit {
+impl ClientCircuit {
     /// What this moment asks of its end; nothing, if it is not connected.
     pub fn asked(&self, moment: u64) -> Keep
         ensures { result ≡ asked_in moment self.now.connection }

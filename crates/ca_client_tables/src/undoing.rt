@@ -7,7 +7,7 @@ ghost use Rattle.ca_client_tables.specs.Receiving.{OpensOrUndoes, all_undone, re
 
 use crate::beacons::forget_beacon;
 use crate::channels::Channels;
-use crate::circuit::Circuit;
+use crate::circuit::ClientCircuit;
 use crate::ending::bring_back;
 use crate::finding::{Found, How};
 use crate::receiving::Received;
@@ -20,8 +20,8 @@ use std::alloc::AllocError;
 // the last message first.
 pub(crate) fn open_or_undo(
     channels: &mut Channels,
-    circuits: &mut HeldTable<Circuit>,
-    opening: Vec<(Handle, Circuit)>,
+    circuits: &mut HeldTable<ClientCircuit>,
+    opening: Vec<(Handle, ClientCircuit)>,
     order: &mut Vec<Handle>,
     beacons: &mut BeaconTable,
     done: Vec<Received>,
@@ -55,8 +55,8 @@ pub(crate) fn open_or_undo(
 // These messages are undone, the last one first.
 pub(crate) fn undo_all(
     channels: &mut Channels,
-    circuits: &mut HeldTable<Circuit>,
-    opening: &mut Vec<(Handle, Circuit)>,
+    circuits: &mut HeldTable<ClientCircuit>,
+    opening: &mut Vec<(Handle, ClientCircuit)>,
     order: &mut Vec<Handle>,
     beacons: &mut BeaconTable,
     mut done: Vec<Received>,
@@ -83,8 +83,8 @@ pub(crate) fn undo_all(
 // This message is undone.
 fn undo(
     channels: &mut Channels,
-    circuits: &mut HeldTable<Circuit>,
-    opening: &mut Vec<(Handle, Circuit)>,
+    circuits: &mut HeldTable<ClientCircuit>,
+    opening: &mut Vec<(Handle, ClientCircuit)>,
     order: &mut Vec<Handle>,
     beacons: &mut BeaconTable,
     received: Received,
@@ -113,8 +113,8 @@ fn undo(
 // A channel was not found: it is searched for, and the circuit is as it was.
 pub(crate) fn lose(
     channels: &mut Channels,
-    circuits: &mut HeldTable<Circuit>,
-    opening: &mut Vec<(Handle, Circuit)>,
+    circuits: &mut HeldTable<ClientCircuit>,
+    opening: &mut Vec<(Handle, ClientCircuit)>,
     order: &mut Vec<Handle>,
     found: Found,
 )
@@ -142,7 +142,7 @@ pub(crate) fn lose(
 }
 
 // Only the first n of the bytes on a circuit still wait.
-fn cut_on(circuits: &mut HeldTable<Circuit>, circuit: Handle, n: usize)
+fn cut_on(circuits: &mut HeldTable<ClientCircuit>, circuit: Handle, n: usize)
     ensures { circuits.new ≡ with_changed (cut_in n) circuit circuits.old }
 {
     if let Some(found) = circuits.by_handle_mut(circuit) {

@@ -6,7 +6,7 @@ ghost use Rattle.ca_wire.specs.Made.{with_payload};
 ghost use Rattle.ca_client_tables.specs.Ends.{queued};
 ghost use Rattle.ca_client_tables.specs.Puts.{IsSmall};
 
-use crate::circuit::{Circuit, Connection};
+use crate::circuit::{ClientCircuit, Connection};
 use ca_dbr::{Meta, Value, write_value};
 use ca_text::Refusal;
 use ca_wire::{Message, Payload};
@@ -34,7 +34,7 @@ impl Payload for Elements<'_> {
     }
 }
 
-impl Circuit {
+impl ClientCircuit {
     /// Puts a message with this value after what waits, if it is connected: only then it allocates.
     /// Without memory nothing changes.
     pub fn queue_value(&mut self, head: &Message, value: &Value) -> Result<(), AllocError>

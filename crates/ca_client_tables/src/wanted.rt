@@ -1,8 +1,9 @@
 //! The circuits that are wanted.
-ghost use Rattle.std.specs.Prelude.{◌≡◌, ◌≢◌, ◌++◌, [], IfOk, OnErr, OnOk, filter_map, option_to_list};
+ghost use Rattle.std.specs.Prelude.{◌≡◌, ◌≢◌, ◌++◌, [], IfOk, OnErr, OnOk, filter_map};
+ghost use Rattle.std.specs.Prelude.{option_to_list};
 ghost use Rattle.ca_client_tables.specs.Wanted.{wanted_at};
 
-use crate::circuit::Circuit;
+use crate::circuit::ClientCircuit;
 use crate::ends::Address;
 use ca_arena::Handle;
 use ca_ids::HeldTable;
@@ -39,7 +40,7 @@ impl Model for WantedCircuit {
 /// only if there is one.
 pub fn wanted_in(
     alloc: Global,
-    circuits: &HeldTable<Circuit>,
+    circuits: &HeldTable<ClientCircuit>,
     order: &[Handle],
 ) -> Result<Vec<WantedCircuit>, AllocError>
     ensures ok { IfOk result (λ found.
@@ -55,7 +56,7 @@ pub fn wanted_in(
 
 // Puts the circuit of this handle after what was found, if it is not connected.
 fn note(
-    circuits: &HeldTable<Circuit>,
+    circuits: &HeldTable<ClientCircuit>,
     circuit: Handle,
     found: &mut Vec<WantedCircuit>,
 ) -> Result<(), AllocError>

@@ -20,4 +20,5 @@ IsNotAlone e number = count_of e ≡ 1 → base_number (base_of e) ≡ number �
 
 -- There is one of these, and n has its bytes, of this size, with zeros up to eight.
 abbrev pub IsOneWord : {T : Type 0} → (T → List ℕ) → ℕ → List T → ℕ → Type 0
-IsOneWord {T} spelled size xs n = (x : T) × (xs ≡ x ∷ []) × (spelled x ++ replicate (8 - size) 0 ≡ to_be_bytes w64 n)
+IsOneWord {T} spelled size xs n =
+    (x : T) × (xs ≡ x ∷ []) × (spelled x ++ replicate (8 - size) 0 ≡ to_be_bytes w64 n)

@@ -1,5 +1,7 @@
 -- Conversions between types: through the whole number, element by element.
-use Rattle.std.specs.Prelude.{◌≡◌, ◌⊎◌, IsOk, ℕ, ℤ, pos, negsuc, Bool, true, false, nat_lt, ◌<◌, ◌^◌, if◌then◌else◌, List, [], ◌∷◌, Option, Some, None, Result, Ok, Err, unsigned_abs, IsTrue}
+use Rattle.std.specs.Prelude.{◌≡◌, ◌⊎◌, IsOk, ℕ, ℤ, pos, negsuc, Bool, true, false, nat_lt, ◌<◌}
+use Rattle.std.specs.Prelude.{◌^◌, if◌then◌else◌, List, [], ◌∷◌, Option, Some, None, Result, Ok}
+use Rattle.std.specs.Prelude.{Err, unsigned_abs, IsTrue}
 use Rattle.ca_text.specs.declared.refusal.Refusal.{Refusal}
 use Rattle.ca_text.specs.declared.refusal.Refusal.TheVariants as refusal
 use Rattle.ca_dbr.specs.declared.data_type.BaseType.{BaseType}
@@ -25,7 +27,8 @@ numbered within made None = Err refusal.BadText
 numbered within made (Some z) = (if within z then Ok (made z) else Err refusal.OutOfRange)
 
 -- the first result and the further ones, or the first refusal
-abbrev pub first_and : {T : Type 0} → Result T Refusal → Result (List T) Refusal → Result (List T) Refusal
+abbrev pub first_and : {T : Type 0} → Result T Refusal → Result (List T) Refusal
+    → Result (List T) Refusal
 first_and (Ok y) (Ok ys) = Ok (y ∷ ys)
 first_and (Ok y) (Err e) = Err e
 first_and (Err e) _ = Err e
@@ -40,17 +43,23 @@ abbrev pub Fails : {A : Type 0} → Result A Refusal → Refusal → Type 0
 Fails r e = (r ≡ Err e) ⊎ ((e ≡ refusal.OutOfMemory) × IsOk r)
 
 -- the result made into elements
-abbrev pub then_elements : {T : Type 0} → (List T → Elements) → Result (List T) Refusal → Result Elements Refusal
+abbrev pub then_elements : {T : Type 0} → (List T → Elements) → Result (List T) Refusal
+    → Result Elements Refusal
 then_elements made (Ok xs) = Ok (made xs)
 then_elements made (Err e) = Err e
 
 -- elements with these numbers in another type
 abbrev pub in_base : {S : Type 0} → (S → Option ℤ) → List S → BaseType → Result Elements Refusal
-in_base number xs base.String = then_elements strings (gathered (λ x. numbered (λ _. true) number_text (number x)) xs)
-in_base number xs base.Int = then_elements ints (gathered (λ x. numbered (in_signed 15) (λ z. z) (number x)) xs)
-in_base number xs base.Enum = then_elements enums (gathered (λ x. numbered (in_unsigned 16) unsigned_abs (number x)) xs)
-in_base number xs base.Char = then_elements chars (gathered (λ x. numbered (in_unsigned 8) unsigned_abs (number x)) xs)
-in_base number xs base.Long = then_elements longs (gathered (λ x. numbered (in_signed 31) (λ z. z) (number x)) xs)
+in_base number xs base.String =
+    then_elements strings (gathered (λ x. numbered (λ _. true) number_text (number x)) xs)
+in_base number xs base.Int =
+    then_elements ints (gathered (λ x. numbered (in_signed 15) (λ z. z) (number x)) xs)
+in_base number xs base.Enum =
+    then_elements enums (gathered (λ x. numbered (in_unsigned 16) unsigned_abs (number x)) xs)
+in_base number xs base.Char =
+    then_elements chars (gathered (λ x. numbered (in_unsigned 8) unsigned_abs (number x)) xs)
+in_base number xs base.Long =
+    then_elements longs (gathered (λ x. numbered (in_signed 31) (λ z. z) (number x)) xs)
 in_base number xs base.Float = Err refusal.NoConvert
 in_base number xs base.Double = Err refusal.NoConvert
 
@@ -74,7 +83,9 @@ converted (doubles xs) _ = Err refusal.NoConvert
 
 -- why elements are not converted to the plain type of this number
 abbrev pub ConvertRefused : Elements → ℕ → Refusal → Type 0
-ConvertRefused e number r = ((6 < number) × (r ≡ refusal.BadType)) ⊎ ((b : BaseType) × (base_number b ≡ number) × Fails (converted e b) r)
+ConvertRefused e number r =
+    ((6 < number) × (r ≡ refusal.BadType))
+    ⊎ ((b : BaseType) × (base_number b ≡ number) × Fails (converted e b) r)
 
 -- a type whose elements are numbers, or texts of numbers
 abbrev pub has_numbers : BaseType → Bool

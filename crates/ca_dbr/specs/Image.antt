@@ -13,7 +13,8 @@ use Rattle.ca_dbr.specs.Elements.{Elements, base_of, bytes_2, bytes_4, bytes_of}
 abbrev pub meta_bytes : Form → Meta → List ℕ
 meta_bytes form.Plain m = []
 meta_bytes form.Status m = bytes_2 m.status ++ bytes_2 m.severity
-meta_bytes form.Time m = bytes_2 m.status ++ (bytes_2 m.severity ++ (bytes_4 m.seconds ++ bytes_4 m.nanos))
+meta_bytes form.Time m =
+    bytes_2 m.status ++ (bytes_2 m.severity ++ (bytes_4 m.seconds ++ bytes_4 m.nanos))
 
 -- the metadata, zero bytes, and the elements
 abbrev pub image : DataType → Elements → Meta → List ℕ
@@ -28,6 +29,8 @@ pub record Types (number : ℕ) (e : Elements) (t : DataType) : Type 0 where
 -- answer, and left new.
 abbrev pub Writes : ℕ → Elements → Meta → List ℕ → Result (Unit {0}) Refusal → List ℕ → Type 0
 Writes number e m old (Ok _) new = (t : DataType) × Types number e t × (new ≡ old ++ image t e m)
-Writes number e m old (Err refusal.BadType) new = ((t : DataType) → Types number e t → ⊥) × (new ≡ old)
-Writes number e m old (Err refusal.OutOfMemory) new = (t : DataType) × Types number e t × (new ≡ old)
+Writes number e m old (Err refusal.BadType) new =
+    ((t : DataType) → Types number e t → ⊥) × (new ≡ old)
+Writes number e m old (Err refusal.OutOfMemory) new =
+    (t : DataType) × Types number e t × (new ≡ old)
 Writes number e m old (Err _) new = ⊥

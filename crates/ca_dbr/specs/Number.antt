@@ -1,5 +1,8 @@
 -- Numbers as texts.
-use Rattle.std.specs.Prelude.{ℕ, ◌+◌, ◌-◌, ◌*◌, ◌^◌, ℤ, pos, negsuc, neg_ℤ, min, Bool, ◌&&◌, ◌==◌, nat_lt, if◌then◌else◌, List, [], ◌∷◌, ◌++◌, length, take, drop, replicate, slice_index, Option, Some, None, option_map, ◌≡◌, ◌<◌, true}
+use Rattle.std.specs.Prelude.{ℕ, ◌+◌, ◌-◌, ◌*◌, ◌^◌, ℤ, pos, negsuc, neg_ℤ, min, Bool, ◌&&◌, ◌==◌}
+use Rattle.std.specs.Prelude.{nat_lt, if◌then◌else◌, List, [], ◌∷◌, ◌++◌, length, take, drop}
+use Rattle.std.specs.Prelude.{replicate, slice_index, Option, Some, None, option_map, ◌≡◌, ◌<◌}
+use Rattle.std.specs.Prelude.{true}
 use Rattle.std.specs.Char.{is_ascii_digit}
 use Rattle.std.specs.List.{list_all, prefix_len, before_first}
 use Rattle.std.specs.Fmt.{signed_decimal}
@@ -20,12 +23,15 @@ digits_number (c ∷ cs) = (c - 48) * 10 ^ length cs + digits_number cs
 abbrev pub unsigned_in : List ℕ → Option ℕ
 unsigned_in text =
     let count = prefix_len is_ascii_digit text in
-    if nat_lt 0 count && list_all is_space (drop count text) then Some (digits_number (take count text)) else None
+    if nat_lt 0 count && list_all is_space (drop count text)
+    then Some (digits_number (take count text)) else None
 
 -- a minus may be before it
 abbrev pub signed_in : List ℕ → Option ℤ
 signed_in [] = None
-signed_in (c ∷ cs) = if c == 45 then option_map (λ n. neg_ℤ (pos n)) (unsigned_in cs) else option_map pos (unsigned_in (c ∷ cs))
+signed_in (c ∷ cs) =
+    if c == 45 then option_map (λ n. neg_ℤ (pos n)) (unsigned_in cs)
+    else option_map pos (unsigned_in (c ∷ cs))
 
 -- the number that a text is, if it is one: spaces may be before it and after it
 abbrev pub number_in : List ℕ → Option ℤ

@@ -1,5 +1,6 @@
 -- Reading an image: the lenient converse of writing one.
-use Rattle.std.specs.Prelude.{ℕ, ◌≡◌, ◌≢◌, ◌<◌, ◌≤◌, ◌+◌, ◌-◌, ◌*◌, ◌^◌, ◌++◌, Bool, true, false, List, length, replicate, ◌==◌, if◌then◌else◌}
+use Rattle.std.specs.Prelude.{ℕ, ◌≡◌, ◌≢◌, ◌<◌, ◌≤◌, ◌+◌, ◌-◌, ◌*◌, ◌^◌, ◌++◌, Bool, true, false}
+use Rattle.std.specs.Prelude.{List, length, replicate, ◌==◌, if◌then◌else◌}
 use Rattle.ca_text.specs.declared.refusal.Refusal.{Refusal}
 use Rattle.ca_text.specs.declared.refusal.Refusal.TheVariants as refusal
 use Rattle.ca_dbr.specs.declared.data_type.BaseType.{BaseType}
@@ -28,7 +29,8 @@ pub record IsMeta (m : Meta) : Type 0 where
 -- The bytes of n elements: one STRING may come in fewer than 40 bytes, even in none, and the
 -- missing ones are zero.
 abbrev pub filled : BaseType → ℕ → List ℕ → List ℕ
-filled base.String count bytes = (if count == 1 then bytes ++ replicate (40 - length bytes) 0 else bytes)
+filled base.String count bytes =
+    (if count == 1 then bytes ++ replicate (40 - length bytes) 0 else bytes)
 filled base.Int count bytes = bytes
 filled base.Float count bytes = bytes
 filled base.Enum count bytes = bytes
@@ -46,7 +48,8 @@ pub record ReadsElements (b : BaseType) (count : ℕ) (bytes : List ℕ) (e : El
 
 -- These bytes are read as these elements and this metadata: metadata, any padding, the elements,
 -- and anything after them.
-pub record Reads (t : DataType) (count : ℕ) (bytes : List ℕ) (e : Elements) (m : Meta) : Type 0 where
+pub record Reads (t : DataType) (count : ℕ) (bytes : List ℕ) (e : Elements)
+    (m : Meta) : Type 0 where
   pub padding : List ℕ
   pub body : List ℕ
   pub parts : bytes ≡ meta_bytes t.form m ++ (padding ++ body)
@@ -67,14 +70,18 @@ least_size base.Double count = count * 8
 
 -- the bytes are long enough for metadata, padding and elements
 abbrev pub IsLong : DataType → ℕ → List ℕ → Type 0
-IsLong t count bytes = meta_size t.form + padding_size t.form t.base + least_size t.base count ≤ length bytes
+IsLong t count bytes =
+    meta_size t.form + padding_size t.form t.base + least_size t.base count ≤ length bytes
 
 -- why these bytes are not read: no such type, no reading, or no memory for one; no
 -- elements need no memory
 abbrev pub ReadRefused : ℕ → ℕ → List ℕ → Refusal → Type 0
 ReadRefused number count bytes refusal.BadType = 20 < number
-ReadRefused number count bytes refusal.Short = (t : DataType) × (type_number t ≡ number) × (IsLong t count bytes → ⊥) × ((e : Elements) (m : Meta) → Reads t count bytes e m → ⊥)
-ReadRefused number count bytes refusal.OutOfMemory = (t : DataType) × (type_number t ≡ number) × IsLong t count bytes × (count ≢ 0)
+ReadRefused number count bytes refusal.Short =
+    (t : DataType) × (type_number t ≡ number) × (IsLong t count bytes → ⊥)
+    × ((e : Elements) (m : Meta) → Reads t count bytes e m → ⊥)
+ReadRefused number count bytes refusal.OutOfMemory =
+    (t : DataType) × (type_number t ≡ number) × IsLong t count bytes × (count ≢ 0)
 ReadRefused number count bytes _ = ⊥
 
 -- These elements are one, of the plain type of this number and no text, and the bytes
@@ -88,5 +95,6 @@ pub record CanReadOver (number : ℕ) (bytes : List ℕ) (old : Elements) : Type
 -- One element of the plain type of this number, at the front of these bytes, came in place of
 -- another of that type; or that cannot be, and all stays.
 abbrev pub ReadsOver : (number : ℕ) → List ℕ → (old : Elements) → Bool → (new : Elements) → Type 0
-ReadsOver number bytes old true new = CanReadOver number bytes old × ReadsElements (base_of old) 1 bytes new
+ReadsOver number bytes old true new =
+    CanReadOver number bytes old × ReadsElements (base_of old) 1 bytes new
 ReadsOver number bytes old false new = (CanReadOver number bytes old → ⊥) × (new ≡ old)

@@ -1,5 +1,6 @@
 -- What a read shows: n elements of a value, in a type.
-use Rattle.std.specs.Prelude.{ℕ, ◌≡◌, ◌<◌, ◌-◌, pos, List, ◌++◌, take, replicate, All, Result, Ok, Err, ◌⊎◌}
+use Rattle.std.specs.Prelude.{ℕ, ◌≡◌, ◌<◌, ◌-◌, pos, List, ◌++◌, take, replicate, All, Result, Ok}
+use Rattle.std.specs.Prelude.{Err, ◌⊎◌}
 use Rattle.std.specs.List.{flat_map}
 use Rattle.ca_text.specs.declared.refusal.Refusal.{Refusal}
 use Rattle.ca_text.specs.declared.refusal.Refusal.TheVariants as refusal
@@ -7,7 +8,8 @@ use Rattle.ca_dbr.specs.declared.data_type.BaseType.{BaseType}
 use Rattle.ca_dbr.specs.declared.data_type.DataType.{DataType}
 use Rattle.ca_dbr.specs.declared.value.Meta.{Meta}
 use Rattle.ca_dbr.specs.Types.{type_number}
-use Rattle.ca_dbr.specs.Elements.{Elements, strings, ints, floats, enums, chars, longs, doubles, count_of, bytes_of, IsValue}
+use Rattle.ca_dbr.specs.Elements.{Elements, strings, ints, floats, enums, chars, longs, doubles}
+use Rattle.ca_dbr.specs.Elements.{count_of, bytes_of, IsValue}
 use Rattle.ca_dbr.specs.Image.{image}
 use Rattle.ca_dbr.specs.Conversion.{Fails, converted}
 
@@ -42,8 +44,10 @@ shown e count b = zeros_behind (count - count_of e) (converted (first_elements c
 
 -- The bytes of the results were put after the old bytes, with this answer, and left new: after a
 -- refusal some bytes may be after the old ones.
-abbrev pub PutsAll : {T : Type 0} → (T → List ℕ) → (T → Type 0) → Result (List T) Refusal → List ℕ → Result (Unit {0}) Refusal → List ℕ → Type 0
-PutsAll {T} spelled fits to old (Ok _) new = (ys : List T) × (to ≡ Ok ys) × (new ≡ old ++ flat_map spelled ys) × All fits ys
+abbrev pub PutsAll : {T : Type 0} → (T → List ℕ) → (T → Type 0) → Result (List T) Refusal → List ℕ
+    → Result (Unit {0}) Refusal → List ℕ → Type 0
+PutsAll {T} spelled fits to old (Ok _) new =
+    (ys : List T) × (to ≡ Ok ys) × (new ≡ old ++ flat_map spelled ys) × All fits ys
 PutsAll spelled fits to old (Err r) new = (to ≡ Err r) × ((x : List ℕ) × (new ≡ old ++ x))
 
 -- The elements of this result were put after the old bytes, with this answer, and left new: after a
@@ -53,14 +57,21 @@ Puts to old (Ok _) new = (e : Elements) × (to ≡ Ok e) × (new ≡ old ++ byte
 Puts to old (Err r) new = (to ≡ Err r) × ((x : List ℕ) × (new ≡ old ++ x))
 
 -- The image of what a read shows was put after the old bytes, with this answer, and left new.
-abbrev pub PutsShown : DataType → ℕ → Elements → Meta → List ℕ → Result (Unit {0}) Refusal → List ℕ → Type 0
-PutsShown t count e m old (Ok _) new = (f : Elements) × (shown e count t.base ≡ Ok f) × (new ≡ old ++ image t f m) × IsValue f
-PutsShown t count e m old (Err r) new = (shown e count t.base ≡ Err r) × ((x : List ℕ) × (new ≡ old ++ x))
+abbrev pub PutsShown : DataType → ℕ → Elements → Meta → List ℕ → Result (Unit {0}) Refusal → List ℕ
+    → Type 0
+PutsShown t count e m old (Ok _) new =
+    (f : Elements) × (shown e count t.base ≡ Ok f) × (new ≡ old ++ image t f m) × IsValue f
+PutsShown t count e m old (Err r) new =
+    (shown e count t.base ≡ Err r) × ((x : List ℕ) × (new ≡ old ++ x))
 
 -- The image of what a read shows was to be written after the old bytes, with this
 -- answer, and left new.
-abbrev pub WritesShown : ℕ → ℕ → Elements → Meta → List ℕ → Result (Unit {0}) Refusal → List ℕ → Type 0
+abbrev pub WritesShown : ℕ → ℕ → Elements → Meta → List ℕ → Result (Unit {0}) Refusal → List ℕ
+    → Type 0
 WritesShown number count e m old (Ok _) new =
-    (t : DataType) × (type_number t ≡ number) × ((f : Elements) × (shown e count t.base ≡ Ok f) × (new ≡ old ++ image t f m) × IsValue f)
+    (t : DataType) × (type_number t ≡ number)
+    × ((f : Elements) × (shown e count t.base ≡ Ok f) × (new ≡ old ++ image t f m) × IsValue f)
 WritesShown number count e m old (Err r) new =
-    (new ≡ old) × (((20 < number) × (r ≡ refusal.BadType)) ⊎ ((t : DataType) × (type_number t ≡ number) × Fails (shown e count t.base) r))
+    (new ≡ old)
+    × (((20 < number) × (r ≡ refusal.BadType))
+    ⊎ ((t : DataType) × (type_number t ≡ number) × Fails (shown e count t.base) r))

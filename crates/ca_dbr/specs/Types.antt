@@ -29,7 +29,9 @@ type_number t = base_number t.base + form_number t.form
 -- the plain type of this number below 7
 abbrev pub base_at : ℕ → BaseType
 base_at n =
-    if n == 0 then base.String else if n == 1 then base.Int else if n == 2 then base.Float else if n == 3 then base.Enum else if n == 4 then base.Char else if n == 5 then base.Long else base.Double
+    if n == 0 then base.String else if n == 1 then base.Int else if n == 2 then base.Float
+    else if n == 3 then base.Enum else if n == 4 then base.Char else if n == 5 then base.Long
+    else base.Double
 
 -- the form of this seven of numbers
 abbrev pub form_at : ℕ → Form

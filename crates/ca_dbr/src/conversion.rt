@@ -1,14 +1,17 @@
-ghost use Rattle.std.specs.Prelude.{◌≢◌, [], IsOk, Ok, Err, length, vec_capacity, ◌≤◌, ◌≡◌, true, false, ◌<◌, Some, None, Result, MatchResult, IfOk, IfErr, IsTrue, ◌↔◌};
+ghost use Rattle.std.specs.Prelude.{◌≢◌, [], IsOk, Ok, Err, length, vec_capacity, ◌≤◌, ◌≡◌, true};
+ghost use Rattle.std.specs.Prelude.{false, ◌<◌, Some, None, Result, MatchResult, IfOk, IfErr};
+ghost use Rattle.std.specs.Prelude.{IsTrue, ◌↔◌};
 ghost use Rattle.ca_text.specs.declared.refusal.Refusal.{Refusal};
 ghost use Rattle.ca_text.specs.declared.refusal.Refusal.TheVariants.{OutOfMemory};
 ghost use Rattle.ca_dbr.specs.declared.data_type.BaseType.{BaseType};
 ghost use Rattle.ca_dbr.specs.Types.{base_number};
 ghost use Rattle.ca_dbr.specs.declared.data_type.BaseType.TheVariants as base_type;
 ghost use Rattle.ca_dbr.specs.Elements.{count_of, elements};
-ghost use Rattle.ca_dbr.specs.Conversion.{gathered, Fails, in_base, converted, ConvertRefused, has_numbers, HasConversion};
+ghost use Rattle.ca_dbr.specs.Conversion.{gathered, Fails, in_base, converted, ConvertRefused};
+ghost use Rattle.ca_dbr.specs.Conversion.{has_numbers, HasConversion};
 
 use crate::data_type::BaseType;
-use crate::numeric::{Conversion, Source, ToNumber, ToText, Whole};
+use crate::numeric::{Conversion, NumberSource, ToNumber, ToText, Whole};
 use crate::value::{Value, copied};
 use ca_text::Refusal;
 use std::alloc::Global;
@@ -49,7 +52,7 @@ fn convert_into<S: Copy + Drop, T: Drop, C: Conversion<S, T>>(
 }
 
 /// The elements that these convert to.
-fn convert_all<S: Copy + Drop, T: Drop, C: Conversion<S, T>>(
+pub fn convert_all<S: Copy + Drop, T: Drop, C: Conversion<S, T>>(
     alloc: Global,
     items: &[S],
 ) -> Result<Vec<T>, Refusal>
@@ -71,7 +74,7 @@ fn convert_all<S: Copy + Drop, T: Drop, C: Conversion<S, T>>(
 }
 
 /// The elements of these numbers in a type other than STRING.
-fn to_numbers<S: Source>(alloc: Global, items: &[S], base: BaseType) -> Result<Value, Refusal>
+fn to_numbers<S: NumberSource>(alloc: Global, items: &[S], base: BaseType) -> Result<Value, Refusal>
     requires { base ≢ base_type.String }
     ensures ok { IfOk result (λ value. in_base S.number items.now base ≡ Ok (elements value)) }
     ensures err { IfErr result (Fails (in_base S.number items.now base)) }

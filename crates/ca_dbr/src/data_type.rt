@@ -1,7 +1,8 @@
 ghost use Rattle.std.specs.Prelude.{◌≡◌, ◌<◌, MatchOption};
 ghost use Rattle.ca_dbr.specs.declared.data_type.BaseType.{BaseType};
 ghost use Rattle.ca_dbr.specs.declared.data_type.DataType.{DataType};
-ghost use Rattle.ca_dbr.specs.Types.{base_number, type_number, element_size, meta_size, padding_size};
+ghost use Rattle.ca_dbr.specs.Types.{base_number, type_number, element_size, meta_size};
+ghost use Rattle.ca_dbr.specs.Types.{padding_size};
 
 /// The type of an element (section "Payload Data Types").
 #[derive(Clone, Copy, Debug, PartialEq, Eq)]

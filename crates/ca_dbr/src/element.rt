@@ -1,13 +1,16 @@
-ghost use Rattle.std.specs.Prelude.{[], ◌∷◌, ◌≡◌, ℕ, ◌≤◌, ◌<◌, ◌^◌, ◌+◌, ◌-◌, ◌*◌, ◌++◌, List, length, replicate, take, All, IfOk, OnErr, ◌≢◌, FitsSigned, vec_len, vec_capacity};
+ghost use Rattle.std.specs.Prelude.{[], ◌∷◌, ◌≡◌, ℕ, ◌≤◌, ◌<◌, ◌^◌, ◌+◌, ◌-◌, ◌*◌, ◌++◌, List};
+ghost use Rattle.std.specs.Prelude.{length, replicate, take, All, IfOk, OnErr, ◌≢◌, FitsSigned};
+ghost use Rattle.std.specs.Prelude.{vec_len, vec_capacity};
 ghost use Rattle.std.specs.List.{flat_map};
 ghost use Rattle.std.specs.Int.{to_be_bytes, w16, w32, w64};
-ghost use Rattle.ca_dbr.specs.Elements.{string_bytes, byte_1, bytes_2, bytes_4, bytes_8, signed_bytes_2, signed_bytes_4};
+ghost use Rattle.ca_dbr.specs.Elements.{string_bytes, byte_1, bytes_2, bytes_4, bytes_8};
+ghost use Rattle.ca_dbr.specs.Elements.{signed_bytes_2, signed_bytes_4};
 
 use std::alloc::AllocError;
 use std::mem;
 
 /// An element as it is in an image.
-pub(crate) trait Element: Copy + Drop {
+pub(crate) trait ImageElement: Copy + Drop {
     ghost SIZE: { ℕ };
 
     /// How many bytes it takes.
@@ -50,7 +53,7 @@ fn put_bytes(bytes: &[u8], out: &mut Vec<u8>)
     }
 }
 
-impl Element for [u8; 40] {
+impl ImageElement for [u8; 40] {
     ghost SIZE = { 40 };
 
     ghost spelled = { string_bytes };
@@ -74,7 +77,7 @@ impl Element for [u8; 40] {
     }
 }
 
-impl Element for i16 {
+impl ImageElement for i16 {
     ghost SIZE = { 2 };
 
     ghost spelled = { signed_bytes_2 };
@@ -96,7 +99,7 @@ impl Element for i16 {
     }
 }
 
-impl Element for u32 {
+impl ImageElement for u32 {
     ghost SIZE = { 4 };
 
     ghost spelled = { bytes_4 };
@@ -118,7 +121,7 @@ impl Element for u32 {
     }
 }
 
-impl Element for u16 {
+impl ImageElement for u16 {
     ghost SIZE = { 2 };
 
     ghost spelled = { bytes_2 };
@@ -140,7 +143,7 @@ impl Element for u16 {
     }
 }
 
-impl Element for u8 {
+impl ImageElement for u8 {
     ghost SIZE = { 1 };
 
     ghost spelled = { byte_1 };
@@ -162,7 +165,7 @@ impl Element for u8 {
     }
 }
 
-impl Element for i32 {
+impl ImageElement for i32 {
     ghost SIZE = { 4 };
 
     ghost spelled = { signed_bytes_4 };
@@ -184,7 +187,7 @@ impl Element for i32 {
     }
 }
 
-impl Element for u64 {
+impl ImageElement for u64 {
     ghost SIZE = { 8 };
 
     ghost spelled = { bytes_8 };
@@ -209,7 +212,7 @@ impl Element for u64 {
 }
 
 /// An element of at most 8 bytes.
-pub(crate) trait Small: Element {
+pub(crate) trait Small: ImageElement {
     /// Its bytes and zeros after them as one number, the first byte the highest.
     fn word(self) -> u64
         ensures { Self.spelled self ++ replicate (8 - Self.SIZE) 0 ≡ to_be_bytes w64 result };
@@ -262,7 +265,7 @@ impl Small for u64 {
 }
 
 /// Tells that all elements are in their ranges. It does nothing.
-pub(crate) fn know_all<E: Element>(items: &[E])
+pub(crate) fn know_all<E: ImageElement>(items: &[E])
     ensures { All E.fits items.now }
 {
     for item in items {
@@ -271,7 +274,7 @@ pub(crate) fn know_all<E: Element>(items: &[E])
 }
 
 /// Puts the bytes of all elements at the end, where room was made for them.
-pub(crate) fn put_all<E: Element>(items: &[E], out: &mut Vec<u8>)
+pub(crate) fn put_all<E: ImageElement>(items: &[E], out: &mut Vec<u8>)
     requires { vec_len out.old + length items.now * E.SIZE ≤ vec_capacity out.old }
     ensures after { out.new.items ≡ out.old.items ++ flat_map E.spelled items.now }
     ensures len { vec_len out.new ≡ vec_len out.old + length items.now * E.SIZE }
@@ -288,7 +291,7 @@ pub(crate) fn put_all<E: Element>(items: &[E], out: &mut Vec<u8>)
 
 /// Reads n elements from the front, into this room, of which nothing else is left.
 #[inline(always)]
-pub(crate) fn read_all<E: Element>(
+pub(crate) fn read_all<E: ImageElement>(
     room: Vec<E>,
     count: usize,
     bytes: &[u8],
@@ -312,7 +315,7 @@ pub(crate) fn read_all<E: Element>(
 
 /// This room, empty, with place for n elements.
 #[inline(always)]
-fn emptied<E: Element>(room: Vec<E>, count: usize) -> Result<Vec<E>, AllocError>
+fn emptied<E: ImageElement>(room: Vec<E>, count: usize) -> Result<Vec<E>, AllocError>
     ensures empty { IfOk result (λ v. v.items ≡ []) }
     ensures len { IfOk result (λ v. vec_len v ≡ 0) }
     ensures room { IfOk result (λ v. count ≤ vec_capacity v) }
@@ -329,7 +332,7 @@ fn emptied<E: Element>(room: Vec<E>, count: usize) -> Result<Vec<E>, AllocError>
 /// This empty room, grown to have place for n elements. It takes the room and hands it back, so
 /// that whoever has it keeps it in registers.
 #[inline(never)]
-fn grown<E: Element>(room: Vec<E>, count: usize) -> Result<Vec<E>, AllocError>
+fn grown<E: ImageElement>(room: Vec<E>, count: usize) -> Result<Vec<E>, AllocError>
     requires empty { room.items ≡ [] }
     requires len { vec_len room ≡ 0 }
     ensures empty { IfOk result (λ v. v.items ≡ []) }

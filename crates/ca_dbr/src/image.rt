@@ -1,4 +1,5 @@
-ghost use Rattle.std.specs.Prelude.{◌≡◌, ◌≤◌, ◌<◌, ◌+◌, ◌-◌, ◌*◌, ◌^◌, ◌++◌, min, replicate, MatchResult, OnOk, vec_len, vec_capacity, IfErr};
+ghost use Rattle.std.specs.Prelude.{◌≡◌, ◌≤◌, ◌<◌, ◌+◌, ◌-◌, ◌*◌, ◌^◌, ◌++◌, min, replicate};
+ghost use Rattle.std.specs.Prelude.{MatchResult, OnOk, vec_len, vec_capacity, IfErr};
 ghost use Rattle.ca_dbr.specs.declared.data_type.DataType.{DataType};
 ghost use Rattle.ca_dbr.specs.Types.{type_number, element_size, meta_size, size_of_image};
 ghost use Rattle.ca_dbr.specs.Elements.{elements, base_of, count_of, bytes_of, IsValue};
@@ -7,7 +8,7 @@ ghost use Rattle.ca_dbr.specs.Reading.{IsMeta};
 ghost use Rattle.ca_text.specs.declared.refusal.Refusal.TheVariants.{BadType, OutOfMemory};
 
 use crate::data_type::{DataType, Form};
-use crate::element::{Element, put_all};
+use crate::element::{ImageElement, put_all};
 use crate::value::{Meta, Value};
 use ca_text::Refusal;
 

@@ -2,7 +2,6 @@
 //! and the conversions between them.
 #![tactic(auto)]
 
-mod alone;
 mod conversion;
 mod data_type;
 mod element;
@@ -11,13 +10,15 @@ mod laws;
 mod number;
 mod numeric;
 mod reading;
+mod scalar;
 mod shown;
 mod value;
 
-pub use conversion::{convert, convert_to, has_conversion};
+pub use conversion::{convert, convert_all, convert_to, has_conversion};
 pub use data_type::{BaseType, DataType, Form};
 pub use image::{image_size, write_value};
 pub use laws::{one_number, one_reading, wanted_shown, why_not_shown};
+pub use numeric::{Conversion, Target};
 pub use reading::{read_value, read_value_into};
 pub use shown::write_shown;
 pub use value::{Meta, Outcome, Value};

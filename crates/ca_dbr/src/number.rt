@@ -1,7 +1,9 @@
-ghost use Rattle.std.specs.Prelude.{◌≡◌, ◌≤◌, ◌<◌, ◌+◌, ◌-◌, ◌*◌, ◌^◌, ◌==◌, min, length, option_map, Some};
+ghost use Rattle.std.specs.Prelude.{◌≡◌, ◌≤◌, ◌<◌, ◌+◌, ◌-◌, ◌*◌, ◌^◌, ◌==◌, min, length};
+ghost use Rattle.std.specs.Prelude.{option_map, Some};
 ghost use Rattle.std.specs.Char.{is_ascii_digit};
 ghost use Rattle.std.specs.List.{prefix_len};
-ghost use Rattle.ca_dbr.specs.Number.{text_of, is_space, digits_number, unsigned_in, number_in, number_text, clipped};
+ghost use Rattle.ca_dbr.specs.Number.{text_of, is_space, digits_number, unsigned_in, number_in};
+ghost use Rattle.ca_dbr.specs.Number.{number_text, clipped};
 
 use itoa::Buffer;
 

@@ -1,4 +1,5 @@
-ghost use Rattle.std.specs.Prelude.{Ok, Err, ◌≡◌, ℤ, pos, Bool, true, false, ◌<◌, Option, Some, None, Result, option_map, unsigned_abs, MatchOption};
+ghost use Rattle.std.specs.Prelude.{Ok, Err, ◌≡◌, ℤ, pos, Bool, true, false, ◌<◌, Option, Some};
+ghost use Rattle.std.specs.Prelude.{None, Result, option_map, unsigned_abs, MatchOption};
 ghost use Rattle.ca_text.specs.declared.refusal.Refusal.{Refusal};
 ghost use Rattle.ca_dbr.specs.declared.data_type.BaseType.TheVariants as base_type;
 ghost use Rattle.ca_dbr.specs.Number.{text_of, number_in, number_text, clipped};
@@ -8,7 +9,7 @@ use crate::number::{read_number, text_of, write_number};
 use ca_text::Refusal;
 
 /// An element that may be a number.
-pub(crate) trait Source: Copy + Drop {
+pub(crate) trait NumberSource: Copy + Drop {
     /// Its number: none if it is a text that is no number.
     ghost number: { Self → Option ℤ };
 
@@ -18,13 +19,13 @@ pub(crate) trait Source: Copy + Drop {
 }
 
 /// An element that is a number.
-pub(crate) trait Whole: Source {
+pub(crate) trait Whole: NumberSource {
     fn whole(self) -> i64
         ensures { Self.number self ≡ Some result };
 }
 
 /// An element that a number may be made into.
-pub(crate) trait Target: Copy + Drop {
+pub trait Target: Copy + Drop {
     ghost within: { ℤ → Bool };
 
     ghost made: { ℤ → Self };
@@ -35,7 +36,7 @@ pub(crate) trait Target: Copy + Drop {
             → MatchOption result (within z ≡ false) (λ x. (within z ≡ true) × (x ≡ made z)) };
 }
 
-impl Source for [u8; 40] {
+impl NumberSource for [u8; 40] {
     ghost number = { λ x. number_in (text_of x) };
 
     fn near_number(self) -> Option<i64> {
@@ -43,7 +44,7 @@ impl Source for [u8; 40] {
     }
 }
 
-impl Source for i16 {
+impl NumberSource for i16 {
     ghost number = { λ z. Some z };
 
     fn near_number(self) -> Option<i64> {
@@ -57,7 +58,7 @@ impl Whole for i16 {
     }
 }
 
-impl Source for u16 {
+impl NumberSource for u16 {
     ghost number = { λ n. Some (pos n) };
 
     fn near_number(self) -> Option<i64> {
@@ -71,7 +72,7 @@ impl Whole for u16 {
     }
 }
 
-impl Source for u8 {
+impl NumberSource for u8 {
     ghost number = { λ n. Some (pos n) };
 
     fn near_number(self) -> Option<i64> {
@@ -85,7 +86,7 @@ impl Whole for u8 {
     }
 }
 
-impl Source for i32 {
+impl NumberSource for i32 {
     ghost number = { λ z. Some z };
 
     fn near_number(self) -> Option<i64> {
@@ -164,7 +165,7 @@ impl Target for i32 {
 }
 
 /// A way from one element to another.
-pub(crate) trait Conversion<S: Copy, T> {
+pub trait Conversion<S: Copy, T> {
     ghost gives: { S → Result T Refusal };
 
     fn convert(from: S) -> Result<T, Refusal>
@@ -177,7 +178,7 @@ pub(crate) struct ToNumber;
 /// From a number to its text.
 pub(crate) struct ToText;
 
-impl<S: Source, T: Target> Conversion<S, T> for ToNumber {
+impl<S: NumberSource, T: Target> Conversion<S, T> for ToNumber {
     ghost gives = { λ x. numbered T.within T.made (S.number x) };
 
     fn convert(from: S) -> Result<T, Refusal> {

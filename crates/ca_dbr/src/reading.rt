@@ -1,13 +1,15 @@
-ghost use Rattle.std.specs.Prelude.{◌≡◌, ◌≤◌, ◌<◌, ◌+◌, ◌-◌, ◌*◌, ◌++◌, All, false, length, take, drop, replicate, true, IfOk, IfErr, OnErr, ◌≢◌};
+ghost use Rattle.std.specs.Prelude.{◌≡◌, ◌≤◌, ◌<◌, ◌+◌, ◌-◌, ◌*◌, ◌++◌, All, false, length, take};
+ghost use Rattle.std.specs.Prelude.{drop, replicate, true, IfOk, IfErr, OnErr, ◌≢◌};
 ghost use Rattle.std.specs.List.{flat_map};
 ghost use Rattle.ca_dbr.specs.declared.data_type.DataType.{DataType};
 ghost use Rattle.ca_dbr.specs.Types.{type_number, meta_size};
 ghost use Rattle.ca_dbr.specs.Elements.{elements};
 ghost use Rattle.ca_dbr.specs.Image.{meta_bytes};
-ghost use Rattle.ca_dbr.specs.Reading.{carried, IsMeta, ReadsElements, ReadsOver, Reads, ReadRefused, least_size};
+ghost use Rattle.ca_dbr.specs.Reading.{carried, IsMeta, ReadsElements, ReadsOver, Reads};
+ghost use Rattle.ca_dbr.specs.Reading.{ReadRefused, least_size};
 
 use crate::data_type::{BaseType, DataType, Form};
-use crate::element::{Element, read_all};
+use crate::element::{ImageElement, read_all};
 use crate::value::{Meta, Value};
 use ca_text::Refusal;
 use std::alloc::{AllocError, Global};
@@ -113,7 +115,7 @@ impl Value {
 /// Reads an element over the one that is there. False, and nothing changes, if there is not just
 /// one, or the bytes are too few.
 #[inline(always)]
-fn read_one_over<E: Element>(items: &mut Vec<E>, bytes: &[u8]) -> bool
+fn read_one_over<E: ImageElement>(items: &mut Vec<E>, bytes: &[u8]) -> bool
     ensures again { result ≡ true → flat_map E.spelled items.new.items ≡ take E.SIZE bytes.now }
     ensures count { result ≡ true → length items.new.items ≡ 1 }
     ensures one { result ≡ true → length items.old.items ≡ 1 }

@@ -1,4 +1,5 @@
-ghost use Rattle.std.specs.Prelude.{◌≡◌, ◌≢◌, ◌≤◌, ◌<◌, ◌+◌, ◌-◌, ◌*◌, min, length, take, Ok, Err, IfErr, IsOk, OnOk, MatchResult, vec_len, vec_capacity};
+ghost use Rattle.std.specs.Prelude.{◌≡◌, ◌≢◌, ◌≤◌, ◌<◌, ◌+◌, ◌-◌, ◌*◌, min, length, take, Ok, Err};
+ghost use Rattle.std.specs.Prelude.{IfErr, IsOk, OnOk, MatchResult, vec_len, vec_capacity};
 ghost use Rattle.ca_dbr.specs.declared.data_type.BaseType.TheVariants as base_type;
 ghost use Rattle.ca_dbr.specs.Types.{element_size, size_of_image, type_number};
 ghost use Rattle.ca_dbr.specs.declared.data_type.DataType.{DataType};
@@ -10,9 +11,9 @@ ghost use Rattle.ca_dbr.specs.Shown.{first_elements, Puts, PutsAll, PutsShown, W
 
 use crate::conversion::check_all;
 use crate::data_type::{BaseType, DataType};
-use crate::element::{Element, put_all};
+use crate::element::{ImageElement, put_all};
 use crate::image::{put_meta, put_zeros, size_for};
-use crate::numeric::{Conversion, Source, ToNumber, ToText, Whole};
+use crate::numeric::{Conversion, NumberSource, ToNumber, ToText, Whole};
 use crate::value::{Meta, Value};
 use ca_text::Refusal;
 
@@ -28,7 +29,7 @@ fn first<T>(items: &[T], count: usize) -> &[T]
 }
 
 /// Puts the bytes of what these convert to at the end, where room was made for them.
-fn put_converted<S: Copy + Drop, T: Element, C: Conversion<S, T>>(
+fn put_converted<S: Copy + Drop, T: ImageElement, C: Conversion<S, T>>(
     items: &[S],
     out: &mut Vec<u8>,
 ) -> Result<(), Refusal>
@@ -49,7 +50,11 @@ fn put_converted<S: Copy + Drop, T: Element, C: Conversion<S, T>>(
 
 /// Puts the elements of these numbers in a type other than STRING at the end, where
 /// room was made for them.
-fn put_numbers<S: Source>(items: &[S], base: BaseType, out: &mut Vec<u8>) -> Result<(), Refusal>
+fn put_numbers<S: NumberSource>(
+    items: &[S],
+    base: BaseType,
+    out: &mut Vec<u8>,
+) -> Result<(), Refusal>
     requires other { base ≢ base_type.String }
     requires room { vec_len out.old + length items.now * element_size base ≤ vec_capacity out.old }
     ensures puts { Puts (in_base S.number items.now base) out.old.items result out.new.items }
@@ -83,7 +88,7 @@ fn put_whole<S: Whole>(items: &[S], base: BaseType, out: &mut Vec<u8>) -> Result
 }
 
 /// Puts the first of these elements at the end, where room was made for them.
-fn put_same<E: Element>(items: &[E], count: usize, out: &mut Vec<u8>) -> Result<(), Refusal>
+fn put_same<E: ImageElement>(items: &[E], count: usize, out: &mut Vec<u8>) -> Result<(), Refusal>
     requires { vec_len out.old + min count (length items.now) * E.SIZE ≤ vec_capacity out.old }
     ensures puts { PutsAll E.spelled E.fits (Ok (take count items.now)) out.old.items result
         out.new.items }
@@ -124,7 +129,7 @@ fn put_first(value: &Value, count: usize, base: BaseType, out: &mut Vec<u8>) -> 
 }
 
 /// Whether these numbers are in a type other than STRING; the first that is not decides.
-fn check_numbers<S: Source>(items: &[S], base: BaseType) -> Result<(), Refusal>
+fn check_numbers<S: NumberSource>(items: &[S], base: BaseType) -> Result<(), Refusal>
     requires { base ≢ base_type.String }
     ensures { MatchResult result (λ _. IsOk (in_base S.number items.now base))
         (λ e. in_base S.number items.now base ≡ Err e) }

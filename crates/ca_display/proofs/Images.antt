@@ -1,6 +1,5 @@
 -- What an image with display data is made of.
-use Rattle.std.proofs.Common.{◌≡◌, ℕ, ◌+◌, ◌<◌, List, ◌++◌, take, refl, sym, ap, subst, ◌∙◌, append_assoc, arith, Result, Ok, Err, OnOk, IfErr, IsOk, inl, inr, length, true≢false}
-use Rattle.std.proofs.lemmas.List.{take_at}
+use Rattle.std.proofs.Common.{◌≡◌, ℕ, ◌+◌, ◌*◌, ◌<◌, ◌≤◌, List, ◌++◌, refl, sym, ap, subst, ◌∙◌, append_assoc, arith, Result, Ok, Err, IsOk, inl, inr, true≢false}
 use Rattle.ca_text.specs.declared.refusal.Refusal.{Refusal}
 use Rattle.ca_text.specs.declared.refusal.Refusal.TheVariants as refusal
 use Rattle.ca_dbr.specs.declared.data_type.BaseType.{BaseType}
@@ -8,18 +7,18 @@ use Rattle.ca_dbr.specs.declared.data_type.BaseType.TheVariants as base
 use Rattle.ca_dbr.specs.declared.data_type.Form.TheVariants as plain_form
 use Rattle.ca_dbr.specs.declared.data_type.DataType.{DataType}
 use Rattle.ca_dbr.specs.declared.value.Meta.{Meta}
-use Rattle.ca_dbr.specs.Types.{base_number, type_number}
+use Rattle.ca_dbr.specs.Types.{base_number, type_number, element_size, size_of_image}
 use Rattle.ca_dbr.specs.Elements.{Elements, strings, ints, floats, enums, chars, longs, doubles, base_of, bytes_of}
-use Rattle.ca_dbr.specs.Image.{image, meta_bytes, Writes}
+use Rattle.ca_dbr.specs.Image.{image, meta_bytes}
 use Rattle.ca_dbr.specs.Shown.{shown, WritesShown}
 use Rattle.ca_dbr.proofs.OneReading.{base_number-one, base_number-small, type_number-one}
 use Rattle.ca_display.specs.declared.display_type.DisplayForm.{DisplayForm}
 use Rattle.ca_display.specs.declared.display_type.DisplayType.{DisplayType}
 use Rattle.ca_display.specs.declared.display_type.DisplayForm.TheVariants as form
-use Rattle.ca_display.specs.Types.{form_number, display_number, limit_count}
+use Rattle.ca_display.specs.Types.{form_number, display_number}
 use Rattle.ca_display.specs.Limits.{limits_in}
 use Rattle.ca_display.specs.Data.{DisplayData}
-use Rattle.ca_display.specs.Image.{limit_bytes, data_bytes, display_image, DisplayTypes, WritesDisplay}
+use Rattle.ca_display.specs.Image.{data_bytes, display_image, DisplayTypes}
 
 -- no metadata
 abbrev pub zero_meta : Meta
@@ -50,20 +49,6 @@ base_of-limits base.Double ns = refl
 pub three_pieces : (o a b c o1 o2 o3 : List ℕ) → o1 ≡ o ++ a → o2 ≡ o1 ++ b → o3 ≡ o2 ++ c → o3 ≡ o ++ (a ++ (b ++ c))
 three_pieces o a b c o1 o2 o3 p q r =
     r ∙ ap (λ (x : List ℕ). x ++ c) (q ∙ ap (λ (x : List ℕ). x ++ b) p) ∙ append_assoc (o ++ a) b c ∙ append_assoc o a (b ++ c)
-
--- limits that were put after units
-pub limits_put : (b : BaseType) (f : DisplayForm) (d : DisplayData) (number : ℕ) (e : Elements) (m : Meta) (old mid new : List ℕ) (r : Result (Unit {0}) Refusal) → number ≡ base_number b → e ≡ limits_in b (take (limit_count f) d.limits) → mid ≡ old ++ d.units → Writes number e m mid r new → OnOk r (new ≡ old ++ limit_bytes b f d)
-limits_put b f d number e m old mid new (Ok _) n is front w =
-    w.2 ∙ ap (λ (x : List ℕ). mid ++ x) (image-plain w.0 b e m (w.1.numbered ∙ n) ∙ ap bytes_of is) ∙ ap (λ (x : List ℕ). x ++ bytes_of (limits_in b (take (limit_count f) d.limits))) front ∙ append_assoc old d.units (bytes_of (limits_in b (take (limit_count f) d.limits)))
-limits_put b f d number e m old mid new (Err _) n is front w = tt
-
--- limits are refused for memory alone
-pub limits_refused : (b : BaseType) (number : ℕ) (ns : List ℕ) (e : Elements) (m : Meta) (old new : List ℕ) (r : Result (Unit {0}) Refusal) → number ≡ base_number b → e ≡ limits_in b ns → Writes number e m old r new → IfErr r (λ x. x ≡ refusal.OutOfMemory)
-limits_refused b number ns e m old new (Ok _) n is w = tt
-limits_refused b number ns e m old new (Err refusal.OutOfMemory) n is w = refl
-limits_refused b number ns e m old new (Err refusal.BadType) n is w =
-    absurd (w.0 (plain b) (record { numbered = plain-number b ∙ sym n; based = sym (ap base_of is ∙ base_of-limits b ns) }))
-limits_refused b number ns e m old new (Err _) n is w = absurd w
 
 -- elements that were put after all else
 pub display_put : (t : DisplayType) (count : ℕ) (e : Elements) (m zero : Meta) (d : DisplayData) (number : ℕ) (old front mid new : List ℕ) → number ≡ base_number t.base → front ≡ meta_bytes plain_form.Status m ++ data_bytes t.base t.form d → mid ≡ old ++ front → WritesShown number count e zero mid (Ok tt) new → (f : Elements) × (shown e count t.base ≡ Ok f) × (new ≡ old ++ display_image t f m d)
@@ -96,11 +81,12 @@ for_memory b count e zero given mid after r n based w =
           ]
     ]
 
--- such elements are refused for memory alone, and nothing is left then
-pub display_refused : (t : DisplayType) (count : ℕ) (e : Elements) (m zero : Meta) (d : DisplayData) (number given n : ℕ) (old front mid after new : List ℕ) (r : Refusal) → given ≡ base_number t.base → DisplayTypes number e t → n ≡ length old → mid ≡ old ++ front → new ≡ take n after → WritesShown given count e zero mid (Err r) after → WritesDisplay number count e m d old (Err r) new
-display_refused t count e m zero d number given n old front mid after new r is types len is_mid is_new w =
-    let same : new ≡ old = is_new ∙ ap (λ (x : List ℕ). take n x) (w.0 ∙ is_mid) ∙ take_at old front n (sym len) in
-    subst (λ (x : Refusal). WritesDisplay number count e m d old (Err x) new) (sym (for_memory t.base count e zero given mid after r is (sym types.based) w)) (t, types, same)
+-- such elements are not refused where there is room for them
+pub display_fits : (t : DisplayType) (count : ℕ) (e : Elements) (zero : Meta) (given : ℕ) (mid after : List ℕ) (r : Refusal) (len capacity : ℕ) → given ≡ base_number t.base → base_of e ≡ t.base → WritesShown given count e zero mid (Err r) after → (r ≡ refusal.OutOfMemory → (s : DataType) × (type_number s ≡ given) × (capacity < len + size_of_image s count)) → len + count * element_size t.base ≤ capacity → ⊥
+display_fits t count e zero given mid after r len capacity is based w needs enough =
+    let lacks = needs (for_memory t.base count e zero given mid after r is based w) in
+    let size : size_of_image lacks.0 count ≡ size_of_image (plain t.base) count = ap (λ (s : DataType). size_of_image s count) (plain-one lacks.0 t.base (lacks.1 ∙ is)) in
+    omega (arith, lacks.2, size, enough)
 
 forms-one : (f g : DisplayForm) (b c : ℕ) → b < 7 → c < 7 → b + form_number f ≡ c + form_number g → (f ≡ g) × (b ≡ c)
 forms-one form.Graphic form.Graphic b c p q e = (refl, omega arith)

@@ -4,4 +4,7 @@ pub mod Data
 pub mod Image
 pub mod Reading
 pub mod Number
+pub mod States
+pub mod Decimal
+pub mod Conversion
 pub mod Alarm

@@ -1,12 +1,14 @@
 -- Conversions between numbers for records with display data, element by element.
-use Rattle.std.specs.Prelude.{ℕ, ℤ, Bool, if◌then◌else◌, List, Option, Some, None, Result, Ok, Err}
-use Rattle.std.specs.Prelude.{is_nan, to_bits}
+use Rattle.std.specs.Prelude.{ℕ, ℤ, Bool, if◌then◌else◌, List, drop, Option, Some, None, Result, Ok}
+use Rattle.std.specs.Prelude.{Err, is_nan, to_bits, option_and_then}
 use Rattle.std.specs.Int.{w64}
 use Rattle.std.specs.Float.{Float, Format, binary32, binary64, float_to_signed, round_to_format}
 use Rattle.std.specs.Float.Ieee.{of_int}
-use Rattle.std.specs.Float.Parse.{parse_float}
+use Rattle.std.specs.Float.Parse.{read_float}
+use Rattle.std.specs.List.{list_all, prefix_len}
 use Rattle.ca_text.specs.declared.refusal.Refusal.{Refusal}
 use Rattle.ca_text.specs.declared.refusal.Refusal.TheVariants as refusal
+use Rattle.ca_dbr.specs.Number.{is_space}
 use Rattle.ca_display.specs.declared.number.Number.{Number}
 use Rattle.ca_display.specs.declared.number.Number.TheVariants as number
 
@@ -30,14 +32,29 @@ abbrev pub as_double : Number → ℕ
 as_double (number.Whole z) = to_bits binary64 (of_int binary64 z)
 as_double (number.Real x) = to_bits binary64 x
 
--- the bit pattern of what a text writes, if it is a number
-abbrev pub written : Format → Option Float → Result ℕ Refusal
-written f None = Err refusal.BadText
-written f (Some x) = Ok (to_bits f x)
+-- the number at the front of a text, if spaces alone are after it
+abbrev pub front_float : Format → List ℕ → Option Float
+front_float f text =
+    option_and_then (λ r. if list_all is_space (drop r.1 text) then Some r.0 else None)
+    (read_float f text)
 
--- the FLOAT and the DOUBLE nearest to what a text writes, as a decimal number or with an exponent
+-- the number of a format nearest to what a text writes, as a decimal number or with an exponent:
+-- spaces may be before it and after it
+abbrev pub float_in : Format → List ℕ → Option Float
+float_in f text = front_float f (drop (prefix_len is_space text) text)
+
+-- the bit pattern of the FLOAT that a text writes
+abbrev pub float_bits : Option Float → Result ℕ Refusal
+float_bits None = Err refusal.BadText
+float_bits (Some x) = Ok (to_bits binary32 x)
+
 abbrev pub float_text : List ℕ → Result ℕ Refusal
-float_text text = written binary32 (parse_float binary32 text)
+float_text text = float_bits (float_in binary32 text)
 
-abbrev pub double_text : List ℕ → Result ℕ Refusal
-double_text text = written binary64 (parse_float binary64 text)
+-- the number that a text writes, which is a DOUBLE
+abbrev pub double_number : Option Float → Result Number Refusal
+double_number None = Err refusal.BadText
+double_number (Some x) = Ok (number.Real x)
+
+abbrev pub text_number : List ℕ → Result Number Refusal
+text_number text = double_number (float_in binary64 text)

@@ -1,5 +1,5 @@
 //! Display data of a record, and how it is made.
-ghost use Rattle.std.specs.Prelude.{◌≡◌, ◌++◌, ◌∷◌, [], ◌<◌, length, IfOk, IfErr, OnErr};
+ghost use Rattle.std.specs.Prelude.{◌≡◌, ◌++◌, ◌∷◌, [], ◌<◌, ◌≤◌, length, IfOk, IfErr, OnErr};
 ghost use Rattle.ca_display.specs.Data.{data_of, limits_of, FitsField, in_field, StateRefused};
 ghost use Rattle.ca_text.specs.declared.refusal.Refusal.TheVariants.{NameLength};
 
@@ -123,7 +123,15 @@ fn fixed<const SIZE: usize>(text: &[u8]) -> Result<[u8; SIZE], Refusal>
     if text.len() >= SIZE || text.contains(&0) {
         return Err(Refusal::NameLength);
     }
+    Ok(field_of(text))
+}
+
+/// A text in a field of this size, with zero bytes after it.
+pub(crate) fn field_of<const SIZE: usize>(text: &[u8]) -> [u8; SIZE]
+    requires { length text.now ≤ SIZE }
+    ensures { result ≡ in_field SIZE text.now }
+{
     let mut field = [0; SIZE];
     field[..text.len()].copy_from_slice(text);
-    Ok(field)
+    field
 }

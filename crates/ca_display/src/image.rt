@@ -1,13 +1,13 @@
 //! Images with display data, written: what is before the elements, and the elements.
-ghost use Rattle.std.specs.Prelude.{◌≡◌, ◌≤◌, ◌<◌, ◌⊎◌, ◌++◌, ◌-◌, ◌*◌, ◌^◌, min, length};
-ghost use Rattle.std.specs.Prelude.{replicate, IfOk, IfErr, OnOk, MatchResult};
+ghost use Rattle.std.specs.Prelude.{◌≡◌, ◌≤◌, ◌<◌, ◌⊎◌, ◌++◌, ◌+◌, ◌-◌, ◌*◌, length, replicate};
+ghost use Rattle.std.specs.Prelude.{IfErr, MatchResult, vec_len, vec_capacity};
 ghost use Rattle.std.specs.List.{flat_map};
 ghost use Rattle.ca_dbr.specs.declared.data_type.Form.TheVariants as plain_form;
+ghost use Rattle.ca_dbr.specs.Types.{element_size};
 ghost use Rattle.ca_dbr.specs.Elements.{elements, string_bytes, bytes_2};
 ghost use Rattle.ca_dbr.specs.Image.{meta_bytes};
 ghost use Rattle.ca_display.specs.declared.display_type.DisplayType.{DisplayType};
 ghost use Rattle.ca_display.specs.Types.{display_number, data_size, limit_count};
-ghost use Rattle.ca_display.specs.Limits.{limits_in};
 ghost use Rattle.ca_display.specs.Data.{data_of};
 ghost use Rattle.ca_display.specs.Image.{limit_bytes, real_bytes, data_bytes, size_of_display};
 ghost use Rattle.ca_display.specs.Image.{WritesDisplay};
@@ -15,10 +15,9 @@ ghost use Rattle.ca_text.specs.declared.refusal.Refusal.TheVariants.{BadType, Ou
 
 use crate::display::{Display, STATE_LIMIT};
 use crate::display_type::{DisplayForm, DisplayType};
-use crate::limits::limits_in;
-use ca_dbr::{BaseType, Meta, Value, write_shown, write_value};
+use crate::limits::{put_bytes, put_limits_in};
+use ca_dbr::{BaseType, Meta, Value, write_shown};
 use ca_text::Refusal;
-use std::alloc::{AllocError, Global};
 
 // How many bytes are between status and severity and the elements.
 pub(crate) fn data_size(data_type: DisplayType) -> usize
@@ -36,6 +35,14 @@ pub(crate) fn data_size(data_type: DisplayType) -> usize
     }
 }
 
+// How many bytes an image of n elements takes.
+fn size_for(data_type: DisplayType, count: u32) -> usize
+    ensures { result ≡ size_of_display data_type count }
+{
+    let front = 4 + data_size(data_type);
+    front + count as usize * data_type.base.element_size()
+}
+
 /// How many bytes an image of n elements takes. Refused as BadType if the type is none with
 /// display data.
 pub fn display_size(number: u16, count: u32) -> Result<usize, Refusal>
@@ -46,124 +53,132 @@ pub fn display_size(number: u16, count: u32) -> Result<usize, Refusal>
 {
     match DisplayType::of(number) {
         None => Err(Refusal::BadType),
-        Some(data_type) => {
-            let front = 4 + data_size(data_type);
-            Ok(front + count as usize * data_type.base.element_size())
-        }
+        Some(data_type) => Ok(size_for(data_type, count)),
     }
 }
 
-// Puts n zero bytes at the end.
-fn put_zeros(count: usize, out: &mut Vec<u8>) -> Result<(), AllocError>
-    requires { count ≤ 416 }
-    ensures { OnOk result (out.new.items ≡ out.old.items ++ replicate count 0) }
+// Puts n zero bytes at the end, where room was made for them.
+fn put_zeros(count: usize, out: &mut Vec<u8>)
+    requires { vec_len out.old + count ≤ vec_capacity out.old }
+    ensures after { out.new.items ≡ out.old.items ++ replicate count 0 }
+    ensures len { vec_len out.new ≡ vec_len out.old + count }
+    ensures capacity { vec_capacity out.old ≤ vec_capacity out.new }
 {
     let len = out.len() + count;
-    out.resize(len, 0)
+    match out.resize(len, 0) {
+        Ok(()) => {}
+        Err(_) => unreachable!(),
+    }
 }
 
-// Puts units and limits at the end.
-fn put_limits(data_type: DisplayType, display: &Display, out: &mut Vec<u8>) -> Result<(), Refusal>
-    ensures ok { OnOk result (out.new.items ≡ out.old.items
-        ++ limit_bytes data_type.base data_type.form (data_of display.now)) }
-    ensures err { IfErr result (λ e. e ≡ OutOfMemory) }
+// Puts units and limits at the end, where room was made for them.
+fn put_limits(data_type: DisplayType, display: &Display, out: &mut Vec<u8>)
+    requires { vec_len out.old + (8 + limit_count data_type.form * element_size data_type.base)
+        ≤ vec_capacity out.old }
+    ensures after { out.new.items ≡ out.old.items
+        ++ limit_bytes data_type.base data_type.form (data_of display.now) }
+    ensures len { vec_len out.new
+        ≤ vec_len out.old + (8 + limit_count data_type.form * element_size data_type.base) }
+    ensures capacity { vec_capacity out.old ≤ vec_capacity out.new }
 {
     let all = display.limits.in_order();
-    let limits = limits_in(
-        *out.allocator(),
-        data_type.base,
-        &all[..data_type.limit_count()],
-    )?;
-    out.extend_from_slice(&display.units)?;
-    write_value(data_type.base.number(), &limits, &Meta::ZERO, out)
+    put_bytes(&display.units, out);
+    put_limits_in(data_type.base, &all[..data_type.limit_count()], out);
 }
 
-// Puts precision, padding, units and limits at the end.
+// Puts precision, padding, units and limits at the end, where room was made for them.
 #[tactic(auto, unfolding(ca_dbr::specs::Elements::signed_bytes_2))]
-fn put_real(data_type: DisplayType, display: &Display, out: &mut Vec<u8>) -> Result<(), Refusal>
-    ensures ok { OnOk result (out.new.items ≡ out.old.items
-        ++ real_bytes data_type.base data_type.form (data_of display.now)) }
-    ensures err { IfErr result (λ e. e ≡ OutOfMemory) }
+fn put_real(data_type: DisplayType, display: &Display, out: &mut Vec<u8>)
+    requires { vec_len out.old + (12 + limit_count data_type.form * element_size data_type.base)
+        ≤ vec_capacity out.old }
+    ensures after { out.new.items ≡ out.old.items
+        ++ real_bytes data_type.base data_type.form (data_of display.now) }
+    ensures len { vec_len out.new
+        ≤ vec_len out.old + (12 + limit_count data_type.form * element_size data_type.base) }
+    ensures capacity { vec_capacity out.old ≤ vec_capacity out.new }
 {
-    out.extend_from_slice(&display.precision.to_be_bytes())?;
-    put_zeros(2, out)?;
-    put_limits(data_type, display, out)
+    put_bytes(&display.precision.to_be_bytes(), out);
+    put_zeros(2, out);
+    put_limits(data_type, display, out);
 }
 
-// Puts these names at the end.
+// Puts these names at the end, where room was made for them.
 #[tactic(auto, unfolding(ca_dbr::specs::Elements::string_bytes))]
-fn put_names(names: &[[u8; 26]], out: &mut Vec<u8>) -> Result<(), AllocError>
-    ensures { OnOk result (out.new.items ≡ out.old.items ++ flat_map string_bytes names.now) }
+fn put_names(names: &[[u8; 26]], out: &mut Vec<u8>)
+    requires { vec_len out.old + length names.now * 26 ≤ vec_capacity out.old }
+    ensures after { out.new.items ≡ out.old.items ++ flat_map string_bytes names.now }
+    ensures len { vec_len out.new ≡ vec_len out.old + length names.now * 26 }
+    ensures capacity { vec_capacity out.old ≤ vec_capacity out.new }
 {
     for name in names {
-        out.extend_from_slice(name)?;
+        put_bytes(name, out);
     }
-    Ok(())
 }
 
-// Puts the number of states, their names and those that are missing at the end.
+// Puts the number of states, their names and those that are missing at the end, where room was
+// made for them.
 #[tactic(auto, unfolding(ca_dbr::specs::Elements::bytes_2))]
-fn put_states(names: &[[u8; 26]], out: &mut Vec<u8>) -> Result<(), Refusal>
-    requires { length names.now ≤ 16 }
-    ensures ok { OnOk result (out.new.items ≡ out.old.items ++ (bytes_2 (length names.now)
+fn put_states(names: &[[u8; 26]], out: &mut Vec<u8>)
+    requires few { length names.now ≤ 16 }
+    requires room { vec_len out.old + 418 ≤ vec_capacity out.old }
+    ensures after { out.new.items ≡ out.old.items ++ (bytes_2 (length names.now)
         ++ (flat_map string_bytes names.now
-        ++ replicate ((16 - length names.now) * 26) 0))) }
-    ensures err { IfErr result (λ e. e ≡ OutOfMemory) }
+        ++ replicate ((16 - length names.now) * 26) 0)) }
+    ensures len { vec_len out.new ≤ vec_len out.old + 418 }
+    ensures capacity { vec_capacity out.old ≤ vec_capacity out.new }
 {
-    out.extend_from_slice(&(names.len() as u16).to_be_bytes())?;
-    put_names(names, out)?;
-    put_zeros((STATE_LIMIT - names.len()) * 26, out)?;
-    Ok(())
+    put_bytes(&(names.len() as u16).to_be_bytes(), out);
+    put_names(names, out);
+    put_zeros((STATE_LIMIT - names.len()) * 26, out);
 }
 
-// Puts the display data that is in an image at the end.
-fn put_data(data_type: DisplayType, display: &Display, out: &mut Vec<u8>) -> Result<(), Refusal>
-    requires { length display.now.states.items ≤ 16 }
-    ensures ok { OnOk result (out.new.items ≡ out.old.items
-        ++ data_bytes data_type.base data_type.form (data_of display.now)) }
-    ensures err { IfErr result (λ e. e ≡ OutOfMemory) }
+// Puts the display data that is in an image at the end, where room was made for it.
+fn put_data(data_type: DisplayType, display: &Display, out: &mut Vec<u8>)
+    requires few { length display.now.states.items ≤ 16 }
+    requires room { vec_len out.old + data_size data_type.base data_type.form
+        ≤ vec_capacity out.old }
+    ensures after { out.new.items ≡ out.old.items
+        ++ data_bytes data_type.base data_type.form (data_of display.now) }
+    ensures len { vec_len out.new ≤ vec_len out.old + data_size data_type.base data_type.form }
+    ensures capacity { vec_capacity out.old ≤ vec_capacity out.new }
 {
     match data_type.base {
-        BaseType::String => Ok(()),
+        BaseType::String => {}
         BaseType::Int => put_limits(data_type, display, out),
         BaseType::Float => put_real(data_type, display, out),
         BaseType::Enum => put_states(&display.states, out),
         BaseType::Char => {
-            put_limits(data_type, display, out)?;
-            put_zeros(1, out)?;
-            Ok(())
+            put_limits(data_type, display, out);
+            put_zeros(1, out);
         }
         BaseType::Long => put_limits(data_type, display, out),
         BaseType::Double => put_real(data_type, display, out),
     }
 }
 
-// What is before the elements of an image.
+// Puts what is before the elements of an image at the end, where room was made for it.
 #[tactic(auto, unfolding(ca_dbr::specs::Elements::bytes_2))]
-fn front_of(
-    alloc: Global,
-    data_type: DisplayType,
-    meta: Meta,
-    display: &Display,
-) -> Result<Vec<u8>, Refusal>
-    requires { length display.now.states.items ≤ 16 }
-    ensures front { IfOk result (λ v. v.items ≡ meta_bytes plain_form.Status meta
+fn put_front(data_type: DisplayType, meta: Meta, display: &Display, out: &mut Vec<u8>)
+    requires few { length display.now.states.items ≤ 16 }
+    requires room { vec_len out.old + (4 + data_size data_type.base data_type.form)
+        ≤ vec_capacity out.old }
+    ensures after { out.new.items ≡ out.old.items ++ (meta_bytes plain_form.Status meta
         ++ data_bytes data_type.base data_type.form (data_of display.now)) }
-    ensures err { IfErr result (λ e. e ≡ OutOfMemory) }
+    ensures len { vec_len out.new
+        ≤ vec_len out.old + (4 + data_size data_type.base data_type.form) }
+    ensures capacity { vec_capacity out.old ≤ vec_capacity out.new }
 {
-    let mut front = Vec::new(alloc);
-    front.extend_from_slice(&meta.status.to_be_bytes())?;
-    front.extend_from_slice(&meta.severity.to_be_bytes())?;
-    put_data(data_type, display, &mut front)?;
-    Ok(front)
+    put_bytes(&meta.status.to_be_bytes(), out);
+    put_bytes(&meta.severity.to_be_bytes(), out);
+    put_data(data_type, display, out);
 }
 
 /// Writes the image of n elements of a value with display data at the end of the bytes.
 ///
 /// A count below the value's takes its first elements; after all of them elements of zero bytes
 /// follow. Refused as BadType if the type is none with display data or not of the value's own
-/// base, as BadCount if there are more than 16 states, then as OutOfMemory; the bytes are then as
-/// before.
+/// base, as BadCount if there are more than 16 states, then as OutOfMemory, only if there is no
+/// room for it; the bytes are then as before.
 pub fn write_display(
     number: u16,
     count: u32,
@@ -172,8 +187,11 @@ pub fn write_display(
     display: &Display,
     out: &mut Vec<u8>,
 ) -> Result<(), Refusal>
-    ensures { WritesDisplay number count (elements value.now) meta.now (data_of display.now)
+    ensures written { WritesDisplay number count (elements value.now) meta.now (data_of display.now)
         out.old.items result out.new.items }
+    ensures room { IfErr result (λ e. e ≡ OutOfMemory
+        → (t : DisplayType) × (display_number t ≡ number)
+        × (vec_capacity out.old < vec_len out.old + size_of_display t count)) }
 {
     let data_type = match DisplayType::of(number) {
         None => return Err(Refusal::BadType),
@@ -186,14 +204,10 @@ pub fn write_display(
     if display.states.len() > STATE_LIMIT {
         return Err(Refusal::BadCount);
     }
-    let front = front_of(*out.allocator(), data_type, *meta, display)?;
-    let start = out.len();
-    out.extend_from_slice(&front)?;
-    match write_shown(data_type.base.number(), count, value, &Meta::ZERO, out) {
+    out.reserve(size_for(data_type, count))?;
+    put_front(data_type, *meta, display, out);
+    match write_shown(own.number(), count, value, &Meta::ZERO, out) {
         Ok(()) => Ok(()),
-        Err(refusal) => {
-            out.truncate(start);
-            Err(refusal)
-        }
+        Err(_) => unreachable!(),
     }
 }

@@ -3,18 +3,23 @@
 #![tactic(auto)]
 
 mod alarm;
+mod conversion;
+mod decimal;
 mod display;
 mod display_type;
 mod image;
 mod laws;
 mod limits;
 mod number;
+mod numeric;
 mod reading;
+mod states;
 
 pub use alarm::alarm_of;
+pub use conversion::convert_display;
 pub use display::{Display, Limits};
 pub use display_type::{DisplayForm, DisplayType};
 pub use image::{display_size, write_display};
 pub use laws::one_display;
-pub use number::{Number, double_of_text, float_of_text};
+pub use number::{Number, float_of_text, number_of_text};
 pub use reading::read_display;

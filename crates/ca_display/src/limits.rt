@@ -1,6 +1,10 @@
 //! Limits in the type of an image, and as DOUBLEs again.
-ghost use Rattle.std.specs.Prelude.{◌≡◌, ℕ, map, take, IfOk};
-ghost use Rattle.ca_dbr.specs.Elements.{elements};
+ghost use Rattle.std.specs.Prelude.{◌≡◌, ◌≤◌, ℕ, ◌+◌, ◌*◌, ◌++◌, List, length, map, IfOk, vec_len};
+ghost use Rattle.std.specs.Prelude.{vec_capacity};
+ghost use Rattle.std.specs.List.{flat_map};
+ghost use Rattle.ca_dbr.specs.Types.{element_size};
+ghost use Rattle.ca_dbr.specs.Elements.{elements, bytes_of, byte_1, bytes_4, bytes_8};
+ghost use Rattle.ca_dbr.specs.Elements.{signed_bytes_2, signed_bytes_4};
 ghost use Rattle.ca_display.specs.Limits.{int_limit, char_limit, long_limit, float_limit};
 ghost use Rattle.ca_display.specs.Limits.{double_limit, limits_in, whole_as_double};
 ghost use Rattle.ca_display.specs.Limits.{natural_as_double, float_as_double, as_doubles};
@@ -12,11 +16,28 @@ use std::num::{
     f64_to_bits_with_nan, nearest_f64_to_f32_with_nan, nearest_i64_to_f64, saturating_f64_to_i32,
 };
 
+// Puts these bytes at the end, where room was made for them.
+pub(crate) fn put_bytes(bytes: &[u8], out: &mut Vec<u8>)
+    requires { vec_len out.old + length bytes.now ≤ vec_capacity out.old }
+    ensures after { out.new.items ≡ out.old.items ++ bytes.now }
+    ensures len { vec_len out.new ≡ vec_len out.old + length bytes.now }
+    ensures capacity { vec_capacity out.old ≤ vec_capacity out.new }
+{
+    match out.extend_from_slice(bytes) {
+        Ok(()) => {}
+        Err(_) => unreachable!(),
+    }
+}
+
 // An element that a limit may be shown as.
 trait Limit: Copy + Drop {
+    ghost SIZE: { ℕ };
+
     ghost narrowed: { ℕ → Self };
 
     ghost widened: { Self → ℕ };
+
+    ghost spelled: { Self → List ℕ };
 
     /// What a limit is in this type.
     fn of_double(bits: u64) -> Self
@@ -25,12 +46,23 @@ trait Limit: Copy + Drop {
     /// The DOUBLE that it is.
     fn as_double(self) -> u64
         ensures { result ≡ widened self };
+
+    /// Puts its bytes at the end, where room was made for them.
+    fn put(self, out: &mut Vec<u8>)
+        requires { vec_len out.old + SIZE ≤ vec_capacity out.old }
+        ensures after { out.new.items ≡ out.old.items ++ spelled self }
+        ensures len { vec_len out.new ≡ vec_len out.old + SIZE }
+        ensures capacity { vec_capacity out.old ≤ vec_capacity out.new };
 }
 
 impl Limit for i16 {
+    ghost SIZE = { 2 };
+
     ghost narrowed = { int_limit };
 
     ghost widened = { whole_as_double };
+
+    ghost spelled = { signed_bytes_2 };
 
     fn of_double(bits: u64) -> i16 {
         let low = i32::of_double(bits).cast_unsigned() % 0x1_0000;
@@ -40,12 +72,21 @@ impl Limit for i16 {
     fn as_double(self) -> u64 {
         f64_to_bits_with_nan(nearest_i64_to_f64(i64::from(self)))
     }
+
+    #[tactic(auto, unfolding(ca_dbr::specs::Elements::signed_bytes_2))]
+    fn put(self, out: &mut Vec<u8>) {
+        put_bytes(&self.to_be_bytes(), out);
+    }
 }
 
 impl Limit for u8 {
+    ghost SIZE = { 1 };
+
     ghost narrowed = { char_limit };
 
     ghost widened = { natural_as_double };
+
+    ghost spelled = { byte_1 };
 
     fn of_double(bits: u64) -> u8 {
         (i32::of_double(bits).cast_unsigned() % 0x100) as u8
@@ -54,12 +95,21 @@ impl Limit for u8 {
     fn as_double(self) -> u64 {
         f64_to_bits_with_nan(nearest_i64_to_f64(i64::from(self)))
     }
+
+    #[tactic(auto, unfolding(ca_dbr::specs::Elements::byte_1))]
+    fn put(self, out: &mut Vec<u8>) {
+        put_bytes(&[self], out);
+    }
 }
 
 impl Limit for i32 {
+    ghost SIZE = { 4 };
+
     ghost narrowed = { long_limit };
 
     ghost widened = { whole_as_double };
+
+    ghost spelled = { signed_bytes_4 };
 
     fn of_double(bits: u64) -> i32 {
         saturating_f64_to_i32(f64_from_bits_with_nan(bits))
@@ -68,12 +118,21 @@ impl Limit for i32 {
     fn as_double(self) -> u64 {
         f64_to_bits_with_nan(nearest_i64_to_f64(i64::from(self)))
     }
+
+    #[tactic(auto, unfolding(ca_dbr::specs::Elements::signed_bytes_4))]
+    fn put(self, out: &mut Vec<u8>) {
+        put_bytes(&self.to_be_bytes(), out);
+    }
 }
 
 impl Limit for u32 {
+    ghost SIZE = { 4 };
+
     ghost narrowed = { float_limit };
 
     ghost widened = { float_as_double };
+
+    ghost spelled = { bytes_4 };
 
     fn of_double(bits: u64) -> u32 {
         f32_to_bits_with_nan(nearest_f64_to_f32_with_nan(f64_from_bits_with_nan(bits)))
@@ -82,12 +141,21 @@ impl Limit for u32 {
     fn as_double(self) -> u64 {
         f64_to_bits_with_nan(f32_to_f64_with_nan(f32_from_bits_with_nan(self)))
     }
+
+    #[tactic(auto, unfolding(ca_dbr::specs::Elements::bytes_4))]
+    fn put(self, out: &mut Vec<u8>) {
+        put_bytes(&self.to_be_bytes(), out);
+    }
 }
 
 impl Limit for u64 {
+    ghost SIZE = { 8 };
+
     ghost narrowed = { double_limit };
 
     ghost widened = { double_limit };
+
+    ghost spelled = { bytes_8 };
 
     fn of_double(bits: u64) -> u64 {
         bits
@@ -96,31 +164,42 @@ impl Limit for u64 {
     fn as_double(self) -> u64 {
         self
     }
-}
 
-// These limits in a type.
-fn of_doubles<T: Limit>(alloc: Global, limits: &[u64]) -> Result<Vec<T>, AllocError>
-    ensures { IfOk result (λ v. v.items ≡ map T.narrowed limits.now) }
-{
-    let mut items = Vec::new(alloc);
-    for limit in limits {
-        items.push(T::of_double(*limit))?;
+    #[tactic(auto, unfolding(ca_dbr::specs::Elements::bytes_8))]
+    fn put(self, out: &mut Vec<u8>) {
+        put_bytes(&self.to_be_bytes(), out);
     }
-    Ok(items)
 }
 
-// These limits in the type of an image: none in STRING and ENUM.
-pub(crate) fn limits_in(alloc: Global, base: BaseType, limits: &[u64]) -> Result<Value, AllocError>
-    ensures { IfOk result (λ value. elements value ≡ limits_in base limits.now) }
+// Puts these limits in a type at the end, where room was made for them.
+fn put_all<T: Limit>(limits: &[u64], out: &mut Vec<u8>)
+    requires { vec_len out.old + length limits.now * T.SIZE ≤ vec_capacity out.old }
+    ensures after { out.new.items ≡ out.old.items
+        ++ flat_map T.spelled (map T.narrowed limits.now) }
+    ensures len { vec_len out.new ≡ vec_len out.old + length limits.now * T.SIZE }
+    ensures capacity { vec_capacity out.old ≤ vec_capacity out.new }
+{
+    for limit in limits {
+        T::of_double(*limit).put(out);
+    }
+}
+
+// Puts these limits in the type of an image at the end, where room was made for them: none in
+// STRING and ENUM.
+pub(crate) fn put_limits_in(base: BaseType, limits: &[u64], out: &mut Vec<u8>)
+    requires { vec_len out.old + length limits.now * element_size base ≤ vec_capacity out.old }
+    ensures after { out.new.items ≡ out.old.items ++ bytes_of (limits_in base limits.now) }
+    ensures len { vec_len out.new ≤ vec_len out.old + length limits.now * element_size base }
+    ensures capacity { vec_capacity out.old ≤ vec_capacity out.new }
 {
     match base {
-        BaseType::String => Ok(Value::Strings(Vec::new(alloc))),
-        BaseType::Int => Ok(Value::Ints(of_doubles(alloc, limits)?)),
-        BaseType::Float => Ok(Value::Floats(of_doubles(alloc, limits)?)),
-        BaseType::Enum => Ok(Value::Enums(Vec::new(alloc))),
-        BaseType::Char => Ok(Value::Chars(of_doubles(alloc, limits)?)),
-        BaseType::Long => Ok(Value::Longs(of_doubles(alloc, limits)?)),
-        BaseType::Double => Ok(Value::Doubles(of_doubles(alloc, limits)?)),
+        BaseType::String => {}
+        BaseType::Int => put_all::<i16>(limits, out),
+        BaseType::Float => put_all::<u32>(limits, out),
+        BaseType::Enum => {}
+        BaseType::Char => put_all::<u8>(limits, out),
+        BaseType::Long => put_all::<i32>(limits, out),
+        BaseType::Double => put_all::<u64>(limits, out),
     }
 }
 

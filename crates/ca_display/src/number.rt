@@ -1,14 +1,23 @@
-//! A number in each type, as a record with display data converts it.
-ghost use Rattle.std.specs.Prelude.{◌≡◌, ℤ, unsigned_abs};
-ghost use Rattle.ca_dbr.specs.Conversion.{in_signed, in_unsigned};
-ghost use Rattle.ca_display.specs.Number.{whole_of, in_type, as_float, as_double, float_text};
-ghost use Rattle.ca_display.specs.Number.{double_text};
+//! A number in each type, and the number that a text writes, as a record with display data converts
+//! them.
+ghost use Rattle.std.specs.Prelude.{◌≡◌, ◌≤◌, length, option_map};
+ghost use Rattle.std.specs.List.{list_all, prefix_len};
+ghost use Rattle.ca_dbr.specs.Number.{clipped, is_space};
+ghost use Rattle.ca_display.specs.Number.{whole_of, in_type, as_float, as_double, float_in};
+ghost use Rattle.ca_display.specs.Number.{float_text, text_number};
 
+use ca_dbr::Target;
 use ca_text::Refusal;
+use fast_float::FastFloat;
 use std::num::{
     f32_to_bits_with_nan, f64_to_bits_with_nan, nearest_f64_to_f32_with_nan, nearest_i64_to_f32,
     nearest_i64_to_f64, saturating_f64_to_i64,
 };
+
+// No number of a whole type is further from zero.
+const FAR: i64 = 0x1_0000_0000;
+
+const SPACE: u8 = b' ';
 
 /// The number that an element is.
 #[derive(Clone, Copy)]
@@ -20,78 +29,33 @@ pub enum Number {
 }
 
 impl Number {
-    /// The whole number that it is towards zero, if it is one.
-    fn whole(self) -> Option<i64>
-        ensures { result ≡ whole_of self }
+    /// The whole number that it is towards zero, or the nearest that matters; none if it is no
+    /// number.
+    fn near_whole(self) -> Option<i64>
+        ensures { result ≡ option_map clipped (whole_of self) }
     {
         match self {
-            Number::Whole(z) => Some(z),
+            Number::Whole(z) => Some(z.clamp(-FAR, FAR)),
             Number::Real(x) => {
                 if x.is_nan() {
                     return None;
                 }
-                Some(saturating_f64_to_i64(x))
+                Some(saturating_f64_to_i64(x).clamp(-FAR, FAR))
             }
         }
     }
 
-    /// As an INT. Refused as OutOfRange if it is outside the type, or no number.
-    pub fn to_int(self) -> Result<i16, Refusal>
-        ensures { result ≡ in_type (in_signed 15) (λ (z : ℤ). z) (whole_of self) }
+    /// As an element of a whole type, towards zero. Refused as OutOfRange if it is outside the
+    /// type, or no number.
+    pub fn to_whole<T: Target>(self) -> Result<T, Refusal>
+        ensures { result ≡ in_type T.within T.made (whole_of self) }
     {
-        match self.whole() {
+        match self.near_whole() {
             None => Err(Refusal::OutOfRange),
-            Some(z) => {
-                if z < -32768 || z > 32767 {
-                    return Err(Refusal::OutOfRange);
-                }
-                Ok(z as i16)
-            }
-        }
-    }
-
-    /// As an ENUM. Refused as OutOfRange if it is outside the type, or no number.
-    pub fn to_enum(self) -> Result<u16, Refusal>
-        ensures { result ≡ in_type (in_unsigned 16) unsigned_abs (whole_of self) }
-    {
-        match self.whole() {
-            None => Err(Refusal::OutOfRange),
-            Some(z) => {
-                if z < 0 || z > 65535 {
-                    return Err(Refusal::OutOfRange);
-                }
-                Ok(z as u16)
-            }
-        }
-    }
-
-    /// As a CHAR. Refused as OutOfRange if it is outside the type, or no number.
-    pub fn to_char(self) -> Result<u8, Refusal>
-        ensures { result ≡ in_type (in_unsigned 8) unsigned_abs (whole_of self) }
-    {
-        match self.whole() {
-            None => Err(Refusal::OutOfRange),
-            Some(z) => {
-                if z < 0 || z > 255 {
-                    return Err(Refusal::OutOfRange);
-                }
-                Ok(z as u8)
-            }
-        }
-    }
-
-    /// As a LONG. Refused as OutOfRange if it is outside the type, or no number.
-    pub fn to_long(self) -> Result<i32, Refusal>
-        ensures { result ≡ in_type (in_signed 31) (λ (z : ℤ). z) (whole_of self) }
-    {
-        match self.whole() {
-            None => Err(Refusal::OutOfRange),
-            Some(z) => {
-                if z < -2147483648 || z > 2147483647 {
-                    return Err(Refusal::OutOfRange);
-                }
-                Ok(z as i32)
-            }
+            Some(near) => match T::of_number(near) {
+                None => Err(Refusal::OutOfRange),
+                Some(element) => Ok(element),
+            },
         }
     }
 
@@ -116,24 +80,65 @@ impl Number {
     }
 }
 
-/// The bit pattern of the FLOAT nearest to the number that a text writes. Refused as BadText if it
-/// writes none.
-pub fn float_of_text(text: &[u8]) -> Result<u32, Refusal>
-    ensures { result ≡ float_text text.now }
+// How many spaces are at the front.
+fn leading_spaces(bytes: &[u8]) -> usize
+    ensures count { result ≡ prefix_len is_space bytes.now }
+    ensures within { result ≤ length bytes.now }
 {
-    match fast_float::parse::<f32, _>(text) {
-        Err(_) => Err(Refusal::BadText),
-        Ok(x) => Ok(f32_to_bits_with_nan(x)),
+    for (i, byte) in bytes.iter().enumerate() {
+        if *byte != SPACE {
+            return i;
+        }
+    }
+    bytes.len()
+}
+
+// Whether these are spaces alone.
+fn is_blank(bytes: &[u8]) -> bool
+    ensures { result ≡ list_all is_space bytes.now }
+{
+    for byte in bytes {
+        if *byte != SPACE {
+            return false;
+        }
+    }
+    true
+}
+
+// The number that a text writes, if it writes one.
+fn read_float<F: FastFloat>(text: &[u8]) -> Option<F>
+    ensures { option_map F.value result ≡ float_in F.format text.now }
+{
+    let rest = &text[leading_spaces(text)..];
+    match fast_float::parse_partial::<F, _>(rest) {
+        Err(_) => None,
+        Ok((number, len)) => {
+            if !is_blank(&rest[len..]) {
+                return None;
+            }
+            Some(number)
+        }
     }
 }
 
-/// The bit pattern of the DOUBLE nearest to the number that a text writes. Refused as BadText if it
-/// writes none.
-pub fn double_of_text(text: &[u8]) -> Result<u64, Refusal>
-    ensures { result ≡ double_text text.now }
+/// The bit pattern of the FLOAT nearest to the number that a text writes, with spaces before it or
+/// after it. Refused as BadText if it writes none.
+pub fn float_of_text(text: &[u8]) -> Result<u32, Refusal>
+    ensures { result ≡ float_text text.now }
 {
-    match fast_float::parse::<f64, _>(text) {
-        Err(_) => Err(Refusal::BadText),
-        Ok(x) => Ok(f64_to_bits_with_nan(x)),
+    match read_float::<f32>(text) {
+        None => Err(Refusal::BadText),
+        Some(x) => Ok(f32_to_bits_with_nan(x)),
+    }
+}
+
+/// The number that a text writes, as the DOUBLE nearest to it, with spaces before it or after it.
+/// Refused as BadText if it writes none.
+pub fn number_of_text(text: &[u8]) -> Result<Number, Refusal>
+    ensures { result ≡ text_number text.now }
+{
+    match read_float::<f64>(text) {
+        None => Err(Refusal::BadText),
+        Some(x) => Ok(Number::Real(x)),
     }
 }

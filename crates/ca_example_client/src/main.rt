@@ -22,9 +22,9 @@ const TURNS: u64 = 2_000;
 
 /// The server's device, which has nothing to do.
 #[derive(Clone, Copy, Drop)]
-struct Prompt;
+struct ExampleDevice;
 
-impl Device for Prompt {
+impl Device for ExampleDevice {
     fn process(&self, _record: &[u8], _value: &Value) {}
 }
 
@@ -60,7 +60,7 @@ fn both_ends<
             places,
             &records,
             Vec::new(alloc),
-            Prompt,
+            ExampleDevice,
             options,
         )
     });
@@ -126,7 +126,7 @@ fn use_client<
 >(rt: R, alloc: Global, server: Address, meter: &Meter, out: &mut W) -> Result<(), Refusal> {
     let setting = setting(alloc, server)?;
     let (context, engine) = Context::new(rt, alloc, setting)?;
-    talk_beside(rt, alloc, &context, engine, meter, out)
+    talk_with_engine(rt, alloc, &context, engine, meter, out)
 }
 
 fn setting(alloc: Global, server: Address) -> Result<Setting, Refusal> {
@@ -139,7 +139,7 @@ fn setting(alloc: Global, server: Address) -> Result<Setting, Refusal> {
     })
 }
 
-fn talk_beside<
+fn talk_with_engine<
     R: Threads
         + Wait
         + Clock

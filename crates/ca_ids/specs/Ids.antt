@@ -5,17 +5,17 @@ use Rattle.ca_text.specs.declared.refusal.Refusal.TheVariants as refusal
 use Rattle.ca_arena.specs.declared.handle.Handle.{Handle}
 use Rattle.ca_arena.specs.Arena.{Contents, find, IsLive, free_slots, next_handle, inserted, written}
 use Rattle.ca_arena.specs.Arena.{removed}
-use Rattle.ca_ids.specs.declared.table.Entry.{Entry}
-use Rattle.ca_ids.specs.declared.table.Entry.TheVariants.{Open, Draining}
+use Rattle.ca_ids.specs.declared.table.TableEntry.{TableEntry}
+use Rattle.ca_ids.specs.declared.table.TableEntry.TheVariants.{Open, Draining}
 use Rattle.ca_ids.specs.Wire.{wire_of}
 
 -- what has an id, under its handle: each is open with its value, or drains
 abbrev pub Ids : Type 0 → Type 0
-Ids T = Contents (Entry T)
+Ids T = Contents (TableEntry T)
 
 module _ {T : Type 0} where
   -- the value of what is open
-  abbrev pub value_of : Option (Entry T) → Option T
+  abbrev pub value_of : Option (TableEntry T) → Option T
   value_of None = None
   value_of (Some (Open value)) = Some value
   value_of (Some Draining) = None

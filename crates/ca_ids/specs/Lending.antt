@@ -3,16 +3,17 @@ use Rattle.std.specs.Prelude.{Option}
 use Rattle.std.specs.Borrow.{Lends, LendsIf, Fml, RattleType, MutBor}
 use Rattle.ca_arena.specs.declared.handle.Handle.{Handle}
 use Rattle.ca_arena.specs.Arena.{written}
-use Rattle.ca_ids.specs.declared.table.Entry.{Entry}
-use Rattle.ca_ids.specs.declared.table.Entry.TheVariants.{Open}
-use Rattle.ca_ids.specs.contracts.table.Entry as entry
+use Rattle.ca_ids.specs.declared.table.TableEntry.{TableEntry}
+use Rattle.ca_ids.specs.declared.table.TableEntry.TheVariants.{Open}
+use Rattle.ca_ids.specs.contracts.table.TableEntry as entry
 use Rattle.ca_ids.specs.contracts.table.IdTable as table
 use Rattle.ca_ids.specs.contracts.held_table.HeldTable as holding
 use Rattle.ca_ids.specs.Ids.{Ids}
 use Rattle.ca_ids.specs.Table.{Table, with_changed}
 
 -- an open entry ends with the last value that the result refers to, and another one as it is
-abbrev pub lends_value : (T : RattleType) → MutBor (Entry T.Denot) → Option (MutBor T.Denot) → Fml
+abbrev pub lends_value : (T : RattleType) → MutBor (TableEntry T.Denot) → Option (MutBor T.Denot)
+    → Fml
 lends_value T e r = LendsIf (entry.the_row T) T e r Open e.now
 
 -- an open handle ends with the last value that the result refers to, and otherwise the

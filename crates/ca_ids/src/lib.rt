@@ -12,5 +12,5 @@ mod wire_id;
 
 pub use held_table::HeldTable;
 pub use laws::wire_ids_differ;
-pub use table::{Entry, IdTable};
+pub use table::{IdTable, TableEntry};
 pub use wire_id::WireId;

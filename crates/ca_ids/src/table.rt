@@ -16,12 +16,12 @@ use std::mem;
 /// Values under handles, each of which has a wire id while it is open and while the id drains.
 #[derive(Drop)]
 pub struct IdTable<T> {
-    entries: Arena<Entry<T>>,
+    entries: Arena<TableEntry<T>>,
 }
 
 /// What a table has under a handle.
 #[derive(Drop)]
-pub enum Entry<T> {
+pub enum TableEntry<T> {
     /// The handle and its wire id name this value.
     Open(T),
     /// The value is gone, and the wire id may still come back.
@@ -36,7 +36,7 @@ impl<T> Model for IdTable<T> {
     ghost view = { λ t. t.entries };
 }
 
-impl<T> Entry<T> {
+impl<T> TableEntry<T> {
     ghost use Rattle.ca_ids.specs.Lending.{lends_value};
 
     fn value_mut(&mut self) -> Option<&mut T>
@@ -44,8 +44,8 @@ impl<T> Entry<T> {
         ensures value { option_copied_mut result ≡ value_of (Some self.old) }
     {
         match self {
-            Entry::Open(value) => Some(value),
-            Entry::Draining => None,
+            TableEntry::Open(value) => Some(value),
+            TableEntry::Draining => None,
         }
     }
 }
@@ -78,11 +78,11 @@ impl<T> IdTable<T> {
         ensures unused { IfOk result (λ given. IsUnused self.old given.1) }
         ensures sound { IsSound self.new }
     {
-        match self.entries.insert(Entry::Open(value)) {
+        match self.entries.insert(TableEntry::Open(value)) {
             Ok(handle) => Ok((handle, WireId::of(handle))),
             Err((entry, refusal)) => match entry {
-                Entry::Open(value) => Err((value, refusal)),
-                Entry::Draining => unreachable!(),
+                TableEntry::Open(value) => Err((value, refusal)),
+                TableEntry::Draining => unreachable!(),
             },
         }
     }
@@ -92,7 +92,7 @@ impl<T> IdTable<T> {
         ensures { option_copied result ≡ open_at self.now handle }
     {
         match self.entries.get(handle) {
-            Some(Entry::Open(value)) => Some(value),
+            Some(TableEntry::Open(value)) => Some(value),
             _ => None,
         }
     }
@@ -115,8 +115,8 @@ impl<T> IdTable<T> {
             return Err(Refusal::StaleHandle);
         };
         match self.entries.get(handle) {
-            Some(Entry::Open(_)) => Ok(handle),
-            Some(Entry::Draining) => Err(Refusal::Draining),
+            Some(TableEntry::Open(_)) => Ok(handle),
+            Some(TableEntry::Draining) => Err(Refusal::Draining),
             None => unreachable!(),
         }
     }
@@ -147,9 +147,9 @@ impl<T> IdTable<T> {
         let Some(entry) = self.entries.get_mut(handle) else {
             unreachable!()
         };
-        match mem::replace(entry, Entry::Draining) {
-            Entry::Open(value) => Ok(value),
-            Entry::Draining => unreachable!(),
+        match mem::replace(entry, TableEntry::Draining) {
+            TableEntry::Open(value) => Ok(value),
+            TableEntry::Draining => unreachable!(),
         }
     }
 
@@ -166,8 +166,8 @@ impl<T> IdTable<T> {
             return Err(Refusal::StaleHandle);
         }
         match self.entries.remove(handle)? {
-            Entry::Draining => Ok(()),
-            Entry::Open(_) => unreachable!(),
+            TableEntry::Draining => Ok(()),
+            TableEntry::Open(_) => unreachable!(),
         }
     }
 

@@ -64,7 +64,8 @@ pub fn a_client_sends_messages()
     ensures puts { (x y : Client) (h : Handle) (e : Elements) (q : Handle) (sent : List Sending)
         → ClientFits x → ClientPuts x h e (Ok q) sent y → SpeaksWell y sent }
     ensures writes { (x y : Client) (h : Handle) (e : Elements) (u : Unit {0})
-        (sent : List Sending) → ClientFits x → ClientWrites x h e (Ok u) sent y → SpeaksWell y sent }
+        (sent : List Sending) → ClientFits x → ClientWrites x h e (Ok u) sent y
+        → SpeaksWell y sent }
     ensures subscribes { (x y : Client) (h : Handle) (a : Shape) (mask : ℕ) (q : Handle)
         (sent : List Sending) → ClientFits x → ClientSubscribes x h a mask (Ok q) sent y
         → SpeaksWell y sent }

@@ -55,7 +55,8 @@ pub fn a_created_channel_keeps_what_is_held()
         (map (event_add_of n sid) (standing_to h x.subscriptions))
         × Holds (Awaits c kept) on n
         (sending (event_adds on sid h x) (with_standing (standing.On on (Live native rights)) h x))
-        (with_all_sent (map (event_add_of n sid) (standing_to h x.subscriptions)) (with_heard g c)) }
+        (with_all_sent (map (event_add_of n sid) (standing_to h x.subscriptions))
+        (with_heard g c)) }
     ensures doomed { (kept : List ℕ) (on : Handle) (n : Names) (x : Client) (c : Circuit) (g : Step)
         (cid : ℕ) (h : Handle) (sid : ℕ) → Holds (Awaits c kept) on n x c
         → channel_on x on cid ≡ Some (h, Doomed)

@@ -82,7 +82,8 @@ pub fn callers_are_told_what_became_of_writes()
     ensures done { (s : Setting) (w : World) → Sound s w → Says w → AllAsked w → CompleteOnce w
         → (life channel number : ℕ) (x : List Line) → At w.client_logs life x
         → In x (Noticed (On channel (Request Put number)) Done)
-        → (n k l i r : ℕ) × (v : Stored) × Stands (told w) life (On channel (Request Put number)) n k
+        → (n k l i r : ℕ) × (v : Stored)
+        × Stands (told w) life (On channel (Request Put number)) n k
         × IsApplied (told w) n k l i r v }
     ensures failed { (s : Setting) (w : World) → Sound s w → Says w → AllAsked w → CompleteOnce w
         → (life n k l i r : ℕ) (intent : Intent) (status : Status) (x : List Line) (v : Stored)

@@ -27,8 +27,8 @@ pub fn accepted_subscriptions_were_sent()
         → Runs s es stopped w → OfClients (told w) (IsSent (told w)) }
 {}
 
-/// After every run from a well-formed setting by well-formed events, each read, put, plain write and
-/// EVENT_ADD that a client sent was called: the log of its client's life has the call. This is
+/// After every run from a well-formed setting by well-formed events, each read, put, plain write
+/// and EVENT_ADD that a client sent was called: the log of its client's life has the call. This is
 /// `called` of the statement's `LegalCircuit`. It holds also of what an end sent that has ended.
 pub fn what_uses_a_record_was_called()
     ensures { (s : Setting) (es : List Event) (stopped : Option Event) (w : World) → IsSetting s

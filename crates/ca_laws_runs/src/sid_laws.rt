@@ -40,7 +40,8 @@ pub fn writes_are_handled_on_their_channel()
         (y : ServerSide) (f : StepHandles w k j y new) → At w.circuits k j
         → At w.servers j.server y → j.lists.server_open ≡ true → (s : Sent)
         → At j.lists.up (length j.lists.handled) s → Is Write s.message → (cid : ℕ)
-        → IsCidAt (knows y.core (record f.e { link = with_rest (f.steps.0).rest f.e.link })) s.message.p1 cid
+        → IsCidAt
+        (knows y.core (record f.e { link = with_rest (f.steps.0).rest f.e.link })) s.message.p1 cid
         → IsCidOf j.lists.up (length j.lists.handled) s.intent cid }
 {}
 

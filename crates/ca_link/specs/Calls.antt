@@ -1,7 +1,8 @@
 -- Vocabulary: what the calls of a link answer and leave (section "Virtual Circuit"). Each
 -- definition by answer is the contract of the call that its comment names: from old, with this
 -- answer, it left new.
-use Rattle.std.specs.Prelude.{ℕ, ◌≡◌, ◌≢◌, ◌<◌, ◌≤◌, ◌⊎◌, true, false, List, [], ◌∷◌, Option, Some, None, Result, Ok, Err, drop, length}
+use Rattle.std.specs.Prelude.{ℕ, ◌≡◌, ◌≢◌, ◌<◌, ◌≤◌, ◌⊎◌, true, false, List, [], ◌∷◌, Option, Some}
+use Rattle.std.specs.Prelude.{None, Result, Ok, Err, drop, length}
 use Rattle.ca_text.specs.Limits.{output_limit}
 use Rattle.ca_text.specs.declared.refusal.Refusal.{Refusal}
 use Rattle.ca_text.specs.declared.refusal.Refusal.TheVariants as refusal
@@ -40,21 +41,26 @@ TakesMemory l = (m : Fields) × (rest : List ℕ) × TakesFirst l m rest × (m.p
 -- `next_message`: the first message is taken, or no complete one is there; a bad header
 -- closes the link for good.
 abbrev pub Nexts : LinkState → Result (Option Fields) Refusal → LinkState → Type 0
-Nexts old (Ok (Some m)) new = IsOpen old × ((rest : List ℕ) × TakesFirst old m rest × (new ≡ with_rest rest old))
-Nexts old (Ok None) new = IsOpen old × NoneBegins old.input.bytes × NotBad old.input.bytes × (new ≡ old)
+Nexts old (Ok (Some m)) new =
+    IsOpen old × ((rest : List ℕ) × TakesFirst old m rest × (new ≡ with_rest rest old))
+Nexts old (Ok None) new =
+    IsOpen old × NoneBegins old.input.bytes × NotBad old.input.bytes × (new ≡ old)
 Nexts old (Err refusal.CircuitClosed) new = IsClosed old × (new ≡ old)
-Nexts old (Err refusal.Misaligned) new = IsOpen old × BadAt old.input.bytes refusal.Misaligned × (new ≡ closed_off old)
-Nexts old (Err refusal.TooLarge) new = IsOpen old × BadAt old.input.bytes refusal.TooLarge × (new ≡ closed_off old)
+Nexts old (Err refusal.Misaligned) new =
+    IsOpen old × BadAt old.input.bytes refusal.Misaligned × (new ≡ closed_off old)
+Nexts old (Err refusal.TooLarge) new =
+    IsOpen old × BadAt old.input.bytes refusal.TooLarge × (new ≡ closed_off old)
 Nexts old (Err refusal.OutOfMemory) new = IsOpen old × TakesMemory old × (new ≡ old)
 Nexts old (Err _) new = ⊥
 
--- `next_bare`: the same, if the first message is of this command, in 16 bytes without payload.
+-- `next_without_payload`: the same, if the first message is of this command, in 16 bytes without
+-- payload.
 abbrev pub NextsBare : Command → LinkState → Option Wanted → LinkState → Type 0
 NextsBare c old (Some w) new = Nexts old (Ok (Some (on_channel c w []))) new
 NextsBare c old None new = (IsOpen old → NoBare old.input.bytes c) × (new ≡ old)
 
--- `first_short`: the first message is of this command, names this, and is 24 bytes, of which
--- eight are its payload.
+-- `first_of_eight_bytes`: the first message is of this command, names this, and is 24 bytes, of
+-- which eight are its payload.
 pub record HasShort (c : Command) (l : LinkState) (w : Wanted) : Type 0 where
   pub live : IsOpen l
   pub room : 24 ≤ length l.input.bytes
@@ -67,10 +73,13 @@ FirstShort c l None = IsOpen l → NoShort l.input.bytes c
 -- `queue`: a message of a caller waits after the others, unless as many bytes wait as
 -- may. It takes memory.
 abbrev pub Queues : Fields → LinkState → Result (Unit {0}) Refusal → LinkState → Type 0
-Queues m old (Ok _) new = IsOpen old × (length old.output < output_limit) × (new ≡ with_sent (m ∷ []) old)
+Queues m old (Ok _) new =
+    IsOpen old × (length old.output < output_limit) × (new ≡ with_sent (m ∷ []) old)
 Queues m old (Err refusal.CircuitClosed) new = IsClosed old × (new ≡ old)
-Queues m old (Err refusal.OutputFull) new = IsOpen old × (output_limit ≤ length old.output) × (new ≡ old)
-Queues m old (Err refusal.OutOfMemory) new = IsOpen old × (length old.output < output_limit) × (new ≡ old)
+Queues m old (Err refusal.OutputFull) new =
+    IsOpen old × (output_limit ≤ length old.output) × (new ≡ old)
+Queues m old (Err refusal.OutOfMemory) new =
+    IsOpen old × (length old.output < output_limit) × (new ≡ old)
 Queues m old (Err _) new = ⊥
 
 -- `queue_own`: a message of the end's own waits after the others. It takes memory.
@@ -81,7 +90,11 @@ QueuesOwn m old (Err refusal.OutOfMemory) new = IsOpen old × (new ≡ old)
 QueuesOwn m old (Err _) new = ⊥
 
 -- `queue_made`: the same for a message whose payload is made in its place, and may be refused.
-abbrev pub QueuesMade : Fields → Result (List ℕ) Refusal → LinkState → Result (Unit {0}) Refusal → LinkState → Type 0
-QueuesMade m made old (Ok _) new = IsOpen old × ((bytes : List ℕ) × (made ≡ Ok bytes) × (new ≡ with_sent (with_payload bytes m ∷ []) old))
+abbrev pub QueuesMade : Fields → Result (List ℕ) Refusal → LinkState → Result (Unit {0}) Refusal
+    → LinkState → Type 0
+QueuesMade m made old (Ok _) new =
+    IsOpen old
+    × ((bytes : List ℕ) × (made ≡ Ok bytes) × (new ≡ with_sent (with_payload bytes m ∷ []) old))
 QueuesMade m made old (Err refusal.OutOfMemory) new = IsOpen old × (new ≡ old)
-QueuesMade m made old (Err e) new = (((e ≡ refusal.CircuitClosed) × IsClosed old) ⊎ (IsOpen old × (made ≡ Err e))) × (new ≡ old)
+QueuesMade m made old (Err e) new =
+    (((e ≡ refusal.CircuitClosed) × IsClosed old) ⊎ (IsOpen old × (made ≡ Err e))) × (new ≡ old)

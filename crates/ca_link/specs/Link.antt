@@ -1,6 +1,7 @@
 -- Vocabulary: an end's two streams of bytes on a circuit, and its moments (sections "Virtual
 -- Circuit" and "CA_PROTO_ECHO").
-use Rattle.std.specs.Prelude.{ℕ, ◌≡◌, ◌-◌, ◌&&◌, ◌++◌, Bool, false, true, not, List, [], drop, if◌then◌else◌, length, nat_le, take}
+use Rattle.std.specs.Prelude.{ℕ, ◌≡◌, ◌-◌, ◌&&◌, ◌++◌, Bool, false, true, not, List, [], drop}
+use Rattle.std.specs.Prelude.{if◌then◌else◌, length, nat_le, take}
 use Rattle.ca_text.specs.Limits.{close_silence, echo_silence}
 use Rattle.ca_wire.specs.Fields.{Fields}
 use Rattle.ca_wire.specs.Message.{Spells, spelled}
@@ -20,12 +21,23 @@ pub record LinkState : Type 0 where
 
 -- a link that begins at this moment
 abbrev pub new_link : ℕ → LinkState
-new_link now = record { input = record { bytes = []; closed = false }; output = []; heard_at = now; echoed = false }
+new_link now =
+    record {
+      input = record { bytes = []; closed = false };
+      output = [];
+      heard_at = now;
+      echoed = false;
+    }
 
 -- these bytes came: they end a silence, unless there are none
 abbrev pub with_given : ℕ → List ℕ → LinkState → LinkState
 with_given now [] l = l
-with_given now bytes l = record l { input = record l.input { bytes = l.input.bytes ++ bytes }; heard_at = now; echoed = false }
+with_given now bytes l =
+    record l {
+      input = record l.input { bytes = l.input.bytes ++ bytes };
+      heard_at = now;
+      echoed = false;
+    }
 
 -- these messages wait after the others
 abbrev pub with_sent : List Fields → LinkState → LinkState
@@ -49,7 +61,9 @@ silence now l = now - l.heard_at
 
 -- So long a silence asks for an ECHO, once, and one that is longer still for the end.
 abbrev pub kept : ℕ → LinkState → Keep
-kept now l = if nat_le close_silence (silence now l) then Close else if nat_le echo_silence (silence now l) && not l.echoed then Echo else Idle
+kept now l =
+    if nat_le close_silence (silence now l) then Close
+    else if nat_le echo_silence (silence now l) && not l.echoed then Echo else Idle
 
 -- the link after it was asked so: an ECHO goes out, once in a silence
 abbrev pub noted : Keep → LinkState → LinkState

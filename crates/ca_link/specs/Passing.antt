@@ -10,7 +10,8 @@ pub record CanPass (passes calls faults : ℕ) : Type 0 where
 
 -- One call was passed on, and this many of it failed: so much is left to pass, and so has the
 -- source or the sink counted.
-pub record IsPassed {S : Type 0} (calls faults : S → ℕ) (failed : ℕ) (passes : ℕ) (inner : S) (left : ℕ) (after : S) : Type 0 where
+pub record IsPassed {S : Type 0} (calls faults : S → ℕ) (failed : ℕ) (passes : ℕ) (inner : S)
+    (left : ℕ) (after : S) : Type 0 where
   pub spent : left + 1 ≡ passes
   pub called : calls after ≡ calls inner + 1
   pub faulted : faults after ≡ faults inner + failed

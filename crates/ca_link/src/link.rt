@@ -1,14 +1,16 @@
 ghost use Rattle.std.specs.Prelude.{ℕ, List, ◌≡◌, ◌≤◌, IfOk, drop, length, nat_le, take};
 ghost use Rattle.ca_text.specs.Limits.{output_limit, payload_limit};
-ghost use Rattle.ca_link.specs.Calls.{FirstShort, Gives, Nexts, NextsBare, Queues, QueuesMade, QueuesOwn};
+ghost use Rattle.ca_link.specs.Calls.{FirstShort, Gives, Nexts, NextsBare, Queues, QueuesMade};
+ghost use Rattle.ca_link.specs.Calls.{QueuesOwn};
 ghost use Rattle.ca_wire.specs.Messages.{alone, done};
-ghost use Rattle.ca_link.specs.Link.{kept, mark_of, new_link, noted, restored, with_handed, with_rest};
+ghost use Rattle.ca_link.specs.Link.{kept, mark_of, new_link, noted, restored, with_handed};
+ghost use Rattle.ca_link.specs.Link.{with_rest};
 
 use crate::keep::Keep;
 use crate::mark::Mark;
 use crate::spares::Spares;
 use ca_text::{CLOSE_SILENCE, Command, ECHO_SILENCE, OUTPUT_LIMIT, Refusal};
-use ca_wire::{Alone, Deframer, Done, Message, Payload, Pipe, Wanted};
+use ca_wire::{Deframer, Done, Message, Payload, Pipe, ScalarMessage, Wanted};
 use std::alloc::Global;
 use std::marker::Model;
 
@@ -97,19 +99,19 @@ impl Link {
     /// and its header, in 16 bytes, is all of it. Such a message needs no memory. None
     /// leaves all as it was.
     #[inline(always)]
-    pub fn next_bare(&mut self, command: Command) -> Option<Wanted>
+    pub fn next_without_payload(&mut self, command: Command) -> Option<Wanted>
         ensures { NextsBare command self.old result self.new }
     {
-        self.input.next_bare(command)
+        self.input.next_without_payload(command)
     }
 
     /// What the first message names, if it is complete, of this command, and is a header in 16
     /// bytes and a payload of eight. It stays there if its payload can be read without memory.
     #[inline(always)]
-    pub fn first_short(&self, command: Command) -> Option<Wanted>
+    pub fn first_of_eight_bytes(&self, command: Command) -> Option<Wanted>
         ensures { FirstShort command self.now result }
     {
-        self.input.first_short(command)
+        self.input.first_of_eight_bytes(command)
     }
 
     /// Takes the first n bytes that came: a message that was handled where it came.
@@ -172,13 +174,13 @@ impl Link {
     ///
     /// Refused as CircuitClosed, then as OutOfMemory.
     #[inline(always)]
-    pub fn queue_alone(&mut self, said: Alone) -> Result<(), Refusal>
+    pub fn queue_scalar(&mut self, said: ScalarMessage) -> Result<(), Refusal>
         ensures { QueuesOwn (alone said) self.old result self.new }
     {
         if self.input.is_closed() {
             return Err(Refusal::CircuitClosed);
         }
-        self.output.put_alone(said)?;
+        self.output.put_scalar(said)?;
         Ok(())
     }
 
@@ -248,6 +250,15 @@ impl Link {
         ensures { self.new ≡ with_handed n self.old }
     {
         self.output.sent(n);
+    }
+
+    /// All bytes that wait are handed over, in place of those that are there, whose memory the link
+    /// keeps for more. Nothing is copied, and it does not allocate.
+    pub fn hand_over(&mut self, to: &mut Pipe)
+        ensures handed { to.new ≡ self.old.output }
+        ensures left { self.new ≡ with_handed (length self.old.output) self.old }
+    {
+        self.output.hand_over(to);
     }
 
     /// The bytes that wait, for whoever still sends them.

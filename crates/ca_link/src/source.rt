@@ -1,4 +1,5 @@
-ghost use Rattle.std.specs.Prelude.{◌≡◌, ◌+◌, ◌<◌, ◌≤◌, ◌^◌, ℕ, List, IfOk, if◌then◌else◌, is_ok, length, take};
+ghost use Rattle.std.specs.Prelude.{◌≡◌, ◌+◌, ◌<◌, ◌≤◌, ◌^◌, ℕ, List, IfOk, if◌then◌else◌, is_ok};
+ghost use Rattle.std.specs.Prelude.{length, take};
 
 use ca_text::Refusal;
 use std::io::Read;

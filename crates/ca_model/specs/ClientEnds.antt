@@ -97,7 +97,8 @@ abbrev pub set_up : Peer → Handle → ClientCircuit → List Sending
 set_up p c d =
     map
     (of_circuit c)
-    (version_request d.priority ∷ name_request command.ClientName p.user ∷ name_request command.HostName p.host ∷ [])
+    (version_request d.priority ∷ name_request command.ClientName p.user
+    ∷ name_request command.HostName p.host ∷ [])
 
 -- a channel that waits for its circuit to be connected
 abbrev pub is_connecting : Phase → Bool

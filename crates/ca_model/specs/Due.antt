@@ -270,8 +270,10 @@ named k p = if k.settled then Nothing else Names p
 abbrev pub is_known : ℕ → Bool
 is_known n =
     list_any (λ (c : Command). n == command_number c) (
-    command.Version ∷ command.EventAdd ∷ command.EventCancel ∷ command.Write ∷ command.Search ∷ command.EventsOff ∷ command.EventsOn ∷ command.ClearChannel
-    ∷ command.ReadNotify ∷ command.CreateChannel ∷ command.WriteNotify ∷ command.ClientName ∷ command.HostName ∷ command.Echo ∷ []
+    command.Version ∷ command.EventAdd ∷ command.EventCancel ∷ command.Write ∷ command.Search
+    ∷ command.EventsOff ∷ command.EventsOn ∷ command.ClearChannel
+    ∷ command.ReadNotify ∷ command.CreateChannel ∷ command.WriteNotify ∷ command.ClientName
+    ∷ command.HostName ∷ command.Echo ∷ []
     )
 
 -- The message is due these replies, and does this. One with any other command is skipped

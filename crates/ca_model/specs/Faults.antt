@@ -1,10 +1,12 @@
 -- Vocabulary: which fault of a request is answered by which status (section "Status Codes"). The
 -- first that is there decides.
-use Rattle.std.specs.Prelude.{ℕ, ◌==◌, ◌%◌, ◌*◌, ◌||◌, Bool, not, List, [], ◌∷◌, Option, Some, None, Result, find, if◌then◌else◌, length, map, nat_lt}
+use Rattle.std.specs.Prelude.{ℕ, ◌==◌, ◌%◌, ◌*◌, ◌||◌, Bool, not, List, [], ◌∷◌, Option, Some, None}
+use Rattle.std.specs.Prelude.{Result, find, if◌then◌else◌, length, map, nat_lt}
 use Rattle.std.specs.List.{flat_map}
 use Rattle.ca_text.specs.declared.refusal.Refusal.{Refusal}
 use Rattle.ca_text.specs.Limits.{circuit_queues, payload_limit, queue_subscriptions}
-use Rattle.ca_text.specs.Status.{add_fail, bad_count, bad_type, get_fail, no_convert, no_read_access, no_write_access}
+use Rattle.ca_text.specs.Status.{add_fail, bad_count, bad_type, get_fail, no_convert}
+use Rattle.ca_text.specs.Status.{no_read_access, no_write_access}
 use Rattle.ca_dbr.specs.declared.data_type.BaseType.{BaseType}
 use Rattle.ca_dbr.specs.declared.data_type.BaseType.TheVariants as base
 use Rattle.ca_dbr.specs.declared.data_type.DataType.{DataType}
@@ -25,11 +27,14 @@ use Rattle.ca_wire.specs.Messages.{mask_in}
 
 -- the types of elements
 abbrev pub base_types : List BaseType
-base_types = base.String ∷ base.Int ∷ base.Float ∷ base.Enum ∷ base.Char ∷ base.Long ∷ base.Double ∷ []
+base_types =
+    base.String ∷ base.Int ∷ base.Float ∷ base.Enum ∷ base.Char ∷ base.Long ∷ base.Double ∷ []
 
 -- these types plain, with status, and with a time stamp
 abbrev pub all_types : List DataType
-all_types = flat_map (λ (f : Form). map (λ (b : BaseType). record { base = b; form = f }) base_types) (form.Plain ∷ form.Status ∷ form.Time ∷ [])
+all_types =
+    flat_map (λ (f : Form). map (λ (b : BaseType). record { base = b; form = f }) base_types)
+    (form.Plain ∷ form.Status ∷ form.Time ∷ [])
 
 -- the type of this number
 abbrev pub type_of : ℕ → Option DataType
@@ -75,7 +80,10 @@ early_put_fault r rights m None = Some bad_type
 early_put_fault r rights m (Some b) =
     first_fault (
     (not (may_write rights), no_write_access)
-    ∷ (m.count == 0 || (nat_lt r.count m.count || nat_lt (length m.payload) (least_size b m.count)), bad_count)
+    ∷ (
+      m.count == 0 || (nat_lt r.count m.count || nat_lt (length m.payload) (least_size b m.count)),
+      bad_count,
+    )
     ∷ []
     )
 
@@ -87,7 +95,8 @@ subscribed_count r m = if m.count == 0 then r.count else m.count
 -- EVENT_ADD: a type over 20 BADTYPE; no right to read NORDACCESS; a payload under 16 bytes, no mask
 -- bit, or the id in use on that channel, ADDFAIL; a count as in a read BADCOUNT; no conversion
 -- NOCONVERT; 288 subscriptions on the circuit ADDFAIL.
-abbrev pub subscription_fault : RecordState → (rights : ℕ) → (in_use : Bool) → (others : ℕ) → Fields → Option DataType → Option ℕ
+abbrev pub subscription_fault : RecordState → (rights : ℕ) → (in_use : Bool) → (others : ℕ) → Fields
+    → Option DataType → Option ℕ
 subscription_fault r rights in_use others m None = Some bad_type
 subscription_fault r rights in_use others m (Some t) =
     first_fault (

@@ -1,5 +1,6 @@
 -- Statement: the heart of what is promised of Channel Access clients and servers.
-use Rattle.std.specs.Prelude.{ℕ, ◌≡◌, ◌<◌, ◌≤◌, ◌+◌, ◌⊎◌, false, true, List, Option, Some, length, take}
+use Rattle.std.specs.Prelude.{ℕ, ◌≡◌, ◌<◌, ◌≤◌, ◌+◌, ◌⊎◌, false, true, List, Option, Some, length}
+use Rattle.std.specs.Prelude.{take}
 use Rattle.ca_text.specs.Place.{At}
 use Rattle.ca_text.specs.Status.{bad_channel}
 use Rattle.ca_text.specs.declared.status.Status.{Status}
@@ -9,48 +10,57 @@ use Rattle.ca_dbr.specs.Elements.{Elements}
 use Rattle.ca_wire.specs.Fields.{Fields}
 use Rattle.ca_model.specs.Speech.{Id, Disconnects, Gives, In, Speaks, Stored, sid_in}
 use Rattle.ca_wire.specs.Messages.{mask_in}
-use Rattle.ca_model.specs.History.{Ask, Create, Request, Subscribe, Put, Intent, On, Cause, Reply, Removal, Update}
-use Rattle.ca_model.specs.History.{Sent, Told, Step, Circuit, Entry, Removed, Finished, Withdrawn, Line, Called}
+use Rattle.ca_model.specs.History.{Ask, Create, Request, Subscribe, Put, Intent, On, Cause, Reply}
+use Rattle.ca_model.specs.History.{Removal, Update}
+use Rattle.ca_model.specs.History.{Sent, Told, Step, Circuit, Entry, Removed, Finished, Withdrawn}
+use Rattle.ca_model.specs.History.{Line, Called}
 use Rattle.ca_model.specs.History.{Noticed, Updated, World}
-use Rattle.ca_model.specs.Channels.{AreSteps, CameIn, Created, IsApplied, IsBusyUntil, IsDropped, IsFinished, IsHeld, IsLive}
-use Rattle.ca_model.specs.Channels.{IsOwnWrite, IsReply, IsRequest, IsUncleared, IsUnread, IsUse, KeepNames}
+use Rattle.ca_model.specs.Channels.{AreSteps, CameIn, Created, IsApplied, IsBusyUntil, IsDropped}
+use Rattle.ca_model.specs.Channels.{IsFinished, IsHeld, IsLive}
+use Rattle.ca_model.specs.Channels.{IsOwnWrite, IsReply, IsRequest, IsUncleared, IsUnread, IsUse}
+use Rattle.ca_model.specs.Channels.{KeepNames}
 use Rattle.ca_model.specs.Channels.{IsLost, IsNamed, IsOpen, IsWaiting, Lasts, Meant}
-use Rattle.ca_model.specs.Channels.{OfCircuits, OfClients, Stands, Suits, before, named, until, updates}
+use Rattle.ca_model.specs.Channels.{OfCircuits, OfClients, Stands, Suits, before, named, until}
+use Rattle.ca_model.specs.Channels.{updates}
 use Rattle.ca_model.specs.Posts.{matching}
 
--- The message at place k was handled on record r: that of the channel that was open then under its SID.
+-- The message at place k was handled on record r: that of the channel that was open then under its
+-- SID.
 abbrev pub Acted : Circuit → List Entry → (k r : ℕ) → Type 0
 Acted c y k r =
     (s : Sent) × (h : Step) × (i l : ℕ) × At c.up k s × At c.handled k h
     × IsOpen (before c k h) (take h.logged y) i l (sid_in s.message) r
 
--- When it reads the message at place j, the client takes the id for that of its message at place k: the last so far
--- that gave it.
+-- When it reads the message at place j, the client takes the id for that of its message at place k:
+-- the last so far that gave it.
 abbrev pub Took : Circuit → (j : ℕ) → Id → (k : ℕ) → Type 0
 Took c j id k =
     (s : Sent) × At c.up k s × Gives s.message id × (k < until c j)
     × ((l : ℕ) (r : Sent) → k < l → l < until c j → At c.up l r → Gives r.message id → ⊥)
 
--- The id in the message at place j is taken for what the client's message at place p is about, and was not given again
--- since.
+-- The id in the message at place j is taken for what the client's message at place p is about, and
+-- was not given again since.
 abbrev pub TakesOwn : Circuit → (j p : ℕ) → Id → Type 0
 TakesOwn c j p id =
     (k number : ℕ) × (s r : Sent) × Took c j id k × (k ≤ p) × At c.up k s × At c.up p r
     × (named id s.intent ≡ Some number) × (named id r.intent ≡ Some number)
 
--- The EVENT_ADD s at place k was accepted in step h: it was handled on record r, and no reply refused it.
+-- The EVENT_ADD s at place k was accepted in step h: it was handled on record r, and no reply
+-- refused it.
 abbrev pub Accepted : Circuit → List Entry → (k r : ℕ) → Sent → Step → Type 0
 Accepted c y k r s h =
-    (channel number : ℕ) × At c.up k s × (s.intent ≡ On channel (Subscribe number)) × At c.handled k h × Acted c y k r
+    (channel number : ℕ) × At c.up k s × (s.intent ≡ On channel (Subscribe number))
+    × At c.handled k h × Acted c y k r
     × ((j : ℕ) (t : Told) → At c.down j t → t.place ≡ k → t.cause ≡ Reply → ⊥)
 
--- A message has its cause: an update an accepted EVENT_ADD; a SERVER_DISCONN a channel that was open when its record
--- was removed.
+-- A message has its cause: an update an accepted EVENT_ADD; a SERVER_DISCONN a channel that was
+-- open when its record was removed.
 abbrev pub HasCause : Circuit → List Entry → Told → Cause → Type 0
 HasCause c y t Reply = Unit {0}
 HasCause c y t (Update item) = (r : ℕ) × (s : Sent) × (h : Step) × Accepted c y t.place r s h
 HasCause c y t Removal =
-    (j sid r e : ℕ) × (s : Sent) × Created c y j t.place sid r × At y e (Removed r) × IsUncleared c t.place sid e
+    (j sid r e : ℕ) × (s : Sent) × Created c y j t.place sid r × At y e (Removed r)
+    × IsUncleared c t.place sid e
     × At c.up t.place s × Disconnects s.message t.message
 
 -- What is due for a message, by what its server knew: replies now, one when its put finishes, and
@@ -60,25 +70,30 @@ module _
     (Shows : Fields → Stored → Fields → Type 0) (Means : Fields → Outcome → Type 0) where
   -- The reply at place j to the message at place k says BADCHID.
   abbrev pub IsBadChannel : Circuit → (k j : ℕ) → Type 0
-  IsBadChannel c k j = (m : Fields) × IsReply c k j m × Means m (Failed (record { number = bad_channel }))
+  IsBadChannel c k j =
+      (m : Fields) × IsReply c k j m × Means m (Failed (record { number = bad_channel }))
 
-  -- 1. A message on a channel is handled on the record that the channel names. BADCHID answers it only if that record
-  -- was removed, and then answers each use of it. A live channel is open at the server under its SID; its record is
-  -- there, or a SERVER_DISCONN for it is unread. Channels and records keep their names.
+  -- 1. A message on a channel is handled on the record that the channel names. BADCHID answers it
+  -- only if that record was removed, and then answers each use of it. A live channel is open at the
+  -- server under its SID; its record is there, or a SERVER_DISCONN for it is unread. Channels and
+  -- records keep their names.
   pub record ActsOnRecord (n : ℕ) (c : Circuit) (x : List Line) (y : List Entry) : Type 0 where
-    pub acts : (k channel : ℕ) (ask : Ask) → k < length c.handled → Meant c k (On channel ask) → (ask ≡ Create → ⊥)
+    pub acts : (k channel : ℕ) (ask : Ask) → k < length c.handled → Meant c k (On channel ask)
+        → (ask ≡ Create → ⊥)
         → (r : ℕ) × Acted c y k r × IsNamed x y channel r
     pub retired : (k j r : ℕ) (h : Step) → IsBadChannel c k j → Acted c y k r → At c.handled k h
         → In (take h.logged y) (Removed r)
-    pub refused : (k j r : ℕ) (m : Fields) (s : Sent) (h : Step) → IsReply c k j m → At c.up k s → IsUse s.intent
+    pub refused : (k j r : ℕ) (m : Fields) (s : Sent) (h : Step) → IsReply c k j m → At c.up k s
+        → IsUse s.intent
         → Acted c y k r → At c.handled k h → In (take h.logged y) (Removed r) → IsBadChannel c k j
-    pub live : (channel j k sid : ℕ) → IsLive c channel j k sid → (r : ℕ) × IsOpen c y j k sid r × IsNamed x y channel r
+    pub live : (channel j k sid : ℕ) → IsLive c channel j k sid
+        → (r : ℕ) × IsOpen c y j k sid r × IsNamed x y channel r
         × (c.server_open ≡ true → (In y (Removed r) → ⊥) ⊎ IsUnread c k)
     pub names : KeepNames x y
 
-  -- The message at place k got the replies due, each once, in its step, which logged what was due, and besides only
-  -- withdrawals. A late reply to a put is there only once the put is finished, and then it is there if the server's end
-  -- is open.
+  -- The message at place k got the replies due, each once, in its step, which logged what was due,
+  -- and besides only withdrawals. A late reply to a put is there only once the put is finished, and
+  -- then it is there if the server's end is open.
   pub record Answered (n : ℕ) (c : Circuit) (y : List Entry) (k : ℕ) (h : Step) : Type 0 where
     pub s : Sent
     pub at : At c.up k s
@@ -94,25 +109,29 @@ module _
     pub place : ℕ
     pub only : (j : ℕ) (m : Fields) → IsReply c k j m
         → (j < h.sent + length replies) ⊎ ((j ≡ place) × (late ≡ Some m) × IsFinished n c y k s)
-    pub comes : (m : Fields) → late ≡ Some m → IsFinished n c y k s → c.server_open ≡ true → IsReply c k place m
+    pub comes : (m : Fields) → late ≡ Some m → IsFinished n c y k s → c.server_open ≡ true
+        → IsReply c k place m
     pub next : (l : ℕ) (g : Step) → k < l → At c.handled l g → h.sent + length replies ≤ g.sent
 
-  -- 2. On a circuit each message of the client is what was meant, and each of the server has its cause, handled before;
-  -- no creation has two SERVER_DISCONNs; an id is taken for what the cause is about; each handled message is answered;
-  -- and steps are in order.
+  -- 2. On a circuit each message of the client is what was meant, and each of the server has its
+  -- cause, handled before; no creation has two SERVER_DISCONNs; an id is taken for what the cause
+  -- is about; each handled message is answered; and steps are in order.
   pub record AnswersOwn (n : ℕ) (c : Circuit) (x : List Line) (y : List Entry) : Type 0 where
     pub asked : (k : ℕ) (s : Sent) → At c.up k s → Suits s.intent s.message
     pub caused : (j : ℕ) (t : Told) → At c.down j t → HasCause c y t t.cause
         × ((h : Step) × At c.handled t.place h × (h.sent ≤ j))
-    pub removed : (i j : ℕ) (t u : Told) → At c.down i t → At c.down j u → t.place ≡ u.place → t.cause ≡ Removal
+    pub removed : (i j : ℕ) (t u : Told) → At c.down i t → At c.down j u → t.place ≡ u.place
+        → t.cause ≡ Removal
         → u.cause ≡ Removal → i ≡ j
-    pub own : (j : ℕ) (t : Told) (id : Id) → At c.down j t → Speaks t.message id → TakesOwn c j t.place id
+    pub own : (j : ℕ) (t : Told) (id : Id) → At c.down j t → Speaks t.message id
+        → TakesOwn c j t.place id
     pub answered : (k : ℕ) (h : Step) → At c.handled k h → Answered n c y k h
     pub in_order : AreSteps c.handled c.up c.down y × AreSteps c.heard c.down c.up x
 
-  -- Line i of a client's log was told when a message was read that was sent for one with this intent, which the caller
-  -- had not ended, and that means this outcome.
-  pub record Reads (w : World) (life : ℕ) (x : List Line) (i : ℕ) (intent : Intent) (o : Outcome) : Type 0 where
+  -- Line i of a client's log was told when a message was read that was sent for one with this
+  -- intent, which the caller had not ended, and that means this outcome.
+  pub record Reads (w : World) (life : ℕ) (x : List Line) (i : ℕ) (intent : Intent)
+      (o : Outcome) : Type 0 where
     pub n : ℕ
     pub c : Circuit
     pub on : At w.circuits n c × (c.client ≡ life)
@@ -124,24 +143,30 @@ module _
     pub held : IsHeld (take i x) intent
     pub means : Means t.message o
 
-  -- A channel is lost in line i: it was told live before, and was not lost or cleared since; and its circuit has ended
-  -- at the client, or in the step that told line i the SERVER_DISCONN for that creation was read.
+  -- A channel is lost in line i: it was told live before, and was not lost or cleared since; and
+  -- its circuit has ended at the client, or in the step that told line i the SERVER_DISCONN for
+  -- that creation was read.
   pub record LosesLive (w : World) (life : ℕ) (x : List Line) (i channel : ℕ) : Type 0 where
     pub l : ℕ
     pub by : Reads w life x l (On channel Create) Done
-    pub live : At x l (Noticed (On channel Create) Done) × (l < i) × IsHeld (take i x) (On channel Create)
+    pub live : At x l (Noticed (On channel Create) Done) × (l < i)
+        × IsHeld (take i x) (On channel Create)
     pub since : (m : ℕ) → l < m → m < i → At x m (Noticed (On channel Create) Disconnected) → ⊥
-    pub why : (by.c.client_open ≡ false) ⊎ ((j : ℕ) × (t : Told) × (h : Step) × At by.c.down j t × At by.c.heard j h
+    pub why : (by.c.client_open ≡ false)
+        ⊎ ((j : ℕ) × (t : Told) × (h : Step) × At by.c.down j t × At by.c.heard j h
         × (t.cause ≡ Removal) × (t.place ≡ by.t.place) × (h.logged ≤ i) × (i < h.after))
 
-  -- And in a client's log: a notice tells what the reply to its own message means, or Disconnected if that is lost; a
-  -- read, write or subscription has one notice at most; a call is accepted once; and each accepted request is at one
-  -- place.
+  -- And in a client's log: a notice tells what the reply to its own message means, or Disconnected
+  -- if that is lost; a read, write or subscription has one notice at most; a call is accepted once;
+  -- and each accepted request is at one place.
   pub record CompletesOnce (w : World) (life : ℕ) (x : List Line) : Type 0 where
     pub told : (i : ℕ) (intent : Intent) (o : Outcome) → At x i (Noticed intent o)
-        → ((by : Reads w life x i intent o) × (by.t.cause ≡ Reply)) ⊎ ((o ≡ Disconnected) × IsLost w life x i intent)
-    pub lost : (i channel : ℕ) → At x i (Noticed (On channel Create) Disconnected) → LosesLive w life x i channel
-    pub once : (i l : ℕ) (intent : Intent) (o p : Outcome) → IsUse intent → At x i (Noticed intent o)
+        → ((by : Reads w life x i intent o) × (by.t.cause ≡ Reply))
+        ⊎ ((o ≡ Disconnected) × IsLost w life x i intent)
+    pub lost : (i channel : ℕ) → At x i (Noticed (On channel Create) Disconnected)
+        → LosesLive w life x i channel
+    pub once : (i l : ℕ) (intent : Intent) (o p : Outcome) → IsUse intent
+        → At x i (Noticed intent o)
         → At x l (Noticed intent p) → i ≡ l
     pub one_call : (i l : ℕ) (intent : Intent) (e f : Option Elements) → At x i (Called intent e)
         → At x l (Called intent f) → i ≡ l
@@ -150,28 +175,35 @@ module _
     pub at_one : (intent : Intent) (n k m l : ℕ) → IsRequest intent → Stands w life intent n k
         → Stands w life intent m l → (n ≡ m) × (k ≡ l)
 
-  -- 3. A write is applied once, in all lives of all servers, with its own value to its own record, when it was handled,
-  -- or as the server's end closed on it, or after it had waited. A put came to wait in one of the first two ways, and
-  -- is dropped only with its record, its channel or its circuit. A record finishes one put at a time, each once. A put
-  -- told Done is applied; a write told Failed is not.
+  -- 3. A write is applied once, in all lives of all servers, with its own value to its own record,
+  -- when it was handled, or as the server's end closed on it, or after it had waited. A put came to
+  -- wait in one of the first two ways, and is dropped only with its record, its channel or its
+  -- circuit. A record finishes one put at a time, each once. A put told Done is applied; a write
+  -- told Failed is not.
   pub record NotTwice (w : World) : Type 0 where
-    pub once : (n k l m i j r q : ℕ) (v u : Stored) → IsApplied w n k l i r v → IsApplied w n k m j q u
+    pub once : (n k l m i j r q : ℕ) (v u : Stored) → IsApplied w n k l i r v
+        → IsApplied w n k m j q u
         → (l ≡ m) × (i ≡ j)
     pub own : (n k l i r : ℕ) (v : Stored) → IsApplied w n k l i r v → IsOwnWrite w n k l i r v
     pub waits : (n k l i r : ℕ) (v : Stored) → IsWaiting w n k l i r v → CameIn w n k l i
-    pub dropped : (n k l i : ℕ) (y : List Entry) → At w.servers l y → At y i (Withdrawn n k) → IsDropped w n k l i y
+    pub dropped : (n k l i : ℕ) (y : List Entry) → At w.servers l y → At y i (Withdrawn n k)
+        → IsDropped w n k l i y
     pub finished : (n k l e : ℕ) (y : List Entry) → At w.servers l y → At y e (Finished n k)
         → IsBusyUntil y n k e × ((f : ℕ) → At y f (Finished n k) → e ≡ f)
     pub done : (life channel number : ℕ) (x : List Line) → At w.clients life x
         → In x (Noticed (On channel (Request Put number)) Done)
-        → (n k l i r : ℕ) × (v : Stored) × Stands w life (On channel (Request Put number)) n k × IsApplied w n k l i r v
-    pub failed : (life n k l i r : ℕ) (intent : Intent) (s : Status) (x : List Line) (v : Stored) → At w.clients life x
+        → (n k l i r : ℕ) × (v : Stored) × Stands w life (On channel (Request Put number)) n k
+        × IsApplied w n k l i r v
+    pub failed : (life n k l i r : ℕ) (intent : Intent) (s : Status) (x : List Line) (v : Stored)
+        → At w.clients life x
         → In x (Noticed intent (Failed s)) → Stands w life intent n k → IsApplied w n k l i r v → ⊥
 
-  -- The updates of the EVENT_ADD s, sent and then queued, carry matching posts by rising numbers; each sent one shows
-  -- its post; and while the subscription lasts, the newest post is among them.
-  pub record Follows (c : Circuit) (y : List Entry) (k r : ℕ) (s : Sent) (posts : List Stored) : Type 0 where
-    pub rising : (i j a b : ℕ) → i < j → At (updates c) i (k, Update a) → At (updates c) j (k, Update b) → a < b
+  -- The updates of the EVENT_ADD s, sent and then queued, carry matching posts by rising numbers;
+  -- each sent one shows its post; and while the subscription lasts, the newest post is among them.
+  pub record Follows (c : Circuit) (y : List Entry) (k r : ℕ) (s : Sent)
+      (posts : List Stored) : Type 0 where
+    pub rising : (i j a b : ℕ) → i < j → At (updates c) i (k, Update a)
+        → At (updates c) j (k, Update b) → a < b
     pub matches : (a : ℕ) → In (updates c) (k, Update a) → a < length posts
     pub shows : (j a : ℕ) (t : Told) → At c.down j t → t.place ≡ k → t.cause ≡ Update a
         → (v : Stored) × At posts a v × Shows s.message v t.message
@@ -187,8 +219,10 @@ module _
   pub record Sees (w : World) (life : ℕ) (x : List Line) : Type 0 where
     pub own : (i : ℕ) (intent : Intent) (o : Outcome) → At x i (Updated intent o)
         → (by : Reads w life x i intent o) × (a : ℕ) × (by.t.cause ≡ Update a)
-    pub in_order : (i : ℕ) (intent : Intent) (o : Outcome) (by : Reads w life x i intent o) (j a : ℕ) (t : Told)
-        → At x i (Updated intent o) → j < by.j → At by.c.down j t → t.place ≡ by.t.place → t.cause ≡ Update a
+    pub in_order : (i : ℕ) (intent : Intent) (o : Outcome) (by : Reads w life x i intent o)
+        (j a : ℕ) (t : Told)
+        → At x i (Updated intent o) → j < by.j → At by.c.down j t → t.place ≡ by.t.place
+        → t.cause ≡ Update a
         → (l : ℕ) × (p : Outcome) × (see : Reads w life x l intent p)
         × At x l (Updated intent p) × (l < i) × (see.n ≡ by.n) × (see.j ≡ j)
 

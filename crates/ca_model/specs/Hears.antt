@@ -252,8 +252,10 @@ Fails x c m e =
 -- the commands that a client understands on a circuit
 abbrev pub understood : List Command
 understood =
-    command.Search ∷ command.AccessRights ∷ command.CreateChannel ∷ command.CreateChannelFail ∷ command.ClearChannel
-    ∷ command.ServerDisconnect ∷ command.ReadNotify ∷ command.WriteNotify ∷ command.EventAdd ∷ command.Error ∷ []
+    command.Search ∷ command.AccessRights ∷ command.CreateChannel ∷ command.CreateChannelFail
+    ∷ command.ClearChannel
+    ∷ command.ServerDisconnect ∷ command.ReadNotify ∷ command.WriteNotify ∷ command.EventAdd
+    ∷ command.Error ∷ []
 
 -- A message that was read on this circuit has this effect. One of another command is skipped, and
 -- so is one that is about nothing here.

@@ -5,9 +5,11 @@ use Rattle.ca_dbr.specs.declared.value.Outcome.{Outcome}
 use Rattle.ca_dbr.specs.Elements.{Elements}
 use Rattle.ca_model.specs.Sends.{Conduct, LegalClient, LegalServer}
 use Rattle.ca_model.specs.Speech.{Creates, In}
-use Rattle.ca_model.specs.History.{Create, Subscribe, Intent, On, Reply, Removal, Sent, Told, Step, Circuit, Entry}
+use Rattle.ca_model.specs.History.{Create, Subscribe, Intent, On, Reply, Removal, Sent, Told, Step}
+use Rattle.ca_model.specs.History.{Circuit, Entry}
 use Rattle.ca_model.specs.History.{Removed, Line, Called, Noticed, World}
-use Rattle.ca_model.specs.Channels.{Created, IsHeld, IsUncleared, IsUse, Meant, OfCircuits, OfClients, Stands}
+use Rattle.ca_model.specs.Channels.{Created, IsHeld, IsUncleared, IsUse, Meant, OfCircuits}
+use Rattle.ca_model.specs.Channels.{OfClients, Stands}
 
 -- What the client did on a circuit, and what the server did.
 abbrev pub client_conduct : Circuit → Conduct
@@ -27,17 +29,20 @@ server_conduct c = record {
 -- In step h the client read that the channel was created for which it had asked at place k.
 abbrev pub BecomesLive : Circuit → (channel k : ℕ) → Step → Type 0
 BecomesLive c channel k h =
-    (j sid : ℕ) × (t : Told) × Meant c k (On channel Create) × At c.down j t × (t.place ≡ k) × (t.cause ≡ Reply)
+    (j sid : ℕ) × (t : Told) × Meant c k (On channel Create) × At c.down j t × (t.place ≡ k)
+    × (t.cause ≡ Reply)
     × Creates t.message sid × At c.heard j h
 
 -- By these lines a subscription was made, and neither the caller nor a refusal ended it.
 abbrev pub IsStanding : List Line → Intent → Type 0
-IsStanding x intent = In x (Called intent None) × IsHeld x intent × ((o : Outcome) → In x (Noticed intent o) → ⊥)
+IsStanding x intent =
+    In x (Called intent None) × IsHeld x intent × ((o : Outcome) → In x (Noticed intent o) → ⊥)
 
--- What goes out on a circuit. Each end sends what it may. A read, a write or an EVENT_ADD was called. A channel that
--- was open when its record was removed has a SERVER_DISCONN. And for each creation of its channel a subscription has
--- one EVENT_ADD: two are for different creations; each time that the channel becomes live there is one if the
--- subscription stands, and none if its caller or a refusal had ended it.
+-- What goes out on a circuit. Each end sends what it may. A read, a write or an EVENT_ADD was
+-- called. A channel that was open when its record was removed has a SERVER_DISCONN. And for each
+-- creation of its channel a subscription has one EVENT_ADD: two are for different creations; each
+-- time that the channel becomes live there is one if the subscription stands, and none if its
+-- caller or a refusal had ended it.
 pub record LegalCircuit (n : ℕ) (c : Circuit) (x : List Line) (y : List Entry) : Type 0 where
   pub client : LegalClient (client_conduct c)
   pub server : LegalServer (server_conduct c)

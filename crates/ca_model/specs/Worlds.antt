@@ -16,8 +16,10 @@ IsSafeWorld w = IsSafe (port_of w) (rules_of w) (told w)
 abbrev pub IsLegalWorld : World → Type 0
 IsLegalWorld w = Legal (told w)
 
--- What is promised: from a well-formed setting, whatever events in a row lead to is safe, and legal.
+-- What is promised: from a well-formed setting, whatever events in a row lead to is safe, and
+-- legal.
 abbrev pub Promise : Type 0
 Promise =
-    (setting : Setting) (es : List Event) (stopped : Option Event) (w : World) → IsSetting setting → AreEvents es
+    (setting : Setting) (es : List Event) (stopped : Option Event) (w : World) → IsSetting setting
+    → AreEvents es
     → Runs setting es stopped w → IsSafeWorld w × IsLegalWorld w

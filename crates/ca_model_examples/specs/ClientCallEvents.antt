@@ -87,7 +87,8 @@ world x lines up = record {
   clients = x ∷ anna_side (anna []) names ∷ [];
   servers = server ∷ [];
   circuits =
-      joined 1 first true [] ∷ joined 0 first false [] ∷ joined 0 second true [] ∷ joined 0 first true up ∷ [];
+      joined 1 first true [] ∷ joined 0 first false [] ∷ joined 0 second true []
+      ∷ joined 0 first true up ∷ [];
   client_logs = [] ∷ lines ∷ [];
   server_logs = [] ∷ [];
   moment = 7;

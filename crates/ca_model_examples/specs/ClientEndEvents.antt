@@ -62,7 +62,10 @@ between x y = record (world (anna_side x names) [] []) { servers = y ∷ [] }
 -- the last circuit is so
 abbrev pub with_last : Joined → World → World
 with_last j w =
-    record w { circuits = joined 1 first true [] ∷ joined 0 first false [] ∷ joined 0 second true [] ∷ j ∷ [] }
+    record w {
+      circuits = joined 1 first true [] ∷ joined 0 first false [] ∷ joined 0 second true []
+          ∷ j ∷ [];
+    }
 
 abbrev pub left_up : List ℕ → Joined
 left_up bytes = record (joined 0 first false []) { left_up = bytes }
@@ -199,7 +202,8 @@ greeting =
 abbrev pub accepted : Joined
 accepted =
     let j : Joined =
-    joined 0 first true greeting in record j { queues = Rattle.std.specs.Prelude.replicate 8 Rattle.ca_queue.specs.Queue.no_queue }
+    joined 0 first true greeting in
+    record j { queues = Rattle.std.specs.Prelude.replicate 8 Rattle.ca_queue.specs.Queue.no_queue }
 
 -- It is made, with the client's set-up going up; a full server refuses it, and nothing happens;
 -- without a server it can't be made.
@@ -224,7 +228,8 @@ abbrev pub NoticeLines : Type 0
 NoticeLines =
     lines_of (on_temp (Request Write 2))
     (record with_read { subscriptions = (second, on_temp (Subscribe 1)) ∷ [] }) (
-    answer.Live first ∷ answer.Completed first outcome.Done ∷ answer.Update second outcome.Done ∷ answer.SubscriptionEnded second (record { number = 160 })
+    answer.Live first ∷ answer.Completed first outcome.Done ∷ answer.Update second outcome.Done
+    ∷ answer.SubscriptionEnded second (record { number = 160 })
     ∷ answer.WriteRefused first (record { number = 160 }) ∷ answer.Lost first ∷ []
     )
     ≡ history.Noticed (on_temp Create) outcome.Done ∷ read_done ∷ history.Updated

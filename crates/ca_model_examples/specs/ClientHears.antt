@@ -51,7 +51,10 @@ CreationFails =
 abbrev pub OutOfTurn : Type 0
 OutOfTurn =
     (channel_state
-    (rights_told alive.core first (record (bare command.AccessRights) { p1 = 65536; p2 = 1 }) (channel_on alive.core first 65536)).core first ≡ Ok (state.Live 5 1 1))
+    (rights_told alive.core first (record (bare command.AccessRights) { p1 = 65536; p2 = 1 })
+    (channel_on alive.core first 65536)).core
+    first
+    ≡ Ok (state.Live 5 1 1))
     × (clear_answered alive.core first (channel_on alive.core first 65536) ≡ becomes alive.core)
     × (left permitted first (channel_on permitted first 65536) ≡ becomes permitted)
     × (created alive.core first created_temp (channel_on alive.core first 65536)
@@ -63,7 +66,8 @@ OutOfTurn =
 abbrev pub Found : Type 0
 Found =
     (found_at (record { host = 9; port = 7 })
-    (record (bare command.Search) { data_type = 5064; p1 = 0xFFFFFFFF }) ≡ record { host = 9; port = 5064 })
+    (record (bare command.Search) { data_type = 5064; p1 = 0xFFFFFFFF })
+    ≡ record { host = 9; port = 5064 })
     × (found_at (record { host = 9; port = 7 })
     (record (bare command.Search) { data_type = 5064; p1 = 8 }) ≡ record { host = 8; port = 5064 })
     × (let e : Effect = put_on first (Some (new_connection 0)) first temp_channel
@@ -84,7 +88,8 @@ abbrev pub ClearedWhileWaiting : Type 0
 ClearedWhileWaiting =
     let x : Client = cleared first (On first phase.Connecting) found in
     let y : Client =
-    cleared first (On first phase.Connecting) (with_standing (On first phase.Connecting) first (with_temp named)) in
+    cleared first (On first phase.Connecting)
+    (with_standing (On first phase.Connecting) first (with_temp named)) in
     (held x.channels ≡ []) × (x.searches ≡ []) × (held x.circuits ≡ []) × (x.order ≡ [])
     × (held y.channels ≡ []) × (y.order ≡ first ∷ [])
 
@@ -96,18 +101,22 @@ RepliesByCommand =
     (answered_by first 19 65536 reading.requests ≡ None)
     × (answered_by second 15 65536 reading.requests ≡ None)
     × (answered_by first 15 65537 reading.requests ≡ None)
-    × (answered_by first 15 65536 reading.requests ≡ Some
-    (first, record { channel = first; circuit = first; asked = request.Read 5 1; stage = request.Open }))
+    × (answered_by first 15 65536 reading.requests ≡ Some (
+      first,
+      record { channel = first; circuit = first; asked = request.Read 5 1; stage = request.Open },
+    ))
 
 -- a confirmation counts on the circuit of its cancel
 abbrev pub ConfirmedThere : Type 0
 ConfirmedThere =
-    (confirmed_by second 65536 cancelled.subscriptions ≡ None) × (confirmed_by first 65537 cancelled.subscriptions ≡ None)
+    (confirmed_by second 65536 cancelled.subscriptions ≡ None)
+    × (confirmed_by first 65537 cancelled.subscriptions ≡ None)
 
 -- NOT_FOUND, and any other command that a client does not understand, is skipped.
 abbrev pub Skipped : Type 0
 Skipped =
-    Hears alive.core first (bare command.NotFound) (becomes alive.core) × Hears alive.core first (bare command.Echo) (becomes alive.core)
+    Hears alive.core first (bare command.NotFound) (becomes alive.core)
+    × Hears alive.core first (bare command.Echo) (becomes alive.core)
 
 -- ---- ERROR
 
@@ -149,12 +158,14 @@ SubscribedAgain =
     let e : Effect =
     created resubscribing first created_temp (channel_on resubscribing first 65536) in
     (map (λ (s : Sending). s.message) e.sent ≡ event_add_request
-    (record { sid = 65536; id = 65537; data_type = 5; count = 1 }) 1 ∷ []) × (e.notices ≡ notice.Live first ∷ [])
+    (record { sid = 65536; id = 65537; data_type = 5; count = 1 }) 1 ∷ [])
+    × (e.notices ≡ notice.Live first ∷ [])
 
 -- the stage of the subscription after it is ended on a channel that is so
 abbrev pub stages : Option Standing → List monitor.Stage
 stages s =
-    map (λ (e : Handle × Subscription). e.1.stage) (held (unsubscribed first s subscribed).subscriptions)
+    map (λ (e : Handle × Subscription). e.1.stage)
+    (held (unsubscribed first s subscribed).subscriptions)
 
 -- Its id drains until the confirmation, or on a channel that its record left until the clear's
 -- reply; else it is free. Only on a live channel an EVENT_CANCEL goes out.
@@ -176,7 +187,8 @@ Unsubscribes =
 abbrev pub LastFaults : Type 0
 LastFaults =
     (ask_fault alive.core true first one_long ≡ Some refusal.ArenaFull)
-    × (ask_fault alive.core true first (record { data_type = 5; count = 2 }) ≡ Some refusal.BadCount)
+    × (ask_fault alive.core true first (record { data_type = 5; count = 2 })
+    ≡ Some refusal.BadCount)
     × ((bytes : List ℕ) → nat_le output_limit (length bytes) ≡ true
     → ask_fault (with_output bytes alive.core) true first one_long ≡ Some refusal.OutputFull)
     × (put_fault alive.core true second (longs []) ≡ Some refusal.StaleHandle)
@@ -186,6 +198,8 @@ LastFaults =
 abbrev pub PauseIsSent : Type 0
 PauseIsSent =
     (flow_sent second true
-    (record { link = new_link 0; run = record { reads = 9; events_off = false } }) ≡ record { circuit = second; message = bare command.EventsOff; aim = notice.OfCircuit } ∷ [])
+    (record { link = new_link 0; run = record { reads = 9; events_off = false } })
+    ≡ record { circuit = second; message = bare command.EventsOff; aim = notice.OfCircuit } ∷ [])
     × (flow_sent second false
-    (record { link = new_link 0; run = record { reads = 0; events_off = true } }) ≡ record { circuit = second; message = bare command.EventsOn; aim = notice.OfCircuit } ∷ [])
+    (record { link = new_link 0; run = record { reads = 0; events_off = true } })
+    ≡ record { circuit = second; message = bare command.EventsOn; aim = notice.OfCircuit } ∷ [])

@@ -169,7 +169,8 @@ three_reads =
 abbrev pub InOrderOfIssue : Type 0
 InOrderOfIssue =
     disconnections (asks_on first) three_reads
-    ≡ notice.Completed second outcome.Disconnected ∷ notice.Completed again outcome.Disconnected ∷ []
+    ≡ notice.Completed second outcome.Disconnected
+    ∷ notice.Completed again outcome.Disconnected ∷ []
 
 -- ---- the circuit is cut
 
@@ -319,7 +320,8 @@ PauseAtTen =
 abbrev pub OneSearch : Type 0
 OneSearch =
     packed [] (record { cid = 65536; name = temp } ∷ [])
-    ≡ (0 ∷ 0 ∷ 0 ∷ 0 ∷ 0 ∷ 0 ∷ 0 ∷ 13 ∷ 0 ∷ 0 ∷ 0 ∷ 0 ∷ 0 ∷ 0 ∷ 0 ∷ 0 ∷ 0 ∷ 6 ∷ 0 ∷ 8 ∷ 0 ∷ 5 ∷ 0 ∷ 13 ∷ 0 ∷ 1 ∷ 0 ∷ 0 ∷ 0 ∷ 1 ∷ 0 ∷ 0 ∷ 84 ∷ 69 ∷ 77 ∷ 80 ∷ 0 ∷ 0 ∷ 0 ∷ 0 ∷ []) ∷ []
+    ≡ (0 ∷ 0 ∷ 0 ∷ 0 ∷ 0 ∷ 0 ∷ 0 ∷ 13 ∷ 0 ∷ 0 ∷ 0 ∷ 0 ∷ 0 ∷ 0 ∷ 0 ∷ 0 ∷ 0 ∷ 6 ∷ 0 ∷ 8 ∷ 0 ∷ 5 ∷ 0
+    ∷ 13 ∷ 0 ∷ 1 ∷ 0 ∷ 0 ∷ 0 ∷ 1 ∷ 0 ∷ 0 ∷ 84 ∷ 69 ∷ 77 ∷ 80 ∷ 0 ∷ 0 ∷ 0 ∷ 0 ∷ []) ∷ []
 
 -- the lengths of the datagrams of searches for names of these lengths
 abbrev pub sizes : List ℕ → List ℕ

@@ -5,7 +5,8 @@ use Rattle.std.specs.List.{flat_map}
 use Rattle.ca_text.specs.declared.command.Command.TheVariants as command
 use Rattle.ca_wire.specs.Messages.{cancel_reply, create_request, created_reply, event_add_request}
 use Rattle.ca_wire.specs.Messages.{put_request, rights_reply}
-use Rattle.ca_model.specs.History.{Cancel, Request, Write, Create, Subscribe, Intent, On, Sent, Told}
+use Rattle.ca_model.specs.History.{Cancel, Request, Write, Create, Subscribe, Intent, On, Sent}
+use Rattle.ca_model.specs.History.{Told}
 use Rattle.ca_model.specs.History.{Step, Circuit, Line, Called, Opened, World}
 use Rattle.ca_model_examples.specs.Worlds.{adding, circuit, created_told, creating, reading, reply}
 use Rattle.ca_model_examples.specs.Worlds.{step, temp_name, wanted, world}

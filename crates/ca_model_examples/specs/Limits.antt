@@ -50,7 +50,8 @@ AcceptIsLast =
       clients = anna_side greeted names ∷ anna_side (anna []) names ∷ [];
       servers = server_with (link_of [] []) ∷ [];
       circuits =
-          joined 0 second true [] ∷ record accepted { lists = record accepted.lists { client = 1 } } ∷ [];
+          joined 0 second true []
+          ∷ record accepted { lists = record accepted.lists { client = 1 } } ∷ [];
     })
 
 -- A datagram comes to a client at the moment of the world.

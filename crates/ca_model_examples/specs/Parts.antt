@@ -18,7 +18,8 @@ pub data Part : Type 0 where
   -- 1. ActsOnRecord
   Acts Retired Refused Live OneName OneRecord OneAtOnce WasThere : Part
   -- 2. AnswersOwn, with the steps of the server and those of the client; CompletesOnce
-  Asked Caused DisconnectedOnce Own Answered HandledEach HandledWithin HandledRise HeardEach HeardWithin HeardRise : Part
+  Asked Caused DisconnectedOnce Own Answered HandledEach HandledWithin HandledRise HeardEach
+      HeardWithin HeardRise : Part
   Told Lost CompletedOnce OneCall SentOnce AtOne : Part
   -- 3. NotTwice
   AppliedOnce OwnWrite CameToWait Dropped Finished Done Failed : Part

@@ -95,7 +95,8 @@ first_update place value =
 abbrev pub reopened : Circuit
 reopened =
     circuit (creating ∷ adding 0 9 ∷ clearing ∷ creating ∷ adding 0 9 ∷ []) (
-    rights_told ∷ created_told ∷ first_update 1 21 ∷ disconnected ∷ reply 2 clearing.message ∷ reply 3 rights_told.message
+    rights_told ∷ created_told ∷ first_update 1 21 ∷ disconnected ∷ reply 2 clearing.message
+    ∷ reply 3 rights_told.message
     ∷ reply 3 created_told.message ∷ first_update 4 5 ∷ []
     ) (step 0 1 1 ∷ step 2 1 1 ∷ step 4 2 2 ∷ step 5 3 3 ∷ step 7 3 3 ∷ []) (
     step 1 1 1 ∷ step 1 1 2 ∷ step 2 3 4 ∷ step 2 4 5 ∷ step 3 5 5 ∷ step 4 5 5 ∷ step 4 5 6 ∷ []

@@ -312,7 +312,8 @@ EchoSpelled = spelling (bare command.Echo) ≡ 0 ∷ 23 ∷ replicate 14 0
 abbrev pub SearchSpelled : Type 0
 SearchSpelled =
     spelling (search_reply 5064 (search_request 65536 temp_name))
-    ≡ 0 ∷ 6 ∷ 0 ∷ 8 ∷ 19 ∷ 200 ∷ 0 ∷ 0 ∷ 255 ∷ 255 ∷ 255 ∷ 255 ∷ 0 ∷ 1 ∷ 0 ∷ 0 ∷ 0 ∷ 13 ∷ replicate 6 0
+    ≡ 0 ∷ 6 ∷ 0 ∷ 8 ∷ 19 ∷ 200 ∷ 0 ∷ 0 ∷ 255 ∷ 255 ∷ 255 ∷ 255 ∷ 0 ∷ 1 ∷ 0 ∷ 0 ∷ 0 ∷ 13
+    ∷ replicate 6 0
 
 -- and one of type 10 for a name that is not served
 abbrev pub NotFoundSpelled : Type 0
@@ -335,9 +336,11 @@ CreationSpelled =
 abbrev pub ReadSpelled : Type 0
 ReadSpelled =
     (spelling (value_reply (read_of 5 1) 1 (shown_as 5 temp 1))
-    ≡ 0 ∷ 15 ∷ 0 ∷ 8 ∷ 0 ∷ 5 ∷ 0 ∷ 1 ∷ 0 ∷ 0 ∷ 0 ∷ 1 ∷ 0 ∷ 1 ∷ 0 ∷ 0 ∷ 0 ∷ 0 ∷ 0 ∷ 21 ∷ 0 ∷ 0 ∷ 0 ∷ 0 ∷ [])
+    ≡ 0 ∷ 15 ∷ 0 ∷ 8 ∷ 0 ∷ 5 ∷ 0 ∷ 1 ∷ 0 ∷ 0 ∷ 0 ∷ 1 ∷ 0 ∷ 1 ∷ 0 ∷ 0 ∷ 0 ∷ 0 ∷ 0 ∷ 21 ∷ 0 ∷ 0 ∷ 0
+    ∷ 0 ∷ [])
     × (spelling (status_reply (read_of 5 70000) bad_count)
-    ≡ 0 ∷ 15 ∷ 255 ∷ 255 ∷ 0 ∷ 5 ∷ 0 ∷ 0 ∷ 0 ∷ 0 ∷ 0 ∷ 176 ∷ 0 ∷ 1 ∷ 0 ∷ 0 ∷ 0 ∷ 0 ∷ 0 ∷ 0 ∷ 0 ∷ 1 ∷ 17 ∷ 112 ∷ [])
+    ≡ 0 ∷ 15 ∷ 255 ∷ 255 ∷ 0 ∷ 5 ∷ 0 ∷ 0 ∷ 0 ∷ 0 ∷ 0 ∷ 176 ∷ 0 ∷ 1 ∷ 0 ∷ 0 ∷ 0 ∷ 0 ∷ 0 ∷ 0 ∷ 0 ∷ 1
+    ∷ 17 ∷ 112 ∷ [])
 
 -- a put with notification that is done has its header back, with NORMAL for the SID
 abbrev pub PutSpelled : Type 0
@@ -354,7 +357,8 @@ update_of w r None = bare command.Error
 abbrev pub UpdateSpelled : Type 0
 UpdateSpelled =
     (spelling (update_of (on_first 5 1) temp (type_of 5))
-    ≡ 0 ∷ 1 ∷ 0 ∷ 8 ∷ 0 ∷ 5 ∷ 0 ∷ 1 ∷ 0 ∷ 0 ∷ 0 ∷ 1 ∷ 0 ∷ 1 ∷ 0 ∷ 0 ∷ 0 ∷ 0 ∷ 0 ∷ 21 ∷ 0 ∷ 0 ∷ 0 ∷ 0 ∷ [])
+    ≡ 0 ∷ 1 ∷ 0 ∷ 8 ∷ 0 ∷ 5 ∷ 0 ∷ 1 ∷ 0 ∷ 0 ∷ 0 ∷ 1 ∷ 0 ∷ 1 ∷ 0 ∷ 0 ∷ 0 ∷ 0 ∷ 0 ∷ 21 ∷ 0 ∷ 0 ∷ 0
+    ∷ 0 ∷ [])
     × (spelling (update_of (on_first 5 1) note (type_of 5))
     ≡ 0 ∷ 1 ∷ 0 ∷ 8 ∷ 0 ∷ 5 ∷ 0 ∷ 1 ∷ 0 ∷ 0 ∷ 0 ∷ 152 ∷ 0 ∷ 1 ∷ 0 ∷ 0 ∷ replicate 8 0)
 

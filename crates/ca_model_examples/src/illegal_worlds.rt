@@ -4,7 +4,8 @@ ghost use Rattle.ca_model.specs.Legal.{Legal};
 ghost use Rattle.ca_model_examples.specs.Worlds.{putting, clearing, adding, created_told};
 ghost use Rattle.ca_model_examples.specs.Worlds.{disconnected, step, world};
 ghost use Rattle.ca_model_examples.specs.Parts.{Anew, Apart, Cancels, Confirmations, Disconnects};
-ghost use Rattle.ca_model_examples.specs.Parts.{Ended, HasAdd, HasCall, Ids, MaySend, OnChannel, Sending};
+ghost use Rattle.ca_model_examples.specs.Parts.{Ended, HasAdd, HasCall, Ids, MaySend, OnChannel};
+ghost use Rattle.ca_model_examples.specs.Parts.{Sending};
 ghost use Rattle.ca_model_examples.specs.Parts.{SendsWrong, Sids, ToldRemoved, Updates};
 ghost use Rattle.ca_model_examples.specs.Unsafe.{cancelling, opened, temp_removed, temp_there};
 ghost use Rattle.ca_model_examples.specs.Illegal.{added_again, both_asked, both_created, called_at};
@@ -19,8 +20,8 @@ pub fn the_parts_are_all_that_is_legal()
     ensures parts { (w : World) → Legal w → (p : Sending) → MaySend p w }
 {}
 
-/// A read goes out once it was called and the creation's reply was read; a cancel is for an EVENT_ADD; and two ids
-/// of a kind that are in use have two indexes.
+/// A read goes out once it was called and the creation's reply was read; a cancel is for an
+/// EVENT_ADD; and two ids of a kind that are in use have two indexes.
 pub fn what_a_client_may_send()
     ensures read { Legal (sent_in (read_out (created_read ∷ []))) }
     ensures read_uncalled { SendsWrong HasCall (uncalled_in (read_out (created_read ∷ []))) }

@@ -9,8 +9,8 @@ use Rattle.ca_lists.specs.Lists.{Ascends, list_of}
 use Rattle.ca_lists.specs.Walks.{AreListed, Covers, IsInOrder, by_value, each_at}
 use Rattle.ca_lists.proofs.Listed.{listed-covers, listed-tells, listed-thin, thins-map}
 use Rattle.ca_lists.proofs.Walked.{told-listed}
-use Rattle.ca_monitor.specs.declared.drops.Which.{Which}
-use Rattle.ca_monitor.specs.declared.drops.Which.TheVariants as which
+use Rattle.ca_monitor.specs.declared.drops.SubscriptionsMeant.{SubscriptionsMeant}
+use Rattle.ca_monitor.specs.declared.drops.SubscriptionsMeant.TheVariants as which
 use Rattle.ca_monitor.specs.Layout.{is_of, is_standing_to, named, owner_of}
 use Rattle.ca_monitor.specs.Subscriptions.{Cancelled, Ended, Stage, Stands, Subscription, drains_in, is_to, over_on, stage_over, standing_to, stands_in}
 

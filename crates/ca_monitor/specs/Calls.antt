@@ -10,7 +10,8 @@ use Rattle.ca_monitor.specs.Subscriptions.{Stage, Subscription, standing_under, 
 -- From old, this subscription was added under the handle that was told, with this answer, and left
 -- new. Refused, all is as before: another handle may be told, or none, and this one is stale; or
 -- this one may be given, and there is no memory.
-abbrev pub Adds : Table Subscription → Handle → Subscription → Result (Unit {0}) Refusal → Table Subscription → Type 0
+abbrev pub Adds : Table Subscription → Handle → Subscription → Result (Unit {0}) Refusal
+    → Table Subscription → Type 0
 Adds old h s (Ok _) new = MayGive old h × (new ≡ with_held h s old)
 Adds old h s (Err e) new =
     (new ≡ old)
@@ -18,7 +19,8 @@ Adds old h s (Err e) new =
     ⊎ ((e ≡ refusal.OutOfMemory) × MayGive old h))
 
 -- From old, the subscription of this handle came to this stage, with this answer, and left new.
-abbrev pub Comes : Stage → Table Subscription → Handle → Result Subscription Refusal → Table Subscription → Type 0
+abbrev pub Comes : Stage → Table Subscription → Handle → Result Subscription Refusal
+    → Table Subscription → Type 0
 Comes stage old h (Ok s) new = (standing_under h old ≡ Some s) × (new ≡ with_stage stage h old)
 Comes stage old h (Err refusal.StaleHandle) new = (standing_under h old ≡ None) × (new ≡ old)
 Comes stage old h (Err _) new = ⊥

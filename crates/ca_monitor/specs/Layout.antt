@@ -4,18 +4,20 @@ use Rattle.std.specs.Prelude.{ℕ, ◌==◌, ◌&&◌, Bool, false, Option, Some
 use Rattle.ca_arena.specs.declared.handle.Handle.{Handle}
 use Rattle.ca_arena.specs.Arena.{Place}
 use Rattle.ca_ids.specs.Table.{kept_of}
-use Rattle.ca_monitor.specs.declared.drops.Which.{Which}
-use Rattle.ca_monitor.specs.declared.drops.Which.TheVariants as which
+use Rattle.ca_monitor.specs.declared.drops.SubscriptionsMeant.{SubscriptionsMeant}
+use Rattle.ca_monitor.specs.declared.drops.SubscriptionsMeant.TheVariants as which
 use Rattle.ca_monitor.specs.Subscriptions.{Subscription, drains_in, is_to, stands_in}
 
 -- the subscriptions that are meant
-abbrev pub named : Which → Subscription → Bool
+abbrev pub named : SubscriptionsMeant → Subscription → Bool
 named (which.ToChannel channel) = is_to channel
-named (which.DrainingTo circuit channel) = λ (s : Subscription). is_to channel s && drains_in circuit s.stage
+named (which.DrainingTo circuit channel) =
+    λ (s : Subscription). is_to channel s && drains_in circuit s.stage
 
 -- a place whose id is free if it drains on this circuit
 abbrev pub place_freed : Handle → Place Subscription → Place Subscription
-place_freed circuit p = record p { value = kept_of (λ (s : Subscription). drains_in circuit s.stage) p.value }
+place_freed circuit p =
+    record p { value = kept_of (λ (s : Subscription). drains_in circuit s.stage) p.value }
 
 -- a subscription to this channel stands
 abbrev pub is_standing_to : Handle → Handle × Subscription → Bool

@@ -16,7 +16,9 @@ no_reads = record { reads = 0; events_off = false }
 
 -- one more read left bytes waiting: `flow_reads` of them in a row ask for a pause
 abbrev pub counted : ReadRun → ReadRun
-counted r = if r.reads + 1 == flow_reads then record { reads = 0; events_off = true } else record r { reads = r.reads + 1 }
+counted r =
+    if r.reads + 1 == flow_reads then record { reads = 0; events_off = true }
+    else record r { reads = r.reads + 1 }
 
 -- A read that left bytes waiting (true) is counted, unless updates pause. A read that left none
 -- ends the pause, and the count begins again.

@@ -1,8 +1,10 @@
 -- Vocabulary: a client's subscriptions, in their table of subscription ids (sections
 -- "CA_PROTO_EVENT_ADD" and "CA_PROTO_EVENT_CANCEL").
-use Rattle.std.specs.Prelude.{ℕ, ◌&&◌, Bool, true, false, List, Option, Some, None, filter, if◌then◌else◌, option_and_then}
+use Rattle.std.specs.Prelude.{ℕ, ◌&&◌, Bool, true, false, List, Option, Some, None, filter}
+use Rattle.std.specs.Prelude.{if◌then◌else◌, option_and_then}
 use Rattle.ca_arena.specs.declared.handle.Handle.{Handle}
-use Rattle.ca_ids.specs.Table.{Table, by_wire, held, same_handle, under, with_all, with_all_freed, with_changed}
+use Rattle.ca_ids.specs.Table.{Table, by_wire, held, same_handle, under, with_all, with_all_freed}
+use Rattle.ca_ids.specs.Table.{with_changed}
 
 -- A subscription stands; or its caller cancelled it on this circuit, and its id drains until the
 -- confirmation; or its id drains on this circuit until its channel's clear is answered.
@@ -50,21 +52,27 @@ is_cancelled_in circuit (Ended on) = false
 
 -- the subscription of this handle, if it stands
 abbrev pub standing_under : Handle → Table Subscription → Option Subscription
-standing_under h t = option_and_then (λ (s : Subscription). if stands_in s.stage then Some s else None) (under t h)
+standing_under h t =
+    option_and_then (λ (s : Subscription). if stands_in s.stage then Some s else None) (under t h)
 
 -- the subscription of this id, if it stands
 abbrev pub standing_by : ℕ → Table Subscription → Option (Handle × Subscription)
-standing_by id t = option_and_then (λ (e : Handle × Subscription). if stands_in e.1.stage then Some e else None) (by_wire t id)
+standing_by id t =
+    option_and_then (λ (e : Handle × Subscription). if stands_in e.1.stage then Some e else None)
+    (by_wire t id)
 
 -- the subscriptions to this channel that stand, in order of index
 abbrev pub standing_to : Handle → Table Subscription → List (Handle × Subscription)
-standing_to channel t = filter (λ (e : Handle × Subscription). is_to channel e.1 && stands_in e.1.stage) (held t)
+standing_to channel t =
+    filter (λ (e : Handle × Subscription). is_to channel e.1 && stands_in e.1.stage) (held t)
 
 -- The subscription whose cancel a confirmation of this id on this circuit is about. It is about
 -- none that was not cancelled.
 abbrev pub confirmed_by : Handle → ℕ → Table Subscription → Option Handle
 confirmed_by circuit id t =
-    option_and_then (λ (e : Handle × Subscription). if is_cancelled_in circuit e.1.stage then Some e.0 else None) (by_wire t id)
+    option_and_then
+    (λ (e : Handle × Subscription). if is_cancelled_in circuit e.1.stage then Some e.0 else None)
+    (by_wire t id)
 
 -- ---- subscriptions end
 
@@ -81,7 +89,8 @@ stage_over circuit (Ended on) = Ended on
 
 -- a subscription to this channel is over, and its id drains on this circuit
 abbrev pub over_on : Handle → Handle → Subscription → Subscription
-over_on circuit channel s = if is_to channel s then record s { stage = stage_over circuit s.stage } else s
+over_on circuit channel s =
+    if is_to channel s then record s { stage = stage_over circuit s.stage } else s
 
 -- the subscriptions to this channel are over, and their ids drain on this circuit
 -- until its clear's reply
@@ -94,7 +103,8 @@ channel_gone channel t = with_all_freed (is_to channel) t
 
 -- the ids of this channel's subscriptions that drain on this circuit are free
 abbrev pub channel_drained : Handle → Handle → Table Subscription → Table Subscription
-channel_drained circuit channel t = with_all_freed (λ (s : Subscription). is_to channel s && drains_in circuit s.stage) t
+channel_drained circuit channel t =
+    with_all_freed (λ (s : Subscription). is_to channel s && drains_in circuit s.stage) t
 
 -- the ids that drain on this circuit are free
 abbrev pub circuit_gone : Handle → Table Subscription → Table Subscription

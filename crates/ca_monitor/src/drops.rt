@@ -14,19 +14,19 @@ use ca_ids::HeldTable;
 /// Which subscriptions are meant: those to a channel, or those to a channel whose
 /// ids drain on a circuit.
 #[derive(Clone, Copy, Debug, PartialEq, Eq)]
-pub(crate) enum Which {
+pub(crate) enum SubscriptionsMeant {
     ToChannel(Handle),
     DrainingTo(Handle, Handle),
 }
 
-impl Which {
+impl SubscriptionsMeant {
     /// Whether this subscription is meant.
     pub(crate) fn names(self, subscription: &Subscription) -> bool
         ensures { result ≡ named self subscription.now }
     {
         match self {
-            Which::ToChannel(channel) => subscription.is_to(channel),
-            Which::DrainingTo(circuit, channel) => {
+            SubscriptionsMeant::ToChannel(channel) => subscription.is_to(channel),
+            SubscriptionsMeant::DrainingTo(circuit, channel) => {
                 subscription.is_to(channel) && subscription.stage.drains_in(circuit)
             }
         }
@@ -46,7 +46,11 @@ pub(crate) fn at(table: &HeldTable<Subscription>, index: u16) -> Option<(Handle,
 }
 
 /// The ids of the subscriptions that are meant are free. All of them are at these indices.
-pub(crate) fn free_all(table: &mut HeldTable<Subscription>, listed: &[u16], which: Which)
+pub(crate) fn free_all(
+    table: &mut HeldTable<Subscription>,
+    listed: &[u16],
+    which: SubscriptionsMeant,
+)
     requires { Covers (kept_of (named which)) table.old listed.now }
     ensures { table.new ≡ with_all_freed (named which) table.old }
 {
@@ -55,7 +59,7 @@ pub(crate) fn free_all(table: &mut HeldTable<Subscription>, listed: &[u16], whic
     }
 }
 
-fn free_at(table: &mut HeldTable<Subscription>, index: u16, which: Which)
+fn free_at(table: &mut HeldTable<Subscription>, index: u16, which: SubscriptionsMeant)
     ensures { table.new ≡ with_place index (by_value (kept_of (named which))) table.old }
 {
     let Some((handle, subscription)) = at(table, index) else {

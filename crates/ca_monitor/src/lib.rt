@@ -10,5 +10,5 @@ mod subscription;
 
 pub use monitors::Monitors;
 pub use read_run::ReadRun;
-pub use stage::Stage;
+pub use stage::SubscriptionStage;
 pub use subscription::Subscription;

@@ -7,11 +7,14 @@ ghost use Rattle.ca_lists.specs.Walks.{one_at};
 ghost use Rattle.ca_monitor.specs.Calls.{Adds, Comes, freed_if};
 ghost use Rattle.ca_monitor.specs.Layout.{is_of, is_standing_to, place_freed};
 ghost use Rattle.ca_monitor.specs.Stages.{stage_of};
-ghost use Rattle.ca_monitor.specs.Subscriptions.{channel_drained, channel_gone, channel_over, circuit_gone, confirmed_by, new_subscription, standing_by, standing_to, standing_under, with_stage};
+ghost use Rattle.ca_monitor.specs.Subscriptions.{channel_drained, channel_gone, channel_over};
+ghost use Rattle.ca_monitor.specs.Subscriptions.{circuit_gone, confirmed_by, new_subscription};
+ghost use Rattle.ca_monitor.specs.Subscriptions.{standing_by, standing_to, standing_under};
+ghost use Rattle.ca_monitor.specs.Subscriptions.{with_stage};
 ghost use Rattle.ca_monitor.specs.Subscriptions as monitor;
 
-use crate::drops::{Which, at, end_all, free_all};
-use crate::stage::{Stage, is_same};
+use crate::drops::{SubscriptionsMeant, at, end_all, free_all};
+use crate::stage::{SubscriptionStage, is_same};
 use crate::subscription::Subscription;
 use ca_arena::Handle;
 use ca_ids::{HeldTable, WireId};
@@ -91,7 +94,7 @@ impl Monitors {
             data_type,
             count,
             mask,
-            stage: Stage::Stands,
+            stage: SubscriptionStage::Stands,
         };
         self.channels.add(channel.index, vacant.index)?;
         match self.table.open_at(vacant, added) {
@@ -131,7 +134,7 @@ impl Monitors {
         let Some(found) = self.standing(handle) else {
             return Err(Refusal::StaleHandle);
         };
-        self.set_stage(handle, Stage::Cancelled(circuit));
+        self.set_stage(handle, SubscriptionStage::Cancelled(circuit));
         Ok(found)
     }
 
@@ -145,11 +148,11 @@ impl Monitors {
         let Some(found) = self.standing(handle) else {
             return Err(Refusal::StaleHandle);
         };
-        self.set_stage(handle, Stage::Ended(circuit));
+        self.set_stage(handle, SubscriptionStage::Ended(circuit));
         Ok(found)
     }
 
-    fn set_stage(&mut self, handle: Handle, stage: Stage)
+    fn set_stage(&mut self, handle: Handle, stage: SubscriptionStage)
         ensures { self.new ≡ with_stage (stage_of stage) handle self.old }
     {
         if let Some(found) = self.table.by_handle_mut(handle) {
@@ -220,7 +223,11 @@ impl Monitors {
         ensures { self.new ≡ channel_gone channel self.old }
     {
         let listed = self.channels.of(channel.index);
-        free_all(&mut self.table, listed, Which::ToChannel(channel));
+        free_all(
+            &mut self.table,
+            listed,
+            SubscriptionsMeant::ToChannel(channel),
+        );
         self.tidy(channel.index);
     }
 
@@ -230,7 +237,11 @@ impl Monitors {
         ensures { self.new ≡ channel_drained circuit channel self.old }
     {
         let listed = self.channels.of(channel.index);
-        free_all(&mut self.table, listed, Which::DrainingTo(circuit, channel));
+        free_all(
+            &mut self.table,
+            listed,
+            SubscriptionsMeant::DrainingTo(circuit, channel),
+        );
         self.tidy(channel.index);
     }
 

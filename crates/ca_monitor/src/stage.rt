@@ -7,7 +7,7 @@ use ca_arena::Handle;
 
 /// How far a subscription is.
 #[derive(Clone, Copy, Debug, PartialEq, Eq)]
-pub enum Stage {
+pub enum SubscriptionStage {
     /// It stands.
     Stands,
     /// Its caller cancelled it on this circuit, and its id drains until the confirmation.
@@ -16,15 +16,15 @@ pub enum Stage {
     Ended(Handle),
 }
 
-impl Stage {
+impl SubscriptionStage {
     /// Whether the subscription stands.
     pub fn stands(self) -> bool
         ensures { result ≡ stands_in (stage_of self) }
     {
         match self {
-            Stage::Stands => true,
-            Stage::Cancelled(_) => false,
-            Stage::Ended(_) => false,
+            SubscriptionStage::Stands => true,
+            SubscriptionStage::Cancelled(_) => false,
+            SubscriptionStage::Ended(_) => false,
         }
     }
 
@@ -33,9 +33,9 @@ impl Stage {
         ensures { result ≡ is_cancelled_in circuit (stage_of self) }
     {
         match self {
-            Stage::Stands => false,
-            Stage::Cancelled(on) => is_same(on, circuit),
-            Stage::Ended(_) => false,
+            SubscriptionStage::Stands => false,
+            SubscriptionStage::Cancelled(on) => is_same(on, circuit),
+            SubscriptionStage::Ended(_) => false,
         }
     }
 
@@ -44,20 +44,20 @@ impl Stage {
         ensures { result ≡ drains_in circuit (stage_of self) }
     {
         match self {
-            Stage::Stands => false,
-            Stage::Cancelled(on) => is_same(on, circuit),
-            Stage::Ended(on) => is_same(on, circuit),
+            SubscriptionStage::Stands => false,
+            SubscriptionStage::Cancelled(on) => is_same(on, circuit),
+            SubscriptionStage::Ended(on) => is_same(on, circuit),
         }
     }
 
     /// The stage once the channel is cleared on this circuit: what stood is over.
-    pub fn over(self, circuit: Handle) -> Stage
+    pub fn over(self, circuit: Handle) -> SubscriptionStage
         ensures { stage_of result ≡ stage_over circuit (stage_of self) }
     {
         match self {
-            Stage::Stands => Stage::Ended(circuit),
-            Stage::Cancelled(on) => Stage::Cancelled(on),
-            Stage::Ended(on) => Stage::Ended(on),
+            SubscriptionStage::Stands => SubscriptionStage::Ended(circuit),
+            SubscriptionStage::Cancelled(on) => SubscriptionStage::Cancelled(on),
+            SubscriptionStage::Ended(on) => SubscriptionStage::Ended(on),
         }
     }
 }

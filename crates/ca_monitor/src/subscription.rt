@@ -2,7 +2,7 @@ ghost use Rattle.std.specs.Prelude.{◌≡◌};
 ghost use Rattle.ca_monitor.specs.Stages.{stage_of};
 ghost use Rattle.ca_monitor.specs.Subscriptions.{is_to};
 
-use crate::stage::{Stage, is_same};
+use crate::stage::{SubscriptionStage, is_same};
 use ca_arena::Handle;
 use ca_text::Mask;
 use std::marker::Model;
@@ -19,7 +19,7 @@ pub struct Subscription {
     /// The events that it is about.
     pub mask: Mask,
     /// Whether it stands.
-    pub stage: Stage,
+    pub stage: SubscriptionStage,
 }
 
 impl Model for Subscription {
@@ -64,7 +64,7 @@ impl Subscription {
     }
 
     // It comes to this stage.
-    pub(crate) fn set_stage(&mut self, stage: Stage)
+    pub(crate) fn set_stage(&mut self, stage: SubscriptionStage)
         ensures { self.new ≡ record self.old { stage = stage_of stage } }
     {
         self.stage = stage;

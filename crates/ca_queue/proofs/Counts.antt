@@ -3,7 +3,7 @@ use Rattle.std.proofs.Common.{◌≡◌, ℕ, ◌+◌, ◌<◌, Bool, true, fals
 use Rattle.std.specs.List.{filter}
 use Rattle.std.proofs.lemmas.Bool.{cases_Bool, both_ways}
 use Rattle.ca_queue.specs.declared.entry.SubKey.{SubKey}
-use Rattle.ca_queue.specs.declared.list_queue.Subscription.{Subscription}
+use Rattle.ca_queue.specs.declared.list_queue.Subscriber.{Subscriber}
 use Rattle.ca_queue.specs.Keys.{same, is_among}
 use Rattle.ca_queue.specs.Waiting.{count_of, after_cancel}
 use Rattle.ca_queue.specs.Layout.{keys_of, count_at, recounted, counts}
@@ -17,14 +17,14 @@ map_step f (x ∷ xs) zero d less = refl
 map_step f (x ∷ xs) (suc i) d less = ap (λ ys. f x ∷ ys) (map_step f xs i d (omega arith))
 
 -- one more subscription was looked at
-pub recount_more : (key : SubKey) (n i : ℕ) (d : Subscription) (xs now new : List Subscription) (b : Bool) → i < length xs → now ≡ map (recounted key n) (take i xs) ++ drop i xs → b ≡ same key (get_or now i d).key → new ≡ set now i (cond b (record { key = (get_or now i d).key; waiting = n }) (get_or now i d)) → new ≡ map (recounted key n) (take (i + 1) xs) ++ drop (i + 1) xs
+pub recount_more : (key : SubKey) (n i : ℕ) (d : Subscriber) (xs now new : List Subscriber) (b : Bool) → i < length xs → now ≡ map (recounted key n) (take i xs) ++ drop i xs → b ≡ same key (get_or now i d).key → new ≡ set now i (cond b (record { key = (get_or now i d).key; waiting = n }) (get_or now i d)) → new ≡ map (recounted key n) (take (i + 1) xs) ++ drop (i + 1) xs
 recount_more key n i d xs now new b less now_is b_is new_is =
-    let f : Subscription → Subscription = recounted key n in
+    let f : Subscriber → Subscriber = recounted key n in
     let written : new ≡ set now i (f (get_or now i d)) =
     new_is ∙ ap (λ (t : Bool). set now i (cond t (record { key = (get_or now i d).key; waiting = n }) (get_or now i d))) b_is in
-    rw add-one (written ∙ ap (λ (ys : List Subscription). set ys i (f (get_or ys i d))) now_is ∙ map_step f xs i d less)
+    rw add-one (written ∙ ap (λ (ys : List Subscriber). set ys i (f (get_or ys i d))) now_is ∙ map_step f xs i d less)
 
-pub keys_recounted : (key : SubKey) (n : ℕ) (subscriptions : List Subscription) → keys_of (map (recounted key n) subscriptions) ≡ keys_of subscriptions
+pub keys_recounted : (key : SubKey) (n : ℕ) (subscriptions : List Subscriber) → keys_of (map (recounted key n) subscriptions) ≡ keys_of subscriptions
 keys_recounted key n [] = refl
 keys_recounted key n (s ∷ rest) =
     elim (cases_Bool (same key s.key)) [
@@ -32,7 +32,7 @@ keys_recounted key n (s ∷ rest) =
       | inr other ↦ rw other (ap (λ ks. s.key ∷ ks) (keys_recounted key n rest))
     ]
 
-pub keys_forgotten : (key : SubKey) (subscriptions : List Subscription) → keys_of (filter (λ s. not (same key s.key)) subscriptions) ≡ filter (λ s. not (same key s)) (keys_of subscriptions)
+pub keys_forgotten : (key : SubKey) (subscriptions : List Subscriber) → keys_of (filter (λ s. not (same key s.key)) subscriptions) ≡ filter (λ s. not (same key s)) (keys_of subscriptions)
 keys_forgotten key [] = refl
 keys_forgotten key (s ∷ rest) =
     elim (cases_Bool (same key s.key)) [
@@ -43,17 +43,17 @@ keys_forgotten key (s ∷ rest) =
 module _ {E : Type 0} where
   pub counts_alike : (keys : List SubKey) (q r : List (SubKey × E)) → ((k : SubKey) → count_of k q ≡ count_of k r) → counts keys q ≡ counts keys r
   counts_alike [] q r alike = refl
-  counts_alike (k ∷ keys) q r alike = rw (alike k) (ap (λ (ss : List Subscription). record { key = k; waiting = count_of k r } ∷ ss) (counts_alike keys q r alike))
+  counts_alike (k ∷ keys) q r alike = rw (alike k) (ap (λ (ss : List Subscriber). record { key = k; waiting = count_of k r } ∷ ss) (counts_alike keys q r alike))
 
   -- one subscription has another count now
   pub counts_recounted : (key : SubKey) (n : ℕ) (keys : List SubKey) (q r : List (SubKey × E)) → ((k : SubKey) → same key k ≡ false → count_of k q ≡ count_of k r) → count_of key r ≡ n → map (recounted key n) (counts keys q) ≡ counts keys r
   counts_recounted key n [] q r alike now = refl
   counts_recounted key n (k ∷ keys) q r alike now = one (same key k) refl (counts_recounted key n keys q r alike now)
     where
-      joined : (m : ℕ) (rest : List Subscription) → m ≡ count_of k r → rest ≡ counts keys r → record { key = k; waiting = m } ∷ rest ≡ counts (k ∷ keys) r
+      joined : (m : ℕ) (rest : List Subscriber) → m ≡ count_of k r → rest ≡ counts keys r → record { key = k; waiting = m } ∷ rest ≡ counts (k ∷ keys) r
       joined m rest now rest_is =
-          ap (λ (i : ℕ). let s : Subscription = record { key = k; waiting = i } in s ∷ rest) now
-          ∙ ap (λ (ss : List Subscription). let s : Subscription = record { key = k; waiting = count_of k r } in s ∷ ss) rest_is
+          ap (λ (i : ℕ). let s : Subscriber = record { key = k; waiting = i } in s ∷ rest) now
+          ∙ ap (λ (ss : List Subscriber). let s : Subscriber = record { key = k; waiting = count_of k r } in s ∷ ss) rest_is
 
       one : (b : Bool) → same key k ≡ b → map (recounted key n) (counts keys q) ≡ counts keys r → cond b (record { key = k; waiting = n }) (record { key = k; waiting = count_of k q }) ∷ map (recounted key n) (counts keys q) ≡ counts (k ∷ keys) r
       one true is rest = joined n (map (recounted key n) (counts keys q)) (sym now ∙ ap (λ (s : SubKey). count_of s r) (same_is key k is)) rest
@@ -73,6 +73,6 @@ module _ {E : Type 0} where
       elim (cases_Bool (same key k)) [
         | inl is ↦ rw is (counts_forgotten key keys q)
         | inr other ↦
-            rw other (ap (λ (i : ℕ). let s : Subscription = record { key = k; waiting = i } in s ∷ filter (λ s. not (same key s.key)) (counts keys q)) (sym (count_without k key q other))
-            ∙ ap (λ (ss : List Subscription). let s : Subscription = record { key = k; waiting = count_of k (after_cancel key q) } in s ∷ ss) (counts_forgotten key keys q))
+            rw other (ap (λ (i : ℕ). let s : Subscriber = record { key = k; waiting = i } in s ∷ filter (λ s. not (same key s.key)) (counts keys q)) (sym (count_without k key q other))
+            ∙ ap (λ (ss : List Subscriber). let s : Subscriber = record { key = k; waiting = count_of k (after_cancel key q) } in s ∷ ss) (counts_forgotten key keys q))
       ]

@@ -6,7 +6,7 @@ use Rattle.std.proofs.lemmas.List.{map-append, length-map}
 use Rattle.std.proofs.lemmas.List.Sums.{length-filter, count_by-le-length}
 use Rattle.ca_text.specs.Limits.{queue_places, queue_low_places, queue_subscriptions}
 use Rattle.ca_queue.specs.declared.entry.SubKey.{SubKey}
-use Rattle.ca_queue.specs.declared.list_queue.Subscription.{Subscription}
+use Rattle.ca_queue.specs.declared.list_queue.Subscriber.{Subscriber}
 use Rattle.ca_queue.specs.Keys.{same, is_among}
 use Rattle.ca_queue.specs.Waiting.{is_of, has_entry, count_of, free_places, replaces, with_last, after_cancel, front, may_take, taken}
 use Rattle.ca_queue.specs.Queue.{Queue, no_queue, added, posted, with_front_taken, cancelled}
@@ -19,20 +19,20 @@ use Rattle.ca_queue.proofs.Crowds.{crowded_counts}
 use Rattle.ca_queue.proofs.Soundness.{sound_none, sound_added, sound_posted, finds_place, sound_taken, sound_cancelled, sound_switched}
 
 -- counting changes no room
-room_after : (key : SubKey) (n : ℕ) (subscriptions new : List Subscription) (places room : ℕ) → new ≡ map (recounted key n) subscriptions → HasRoom subscriptions places room → HasRoom new places room
+room_after : (key : SubKey) (n : ℕ) (subscriptions new : List Subscriber) (places room : ℕ) → new ≡ map (recounted key n) subscriptions → HasRoom subscriptions places room → HasRoom new places room
 room_after key n subscriptions new places room new_is roomy some =
     roomy (omega (arith, ap length new_is, length-map subscriptions (recounted key n)))
 
 module _ {E : Type 0} where
   -- these fields are right, and stand for this queue
-  pub record AreFor (entries : List (SubKey × E)) (subscriptions : List Subscription) (on : Bool) (places room : ℕ) (q : Queue E) : Type 0 where
+  pub record AreFor (entries : List (SubKey × E)) (subscriptions : List Subscriber) (on : Bool) (places room : ℕ) (q : Queue E) : Type 0 where
     pub laid_out : IsLaidOut entries subscriptions on places room
     pub is : queue_of entries subscriptions on ≡ q
 
-  pub sound_for : (entries : List (SubKey × E)) (subscriptions : List Subscription) (on : Bool) (places room : ℕ) (q : Queue E) → AreFor entries subscriptions on places room q → IsSound q
+  pub sound_for : (entries : List (SubKey × E)) (subscriptions : List Subscriber) (on : Bool) (places room : ℕ) (q : Queue E) → AreFor entries subscriptions on places room q → IsSound q
   sound_for entries subscriptions on places room q are = subst IsSound are.is are.laid_out.sound
 
-  are_from : (entries : List (SubKey × E)) (subscriptions : List Subscription) (on : Bool) (places room : ℕ) (q : Queue E) → queue_of entries subscriptions on ≡ q → IsSound q → subscriptions ≡ counts (keys_of subscriptions) entries → HasRoom subscriptions places room → AreFor entries subscriptions on places room q
+  are_from : (entries : List (SubKey × E)) (subscriptions : List Subscriber) (on : Bool) (places room : ℕ) (q : Queue E) → queue_of entries subscriptions on ≡ q → IsSound q → subscriptions ≡ counts (keys_of subscriptions) entries → HasRoom subscriptions places room → AreFor entries subscriptions on places room q
   are_from entries subscriptions on places room q is sound counted roomy =
       record { laid_out = record { sound = subst IsSound (sym is) sound; counted = counted; roomy = roomy }; is = is }
 
@@ -43,9 +43,9 @@ module _ {E : Type 0} where
     roomy = λ some. absurd (omega arith);
   }
 
-  pub adds : (key : SubKey) (entries : List (SubKey × E)) (subscriptions : List Subscription) (on : Bool) (old_places old_room places room : ℕ) → IsLaidOut entries subscriptions on old_places old_room → length subscriptions < queue_subscriptions → is_among key (keys_of subscriptions) ≡ false → queue_places ≤ places → queue_subscriptions ≤ room → AreFor entries (subscriptions ++ record { key = key; waiting = 0 } ∷ []) on places room (added key (queue_of entries subscriptions on))
+  pub adds : (key : SubKey) (entries : List (SubKey × E)) (subscriptions : List Subscriber) (on : Bool) (old_places old_room places room : ℕ) → IsLaidOut entries subscriptions on old_places old_room → length subscriptions < queue_subscriptions → is_among key (keys_of subscriptions) ≡ false → queue_places ≤ places → queue_subscriptions ≤ room → AreFor entries (subscriptions ++ record { key = key; waiting = 0 } ∷ []) on places room (added key (queue_of entries subscriptions on))
   adds key entries subscriptions on old_places old_room places room laid_out less new enough_places enough_room =
-      let s : Subscription = record { key = key; waiting = 0 } in
+      let s : Subscriber = record { key = key; waiting = 0 } in
       let keys : keys_of (subscriptions ++ s ∷ []) ≡ keys_of subscriptions ++ key ∷ [] = map-append (λ t. t.key) subscriptions (s ∷ []) in
       let none : has_entry key entries ≡ false = has_none_yet in
       let zero_count : count_of key entries ≡ 0 = omega (arith, ltb-false 0 (count_of key entries) (sym (has_count key entries) ∙ none)) in
@@ -56,7 +56,7 @@ module _ {E : Type 0} where
       map-append (λ k. record { key = k; waiting = count_of k entries }) (keys_of subscriptions) (key ∷ []) in
       are_from entries (subscriptions ++ s ∷ []) on places room (added key (queue_of entries subscriptions on)) is
       (sound_added key (queue_of entries subscriptions on) (omega arith) new laid_out.sound)
-      (ap (λ (ss : List Subscription). ss ++ s ∷ []) laid_out.counted
+      (ap (λ (ss : List Subscriber). ss ++ s ∷ []) laid_out.counted
       ∙ ap (λ (n : ℕ). counts (keys_of subscriptions) entries ++ record { key = key; waiting = n } ∷ []) (sym zero_count)
       ∙ sym (ap (λ (ks : List SubKey). counts ks entries) keys ∙ with_it))
       (λ some. (enough_places, enough_room))
@@ -68,7 +68,7 @@ module _ {E : Type 0} where
             | inr none ↦ none
           ]
 
-  pub posts_replacing : (key : SubKey) (entry : E) (entries left : List (SubKey × E)) (subscriptions : List Subscription) (on : Bool) (places room : ℕ) → IsLaidOut entries subscriptions on places room → is_among key (keys_of subscriptions) ≡ true → replaces on key entries ≡ true → left ≡ with_last key entry entries → AreFor left subscriptions on places room (posted key entry (queue_of entries subscriptions on))
+  pub posts_replacing : (key : SubKey) (entry : E) (entries left : List (SubKey × E)) (subscriptions : List Subscriber) (on : Bool) (places room : ℕ) → IsLaidOut entries subscriptions on places room → is_among key (keys_of subscriptions) ≡ true → replaces on key entries ≡ true → left ≡ with_last key entry entries → AreFor left subscriptions on places room (posted key entry (queue_of entries subscriptions on))
   posts_replacing key entry entries left subscriptions on places room laid_out there goes left_is =
       let q : Queue E = queue_of entries subscriptions on in
       let is : queue_of (with_last key entry entries) subscriptions on ≡ posted key entry q =
@@ -79,7 +79,7 @@ module _ {E : Type 0} where
       laid_out.roomy in
       subst (λ (es : List (SubKey × E)). AreFor es subscriptions on places room (posted key entry q)) (sym left_is) are
 
-  pub posts_behind : (key : SubKey) (entry : E) (n : ℕ) (entries left : List (SubKey × E)) (subscriptions new : List Subscription) (on : Bool) (places room : ℕ) → IsLaidOut entries subscriptions on places room → is_among key (keys_of subscriptions) ≡ true → replaces on key entries ≡ false → n ≡ count_at key subscriptions → left ≡ entries ++ (key, entry) ∷ [] → new ≡ map (recounted key (n + 1)) subscriptions → AreFor left new on places room (posted key entry (queue_of entries subscriptions on))
+  pub posts_behind : (key : SubKey) (entry : E) (n : ℕ) (entries left : List (SubKey × E)) (subscriptions new : List Subscriber) (on : Bool) (places room : ℕ) → IsLaidOut entries subscriptions on places room → is_among key (keys_of subscriptions) ≡ true → replaces on key entries ≡ false → n ≡ count_at key subscriptions → left ≡ entries ++ (key, entry) ∷ [] → new ≡ map (recounted key (n + 1)) subscriptions → AreFor left new on places room (posted key entry (queue_of entries subscriptions on))
   posts_behind key entry n entries left subscriptions new on places room laid_out there goes n_is left_is new_is =
       let q : Queue E = queue_of entries subscriptions on in
       let longer : List (SubKey × E) = entries ++ (key, entry) ∷ [] in
@@ -99,36 +99,36 @@ module _ {E : Type 0} where
       subst (λ (es : List (SubKey × E)). AreFor es new on places room (posted key entry q)) (sym left_is) are
 
   -- whether a post replaces, by the counts
-  pub replaces_by_counts : (key : SubKey) (n len : ℕ) (b : Bool) (entries : List (SubKey × E)) (subscriptions : List Subscription) (on : Bool) (places room : ℕ) → IsLaidOut entries subscriptions on places room → is_among key (keys_of subscriptions) ≡ true → n ≡ count_at key subscriptions → len ≡ length entries → b ≡ (ltb 0 n && (leb (queue_places - len) queue_low_places || not on)) → replaces on key entries ≡ b
+  pub replaces_by_counts : (key : SubKey) (n len : ℕ) (b : Bool) (entries : List (SubKey × E)) (subscriptions : List Subscriber) (on : Bool) (places room : ℕ) → IsLaidOut entries subscriptions on places room → is_among key (keys_of subscriptions) ≡ true → n ≡ count_at key subscriptions → len ≡ length entries → b ≡ (ltb 0 n && (leb (queue_places - len) queue_low_places || not on)) → replaces on key entries ≡ b
   replaces_by_counts key n len b entries subscriptions on places room laid_out there n_is len_is b_is =
       let had : n ≡ count_of key entries = n_is ∙ ap (count_at key) laid_out.counted ∙ count_at_counts key (keys_of subscriptions) entries there in
       ap (λ (t : Bool). t && (leb (free_places entries) queue_low_places || not on)) (has_count key entries ∙ ap (ltb 0) (sym had))
       ∙ ap (λ (m : ℕ). ltb 0 n && (leb (queue_places - m) queue_low_places || not on)) (sym len_is)
       ∙ sym b_is
 
-  pub count_small : (key : SubKey) (n : ℕ) (entries : List (SubKey × E)) (subscriptions : List Subscription) (on : Bool) (places room : ℕ) → IsLaidOut entries subscriptions on places room → is_among key (keys_of subscriptions) ≡ true → n ≡ count_at key subscriptions → n ≤ queue_places
+  pub count_small : (key : SubKey) (n : ℕ) (entries : List (SubKey × E)) (subscriptions : List Subscriber) (on : Bool) (places room : ℕ) → IsLaidOut entries subscriptions on places room → is_among key (keys_of subscriptions) ≡ true → n ≡ count_at key subscriptions → n ≤ queue_places
   count_small key n entries subscriptions on places room laid_out there n_is =
       let had : n ≡ count_of key entries = n_is ∙ ap (count_at key) laid_out.counted ∙ count_at_counts key (keys_of subscriptions) entries there in
       omega (arith, laid_out.sound.fits, count_by-le-length (is_of key) entries)
 
   -- an entry that goes to the back finds a place and room for it
-  pub has_place : (key : SubKey) (entries : List (SubKey × E)) (subscriptions : List Subscription) (on : Bool) (places room : ℕ) → IsLaidOut entries subscriptions on places room → is_among key (keys_of subscriptions) ≡ true → replaces on key entries ≡ false → (length entries < queue_places) × (queue_places ≤ places)
+  pub has_place : (key : SubKey) (entries : List (SubKey × E)) (subscriptions : List Subscriber) (on : Bool) (places room : ℕ) → IsLaidOut entries subscriptions on places room → is_among key (keys_of subscriptions) ≡ true → replaces on key entries ≡ false → (length entries < queue_places) × (queue_places ≤ places)
   has_place key entries subscriptions on places room laid_out there goes =
       (finds_place key (queue_of entries subscriptions on) there goes laid_out.sound, (laid_out.roomy (some subscriptions there)).0)
     where
-      some : (ss : List Subscription) → is_among key (keys_of ss) ≡ true → 0 < length ss
+      some : (ss : List Subscriber) → is_among key (keys_of ss) ≡ true → 0 < length ss
       some [] there = absurd (both_ways false refl there)
       some (s ∷ ss) there = omega arith
 
   -- the front, and how many entries its subscription has
-  pub front_counts : (w : SubKey × E) (n : ℕ) (entries rest : List (SubKey × E)) (subscriptions : List Subscription) (on : Bool) (places room : ℕ) → IsLaidOut entries subscriptions on places room → entries ≡ w ∷ rest → n ≡ count_at w.0 subscriptions → n ≡ count_of w.0 rest + 1
+  pub front_counts : (w : SubKey × E) (n : ℕ) (entries rest : List (SubKey × E)) (subscriptions : List Subscriber) (on : Bool) (places room : ℕ) → IsLaidOut entries subscriptions on places room → entries ≡ w ∷ rest → n ≡ count_at w.0 subscriptions → n ≡ count_of w.0 rest + 1
   front_counts w n entries rest subscriptions on places room laid_out is n_is =
       let one : number_of (same w.0 w.0) ≡ 1 = ap number_of (same_itself w.0) in
       let has : has_entry w.0 entries ≡ true = ap (has_entry w.0) is ∙ or_left (same w.0 w.0) (has_entry w.0 rest) (same_itself w.0) in
       let all : n ≡ count_of w.0 entries = n_is ∙ ap (count_at w.0) laid_out.counted ∙ count_at_counts w.0 (keys_of subscriptions) entries (laid_out.sound.known w.0 has) in
       omega (arith, ap (count_of w.0) is, count_by-cons (is_of w.0) w rest)
 
-  pub takes : (w : SubKey × E) (n : ℕ) (entries rest : List (SubKey × E)) (subscriptions new : List Subscription) (on : Bool) (places room : ℕ) → IsLaidOut entries subscriptions on places room → entries ≡ w ∷ rest → may_take on entries ≡ true → n ≡ count_at w.0 subscriptions → new ≡ map (recounted w.0 (n - 1)) subscriptions → AreFor rest new on places room (with_front_taken (queue_of entries subscriptions on))
+  pub takes : (w : SubKey × E) (n : ℕ) (entries rest : List (SubKey × E)) (subscriptions new : List Subscriber) (on : Bool) (places room : ℕ) → IsLaidOut entries subscriptions on places room → entries ≡ w ∷ rest → may_take on entries ≡ true → n ≡ count_at w.0 subscriptions → new ≡ map (recounted w.0 (n - 1)) subscriptions → AreFor rest new on places room (with_front_taken (queue_of entries subscriptions on))
   takes w n entries rest subscriptions new on places room laid_out is may n_is new_is =
       let q : Queue E = queue_of entries subscriptions on in
       let keys : keys_of new ≡ keys_of subscriptions = ap keys_of new_is ∙ keys_recounted w.0 (n - 1) subscriptions in
@@ -158,12 +158,12 @@ module _ {E : Type 0} where
       ap (λ (b : Bool). let r : Queue E = record { waiting = cond b (drop 1 q.waiting) q.waiting; subscriptions = q.subscriptions; events_on = q.events_on } in r) (sym not_now)
 
   -- whether an entry may be taken, by the counts
-  pub may_by_counts : (b : Bool) (entries : List (SubKey × E)) (subscriptions read : List Subscription) (on : Bool) (places room : ℕ) → IsLaidOut entries subscriptions on places room → read ≡ subscriptions → b ≡ (on || list_any (λ s. ltb 1 s.waiting) read) → may_take on entries ≡ b
+  pub may_by_counts : (b : Bool) (entries : List (SubKey × E)) (subscriptions read : List Subscriber) (on : Bool) (places room : ℕ) → IsLaidOut entries subscriptions on places room → read ≡ subscriptions → b ≡ (on || list_any (λ s. ltb 1 s.waiting) read) → may_take on entries ≡ b
   may_by_counts b entries subscriptions read on places room laid_out read_is b_is =
       ap (λ (t : Bool). on || t) (sym (ap (list_any (λ s. ltb 1 s.waiting)) (read_is ∙ laid_out.counted) ∙ crowded_counts (keys_of subscriptions) entries laid_out.sound.known))
       ∙ sym b_is
 
-  pub cancels : (key : SubKey) (entries left : List (SubKey × E)) (subscriptions new : List Subscription) (on : Bool) (places room : ℕ) → IsLaidOut entries subscriptions on places room → left ≡ after_cancel key entries → new ≡ filter (λ s. not (same key s.key)) subscriptions → AreFor left new on places room (cancelled key (queue_of entries subscriptions on))
+  pub cancels : (key : SubKey) (entries left : List (SubKey × E)) (subscriptions new : List Subscriber) (on : Bool) (places room : ℕ) → IsLaidOut entries subscriptions on places room → left ≡ after_cancel key entries → new ≡ filter (λ s. not (same key s.key)) subscriptions → AreFor left new on places room (cancelled key (queue_of entries subscriptions on))
   cancels key entries left subscriptions new on places room laid_out left_is new_is =
       let q : Queue E = queue_of entries subscriptions on in
       let keys : keys_of new ≡ filter (λ s. not (same key s)) (keys_of subscriptions) = ap keys_of new_is ∙ keys_forgotten key subscriptions in
@@ -177,7 +177,7 @@ module _ {E : Type 0} where
       are_from left new on places room (cancelled key q) is (sound_cancelled key q laid_out.sound) counted
       (λ some. laid_out.roomy (omega (arith, ap length new_is, length-filter (λ s. not (same key s.key)) subscriptions, count_by-le-length (λ s. not (same key s.key)) subscriptions)))
 
-  pub switches : (to on : Bool) (entries : List (SubKey × E)) (subscriptions : List Subscription) (places room : ℕ) → IsLaidOut entries subscriptions on places room → IsLaidOut entries subscriptions to places room
+  pub switches : (to on : Bool) (entries : List (SubKey × E)) (subscriptions : List Subscriber) (places room : ℕ) → IsLaidOut entries subscriptions on places room → IsLaidOut entries subscriptions to places room
   switches to on entries subscriptions places room laid_out = record {
     sound = sound_switched to (queue_of entries subscriptions on) laid_out.sound;
     counted = laid_out.counted;

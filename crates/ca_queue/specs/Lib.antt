@@ -8,4 +8,3 @@ pub mod Runs
 pub mod Images
 pub mod Circuit
 pub mod Ring
-pub mod AtNeed

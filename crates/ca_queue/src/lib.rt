@@ -12,7 +12,6 @@ mod laws;
 mod list_queue;
 mod places;
 mod queues;
-mod queues_at_need;
 mod ring;
 
 pub use circuit_queues::CircuitQueues;
@@ -24,4 +23,3 @@ pub use laws::{
 };
 pub use list_queue::ListQueue;
 pub use queues::Queues;
-pub use queues_at_need::QueuesAtNeed;

@@ -23,13 +23,13 @@ use std::marker::Model;
 #[derive(Drop)]
 pub struct ListQueue<E> {
     entries: VecDeque<(SubKey, E)>,
-    subscriptions: Vec<Subscription>,
+    subscriptions: Vec<Subscriber>,
     events_on: bool,
 }
 
 // A subscription, and how many entries it has.
 #[derive(Clone, Copy)]
-struct Subscription {
+struct Subscriber {
     key: SubKey,
     waiting: usize,
 }
@@ -81,7 +81,7 @@ impl<E: Drop> Queues<E> for ListQueue<E> {
         }
         make_room(&mut self.entries, &mut self.subscriptions)?;
         self.subscriptions
-            .push_reserved(Subscription { key, waiting: 0 });
+            .push_reserved(Subscriber { key, waiting: 0 });
         Ok(())
     }
 
@@ -118,7 +118,7 @@ impl<E: Drop> Queues<E> for ListQueue<E> {
 // Makes the room for all entries and subscriptions that come, unless it was made.
 fn make_room<E>(
     entries: &mut VecDeque<(SubKey, E)>,
-    subscriptions: &mut Vec<Subscription>,
+    subscriptions: &mut Vec<Subscriber>,
 ) -> Result<(), AllocError>
     requires fits { length entries.old.items ≤ queue_places }
     requires few { length subscriptions.old.items < queue_subscriptions }
@@ -140,7 +140,7 @@ fn make_room<E>(
 }
 
 // How many entries this subscription has.
-fn waiting_of(subscriptions: &[Subscription], key: SubKey) -> usize
+fn waiting_of(subscriptions: &[Subscriber], key: SubKey) -> usize
     ensures { result ≡ count_at key subscriptions.now }
 {
     for s in subscriptions {
@@ -152,7 +152,7 @@ fn waiting_of(subscriptions: &[Subscription], key: SubKey) -> usize
 }
 
 // Writes how many entries this subscription has.
-fn recount(subscriptions: &mut [Subscription], key: SubKey, count: usize)
+fn recount(subscriptions: &mut [Subscriber], key: SubKey, count: usize)
     ensures { subscriptions.new ≡ map (recounted key count) subscriptions.old }
 {
     for s in subscriptions.iter_mut() {
@@ -163,7 +163,7 @@ fn recount(subscriptions: &mut [Subscription], key: SubKey, count: usize)
 }
 
 // Whether some subscription has two entries or more.
-fn is_crowded(subscriptions: &[Subscription]) -> bool
+fn is_crowded(subscriptions: &[Subscriber]) -> bool
     ensures { result ≡ list_any (λ s. nat_lt 1 s.waiting) subscriptions.now }
 {
     subscriptions.iter().any(|s| s.waiting > 1)
@@ -171,7 +171,7 @@ fn is_crowded(subscriptions: &[Subscription]) -> bool
 
 // Whether an entry may be taken: with events off, only while some subscription has
 // two entries or more.
-fn may_take(subscriptions: &[Subscription], events_on: bool) -> bool
+fn may_take(subscriptions: &[Subscriber], events_on: bool) -> bool
     ensures { result ≡ (events_on || list_any (λ s. nat_lt 1 s.waiting) subscriptions.now) }
 {
     events_on || is_crowded(subscriptions)
@@ -187,7 +187,7 @@ fn is_replacing(count: usize, length: usize, events_on: bool) -> bool
 }
 
 // Takes this subscription out.
-fn forget(subscriptions: &mut Vec<Subscription>, key: SubKey)
+fn forget(subscriptions: &mut Vec<Subscriber>, key: SubKey)
     ensures items { subscriptions.new.items
         ≡ filter (λ s. not (same key s.key)) subscriptions.old.items }
     ensures capacity { vec_capacity subscriptions.new ≡ vec_capacity subscriptions.old }

@@ -6,8 +6,8 @@ use Rattle.std.proofs.lemmas.List.{length-map, map-set}
 use Rattle.std.proofs.lemmas.List.Sums.{sum_by_push}
 use Rattle.ca_text.specs.Place.{At}
 use Rattle.ca_text.proofs.Places.{At-append, At-last, At-map, At-one, At-set, At-set-other, At-snoc, At-within, some_is}
-use Rattle.ca_records.specs.declared.slot.Slot.{Slot}
-use Rattle.ca_records.specs.declared.slot.Slot.TheVariants.{Free, Full}
+use Rattle.ca_records.specs.declared.slot.RecordSlot.{RecordSlot}
+use Rattle.ca_records.specs.declared.slot.RecordSlot.TheVariants.{Free, Full}
 use Rattle.ca_records.specs.Chain.{Chain, IsFull, IsStored, record_in}
 use Rattle.ca_records.specs.Layout.{IsIndexOf}
 use Rattle.ca_records.specs.declared.puts.Stamp.{Stamp}
@@ -28,7 +28,7 @@ none-some q e = cc
 some-none : (q : Record) → let a : Option Record = Some q in a ≡ None → ⊥
 some-none q e = cc
 
-free-one : (a b : Option ℕ) → let s : Slot = Free a in s ≡ Free b → a ≡ b
+free-one : (a b : Option ℕ) → let s : RecordSlot = Free a in s ≡ Free b → a ≡ b
 free-one a b e = cc
 
 -- what a place has is the first slot, or one of the others
@@ -75,7 +75,7 @@ index-enters slots more f g place r index lack here stay split grown = record {
 
 -- ---- a record comes
 
-free-chain : (slots : List Slot) (place : ℕ) (freed : List ℕ) → Chain slots (Some place) freed → (next : Option ℕ) × (rest : List ℕ) × At slots place (Free next) × Chain slots next rest × ((k : ℕ) → At rest k place → ⊥)
+free-chain : (slots : List RecordSlot) (place : ℕ) (freed : List ℕ) → Chain slots (Some place) freed → (next : Option ℕ) × (rest : List ℕ) × At slots place (Free next) × Chain slots next rest × ((k : ℕ) → At rest k place → ⊥)
 free-chain slots place [] chain = absurd cc
 free-chain slots place (j ∷ rest) chain =
     let same : j ≡ place = sym (some_is place j chain.0) in
@@ -83,32 +83,32 @@ free-chain slots place (j ∷ rest) chain =
     (chain.2.0, rest, subst (λ (n : ℕ). At slots n (Free chain.2.0)) same chain.2.1, chain.2.2, out)
 
 -- the first free place is one of the places, and free
-pub free-at : (slots : List Slot) (place : ℕ) (f : List ℕ → Option ℕ) (waiting : ℕ) → IsStored slots (Some place) f waiting → (next : Option ℕ) × (rest : List ℕ) × At slots place (Free next) × Chain slots next rest × ((k : ℕ) → At rest k place → ⊥)
+pub free-at : (slots : List RecordSlot) (place : ℕ) (f : List ℕ → Option ℕ) (waiting : ℕ) → IsStored slots (Some place) f waiting → (next : Option ℕ) × (rest : List ℕ) × At slots place (Free next) × Chain slots next rest × ((k : ℕ) → At rest k place → ⊥)
 free-at slots place f waiting stored = free-chain slots place stored.freed stored.chain
 
-pub free-within : (slots : List Slot) (place : ℕ) (f : List ℕ → Option ℕ) (waiting : ℕ) → IsStored slots (Some place) f waiting → place < length slots
+pub free-within : (slots : List RecordSlot) (place : ℕ) (f : List ℕ → Option ℕ) (waiting : ℕ) → IsStored slots (Some place) f waiting → place < length slots
 free-within slots place f waiting stored = let at = free-at slots place f waiting stored in At-within slots place (Free at.0) at.2
 
-pub looked-free : (slots : List Slot) (place : ℕ) (f : List ℕ → Option ℕ) (waiting : ℕ) (s : Slot) → IsStored slots (Some place) f waiting → s ≡ get_or slots place s → (next : Option ℕ) × (s ≡ Free next)
+pub looked-free : (slots : List RecordSlot) (place : ℕ) (f : List ℕ → Option ℕ) (waiting : ℕ) (s : RecordSlot) → IsStored slots (Some place) f waiting → s ≡ get_or slots place s → (next : Option ℕ) × (s ≡ Free next)
 looked-free slots place f waiting s stored read =
     let at = free-at slots place f waiting stored in
-    let there : At slots place s = subst (λ (t : Slot). At slots place t) (sym read) (at_get slots place s (free-within slots place f waiting stored)) in
+    let there : At slots place s = subst (λ (t : RecordSlot). At slots place t) (sym read) (at_get slots place s (free-within slots place f waiting stored)) in
     (at.0, At-one slots place s (Free at.0) there at.2)
 
-pub not-full : (s : Slot) (next : Option ℕ) → s ≡ Free next → IsFull s → ⊥
+pub not-full : (s : RecordSlot) (next : Option ℕ) → s ≡ Free next → IsFull s → ⊥
 not-full (Full r) next e full = absurd cc
 not-full (Free other) next e full = full
 
-pub record EnterStep (slots : List Slot) (more : List Slot) (free : Option ℕ) (g : List ℕ → Option ℕ) (rules : List Rule) (stamp : Stamp) (place : ℕ) (r : Record) (waiting : ℕ) : Type 0 where
+pub record EnterStep (slots : List RecordSlot) (more : List RecordSlot) (free : Option ℕ) (g : List ℕ → Option ℕ) (rules : List Rule) (stamp : Stamp) (place : ℕ) (r : Record) (waiting : ℕ) : Type 0 where
   pub stored : IsStored more free g waiting
   pub enters : Enters (store_of slots rules stamp) place r (store_of more rules stamp)
 
-pub enter-step : (slots : List Slot) (f g : List ℕ → Option ℕ) (waiting : ℕ) (rules : List Rule) (stamp : Stamp) (place : ℕ) (s : Slot) (next : Option ℕ) (r : Record) → IsStored slots (Some place) f waiting → s ≡ get_or slots place s → s ≡ Free next → record_named (present (seen slots)) r.state.name ≡ None → r.waiting ≡ [] → ((name : List ℕ) → g name ≡ cond (bytes_eq name r.state.name) (Some place) (f name)) → EnterStep slots (slice_set slots place (Full r)) next g rules stamp place r waiting
+pub enter-step : (slots : List RecordSlot) (f g : List ℕ → Option ℕ) (waiting : ℕ) (rules : List Rule) (stamp : Stamp) (place : ℕ) (s : RecordSlot) (next : Option ℕ) (r : Record) → IsStored slots (Some place) f waiting → s ≡ get_or slots place s → s ≡ Free next → record_named (present (seen slots)) r.state.name ≡ None → r.waiting ≡ [] → ((name : List ℕ) → g name ≡ cond (bytes_eq name r.state.name) (Some place) (f name)) → EnterStep slots (slice_set slots place (Full r)) next g rules stamp place r waiting
 enter-step slots f g waiting rules stamp place s next r stored read free_is new calm grown =
     let at = free-at slots place f waiting stored in
     let is : (n : Option ℕ) × (s ≡ Free n) = looked-free slots place f waiting s stored read in
-    let there : At slots place s = subst (λ (t : Slot). At slots place t) (sym read) (at_get slots place s (free-within slots place f waiting stored)) in
-    let both : let a : Slot = Free at.0 in a ≡ Free next = At-one slots place (Free at.0) (Free next) at.2 (subst (λ (t : Slot). At slots place t) free_is there) in
+    let there : At slots place s = subst (λ (t : RecordSlot). At slots place t) (sym read) (at_get slots place s (free-within slots place f waiting stored)) in
+    let both : let a : RecordSlot = Free at.0 in a ≡ Free next = At-one slots place (Free at.0) (Free next) at.2 (subst (λ (t : RecordSlot). At slots place t) free_is there) in
     let goes_on : at.0 ≡ next = free-one at.0 next both in
     let blank : At (seen slots) place None = At-map record_in slots place (Free at.0) at.2 in
     let after : seen (slice_set slots place (Full r)) ≡ slice_set (seen slots) place (Some r) = map-set record_in slots place (Full r) in
@@ -141,7 +141,7 @@ enter-step slots f g waiting rules stamp place s next r stored read free_is new 
       };
     }
 
-seen-snoc : (slots : List Slot) (r : Record) → seen (slots ++ Full r ∷ []) ≡ seen slots ++ Some r ∷ []
+seen-snoc : (slots : List RecordSlot) (r : Record) → seen (slots ++ Full r ∷ []) ≡ seen slots ++ Some r ∷ []
 seen-snoc [] r = refl
 seen-snoc (s ∷ slots) r = ap (λ t. record_in s ∷ t) (seen-snoc slots r)
 
@@ -149,7 +149,7 @@ nothing-more : {A : Type 0} (xs : List A) → xs ≡ xs ++ []
 nothing-more [] = refl
 nothing-more (x ∷ xs) = ap (λ t. x ∷ t) (nothing-more xs)
 
-pub append-step : (slots : List Slot) (free : Option ℕ) (f g : List ℕ → Option ℕ) (waiting : ℕ) (rules : List Rule) (stamp : Stamp) (place : ℕ) (r : Record) → IsStored slots free f waiting → place ≡ length slots → record_named (present (seen slots)) r.state.name ≡ None → r.waiting ≡ [] → ((name : List ℕ) → g name ≡ cond (bytes_eq name r.state.name) (Some place) (f name)) → EnterStep slots (slots ++ Full r ∷ []) free g rules stamp place r waiting
+pub append-step : (slots : List RecordSlot) (free : Option ℕ) (f g : List ℕ → Option ℕ) (waiting : ℕ) (rules : List Rule) (stamp : Stamp) (place : ℕ) (r : Record) → IsStored slots free f waiting → place ≡ length slots → record_named (present (seen slots)) r.state.name ≡ None → r.waiting ≡ [] → ((name : List ℕ) → g name ≡ cond (bytes_eq name r.state.name) (Some place) (f name)) → EnterStep slots (slots ++ Full r ∷ []) free g rules stamp place r waiting
 append-step slots free f g waiting rules stamp place r stored last new calm grown =
     let after : seen (slots ++ Full r ∷ []) ≡ seen slots ++ Some r ∷ [] = seen-snoc slots r in
     let lack = lacks-named r.state.name (seen slots) new in
@@ -210,11 +210,11 @@ index-leaves slots f g place r index at gone others = record {
   ];
 }
 
-pub record LeaveStep (slots : List Slot) (free : Option ℕ) (g : List ℕ → Option ℕ) (rules : List Rule) (stamp : Stamp) (name : List ℕ) (place : ℕ) (more : ℕ) : Type 0 where
+pub record LeaveStep (slots : List RecordSlot) (free : Option ℕ) (g : List ℕ → Option ℕ) (rules : List Rule) (stamp : Stamp) (name : List ℕ) (place : ℕ) (more : ℕ) : Type 0 where
   pub stored : IsStored (slice_set slots place (Free free)) (Some place) g more
   pub leaves : Leaves (store_of slots rules stamp) name place (store_of (slice_set slots place (Free free)) rules stamp)
 
-pub leave-step : (slots : List Slot) (free : Option ℕ) (f g : List ℕ → Option ℕ) (waiting more : ℕ) (rules : List Rule) (stamp : Stamp) (name : List ℕ) (place : ℕ) (r : Record) → IsStored slots free f waiting → At slots place (Full r) → Finds (store_of slots rules stamp) name place → g name ≡ None → ((other : List ℕ) → bytes_eq other name ≡ false → g other ≡ f other) → more + length r.waiting ≡ waiting → LeaveStep slots free g rules stamp name place more
+pub leave-step : (slots : List RecordSlot) (free : Option ℕ) (f g : List ℕ → Option ℕ) (waiting more : ℕ) (rules : List Rule) (stamp : Stamp) (name : List ℕ) (place : ℕ) (r : Record) → IsStored slots free f waiting → At slots place (Full r) → Finds (store_of slots rules stamp) name place → g name ≡ None → ((other : List ℕ) → bytes_eq other name ≡ false → g other ≡ f other) → more + length r.waiting ≡ waiting → LeaveStep slots free g rules stamp name place more
 leave-step slots free f g waiting more rules stamp name place r stored full found gone others less =
     let at : At (seen slots) place (Some r) = seen-full slots place r full in
     let same : found.r ≡ r = some_is found.r r (At-one (seen slots) place (Some found.r) (Some r) found.at at) in

@@ -12,8 +12,8 @@ use Rattle.ca_text.proofs.Places.{At-one, some_is}
 use Rattle.ca_records.specs.declared.puts.Begun.{Begun}
 use Rattle.ca_records.specs.declared.puts.Begun.TheVariants.{Applied, Refused, Waiting}
 use Rattle.ca_records.specs.declared.puts.Finished.{Finished}
-use Rattle.ca_records.specs.declared.slot.Slot.{Slot}
-use Rattle.ca_records.specs.declared.slot.Slot.TheVariants.{Full}
+use Rattle.ca_records.specs.declared.slot.RecordSlot.{RecordSlot}
+use Rattle.ca_records.specs.declared.slot.RecordSlot.TheVariants.{Full}
 use Rattle.ca_records.specs.Chain.{IsStored}
 use Rattle.ca_records.specs.Judging.{fewer_waiting, more_waiting}
 use Rattle.ca_records.specs.Layout.{IsFit, MayHave}
@@ -29,7 +29,7 @@ use Rattle.ca_records.proofs.Steps.{Change, change, found-at, seen, seen-full, s
 use Rattle.ca_records.proofs.Waiters.{true_or_false}
 
 -- the puts that wait for a record are among those that wait
-pub waiting-part : (slots : List Slot) (free : Option ℕ) (f : List ℕ → Option ℕ) (waiting place : ℕ) (r : Record) → IsStored slots free f waiting → At slots place (Full r) → length r.waiting ≤ waiting
+pub waiting-part : (slots : List RecordSlot) (free : Option ℕ) (f : List ℕ → Option ℕ) (waiting place : ℕ) (r : Record) → IsStored slots free f waiting → At slots place (Full r) → length r.waiting ≤ waiting
 waiting-part slots free f waiting place r stored full = omega (arith, stored.counted, waiting-gone (seen slots) place r (seen-full slots place r full))
 
 -- ---- writes
@@ -49,11 +49,11 @@ begins-name s r put e (Ok Waiting) next h = ap (λ (q : Record). q.state.name) h
 begins-name s r put e (Ok (Refused status)) next h = ap (λ (q : Record). q.state.name) h.1
 begins-name s r put e (Err lack) next h = ap (λ (q : Record). q.state.name) h.2
 
-pub record BeginStep (slots : List Slot) (free : Option ℕ) (f : List ℕ → Option ℕ) (rules : List Rule) (stamp : Stamp) (place : ℕ) (next : Record) (put : Option Put) (e : Elements) (result : Result Begun AllocError) (more : ℕ) : Type 0 where
+pub record BeginStep (slots : List RecordSlot) (free : Option ℕ) (f : List ℕ → Option ℕ) (rules : List Rule) (stamp : Stamp) (place : ℕ) (next : Record) (put : Option Put) (e : Elements) (result : Result Begun AllocError) (more : ℕ) : Type 0 where
   pub stored : IsStored (slice_set slots place (Full next)) free f more
   pub begins : Begins (store_of slots rules stamp) place put e result (store_of (slice_set slots place (Full next)) rules stamp)
 
-pub begin-step : (slots : List Slot) (free : Option ℕ) (f : List ℕ → Option ℕ) (waiting more : ℕ) (rules : List Rule) (stamp : Stamp) (place : ℕ) (r next : Record) (put : Option Put) (e : Elements) (result : Result Begun AllocError) → IsStored slots free f waiting → At slots place (Full r) → BeginsOn stamp r put e result next → more ≡ waiting + more_waiting result → BeginStep slots free f rules stamp place next put e result more
+pub begin-step : (slots : List RecordSlot) (free : Option ℕ) (f : List ℕ → Option ℕ) (waiting more : ℕ) (rules : List Rule) (stamp : Stamp) (place : ℕ) (r next : Record) (put : Option Put) (e : Elements) (result : Result Begun AllocError) → IsStored slots free f waiting → At slots place (Full r) → BeginsOn stamp r put e result next → more ≡ waiting + more_waiting result → BeginStep slots free f rules stamp place next put e result more
 begin-step slots free f waiting more rules stamp place r next put e result stored full begins is =
     let waits = begins-waiting stamp r put e result next begins in
     let made = change slots free f waiting more rules stamp place r next stored full (begins-name stamp r put e result next begins) (omega (arith, waits, is)) in
@@ -62,13 +62,13 @@ begin-step slots free f waiting more rules stamp place r next put e result store
 -- ---- the end of a busy put
 
 -- what was looked up is the record at the place
-finds-it : (slots : List Slot) (rules : List Rule) (stamp : Stamp) (name : List ℕ) (place : ℕ) (r : Record) → Finds (store_of slots rules stamp) name place → At slots place (Full r) → (r.state.name ≡ name) × (record_named (present (seen slots)) name ≡ Some r)
+finds-it : (slots : List RecordSlot) (rules : List Rule) (stamp : Stamp) (name : List ℕ) (place : ℕ) (r : Record) → Finds (store_of slots rules stamp) name place → At slots place (Full r) → (r.state.name ≡ name) × (record_named (present (seen slots)) name ≡ Some r)
 finds-it slots rules stamp name place r found full =
     let same : found.r ≡ r = some_is found.r r (At-one (seen slots) place (Some found.r) (Some r) found.at (seen-full slots place r full)) in
     (ap (λ (q : Record). q.state.name) (sym same) ∙ found.named, found.found ∙ ap Some same)
 
 -- what is at a place is found there by its own name
-pub finds-own : (slots : List Slot) (free : Option ℕ) (f : List ℕ → Option ℕ) (waiting : ℕ) (rules : List Rule) (stamp : Stamp) (place : ℕ) (r : Record) → IsStored slots free f waiting → At slots place (Full r) → Finds (store_of slots rules stamp) r.state.name place
+pub finds-own : (slots : List RecordSlot) (free : Option ℕ) (f : List ℕ → Option ℕ) (waiting : ℕ) (rules : List Rule) (stamp : Stamp) (place : ℕ) (r : Record) → IsStored slots free f waiting → At slots place (Full r) → Finds (store_of slots rules stamp) r.state.name place
 finds-own slots free f waiting rules stamp place r stored full =
     let at : At (seen slots) place (Some r) = seen-full slots place r full in
     record { r = r; at = at; named = refl; found = found-at (seen slots) f place r stored.index at }
@@ -79,7 +79,7 @@ finishes-named s u name place result g (other, f, did) =
     let same : f.r ≡ g.r = some_is f.r g.r (At-one s.slots place (Some f.r) (Some g.r) f.at g.at) in
     subst (λ (n : List ℕ). Finishes s n result u) (sym f.named ∙ ap (λ (q : Record). q.state.name) same ∙ g.named) did
 
-pub turns : (slots : List Slot) (free : Option ℕ) (f : List ℕ → Option ℕ) (rules : List Rule) (stamp : Stamp) (name : List ℕ) (place : ℕ) (r next : Record) (more : ℕ) → Finds (store_of slots rules stamp) name place → At slots place (Full r) → Change slots free f rules stamp place r next more → Turns (store_of slots rules stamp) name place r next (store_of (slice_set slots place (Full next)) rules stamp)
+pub turns : (slots : List RecordSlot) (free : Option ℕ) (f : List ℕ → Option ℕ) (rules : List Rule) (stamp : Stamp) (name : List ℕ) (place : ℕ) (r next : Record) (more : ℕ) → Finds (store_of slots rules stamp) name place → At slots place (Full r) → Change slots free f rules stamp place r next more → Turns (store_of slots rules stamp) name place r next (store_of (slice_set slots place (Full next)) rules stamp)
 turns slots free f rules stamp name place r next more found full made =
     let it = finds-it slots rules stamp name place r found full in record { found = it.1; named = it.0; becomes = made.becomes }
 
@@ -95,15 +95,15 @@ pub finishes-waiting : (s : Stamp) (r : Record) (ended : Put) (applied : Option 
 finishes-waiting s r ended applied next h =
     ap (λ (o : Option Put). fewer_waiting o + length next.waiting) h.1 ∙ ap (λ (q : Record). fewer_waiting (next_put r.waiting) + length q.waiting) h.2 ∙ finished-waiting s r r.waiting
 
-pub fewer-waiting : (slots : List Slot) (free : Option ℕ) (f : List ℕ → Option ℕ) (waiting place : ℕ) (s : Stamp) (r : Record) (ended : Put) (applied : Option Put) (next : Record) → IsStored slots free f waiting → At slots place (Full r) → FinishesOn s r (Some (ended, applied)) next → fewer_waiting applied ≤ waiting
+pub fewer-waiting : (slots : List RecordSlot) (free : Option ℕ) (f : List ℕ → Option ℕ) (waiting place : ℕ) (s : Stamp) (r : Record) (ended : Put) (applied : Option Put) (next : Record) → IsStored slots free f waiting → At slots place (Full r) → FinishesOn s r (Some (ended, applied)) next → fewer_waiting applied ≤ waiting
 fewer-waiting slots free f waiting place s r ended applied next stored full finishes =
     omega (arith, waiting-part slots free f waiting place r stored full, finishes-waiting s r ended applied next finishes)
 
-pub record FinishStep (slots : List Slot) (free : Option ℕ) (f : List ℕ → Option ℕ) (rules : List Rule) (stamp : Stamp) (name : List ℕ) (place : ℕ) (next : Record) (ended : Put) (applied : Option Put) (more : ℕ) : Type 0 where
+pub record FinishStep (slots : List RecordSlot) (free : Option ℕ) (f : List ℕ → Option ℕ) (rules : List Rule) (stamp : Stamp) (name : List ℕ) (place : ℕ) (next : Record) (ended : Put) (applied : Option Put) (more : ℕ) : Type 0 where
   pub stored : IsStored (slice_set slots place (Full next)) free f more
   pub finishes : let done : Finished = record { place = place; ended = ended; applied = applied } in Finishes (store_of slots rules stamp) name (Ok done) (store_of (slice_set slots place (Full next)) rules stamp)
 
-pub finish-step : (slots : List Slot) (free : Option ℕ) (f : List ℕ → Option ℕ) (waiting more : ℕ) (rules : List Rule) (stamp : Stamp) (name : List ℕ) (place : ℕ) (r next : Record) (ended : Put) (applied : Option Put) → IsStored slots free f waiting → At slots place (Full r) → Finds (store_of slots rules stamp) name place → FinishesOn stamp r (Some (ended, applied)) next → more + fewer_waiting applied ≡ waiting → FinishStep slots free f rules stamp name place next ended applied more
+pub finish-step : (slots : List RecordSlot) (free : Option ℕ) (f : List ℕ → Option ℕ) (waiting more : ℕ) (rules : List Rule) (stamp : Stamp) (name : List ℕ) (place : ℕ) (r next : Record) (ended : Put) (applied : Option Put) → IsStored slots free f waiting → At slots place (Full r) → Finds (store_of slots rules stamp) name place → FinishesOn stamp r (Some (ended, applied)) next → more + fewer_waiting applied ≡ waiting → FinishStep slots free f rules stamp name place next ended applied more
 finish-step slots free f waiting more rules stamp name place r next ended applied stored full found finishes is =
     let counts : more + length r.waiting ≡ waiting + length next.waiting = omega (arith, finishes-waiting stamp r ended applied next finishes, is) in
     let same : next.state.name ≡ r.state.name = ap (λ (q : Record). q.state.name) finishes.2 ∙ finished-name stamp r r.waiting in
@@ -116,7 +116,7 @@ finish-step slots free f waiting more rules stamp name place r next ended applie
     }
 
 -- a record that is not busy stays as it is
-pub finish-refused : (slots : List Slot) (free : Option ℕ) (f : List ℕ → Option ℕ) (waiting : ℕ) (rules : List Rule) (stamp : Stamp) (name : List ℕ) (place : ℕ) (r next : Record) → IsStored slots free f waiting → At slots place (Full r) → Finds (store_of slots rules stamp) name place → FinishesOn stamp r None next → Finishes (store_of slots rules stamp) name (Err refusal.NotBusy) (store_of (slice_set slots place (Full next)) rules stamp)
+pub finish-refused : (slots : List RecordSlot) (free : Option ℕ) (f : List ℕ → Option ℕ) (waiting : ℕ) (rules : List Rule) (stamp : Stamp) (name : List ℕ) (place : ℕ) (r next : Record) → IsStored slots free f waiting → At slots place (Full r) → Finds (store_of slots rules stamp) name place → FinishesOn stamp r None next → Finishes (store_of slots rules stamp) name (Err refusal.NotBusy) (store_of (slice_set slots place (Full next)) rules stamp)
 finish-refused slots free f waiting rules stamp name place r next stored full found finishes =
     let it = finds-it slots rules stamp name place r found full in
     let made : Change slots free f rules stamp place r next waiting = change slots free f waiting waiting rules stamp place r next stored full (ap (λ (q : Record). q.state.name) finishes.1) (ap (λ (q : Record). waiting + length q.waiting) (sym finishes.1)) in
@@ -142,11 +142,11 @@ withdrawn-set t (slot ∷ slots) zero r at =
 withdrawn-set t (None ∷ slots) (suc place) r at = withdrawn-set t slots place r at
 withdrawn-set t (Some b ∷ slots) (suc place) r at = ap (λ rs. without_puts t b ∷ rs) (withdrawn-set t slots place r at)
 
-pub record WithdrawStep (slots : List Slot) (free : Option ℕ) (f : List ℕ → Option ℕ) (rules : List Rule) (stamp : Stamp) (place : ℕ) (next : Record) (circuit : Handle) (channel : Option Handle) (more : ℕ) : Type 0 where
+pub record WithdrawStep (slots : List RecordSlot) (free : Option ℕ) (f : List ℕ → Option ℕ) (rules : List Rule) (stamp : Stamp) (place : ℕ) (next : Record) (circuit : Handle) (channel : Option Handle) (more : ℕ) : Type 0 where
   pub stored : IsStored (slice_set slots place (Full next)) free f more
   pub withdraws : Withdraws (store_of slots rules stamp) place circuit channel (store_of (slice_set slots place (Full next)) rules stamp)
 
-pub withdraw-step : (slots : List Slot) (free : Option ℕ) (f : List ℕ → Option ℕ) (waiting more gone : ℕ) (rules : List Rule) (stamp : Stamp) (place : ℕ) (r next : Record) (circuit : Handle) (channel : Option Handle) → IsStored slots free f waiting → At slots place (Full r) → next ≡ without_puts (is_of circuit channel) r → gone + length next.waiting ≡ length r.waiting → more + gone ≡ waiting → WithdrawStep slots free f rules stamp place next circuit channel more
+pub withdraw-step : (slots : List RecordSlot) (free : Option ℕ) (f : List ℕ → Option ℕ) (waiting more gone : ℕ) (rules : List Rule) (stamp : Stamp) (place : ℕ) (r next : Record) (circuit : Handle) (channel : Option Handle) → IsStored slots free f waiting → At slots place (Full r) → next ≡ without_puts (is_of circuit channel) r → gone + length next.waiting ≡ length r.waiting → more + gone ≡ waiting → WithdrawStep slots free f rules stamp place next circuit channel more
 withdraw-step slots free f waiting more gone rules stamp place r next circuit channel stored full is counts less =
     let made : Change slots free f rules stamp place r next more = change slots free f waiting more rules stamp place r next stored full (ap (λ (q : Record). q.state.name) is) (omega (arith, counts, less)) in
     record {
@@ -167,11 +167,11 @@ pub is-fit-to-post : (s : RecordState) (e : Elements) → MayHave s e → IsValu
 is-fit-to-post s e may valued =
     record { holds = record { one = may.one; within = may.within; limit = may.limit }; valued = valued; based = may.based }
 
-pub record PostStep (slots : List Slot) (free : Option ℕ) (f : List ℕ → Option ℕ) (rules : List Rule) (stamp : Stamp) (name : List ℕ) (place : ℕ) (next : Record) (e : Elements) (meta : Meta) (waiting : ℕ) : Type 0 where
+pub record PostStep (slots : List RecordSlot) (free : Option ℕ) (f : List ℕ → Option ℕ) (rules : List Rule) (stamp : Stamp) (name : List ℕ) (place : ℕ) (next : Record) (e : Elements) (meta : Meta) (waiting : ℕ) : Type 0 where
   pub stored : IsStored (slice_set slots place (Full next)) free f waiting
   pub posts : Posts (store_of slots rules stamp) name e meta (Ok place) (store_of (slice_set slots place (Full next)) rules stamp)
 
-pub post-step : (slots : List Slot) (free : Option ℕ) (f : List ℕ → Option ℕ) (waiting : ℕ) (rules : List Rule) (stamp : Stamp) (name : List ℕ) (place : ℕ) (r next : Record) (e : Elements) (meta : Meta) → IsStored slots free f waiting → At slots place (Full r) → Finds (store_of slots rules stamp) name place → MayHave r.state e → next ≡ with_value e meta r → PostStep slots free f rules stamp name place next e meta waiting
+pub post-step : (slots : List RecordSlot) (free : Option ℕ) (f : List ℕ → Option ℕ) (waiting : ℕ) (rules : List Rule) (stamp : Stamp) (name : List ℕ) (place : ℕ) (r next : Record) (e : Elements) (meta : Meta) → IsStored slots free f waiting → At slots place (Full r) → Finds (store_of slots rules stamp) name place → MayHave r.state e → next ≡ with_value e meta r → PostStep slots free f rules stamp name place next e meta waiting
 post-step slots free f waiting rules stamp name place r next e meta stored full found may is =
     let it = finds-it slots rules stamp name place r found full in
     let made : Change slots free f rules stamp place r next waiting = change slots free f waiting waiting rules stamp place r next stored full (ap (λ (q : Record). q.state.name) is) (ap (λ (q : Record). waiting + length q.waiting) (sym is)) in

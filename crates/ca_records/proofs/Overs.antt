@@ -13,8 +13,8 @@ use Rattle.ca_text.specs.declared.refusal.Refusal.{Refusal}
 use Rattle.ca_records.specs.declared.puts.Begun.TheVariants.{Applied}
 use Rattle.ca_records.specs.declared.puts.Put.{Put}
 use Rattle.ca_records.specs.declared.puts.Stamp.{Stamp}
-use Rattle.ca_records.specs.declared.slot.Slot.{Slot}
-use Rattle.ca_records.specs.declared.slot.Slot.TheVariants.{Full}
+use Rattle.ca_records.specs.declared.slot.RecordSlot.{RecordSlot}
+use Rattle.ca_records.specs.declared.slot.RecordSlot.TheVariants.{Full}
 use Rattle.ca_records.specs.Chain.{IsStored}
 use Rattle.ca_records.specs.Faults.{put_fault}
 use Rattle.ca_records.specs.Layout.{AreFit}
@@ -62,12 +62,12 @@ one-applied s r put e next based free quick is =
     ∙ ap (λ (w : Bool). put_fault own (if w then not (nat_lt (length r.waiting) waiting_puts) else false)) free in
     (e, none, made, (free, quick, is))
 
-pub record OverStep (slots : List Slot) (free : Option ℕ) (f : List ℕ → Option ℕ) (waiting : ℕ) (rules : List Rule) (stamp : Stamp) (place : ℕ) (next : Record) (is_put : Bool) (number : ℕ) (bytes : List ℕ) (result : Bool) : Type 0 where
+pub record OverStep (slots : List RecordSlot) (free : Option ℕ) (f : List ℕ → Option ℕ) (waiting : ℕ) (rules : List Rule) (stamp : Stamp) (place : ℕ) (next : Record) (is_put : Bool) (number : ℕ) (bytes : List ℕ) (result : Bool) : Type 0 where
   pub stored : IsStored (slice_set slots place (Full next)) free f waiting
   pub cannot : result ≡ false → CanWriteOne (store_of slots rules stamp) place is_put number bytes → ⊥
   pub written : result ≡ true → WritesOne (store_of slots rules stamp) place is_put number bytes (store_of (slice_set slots place (Full next)) rules stamp)
 
-pub over-step : (slots : List Slot) (free : Option ℕ) (f : List ℕ → Option ℕ) (waiting : ℕ) (rules : List Rule) (stamp : Stamp) (place : ℕ) (r next : Record) (is_put : Bool) (number : ℕ) (bytes : List ℕ) (result : Bool) → IsStored slots free f waiting → At slots place (Full r) → WritesOver stamp r is_put number bytes result next → OverStep slots free f waiting rules stamp place next is_put number bytes result
+pub over-step : (slots : List RecordSlot) (free : Option ℕ) (f : List ℕ → Option ℕ) (waiting : ℕ) (rules : List Rule) (stamp : Stamp) (place : ℕ) (r next : Record) (is_put : Bool) (number : ℕ) (bytes : List ℕ) (result : Bool) → IsStored slots free f waiting → At slots place (Full r) → WritesOver stamp r is_put number bytes result next → OverStep slots free f waiting rules stamp place next is_put number bytes result
 over-step slots free f waiting rules stamp place r next is_put number bytes true stored full over =
     let e = over.0 in
     let one : IsOne r.state number bytes e = over.1 in
@@ -111,12 +111,12 @@ put-applied s r put e next based free slow is =
     ∙ ap (λ (o : Option Put). put_fault own (if is_some o then not (nat_lt (length r.waiting) waiting_puts) else false)) free in
     (e, none, made, (put, refl, free, slow, is))
 
-pub record PutStep (slots : List Slot) (free : Option ℕ) (f : List ℕ → Option ℕ) (waiting : ℕ) (rules : List Rule) (stamp : Stamp) (place : ℕ) (next : Record) (put : Put) (number : ℕ) (bytes : List ℕ) (result : Bool) : Type 0 where
+pub record PutStep (slots : List RecordSlot) (free : Option ℕ) (f : List ℕ → Option ℕ) (waiting : ℕ) (rules : List Rule) (stamp : Stamp) (place : ℕ) (next : Record) (put : Put) (number : ℕ) (bytes : List ℕ) (result : Bool) : Type 0 where
   pub stored : IsStored (slice_set slots place (Full next)) free f waiting
   pub cannot : result ≡ false → CanPutOne (store_of slots rules stamp) place number bytes → ⊥
   pub made : result ≡ true → PutsOne (store_of slots rules stamp) place put number bytes (store_of (slice_set slots place (Full next)) rules stamp)
 
-pub put-step : (slots : List Slot) (free : Option ℕ) (f : List ℕ → Option ℕ) (waiting : ℕ) (rules : List Rule) (stamp : Stamp) (place : ℕ) (r next : Record) (put : Put) (number : ℕ) (bytes : List ℕ) (result : Bool) → IsStored slots free f waiting → At slots place (Full r) → PutsOver stamp r put number bytes result next → PutStep slots free f waiting rules stamp place next put number bytes result
+pub put-step : (slots : List RecordSlot) (free : Option ℕ) (f : List ℕ → Option ℕ) (waiting : ℕ) (rules : List Rule) (stamp : Stamp) (place : ℕ) (r next : Record) (put : Put) (number : ℕ) (bytes : List ℕ) (result : Bool) → IsStored slots free f waiting → At slots place (Full r) → PutsOver stamp r put number bytes result next → PutStep slots free f waiting rules stamp place next put number bytes result
 put-step slots free f waiting rules stamp place r next put number bytes true stored full over =
     let e = over.0 in
     let one : IsOne r.state number bytes e = over.1 in

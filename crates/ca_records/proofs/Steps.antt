@@ -4,8 +4,8 @@ use Rattle.std.proofs.lemmas.Slice.Eq.{bytes_eq-Decides}
 use Rattle.std.proofs.lemmas.List.{map-set}
 use Rattle.ca_text.specs.Place.{At}
 use Rattle.ca_text.proofs.Places.{At-append, At-map, At-mapped, At-one, At-set, At-set-other, At-within, some_is}
-use Rattle.ca_records.specs.declared.slot.Slot.{Slot}
-use Rattle.ca_records.specs.declared.slot.Slot.TheVariants.{Free, Full}
+use Rattle.ca_records.specs.declared.slot.RecordSlot.{RecordSlot}
+use Rattle.ca_records.specs.declared.slot.RecordSlot.TheVariants.{Free, Full}
 use Rattle.ca_records.specs.Chain.{Chain, IsStored, record_in}
 use Rattle.ca_records.specs.Layout.{IsIndexOf}
 use Rattle.ca_records.specs.declared.puts.Stamp.{Stamp}
@@ -38,33 +38,33 @@ nat_apart (suc a) (suc b) = elim (nat_apart a b) [ inl h ↦ inl (ap (λ n. suc 
 -- ---- slots
 
 -- what a caller sees of these slots
-abbrev pub seen : List Slot → List (Option Record)
+abbrev pub seen : List RecordSlot → List (Option Record)
 seen slots = map record_in slots
 
-abbrev pub store_of : List Slot → List Rule → Stamp → Store
+abbrev pub store_of : List RecordSlot → List Rule → Stamp → Store
 store_of slots rules stamp = record { slots = seen slots; rules = rules; stamp = stamp }
 
-full-is : (s : Slot) (r : Record) → let a : Option Record = Some r in a ≡ record_in s → s ≡ Full r
+full-is : (s : RecordSlot) (r : Record) → let a : Option Record = Some r in a ≡ record_in s → s ≡ Full r
 full-is (Full q) r e = ap Full (sym (some_is r q e))
 full-is (Free next) r e = absurd cc
 
-free-is : (s : Slot) → let a : Option Record = None in a ≡ record_in s → (next : Option ℕ) × (s ≡ Free next)
+free-is : (s : RecordSlot) → let a : Option Record = None in a ≡ record_in s → (next : Option ℕ) × (s ≡ Free next)
 free-is (Full q) e = absurd cc
 free-is (Free next) e = (next, refl)
 
-pub full-there : (slots : List Slot) (place : ℕ) (r : Record) → At (seen slots) place (Some r) → At slots place (Full r)
+pub full-there : (slots : List RecordSlot) (place : ℕ) (r : Record) → At (seen slots) place (Some r) → At slots place (Full r)
 full-there slots place r at =
     let under = At-mapped record_in slots place (Some r) at in
-    subst (λ (s : Slot). At slots place s) (full-is under.0 r under.2) under.1
+    subst (λ (s : RecordSlot). At slots place s) (full-is under.0 r under.2) under.1
 
 -- the slot that was looked at has the record
-pub looked : (slots : List Slot) (place : ℕ) (r : Record) (s : Slot) (q : Record) → At (seen slots) place (Some r) → s ≡ get_or slots place s → s ≡ Full q → At slots place (Full q)
+pub looked : (slots : List RecordSlot) (place : ℕ) (r : Record) (s : RecordSlot) (q : Record) → At (seen slots) place (Some r) → s ≡ get_or slots place s → s ≡ Full q → At slots place (Full q)
 looked slots place r s q at read full =
     let there = full-there slots place r at in
     let within = At-within slots place (Full r) there in
-    subst (λ (t : Slot). At slots place t) full (subst (λ (t : Slot). At slots place t) (sym read) (at_get slots place s within))
+    subst (λ (t : RecordSlot). At slots place t) full (subst (λ (t : RecordSlot). At slots place t) (sym read) (at_get slots place s within))
 
-pub seen-full : (slots : List Slot) (place : ℕ) (r : Record) → At slots place (Full r) → At (seen slots) place (Some r)
+pub seen-full : (slots : List RecordSlot) (place : ℕ) (r : Record) → At slots place (Full r) → At (seen slots) place (Some r)
 seen-full slots place r at = At-map record_in slots place (Full r) at
 
 -- ---- the index
@@ -92,7 +92,7 @@ pub found-at : (slots : List (Option Record)) (f : List ℕ → Option ℕ) (pla
 found-at slots f place r index at =
     named-one r.state.name slots place r at (has-name r.state.name r refl) (index-lacks-but slots f r.state.name place index (index.listed place r at))
 
-pub finds : (slots : List Slot) (rules : List Rule) (stamp : Stamp) (f : List ℕ → Option ℕ) (name : List ℕ) (result : Option ℕ) → IsIndexOf (seen slots) f → result ≡ f name → MatchOption result (record_named (present (seen slots)) name ≡ None) (λ place. Finds (store_of slots rules stamp) name place)
+pub finds : (slots : List RecordSlot) (rules : List Rule) (stamp : Stamp) (f : List ℕ → Option ℕ) (name : List ℕ) (result : Option ℕ) → IsIndexOf (seen slots) f → result ≡ f name → MatchOption result (record_named (present (seen slots)) name ≡ None) (λ place. Finds (store_of slots rules stamp) name place)
 finds slots rules stamp f name None index is = named-none name (seen slots) (index-lacks (seen slots) f name index (sym is))
 finds slots rules stamp f name (Some place) index is =
     let there = index.found name place (sym is) in record {
@@ -104,7 +104,7 @@ finds slots rules stamp f name (Some place) index is =
 
 -- ---- the chain of free places
 
-pub chain-set : (slots : List Slot) (first : Option ℕ) (freed : List ℕ) (i : ℕ) (s : Slot) → ((k : ℕ) → At freed k i → ⊥) → Chain slots first freed → Chain (slice_set slots i s) first freed
+pub chain-set : (slots : List RecordSlot) (first : Option ℕ) (freed : List ℕ) (i : ℕ) (s : RecordSlot) → ((k : ℕ) → At freed k i → ⊥) → Chain slots first freed → Chain (slice_set slots i s) first freed
 chain-set slots first [] i s out chain = chain
 chain-set slots first (j ∷ rest) i s out chain =
     let next = chain.2.0 in
@@ -112,7 +112,7 @@ chain-set slots first (j ∷ rest) i s out chain =
     (chain.0, chain.1, (next, At-set-other slots i j (Free next) s chain.2.1 apart, chain-set slots next rest i s (λ k at. out (suc k) at) chain.2.2))
 
 -- a place with a record is not among the free ones
-pub full-apart : (slots : List Slot) (first : Option ℕ) (freed : List ℕ) (i : ℕ) (r : Record) → At slots i (Full r) → Chain slots first freed → (k : ℕ) → At freed k i → ⊥
+pub full-apart : (slots : List RecordSlot) (first : Option ℕ) (freed : List ℕ) (i : ℕ) (r : Record) → At slots i (Full r) → Chain slots first freed → (k : ℕ) → At freed k i → ⊥
 full-apart slots first [] i r full chain k at = absurd cc
 full-apart slots first (j ∷ rest) i r full chain zero at =
     let same : j ≡ i = some_is j i at in
@@ -121,7 +121,7 @@ full-apart slots first (j ∷ rest) i r full chain zero at =
     cc
 full-apart slots first (j ∷ rest) i r full chain (suc k) at = full-apart slots chain.2.0 rest i r full chain.2.2 k at
 
-pub chain-append : (slots more : List Slot) (first : Option ℕ) (freed : List ℕ) → Chain slots first freed → Chain (slots ++ more) first freed
+pub chain-append : (slots more : List RecordSlot) (first : Option ℕ) (freed : List ℕ) → Chain slots first freed → Chain (slots ++ more) first freed
 chain-append slots more first [] chain = chain
 chain-append slots more first (j ∷ rest) chain =
     (chain.0, chain.1, (chain.2.0, At-append slots more j (Free chain.2.0) chain.2.1, chain-append slots more chain.2.0 rest chain.2.2))
@@ -148,11 +148,11 @@ index-changed slots f place r next index at same = record {
   ];
 }
 
-pub record Change (slots : List Slot) (free : Option ℕ) (f : List ℕ → Option ℕ) (rules : List Rule) (stamp : Stamp) (place : ℕ) (r next : Record) (more : ℕ) : Type 0 where
+pub record Change (slots : List RecordSlot) (free : Option ℕ) (f : List ℕ → Option ℕ) (rules : List Rule) (stamp : Stamp) (place : ℕ) (r next : Record) (more : ℕ) : Type 0 where
   pub stored : IsStored (slice_set slots place (Full next)) free f more
   pub becomes : Becomes (store_of slots rules stamp) place r next (store_of (slice_set slots place (Full next)) rules stamp)
 
-pub change : (slots : List Slot) (free : Option ℕ) (f : List ℕ → Option ℕ) (waiting more : ℕ) (rules : List Rule) (stamp : Stamp) (place : ℕ) (r next : Record) → IsStored slots free f waiting → At slots place (Full r) → next.state.name ≡ r.state.name → more + length r.waiting ≡ waiting + length next.waiting → Change slots free f rules stamp place r next more
+pub change : (slots : List RecordSlot) (free : Option ℕ) (f : List ℕ → Option ℕ) (waiting more : ℕ) (rules : List Rule) (stamp : Stamp) (place : ℕ) (r next : Record) → IsStored slots free f waiting → At slots place (Full r) → next.state.name ≡ r.state.name → more + length r.waiting ≡ waiting + length next.waiting → Change slots free f rules stamp place r next more
 change slots free f waiting more rules stamp place r next stored full same counts =
     let at : At (seen slots) place (Some r) = seen-full slots place r full in
     let after : seen (slice_set slots place (Full next)) ≡ slice_set (seen slots) place (Some next) = map-set record_in slots place (Full next) in

@@ -7,12 +7,12 @@ use Rattle.ca_text.specs.declared.refusal.Refusal.TheVariants as refusal
 use Rattle.ca_text.specs.Limits.{element_limit}
 use Rattle.ca_text.specs.Place.{At}
 use Rattle.ca_dbr.specs.Elements.{Elements, IsValue, base_of, count_of, elements}
-use Rattle.ca_records.specs.declared.puts.Waiter.{Waiter}
+use Rattle.ca_records.specs.declared.puts.QueuedPut.{QueuedPut}
 use Rattle.ca_records.specs.Puts.{Record, WaitingPut}
 use Rattle.ca_records.specs.Record.{HoldsValue, RecordState}
 
 -- a put that waits, as contracts see it
-abbrev pub waiting_put : Waiter → WaitingPut
+abbrev pub waiting_put : QueuedPut → WaitingPut
 waiting_put w = record { put = w.put; value = elements w.value }
 
 -- the value is one of the record's type that it may have

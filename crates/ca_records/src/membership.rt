@@ -10,7 +10,7 @@ use crate::records::Records;
 use crate::rules::Rule;
 use crate::served_record::ServedRecord;
 use crate::served_records::ServedRecords;
-use crate::slot::Slot;
+use crate::slot::RecordSlot;
 use ca_dbr::{Meta, Value};
 use ca_text::{RecordName, Refusal};
 use std::alloc::AllocError;
@@ -133,7 +133,7 @@ impl ServedRecords {
         let place = self.slots.len();
         self.places.insert(key, place)?;
         self.slots
-            .push_reserved(Slot::Full(ServedRecord::new(alloc, state)));
+            .push_reserved(RecordSlot::Full(ServedRecord::new(alloc, state)));
         Ok(place)
     }
 
@@ -149,7 +149,7 @@ impl ServedRecords {
         };
         self.waiting -= self.slots[place].record().waits();
         self.places.remove(name);
-        self.slots[place] = Slot::Free(self.free);
+        self.slots[place] = RecordSlot::Free(self.free);
         self.free = Some(place);
         Ok(place)
     }

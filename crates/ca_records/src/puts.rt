@@ -64,7 +64,7 @@ pub struct Finished {
 
 // A put that waits, and its value, which is of its record's type.
 #[derive(Debug, Drop)]
-pub(crate) struct Waiter {
+pub(crate) struct QueuedPut {
     pub(crate) put: Put,
     pub(crate) value: Value,
 }

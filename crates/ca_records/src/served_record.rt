@@ -10,7 +10,7 @@ ghost use Rattle.ca_records.specs.Over.{PutsOver, WritesOver};
 ghost use Rattle.ca_records.specs.declared.puts.Begun.TheVariants.{Waiting};
 
 use crate::judged::{Judged, judge};
-use crate::puts::{Begun, Put, Stamp, Waiter};
+use crate::puts::{Begun, Put, QueuedPut, Stamp};
 use crate::record::Record;
 use ca_arena::Handle;
 use ca_dbr::{Meta, Value};
@@ -25,7 +25,7 @@ use std::marker::Model;
 pub struct ServedRecord {
     record: Record,
     busy: Option<Put>,
-    waiting: VecDeque<Waiter>,
+    waiting: VecDeque<QueuedPut>,
     // The value before this one: its memory is for the next.
     spare: Option<Value>,
 }
@@ -86,7 +86,7 @@ impl ServedRecord {
     }
 
     // The puts that wait, in order.
-    pub(crate) fn waiting(&self) -> &VecDeque<Waiter>
+    pub(crate) fn waiting(&self) -> &VecDeque<QueuedPut>
         ensures { map waiting_put result.now.items ≡ self.now.waiting }
     {
         &self.waiting
@@ -204,7 +204,7 @@ impl ServedRecord {
         ensures memory { OnErr result (self.new ≡ self.old) }
     {
         self.waiting.reserve(1)?;
-        self.waiting.push_back_reserved(Waiter { put, value });
+        self.waiting.push_back_reserved(QueuedPut { put, value });
         Ok(Begun::Waiting)
     }
 

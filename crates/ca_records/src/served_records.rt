@@ -6,7 +6,7 @@ ghost use Rattle.ca_records.specs.Store.{Finds, HasAt, IsThere, records_of};
 use crate::puts::Stamp;
 use crate::rules::{Rule, rights};
 use crate::served_record::ServedRecord;
-use crate::slot::Slot;
+use crate::slot::RecordSlot;
 use ca_text::is_same_name;
 use std::alloc::Global;
 use std::collections::HashMap;
@@ -20,7 +20,7 @@ use std::marker::Model;
 /// records and with many.
 #[derive(Debug, Drop)]
 pub struct ServedRecords {
-    pub(crate) slots: Vec<Slot>,
+    pub(crate) slots: Vec<RecordSlot>,
     // The place that became free last.
     pub(crate) free: Option<usize>,
     pub(crate) places: HashMap<Vec<u8>, usize>,
@@ -99,7 +99,7 @@ impl ServedRecords {
         ensures { result ≡ true → Finds self.now name.now place }
     {
         match self.slots.get(place) {
-            Some(Slot::Full(served)) => is_same_name(served.state().name(), name),
+            Some(RecordSlot::Full(served)) => is_same_name(served.state().name(), name),
             _ => false,
         }
     }

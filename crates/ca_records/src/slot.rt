@@ -1,6 +1,6 @@
 ghost use Rattle.std.specs.Prelude.{◌≡◌, IsNone, Some};
 ghost use Rattle.std.specs.Borrow.{sem};
-ghost use Rattle.ca_records.specs.declared.slot.Slot.TheVariants.{Free, Full};
+ghost use Rattle.ca_records.specs.declared.slot.RecordSlot.TheVariants.{Free, Full};
 ghost use Rattle.ca_records.specs.Chain.{IsFull};
 ghost use Rattle.ca_records.specs.Lending.{lends_full};
 
@@ -9,20 +9,20 @@ use std::mem;
 
 // What is at a place: a record, or nothing; then it names the free place after it, if there is one.
 #[derive(Debug, Drop)]
-pub(crate) enum Slot {
+pub(crate) enum RecordSlot {
     Full(ServedRecord),
     Free(Option<usize>),
 }
 
-impl Slot {
+impl RecordSlot {
     // Its record.
     pub(crate) fn record(&self) -> &ServedRecord
         requires { IsFull self.now }
         ensures { self.now ≡ Full result.now }
     {
         match self {
-            Slot::Full(record) => record,
-            Slot::Free(_) => unreachable!(),
+            RecordSlot::Full(record) => record,
+            RecordSlot::Free(_) => unreachable!(),
         }
     }
 
@@ -33,8 +33,8 @@ impl Slot {
         ensures value { self.old ≡ Full result.now }
     {
         match self {
-            Slot::Full(record) => record,
-            Slot::Free(_) => unreachable!(),
+            RecordSlot::Full(record) => record,
+            RecordSlot::Free(_) => unreachable!(),
         }
     }
 
@@ -44,9 +44,9 @@ impl Slot {
         ensures was { self.old ≡ Free result }
         ensures full { self.new ≡ Full served }
     {
-        match mem::replace(self, Slot::Full(served)) {
-            Slot::Free(next) => next,
-            Slot::Full(_) => unreachable!(),
+        match mem::replace(self, RecordSlot::Full(served)) {
+            RecordSlot::Free(next) => next,
+            RecordSlot::Full(_) => unreachable!(),
         }
     }
 }

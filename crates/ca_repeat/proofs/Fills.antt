@@ -9,7 +9,7 @@ use Rattle.ca_wire.specs.Message.{IsMessage, header_of}
 use Rattle.ca_wire.proofs.Numbers.{length-number16, length-number32}
 use Rattle.ca_wire.proofs.Headers.{extended-behind, length-extended, length-short, narrowed, short-behind}
 use Rattle.ca_wire.proofs.Messages.{spells-behind}
-use Rattle.ca_repeat.specs.declared.first.First.TheVariants.{BlankBeacon}
+use Rattle.ca_repeat.specs.declared.first.FirstMessage.TheVariants.{BlankBeacon}
 use Rattle.ca_repeat.specs.First.{StandsFirst, passed}
 
 -- the twelve bytes before the second parameter

@@ -4,7 +4,7 @@ use Rattle.std.specs.Prelude.{◌==◌}
 use Rattle.std.proofs.lemmas.Bool.{ne_eqb}
 use Rattle.ca_wire.specs.Header.{number32}
 use Rattle.ca_wire.proofs.Numbers.{length-number32}
-use Rattle.ca_repeat.specs.declared.first.First.{First}
+use Rattle.ca_repeat.specs.declared.first.FirstMessage.{FirstMessage}
 use Rattle.std.proofs.lemmas.List.{take-append-drop, length-append}
 use Rattle.ca_wire.specs.declared.reading.Head.{Head}
 use Rattle.ca_wire.specs.Fields.{Fields}
@@ -12,7 +12,7 @@ use Rattle.ca_wire.specs.Stream.{NoneBegins}
 use Rattle.ca_wire.specs.Reading.{IsWhole}
 use Rattle.ca_wire.proofs.Messages.{spells-front, spells-long}
 use Rattle.ca_dgram.proofs.Readings.{fields_at, spells-fields_at}
-use Rattle.ca_repeat.specs.declared.first.First.TheVariants.{Registration, BlankBeacon, Other}
+use Rattle.ca_repeat.specs.declared.first.FirstMessage.TheVariants.{Registration, BlankBeacon, Other}
 use Rattle.ca_repeat.specs.First.{IsBlank, IsFirst, StandsFirst, passed}
 
 pub whole-first : (bytes : List ℕ) (head : Head) → IsWhole bytes head → StandsFirst bytes (fields_at bytes head) (drop (head.start + head.header.size) bytes)
@@ -63,12 +63,12 @@ other-some [] first e = first.0 [] (inl (refl, refl))
 other-some (b ∷ bytes) first e = absurd (omega (arith, e))
 
 -- what is handed on of a beacon or of any other datagram has bytes
-pub blank-left : (first : First) (bytes : List ℕ) (ip : ℕ) → first ≡ BlankBeacon → false ≡ (length (passed first ip bytes) == 0)
+pub blank-left : (first : FirstMessage) (bytes : List ℕ) (ip : ℕ) → first ≡ BlankBeacon → false ≡ (length (passed first ip bytes) == 0)
 blank-left first bytes ip is =
     let some : length (passed BlankBeacon ip bytes) ≡ 0 → ⊥ =
     λ e. absurd (omega (arith, e, length-append (take 12 bytes) (number32 ip ++ drop 16 bytes), length-append (number32 ip) (drop 16 bytes), length-number32 ip)) in
-    sym (ap (λ (f : First). length (passed f ip bytes) == 0) is ∙ ne_eqb (length (passed BlankBeacon ip bytes)) 0 some)
+    sym (ap (λ (f : FirstMessage). length (passed f ip bytes) == 0) is ∙ ne_eqb (length (passed BlankBeacon ip bytes)) 0 some)
 
-pub other-left : (first : First) (bytes : List ℕ) (ip : ℕ) → first ≡ Other → IsFirst bytes first → false ≡ (length (passed first ip bytes) == 0)
+pub other-left : (first : FirstMessage) (bytes : List ℕ) (ip : ℕ) → first ≡ Other → IsFirst bytes first → false ≡ (length (passed first ip bytes) == 0)
 other-left first bytes ip is stands =
-    sym (ap (λ (f : First). length (passed f ip bytes) == 0) is ∙ ne_eqb (length bytes) 0 (other-some bytes (subst (IsFirst bytes) is stands)))
+    sym (ap (λ (f : FirstMessage). length (passed f ip bytes) == 0) is ∙ ne_eqb (length bytes) 0 (other-some bytes (subst (IsFirst bytes) is stands)))

@@ -6,8 +6,9 @@ use Rattle.ca_text.specs.Command.{command_number}
 use Rattle.ca_wire.specs.Header.{number32}
 use Rattle.ca_wire.specs.Fields.{Fields}
 use Rattle.ca_wire.specs.Message.{Spells}
-use Rattle.ca_repeat.specs.declared.first.First.{First}
-use Rattle.ca_repeat.specs.declared.first.First.TheVariants.{Registration, BlankBeacon, Other}
+use Rattle.ca_repeat.specs.declared.first.FirstMessage.{FirstMessage}
+use Rattle.ca_repeat.specs.declared.first.FirstMessage.TheVariants.{Registration, BlankBeacon}
+use Rattle.ca_repeat.specs.declared.first.FirstMessage.TheVariants.{Other}
 
 -- a complete message of this form stands first, and this after it
 pub record StandsFirst (bytes : List ℕ) (m : Fields) (behind : List ℕ) : Type 0 where
@@ -27,19 +28,19 @@ IsBlank bytes =
     (m : Fields) × (behind : List ℕ) × StandsFirst bytes m behind
     × (m.command ≡ command_number RsrvIsUp) × (m.p2 ≡ 0)
 
-abbrev pub IsFirst : List ℕ → First → Type 0
+abbrev pub IsFirst : List ℕ → FirstMessage → Type 0
 IsFirst bytes (Registration end) = (end ≤ length bytes) × Registers bytes (drop end bytes)
 IsFirst bytes BlankBeacon = IsBlank bytes
 IsFirst bytes Other = ((behind : List ℕ) → Registers bytes behind → ⊥) × (IsBlank bytes → ⊥)
 
-abbrev pub registers : First → Bool
+abbrev pub registers : FirstMessage → Bool
 registers (Registration end) = true
 registers BlankBeacon = false
 registers Other = false
 
 -- What is handed on of a datagram from this address: what is after a registration; a beacon with no
 -- address with its sender's in place of the second parameter; any other datagram as it is.
-abbrev pub passed : First → ℕ → List ℕ → List ℕ
+abbrev pub passed : FirstMessage → ℕ → List ℕ → List ℕ
 passed (Registration end) ip bytes = drop end bytes
 passed BlankBeacon ip bytes = take 12 bytes ++ (number32 ip ++ drop 16 bytes)
 passed Other ip bytes = bytes

@@ -1,14 +1,14 @@
 ghost use Rattle.std.specs.Prelude.{◌≡◌, ℕ, IfOk, length, nat_eq};
 ghost use Rattle.ca_repeat.specs.First.{IsFirst, passed, registers};
 
-use crate::address::Address;
+use crate::address::UdpAddress;
 use ca_text::Command;
 use ca_wire::{One, read_one};
 use std::alloc::{AllocError, Global};
 
 /// What a datagram begins with.
 #[derive(Clone, Copy)]
-pub(crate) enum First {
+pub(crate) enum FirstMessage {
     /// Nothing, or a REPEATER_REGISTER of n bytes.
     Registration(usize),
     /// An RSRV_IS_UP whose address is zero.
@@ -17,68 +17,68 @@ pub(crate) enum First {
 }
 
 /// What begins these bytes.
-pub(crate) fn first_of(bytes: &[u8]) -> First
+pub(crate) fn first_of(bytes: &[u8]) -> FirstMessage
     ensures { IsFirst bytes.now result }
 {
     if bytes.is_empty() {
-        return First::Registration(0);
+        return FirstMessage::Registration(0);
     }
     let One::Whole(head) = read_one(bytes) else {
-        return First::Other;
+        return FirstMessage::Other;
     };
     let header = head.header;
     if header.command == Command::RepeaterRegister.number() {
-        return First::Registration(head.start + header.size as usize);
+        return FirstMessage::Registration(head.start + header.size as usize);
     }
     if header.command != Command::RsrvIsUp.number() {
-        return First::Other;
+        return FirstMessage::Other;
     }
     if header.p2 != 0 {
-        return First::Other;
+        return FirstMessage::Other;
     }
-    First::BlankBeacon
+    FirstMessage::BlankBeacon
 }
 
 /// Whether it asks to register the sender.
-pub(crate) fn is_registration(first: First) -> bool
+pub(crate) fn is_registration(first: FirstMessage) -> bool
     ensures { result ≡ registers first }
 {
-    matches!(first, First::Registration(_))
+    matches!(first, FirstMessage::Registration(_))
 }
 
 /// Whether nothing of the datagram is handed on.
-pub(crate) fn is_used_up(first: First, bytes: &[u8]) -> bool
+pub(crate) fn is_used_up(first: FirstMessage, bytes: &[u8]) -> bool
     requires { IsFirst bytes.now first }
     ensures { (ip : ℕ) → result ≡ nat_eq (length (passed first ip bytes.now)) 0 }
 {
     match first {
-        First::Registration(end) => end == bytes.len(),
-        First::BlankBeacon => false,
-        First::Other => false,
+        FirstMessage::Registration(end) => end == bytes.len(),
+        FirstMessage::BlankBeacon => false,
+        FirstMessage::Other => false,
     }
 }
 
 /// What is handed on of a datagram from this address.
 pub(crate) fn passed_on(
     alloc: Global,
-    first: First,
-    from: Address,
+    first: FirstMessage,
+    from: UdpAddress,
     bytes: &[u8],
 ) -> Result<Vec<u8>, AllocError>
     requires { IsFirst bytes.now first }
     ensures { IfOk result (λ v. v.items ≡ passed first from.ip bytes.now) }
 {
     match first {
-        First::Registration(end) => Vec::from_slice(alloc, &bytes[end..]),
-        First::BlankBeacon => filled(alloc, from, bytes),
-        First::Other => Vec::from_slice(alloc, bytes),
+        FirstMessage::Registration(end) => Vec::from_slice(alloc, &bytes[end..]),
+        FirstMessage::BlankBeacon => filled(alloc, from, bytes),
+        FirstMessage::Other => Vec::from_slice(alloc, bytes),
     }
 }
 
 /// The beacon with its sender's address, which is in bytes 12 to 15 of either form of a header.
-fn filled(alloc: Global, from: Address, bytes: &[u8]) -> Result<Vec<u8>, AllocError>
-    requires { IsFirst bytes.now First.BlankBeacon }
-    ensures { IfOk result (λ v. v.items ≡ passed First.BlankBeacon from.ip bytes.now) }
+fn filled(alloc: Global, from: UdpAddress, bytes: &[u8]) -> Result<Vec<u8>, AllocError>
+    requires { IsFirst bytes.now FirstMessage.BlankBeacon }
+    ensures { IfOk result (λ v. v.items ≡ passed FirstMessage.BlankBeacon from.ip bytes.now) }
 {
     let mut beacon = Vec::from_slice(alloc, &bytes[..12])?;
     beacon.extend_from_slice(&from.ip.to_be_bytes())?;

@@ -1,7 +1,7 @@
 //! What a filled beacon says.
 ghost use Rattle.std.specs.Prelude.{◌≡◌, ◌<◌, ◌^◌, ℕ, List, length};
 ghost use Rattle.ca_wire.specs.Fields.{Fields};
-ghost use Rattle.ca_repeat.specs.declared.first.First.TheVariants.{BlankBeacon};
+ghost use Rattle.ca_repeat.specs.declared.first.FirstMessage.TheVariants.{BlankBeacon};
 ghost use Rattle.ca_repeat.specs.First.{StandsFirst, passed};
 
 /// A beacon that is filled in reads as the same message with its sender's address as the second

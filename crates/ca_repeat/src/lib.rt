@@ -8,7 +8,7 @@ mod laws;
 mod outgoing;
 mod repeater;
 
-pub use address::Address;
+pub use address::UdpAddress;
 pub use laws::filled_beacon_names_its_sender;
 pub use outgoing::Outgoing;
 pub use repeater::RepeaterCore;

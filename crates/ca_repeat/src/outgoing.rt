@@ -1,12 +1,12 @@
 ghost use Rattle.std.specs.Prelude.{◌≡◌};
 
-use crate::address::Address;
+use crate::address::UdpAddress;
 use std::marker::Model;
 
 /// A datagram that the repeater sends.
 #[derive(Debug, Drop)]
 pub struct Outgoing {
-    to: Address,
+    to: UdpAddress,
     bytes: Vec<u8>,
 }
 
@@ -20,14 +20,14 @@ impl Model for Outgoing {
 
 impl Outgoing {
     /// The datagram of these bytes.
-    pub(crate) fn new(to: Address, bytes: Vec<u8>) -> Outgoing
+    pub(crate) fn new(to: UdpAddress, bytes: Vec<u8>) -> Outgoing
         ensures { result ≡ record { to = to; bytes = bytes.items } }
     {
         Outgoing { to, bytes }
     }
 
     /// Where it goes.
-    pub fn to(&self) -> Address
+    pub fn to(&self) -> UdpAddress
         ensures { result ≡ self.now.to }
     {
         self.to

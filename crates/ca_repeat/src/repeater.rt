@@ -5,8 +5,8 @@ ghost use Rattle.ca_repeat.specs.Fan.{Receives, confirmed, enrolled, handed};
 ghost use Rattle.ca_repeat.specs.First.{IsFirst, passed, registers};
 ghost use Rattle.ca_text.specs.Limits.{repeater_members};
 
-use crate::address::{Address, is_loopback, is_same};
-use crate::first::{First, first_of, is_registration, is_used_up, passed_on};
+use crate::address::{UdpAddress, is_loopback, is_same};
+use crate::first::{FirstMessage, first_of, is_registration, is_used_up, passed_on};
 use crate::outgoing::Outgoing;
 use ca_dgram::confirm;
 use ca_text::{REPEATER_MEMBERS, Refusal};
@@ -16,14 +16,14 @@ use std::marker::Model;
 /// The repeater's members, in order of registration.
 #[derive(Debug, Drop)]
 pub struct RepeaterCore {
-    members: Vec<Address>,
+    members: Vec<UdpAddress>,
 }
 
 impl Model for RepeaterCore {
     ghost use Rattle.std.specs.Prelude.{List};
-    ghost use Rattle.ca_repeat.specs.declared.address.Address.{Address};
+    ghost use Rattle.ca_repeat.specs.declared.address.UdpAddress.{UdpAddress};
 
-    ghost Value = { List Address };
+    ghost Value = { List UdpAddress };
 
     ghost view = { λ r. r.members.items };
 }
@@ -41,7 +41,7 @@ impl RepeaterCore {
     /// What is sent, in order, for a datagram that came from this address.
     ///
     /// A refusal changes nothing, and there is something to send then.
-    pub fn receive(&mut self, from: Address, bytes: &[u8]) -> Result<Vec<Outgoing>, Refusal>
+    pub fn receive(&mut self, from: UdpAddress, bytes: &[u8]) -> Result<Vec<Outgoing>, Refusal>
         ensures { Receives self.old from bytes.now result self.new }
     {
         let alloc = *self.members.allocator();
@@ -55,7 +55,7 @@ impl RepeaterCore {
     }
 
     /// Drops the member to whom a send was refused.
-    pub fn refused(&mut self, to: Address)
+    pub fn refused(&mut self, to: UdpAddress)
         ensures { self.new ≡ filter (λ m. not (same m to)) self.old }
     {
         self.members.retain(|member| !is_same(*member, to));
@@ -63,14 +63,14 @@ impl RepeaterCore {
 }
 
 /// Whether the address is a member's.
-fn is_among(members: &[Address], from: Address) -> bool
+fn is_among(members: &[UdpAddress], from: UdpAddress) -> bool
     ensures { result ≡ is_member members.now from }
 {
     members.iter().any(|member| is_same(*member, from))
 }
 
 /// Whether the registration of this sender is answered, among n members.
-fn is_admitted(first: First, from: Address, known: bool, count: usize) -> bool
+fn is_admitted(first: FirstMessage, from: UdpAddress, known: bool, count: usize) -> bool
     ensures { result
         ≡ (registers first && loopback from && (known || nat_lt count repeater_members)) }
 {
@@ -78,7 +78,7 @@ fn is_admitted(first: First, from: Address, known: bool, count: usize) -> bool
 }
 
 /// The answer to a registration, if there is one.
-fn confirmation(alloc: Global, answered: bool, to: Address) -> Result<Vec<Outgoing>, AllocError>
+fn confirmation(alloc: Global, answered: bool, to: UdpAddress) -> Result<Vec<Outgoing>, AllocError>
     ensures ok { IfOk result (λ v. v.items ≡ confirmed answered to) }
     ensures err { OnErr result (confirmed answered to ≢ []) }
 {
@@ -93,9 +93,9 @@ fn confirmation(alloc: Global, answered: bool, to: Address) -> Result<Vec<Outgoi
 /// Writes what is handed on of the datagram, if there is any of it, for each member but the sender.
 fn hand_on(
     alloc: Global,
-    members: &[Address],
-    from: Address,
-    first: First,
+    members: &[UdpAddress],
+    from: UdpAddress,
+    first: FirstMessage,
     bytes: &[u8],
     sends: &mut Vec<Outgoing>,
 ) -> Result<(), AllocError>
@@ -118,10 +118,10 @@ fn hand_on(
 
 /// Puts a new member after the others.
 fn enroll(
-    members: &mut Vec<Address>,
+    members: &mut Vec<UdpAddress>,
     answered: bool,
     known: bool,
-    from: Address,
+    from: UdpAddress,
 ) -> Result<(), AllocError>
     ensures ok { OnOk result (members.new.items
         ≡ enrolled (answered && not known) members.old.items from) }

@@ -11,7 +11,7 @@ use Rattle.ca_text.specs.Place.{At}
 use Rattle.ca_text.proofs.Places.{some_is}
 use Rattle.ca_ids.specs.Table.{Table, same_handle, under, with_changed}
 use Rattle.ca_requests.specs.Layout.{drained, each_drained}
-use Rattle.ca_requests.specs.Lines.{AreRequests, Line}
+use Rattle.ca_requests.specs.Lines.{AreRequests, RequestList}
 use Rattle.ca_requests.specs.Requests.{Draining, Open, Request, Stage, asks_on, channel_over, is_open, is_open_in, over_on}
 use Rattle.ca_requests.proofs.Lined.{at-filter, filter-at, one-handle, other-index, same-itself}
 use Rattle.ca_requests.proofs.Tables.{and-false, by_value, first_of, opens, opens-any, true_or_false}
@@ -156,7 +156,7 @@ all-over channel (x ∷ xs) t all own =
     there q other (suc m) at = (m, at)
 
 -- the open requests on a channel, once they are over
-pub over-each : (t u : Table Request) (listed : List Handle) (lines mine : List Line) (channel : Handle) (xs : List Handle) → AreRequests t listed lines mine → xs ≡ filter (is_open (asks_on channel) t) listed → u ≡ each_drained xs t → u ≡ channel_over channel t
+pub over-each : (t u : Table Request) (listed : List Handle) (lines mine : List RequestList) (channel : Handle) (xs : List Handle) → AreRequests t listed lines mine → xs ≡ filter (is_open (asks_on channel) t) listed → u ≡ each_drained xs t → u ≡ channel_over channel t
 over-each t u listed lines mine channel xs old are is =
     let p = is_open (asks_on channel) t in
     is

@@ -12,7 +12,7 @@ use Rattle.ca_ids.specs.Table.{MayGive, Table, kept_of, same_handle, under, with
 use Rattle.ca_ids.specs.Holding.{Fills}
 use Rattle.ca_requests.specs.Calls.{Issued, MayIssue}
 use Rattle.ca_requests.specs.Layout.{AreGiven, issued_of}
-use Rattle.ca_requests.specs.Lines.{AreAllListed, AreLines, AreOf, AreRequests, Hands, IsAt, Line, MayBeOf, Notes, Readies, ReadyAll, belongs, channel_of, circuit_of, handed_to, line_at, no_line, room_beside, told_of}
+use Rattle.ca_requests.specs.Lines.{AreAllListed, AreLines, AreOf, AreRequests, Hands, IsAt, RequestList, MayBeOf, Notes, Readies, ReadyAll, belongs, channel_of, circuit_of, handed_to, line_at, no_line, room_beside, told_of}
 use Rattle.ca_requests.specs.Requests.{Draining, Open, Request, Stage, asks_on, in_order_of_issue, is_open, is_open_in, over_on, was_sent_on}
 use Rattle.ca_requests.proofs.Orders.{filter-narrow, given-filter, given-grows, given-push}
 use Rattle.ca_requests.proofs.Tables.{Dims, Grows, Keeps, Stays, any, by_value, dims-freed, dims-over, first_of, given-new, grows-freed, grows-held, grows-map, keeps-freed, keeps-map, none-freed, none-over, opens, opens-any, place-beside, place-held, second_of, stays-freed, stays-over, true_or_false, under-beside, under-held}
@@ -82,10 +82,10 @@ module _ (whose : Request → Handle) where
       elim (true_or_false (p q)) [ inl passes ↦ rw passes (all.0, rest) | inr fails ↦ rw fails rest ]
 
 -- the line of this owner with these requests, and room for that many
-abbrev pub line : Handle → List Handle → ℕ → Line
+abbrev pub line : Handle → List Handle → ℕ → RequestList
 line c xs n = record { owner = c; handles = xs; room = n }
 
-pub readies-same : (t : Table Request) (l : Line) → Readies t l l
+pub readies-same : (t : Table Request) (l : RequestList) → Readies t l l
 readies-same t l = record { same = λ which. refl; given = λ h. h; owned = λ h. h; also = λ h. h; placed = λ i h. h }
 
 pub readies-filtered : (t : Table Request) (c : Handle) (xs ys : List Handle) (m n : ℕ) → ys ≡ filter (is_open any t) xs → Readies t (line c xs m) (line c ys n)
@@ -148,7 +148,7 @@ pub empty-of : (xs : List Handle) → length xs ≡ 0 → xs ≡ []
 empty-of [] none = refl
 empty-of (x ∷ xs) none = absurd (omega (arith, none))
 
-pub readies-on : (t : Table Request) (a b c : Line) → Readies t a b → Readies t b c → Readies t a c
+pub readies-on : (t : Table Request) (a b c : RequestList) → Readies t a b → Readies t b c → Readies t a c
 readies-on t a b c first next = record {
   same = λ which. next.same which ∙ first.same which;
   given = λ h. next.given (first.given h);
@@ -158,7 +158,7 @@ readies-on t a b c first next = record {
 }
 
 -- a line that has more room
-pub readies-alike : (t : Table Request) (a b d : Line) → Readies t a b → d.owner ≡ b.owner → d.handles ≡ b.handles → Readies t a d
+pub readies-alike : (t : Table Request) (a b d : RequestList) → Readies t a b → d.owner ≡ b.owner → d.handles ≡ b.handles → Readies t a d
 readies-alike t a b d r owner handles = record {
   same = λ which. ap (in_order_of_issue which t) handles ∙ r.same which;
   given = λ h. subst (λ (ys : List Handle). AreGiven t ys) (sym handles) (r.given h);
@@ -168,16 +168,16 @@ readies-alike t a b d r owner handles = record {
 }
 
 -- one of the lines lost some, or came to another owner
-pub readies-one : (t : Table Request) (old xs : List Line) (k : ℕ) (x y : Line) → ((i : ℕ) → line_at xs i ≡ line_at old i) → k < length xs → x ≡ slice_index_or xs k x → Readies t x y → ReadyAll t old (slice_set xs k y)
+pub readies-one : (t : Table Request) (old xs : List RequestList) (k : ℕ) (x y : RequestList) → ((i : ℕ) → line_at xs i ≡ line_at old i) → k < length xs → x ≡ slice_index_or xs k x → Readies t x y → ReadyAll t old (slice_set xs k y)
 readies-one t old xs k x y same within found ready = λ i. elim (cases_eq i k) [
   | inl here ↦
       let new : line_at (slice_set xs k y) i ≡ y = ap (line_at (slice_set xs k y)) here ∙ get_or-set_same xs k y no_line within in
-      let at : At xs k x = slice_get-get_or xs k x within ∙ ap (λ (l : Line). Some l) (sym found) in
+      let at : At xs k x = slice_get-get_or xs k x within ∙ ap (λ (l : RequestList). Some l) (sym found) in
       let was : x ≡ line_at old i = sym (get_or_from_slice_get xs k x no_line at) ∙ same k ∙ ap (line_at old) (sym here) in
-      subst (λ (l : Line). Readies t l (line_at (slice_set xs k y) i)) was (subst (λ (l : Line). Readies t x l) (sym new) ready)
+      subst (λ (l : RequestList). Readies t l (line_at (slice_set xs k y) i)) was (subst (λ (l : RequestList). Readies t x l) (sym new) ready)
   | inr other ↦
       let new : line_at (slice_set xs k y) i ≡ line_at old i = get_or-set_other xs k i y no_line other ∙ same i in
-      subst (λ (l : Line). Readies t (line_at old i) l) (sym new) (readies-same t (line_at old i))
+      subst (λ (l : RequestList). Readies t (line_at old i) l) (sym new) (readies-same t (line_at old i))
 ]
 
 -- what is open and named was
@@ -208,7 +208,7 @@ none-kept : (n : Handle → Bool) (q : Handle) → n q ≡ false → filter n (q
 none-kept n q h = rw h refl
 
 module _ (whose : Request → Handle) where
-  lines-tidied : (t : Table Request) (listed : List Handle) (lines : List Line) → AreLines whose t listed lines → AreLines whose t (filter (is_open any t) listed) lines
+  lines-tidied : (t : Table Request) (listed : List Handle) (lines : List RequestList) → AreLines whose t listed lines → AreLines whose t (filter (is_open any t) listed) lines
   lines-tidied t listed lines old = record {
     same = λ c. old.same c ∙ sym (filtered-same t listed (belongs whose c));
     given = old.given;
@@ -225,7 +225,7 @@ module _ (whose : Request → Handle) where
     of-thins t u keeps c xs all.1,
   )
 
-  lines-thin : (t u : Table Request) (listed : List Handle) (lines : List Line) → Keeps t u → Grows t u → AreLines whose t listed lines → AreLines whose u listed lines
+  lines-thin : (t u : Table Request) (listed : List Handle) (lines : List RequestList) → Keeps t u → Grows t u → AreLines whose t listed lines → AreLines whose u listed lines
   lines-thin t u listed lines keeps grows old = record {
     same = λ c.
         let p = is_open (belongs whose c) t in
@@ -253,7 +253,7 @@ module _ (whose : Request → Handle) where
   of-push t c q [] all last = (last, tt)
   of-push t c q (x ∷ xs) all last = (all.0, of-push t c q xs all.1 last)
 
-  issued-same : (t : Table Request) (q : Handle) (r : Request) (listed : List Handle) (lines next : List Line) → MayGive t q → AreGiven t listed → AreLines whose t listed lines → Notes (whose r) q lines next → (c : Handle) → in_order_of_issue (belongs whose c) (with_held q r t) (line_at next c.index).handles ≡ in_order_of_issue (belongs whose c) (with_held q r t) (listed ++ q ∷ [])
+  issued-same : (t : Table Request) (q : Handle) (r : Request) (listed : List Handle) (lines next : List RequestList) → MayGive t q → AreGiven t listed → AreLines whose t listed lines → Notes (whose r) q lines next → (c : Handle) → in_order_of_issue (belongs whose c) (with_held q r t) (line_at next c.index).handles ≡ in_order_of_issue (belongs whose c) (with_held q r t) (listed ++ q ∷ [])
   issued-same t q r listed lines next may given old notes c =
       let n = is_open (belongs whose c) (with_held q r t) in
       let xs = (line_at lines c.index).handles in
@@ -270,7 +270,7 @@ module _ (whose : Request → Handle) where
             ∙ ap (λ (ys : List Handle). ys ++ filter n (q ∷ [])) mine
             ∙ sym (filter-append n listed (q ∷ []))
         | inr other ↦
-            let is : (line_at next c.index).handles ≡ xs = ap (λ (l : Line). l.handles) (notes.others c.index other) in
+            let is : (line_at next c.index).handles ≡ xs = ap (λ (l : RequestList). l.handles) (notes.others c.index other) in
             let away : n q ≡ false =
             ap (opens (belongs whose c)) (under-held t q r may) ∙ ap (λ (b : Bool). b && is_open_in r.stage) (other-index (whose r) c (λ same. other (sym same))) in
             let none : filter n (q ∷ []) ≡ [] = none-kept n q away in
@@ -279,7 +279,7 @@ module _ (whose : Request → Handle) where
             ap (λ (ys : List Handle). filter n ys) is ∙ mine ∙ sym more
       ]
 
-  issued-lines : (t : Table Request) (q : Handle) (r : Request) (listed : List Handle) (lines next : List Line) → MayGive t q → r.stage ≡ Open → AreGiven t listed → AreLines whose t listed lines → Notes (whose r) q lines next → AreLines whose (with_held q r t) (listed ++ q ∷ []) next
+  issued-lines : (t : Table Request) (q : Handle) (r : Request) (listed : List Handle) (lines next : List RequestList) → MayGive t q → r.stage ≡ Open → AreGiven t listed → AreLines whose t listed lines → Notes (whose r) q lines next → AreLines whose (with_held q r t) (listed ++ q ∷ []) next
   issued-lines t q r listed lines next may begins given old notes =
       let u = with_held q r t in
       let grows = grows-held t q r may in
@@ -301,7 +301,7 @@ module _ (whose : Request → Handle) where
                   (given-push u xs q (given-grows t u xs grows (old.given k)) (given-new t q r may)) in
                   subst (λ (j : ℕ). AreGiven u (line_at next j).handles) (sym here) there
               | inr other ↦
-                  subst (λ (l : Line). AreGiven u l.handles) (sym (notes.others i other)) (given-grows t u (line_at lines i).handles grows (old.given i))
+                  subst (λ (l : RequestList). AreGiven u l.handles) (sym (notes.others i other)) (given-grows t u (line_at lines i).handles grows (old.given i))
             ];
         owned = λ i.
             elim (cases_eq i k) [
@@ -311,13 +311,13 @@ module _ (whose : Request → Handle) where
                   (subst (λ (ys : List Handle). AreOf whose u (whose r) ys) (sym notes.handles) after) in
                   subst (λ (j : ℕ). AreOf whose u (line_at next j).owner (line_at next j).handles) (sym here) there
               | inr other ↦
-                  subst (λ (l : Line). AreOf whose u l.owner l.handles) (sym (notes.others i other))
+                  subst (λ (l : RequestList). AreOf whose u l.owner l.handles) (sym (notes.others i other))
                   (of-beside t q r (line_at lines i).owner (line_at lines i).handles may (old.given i) (old.owned i))
             ];
         placed = λ i.
             elim (cases_eq i k) [
               | inl here ↦ inr (ap (λ (j : ℕ). (line_at next j).owner.index) here ∙ ap (λ (c : Handle). c.index) notes.owner ∙ sym here)
-              | inr other ↦ subst (λ (l : Line). IsAt i l) (sym (notes.others i other)) (old.placed i)
+              | inr other ↦ subst (λ (l : RequestList). IsAt i l) (sym (notes.others i other)) (old.placed i)
             ];
       }
 
@@ -343,7 +343,7 @@ module _ (whose : Request → Handle) where
           let bad : same_handle d c ≡ true = subst (λ (h : Handle). same_handle h c ≡ true) at_d at_c in
           absurd cc
 
-  pub told-open : (t : Table Request) (listed : List Handle) (lines : List Line) (c : Handle) → AreLines whose t listed lines → filter (is_open (belongs whose c) t) (told_of c (line_at lines c.index)) ≡ filter (is_open (belongs whose c) t) listed
+  pub told-open : (t : Table Request) (listed : List Handle) (lines : List RequestList) (c : Handle) → AreLines whose t listed lines → filter (is_open (belongs whose c) t) (told_of c (line_at lines c.index)) ≡ filter (is_open (belongs whose c) t) listed
   told-open t listed lines c old =
       let l = line_at lines c.index in
       elim (true_or_false (same_handle l.owner c)) [
@@ -368,13 +368,13 @@ module _ (whose : Request → Handle) where
       ]
 
   -- of an index of which no other owner has an open request
-  pub may-be-of : (t : Table Request) (listed : List Handle) (lines : List Line) (c : Handle) → ((q : Handle) (r : Request) → under t q ≡ Some r → r.stage ≡ Open → (whose r).index ≡ c.index → whose r ≡ c) → AreLines whose t listed lines → MayBeOf t c (line_at lines c.index)
+  pub may-be-of : (t : Table Request) (listed : List Handle) (lines : List RequestList) (c : Handle) → ((q : Handle) (r : Request) → under t q ≡ Some r → r.stage ≡ Open → (whose r).index ≡ c.index → whose r ≡ c) → AreLines whose t listed lines → MayBeOf t c (line_at lines c.index)
   may-be-of t listed lines c alone old = λ other. elim (old.placed c.index) [
     | inl none ↦ ap (filter (is_open any t)) none
     | inr at ↦ no-open t l.owner any l.handles (old.owned c.index) (λ q. closed other at q (true_or_false (is_open (belongs whose l.owner) t q)))
   ]
     where
-      l : Line
+      l : RequestList
       l = line_at lines c.index
 
       found : (q : Handle) (o : Option Request) → under t q ≡ o → opens (belongs whose l.owner) o ≡ true → l.owner.index ≡ c.index → l.owner ≡ c
@@ -390,7 +390,7 @@ module _ (whose : Request → Handle) where
           let bad : false ≡ true = sym other ∙ same in
           absurd cc
 
-  lines-handed : (u : Table Request) (listed : List Handle) (lines next : List Line) (c : Handle) → ((q : Handle) → is_open (belongs whose c) u q ≡ false) → Hands c lines next → AreLines whose u listed lines → AreLines whose u listed next
+  lines-handed : (u : Table Request) (listed : List Handle) (lines next : List RequestList) (c : Handle) → ((q : Handle) → is_open (belongs whose c) u q ≡ false) → Hands c lines next → AreLines whose u listed lines → AreLines whose u listed next
   lines-handed u listed lines next c none hands old =
       let k = c.index in
       let l = line_at lines k in
@@ -407,22 +407,22 @@ module _ (whose : Request → Handle) where
                     ap (λ (i : ℕ). in_order_of_issue (belongs whose d) u (line_at lines i).handles) here ∙ no-open u c (belongs whose d) l.handles mine none in
                     left ∙ sym was ∙ old.same d
                 | inr other ↦
-                    ap (λ (m : Line). in_order_of_issue (belongs whose d) u m.handles) (hands.others d.index other) ∙ old.same d
+                    ap (λ (m : RequestList). in_order_of_issue (belongs whose d) u m.handles) (hands.others d.index other) ∙ old.same d
               ];
               given = λ i. elim (cases_eq i k) [
                 | inl here ↦
                     subst (λ (j : ℕ). AreGiven u (line_at next j).handles) (sym here) (subst (λ (ys : List Handle). AreGiven u ys) (sym empty) tt)
-                | inr other ↦ subst (λ (m : Line). AreGiven u m.handles) (sym (hands.others i other)) (old.given i)
+                | inr other ↦ subst (λ (m : RequestList). AreGiven u m.handles) (sym (hands.others i other)) (old.given i)
               ];
               owned = λ i. elim (cases_eq i k) [
                 | inl here ↦
                     subst (λ (j : ℕ). AreOf whose u (line_at next j).owner (line_at next j).handles) (sym here)
                     (subst (λ (ys : List Handle). AreOf whose u (line_at next k).owner ys) (sym empty) tt)
-                | inr other ↦ subst (λ (m : Line). AreOf whose u m.owner m.handles) (sym (hands.others i other)) (old.owned i)
+                | inr other ↦ subst (λ (m : RequestList). AreOf whose u m.owner m.handles) (sym (hands.others i other)) (old.owned i)
               ];
               placed = λ i. elim (cases_eq i k) [
                 | inl here ↦ inl (ap (λ (j : ℕ). (line_at next j).handles) here ∙ empty)
-                | inr other ↦ subst (λ (m : Line). IsAt i m) (sym (hands.others i other)) (old.placed i)
+                | inr other ↦ subst (λ (m : RequestList). IsAt i m) (sym (hands.others i other)) (old.placed i)
               ];
             }
         | inr other_circuit ↦
@@ -435,19 +435,19 @@ module _ (whose : Request → Handle) where
                     ∙ ap (λ (i : ℕ). in_order_of_issue (belongs whose d) u (line_at lines i).handles) (sym here)
                     ∙ old.same d
                 | inr other ↦
-                    ap (λ (m : Line). in_order_of_issue (belongs whose d) u m.handles) (hands.others d.index other) ∙ old.same d
+                    ap (λ (m : RequestList). in_order_of_issue (belongs whose d) u m.handles) (hands.others d.index other) ∙ old.same d
               ];
               given = λ i. elim (cases_eq i k) [
                 | inl here ↦
                     subst (λ (j : ℕ). AreGiven u (line_at next j).handles) (sym here) (subst (λ (ys : List Handle). AreGiven u ys) (sym same) (old.given k))
-                | inr other ↦ subst (λ (m : Line). AreGiven u m.handles) (sym (hands.others i other)) (old.given i)
+                | inr other ↦ subst (λ (m : RequestList). AreGiven u m.handles) (sym (hands.others i other)) (old.given i)
               ];
               owned = λ i. elim (cases_eq i k) [
                 | inl here ↦
                     subst (λ (j : ℕ). AreOf whose u (line_at next j).owner (line_at next j).handles) (sym here)
                     (subst (λ (d : Handle). AreOf whose u d (line_at next k).handles) (sym hands.owner)
                     (subst (λ (ys : List Handle). AreOf whose u l.owner ys) (sym same) (old.owned k)))
-                | inr other ↦ subst (λ (m : Line). AreOf whose u m.owner m.handles) (sym (hands.others i other)) (old.owned i)
+                | inr other ↦ subst (λ (m : RequestList). AreOf whose u m.owner m.handles) (sym (hands.others i other)) (old.owned i)
               ];
               placed = λ i. elim (cases_eq i k) [
                 | inl here ↦
@@ -456,14 +456,14 @@ module _ (whose : Request → Handle) where
                       | inr at ↦ inr (ap (λ (d : Handle). d.index) hands.owner ∙ at)
                     ] in
                     subst (λ (j : ℕ). IsAt j (line_at next j)) (sym here) there
-                | inr other ↦ subst (λ (m : Line). IsAt i m) (sym (hands.others i other)) (old.placed i)
+                | inr other ↦ subst (λ (m : RequestList). IsAt i m) (sym (hands.others i other)) (old.placed i)
               ];
             }
       ]
 
 -- ---- the lines of circuits, and those of channels
 
-pub requests-readied : (t : Table Request) (listed : List Handle) (lines next mine own : List Line) → ReadyAll t lines next → ReadyAll t mine own → AreRequests t listed lines mine → AreRequests t listed next own
+pub requests-readied : (t : Table Request) (listed : List Handle) (lines next mine own : List RequestList) → ReadyAll t lines next → ReadyAll t mine own → AreRequests t listed lines mine → AreRequests t listed next own
 requests-readied t listed lines next mine own ready also old = record {
   given = old.given;
   all = old.all;
@@ -481,7 +481,7 @@ requests-readied t listed lines next mine own ready also old = record {
   };
 }
 
-pub requests-tidied : (t : Table Request) (listed : List Handle) (lines mine : List Line) → AreRequests t listed lines mine → AreRequests t (filter (is_open any t) listed) lines mine
+pub requests-tidied : (t : Table Request) (listed : List Handle) (lines mine : List RequestList) → AreRequests t listed lines mine → AreRequests t (filter (is_open any t) listed) lines mine
 requests-tidied t listed lines mine old = record {
   given = given-filter t (is_open any t) listed old.given;
   all = λ q opened. (let was = old.all q opened in at-filter (is_open any t) listed was.0 q was.1 opened);
@@ -489,7 +489,7 @@ requests-tidied t listed lines mine old = record {
   channels = lines-tidied channel_of t listed mine old.channels;
 }
 
-pub requests-thin : (t u : Table Request) (listed : List Handle) (lines mine : List Line) → Keeps t u → Grows t u → AreRequests t listed lines mine → AreRequests u listed lines mine
+pub requests-thin : (t u : Table Request) (listed : List Handle) (lines mine : List RequestList) → Keeps t u → Grows t u → AreRequests t listed lines mine → AreRequests u listed lines mine
 requests-thin t u listed lines mine keeps grows old = record {
   given = given-grows t u listed grows old.given;
   all = λ q opened. old.all q (narrow t u keeps any q opened);
@@ -497,17 +497,17 @@ requests-thin t u listed lines mine keeps grows old = record {
   channels = lines-thin channel_of t u listed mine keeps grows old.channels;
 }
 
-pub requests-map : (f : Place Request → Place Request) (t u : Table Request) (listed : List Handle) (lines mine : List Line) → Dims f → Stays f → u ≡ map f t → AreRequests t listed lines mine → AreRequests u listed lines mine
+pub requests-map : (f : Place Request → Place Request) (t u : Table Request) (listed : List Handle) (lines mine : List RequestList) → Dims f → Stays f → u ≡ map f t → AreRequests t listed lines mine → AreRequests u listed lines mine
 requests-map f t u listed lines mine dims stays is old =
     subst (λ (w : Table Request). AreRequests w listed lines mine) (sym is)
     (requests-thin t (map f t) listed lines mine (keeps-map f t dims stays) (grows-map f t dims) old)
 
-pub requests-freed : (t u : Table Request) (listed : List Handle) (lines mine : List Line) (h : Handle) → u ≡ with_freed h t → AreRequests t listed lines mine → AreRequests u listed lines mine
+pub requests-freed : (t u : Table Request) (listed : List Handle) (lines mine : List RequestList) (h : Handle) → u ≡ with_freed h t → AreRequests t listed lines mine → AreRequests u listed lines mine
 requests-freed t u listed lines mine h is old =
     subst (λ (w : Table Request). AreRequests w listed lines mine) (sym is)
     (requests-thin t (with_freed h t) listed lines mine (keeps-freed t h) (grows-freed t h) old)
 
-pub requests-issued : (t u : Table Request) (listed after : List Handle) (lines next mine own : List Line) (r : Request) (q : Handle) → Fills t q r (Ok tt) u → r.stage ≡ Open → after ≡ listed ++ q ∷ [] → Notes r.circuit q lines next → Notes r.channel q mine own → AreRequests t listed lines mine → AreRequests u after next own
+pub requests-issued : (t u : Table Request) (listed after : List Handle) (lines next mine own : List RequestList) (r : Request) (q : Handle) → Fills t q r (Ok tt) u → r.stage ≡ Open → after ≡ listed ++ q ∷ [] → Notes r.circuit q lines next → Notes r.channel q mine own → AreRequests t listed lines mine → AreRequests u after next own
 requests-issued t u listed after lines next mine own r q gives begins is notes also old =
     let made : AreRequests (with_held q r t) (listed ++ q ∷ []) next own = record {
       given = given-push (with_held q r t) listed q (given-grows t (with_held q r t) listed (grows-held t q r gives.0) old.given) (given-new t q r gives.0);
@@ -518,7 +518,7 @@ requests-issued t u listed after lines next mine own r q gives begins is notes a
     subst (λ (w : Table Request). AreRequests w after next own) (sym gives.1)
     (subst (λ (ys : List Handle). AreRequests (with_held q r t) ys next own) (sym is) made)
 
-pub requests-handed : (t u : Table Request) (listed : List Handle) (lines next mine : List Line) (c : Handle) → u ≡ map (by_value (kept_of (was_sent_on c))) t → Hands c lines next → AreRequests t listed lines mine → AreRequests u listed next mine
+pub requests-handed : (t u : Table Request) (listed : List Handle) (lines next mine : List RequestList) (c : Handle) → u ≡ map (by_value (kept_of (was_sent_on c))) t → Hands c lines next → AreRequests t listed lines mine → AreRequests u listed next mine
 requests-handed t u listed lines next mine c is hands old =
     let f = by_value (kept_of (was_sent_on c)) in
     let thin : AreRequests (map f t) listed lines mine = requests-map f t (map f t) listed lines mine (dims-freed (was_sent_on c)) (stays-freed (was_sent_on c)) refl old in
@@ -530,7 +530,7 @@ requests-handed t u listed lines next mine c is hands old =
     } in
     subst (λ (w : Table Request). AreRequests w listed next mine) (sym is) made
 
-pub requests-over : (t u : Table Request) (listed : List Handle) (lines mine own : List Line) (h : Handle) → u ≡ map (by_value (option_map (over_on h))) t → Hands h mine own → AreRequests t listed lines mine → AreRequests u listed lines own
+pub requests-over : (t u : Table Request) (listed : List Handle) (lines mine own : List RequestList) (h : Handle) → u ≡ map (by_value (option_map (over_on h))) t → Hands h mine own → AreRequests t listed lines mine → AreRequests u listed lines own
 requests-over t u listed lines mine own h is hands old =
     let f = by_value (option_map (over_on h)) in
     let thin : AreRequests (map f t) listed lines mine = requests-map f t (map f t) listed lines mine (dims-over h) (stays-over h) refl old in
@@ -543,10 +543,10 @@ requests-over t u listed lines mine own h is hands old =
     subst (λ (w : Table Request). AreRequests w listed lines own) (sym is) made
 
 -- what is handed out of a circuit's line, or of a channel's
-pub told-circuit : (t : Table Request) (listed : List Handle) (lines mine : List Line) (c : Handle) → AreRequests t listed lines mine → filter (is_open (was_sent_on c) t) (told_of c (line_at lines c.index)) ≡ filter (is_open (was_sent_on c) t) listed
+pub told-circuit : (t : Table Request) (listed : List Handle) (lines mine : List RequestList) (c : Handle) → AreRequests t listed lines mine → filter (is_open (was_sent_on c) t) (told_of c (line_at lines c.index)) ≡ filter (is_open (was_sent_on c) t) listed
 told-circuit t listed lines mine c old = told-open circuit_of t listed lines c old.circuits
 
-pub told-channel : (t : Table Request) (listed : List Handle) (lines mine : List Line) (h : Handle) → AreRequests t listed lines mine → filter (is_open (asks_on h) t) (told_of h (line_at mine h.index)) ≡ filter (is_open (asks_on h) t) listed
+pub told-channel : (t : Table Request) (listed : List Handle) (lines mine : List RequestList) (h : Handle) → AreRequests t listed lines mine → filter (is_open (asks_on h) t) (told_of h (line_at mine h.index)) ≡ filter (is_open (asks_on h) t) listed
 told-channel t listed lines mine h old = told-open channel_of t listed mine h old.channels
 
 -- ---- the places of lines
@@ -565,7 +565,7 @@ handed-nowhere c = by_test (same_handle no_line.owner c)
     by_test true = refl
     by_test false = refl
 
-pub line-pushed : (lines : List Line) (i : ℕ) → line_at (lines ++ no_line ∷ []) i ≡ line_at lines i
+pub line-pushed : (lines : List RequestList) (i : ℕ) → line_at (lines ++ no_line ∷ []) i ≡ line_at lines i
 line-pushed lines i =
     elim (cases_lt i (length lines)) [
       | inl within ↦ get_or_append_left lines (no_line ∷ []) no_line i within
@@ -579,10 +579,10 @@ line-pushed lines i =
 
 -- ---- who may issue
 
-pub circuit-may : (x : Issued) (t : Table Request) (listed : List Handle) (lines mine : List Line) (h c : Handle) → issued_of t listed ≡ x → MayIssue h c x → AreRequests t listed lines mine → MayBeOf t c (line_at lines c.index)
+pub circuit-may : (x : Issued) (t : Table Request) (listed : List Handle) (lines mine : List RequestList) (h c : Handle) → issued_of t listed ≡ x → MayIssue h c x → AreRequests t listed lines mine → MayBeOf t c (line_at lines c.index)
 circuit-may x t listed lines mine h c is may old =
     may-be-of circuit_of t listed lines c (λ q r there. may.on_circuit q r (ap (λ (y : Issued). under y.table q) (sym is) ∙ there)) old.circuits
 
-pub channel-may : (x : Issued) (t : Table Request) (listed : List Handle) (lines mine : List Line) (h c : Handle) → issued_of t listed ≡ x → MayIssue h c x → AreRequests t listed lines mine → MayBeOf t h (line_at mine h.index)
+pub channel-may : (x : Issued) (t : Table Request) (listed : List Handle) (lines mine : List RequestList) (h c : Handle) → issued_of t listed ≡ x → MayIssue h c x → AreRequests t listed lines mine → MayBeOf t h (line_at mine h.index)
 channel-may x t listed lines mine h c is may old =
     may-be-of channel_of t listed mine h (λ q r there. may.on_channel q r (ap (λ (y : Issued). under y.table q) (sym is) ∙ there)) old.channels

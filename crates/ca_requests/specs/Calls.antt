@@ -1,5 +1,6 @@
 -- Vocabulary: what the calls on a client's requests answer and leave.
-use Rattle.std.specs.Prelude.{◌≡◌, ◌≢◌, ◌++◌, ◌⊎◌, Bool, true, List, [], ◌∷◌, Option, Some, None, Result, Ok, Err}
+use Rattle.std.specs.Prelude.{◌≡◌, ◌≢◌, ◌++◌, ◌⊎◌, Bool, true, List, [], ◌∷◌, Option, Some, None}
+use Rattle.std.specs.Prelude.{Result, Ok, Err}
 use Rattle.std.specs.declared.alloc.AllocError.{AllocError}
 use Rattle.ca_text.specs.declared.refusal.Refusal.{Refusal}
 use Rattle.ca_text.specs.declared.refusal.Refusal.TheVariants as refusal
@@ -11,7 +12,8 @@ use Rattle.ca_ids.specs.Holding.{IsVacant}
 use Rattle.ca_ids.specs.Table.{MayGive, Table, under, with_freed, with_held}
 use Rattle.ca_wire.specs.Fields.{Fields}
 use Rattle.ca_requests.specs.Meaning.{Means}
-use Rattle.ca_requests.specs.Requests.{Asked, Draining, Open, Request, Stage, answered_by, in_order_of_issue}
+use Rattle.ca_requests.specs.Requests.{Asked, Draining, Open, Request, Stage, answered_by}
+use Rattle.ca_requests.specs.Requests.{in_order_of_issue}
 
 -- the requests in their table, and those of them that are open, in order of issue
 pub record Issued : Type 0 where
@@ -28,13 +30,16 @@ open_of which x = in_order_of_issue which x.table x.order
 
 -- a request on this channel that is sent on this circuit: it is open
 abbrev pub new_request : (channel circuit : Handle) → Asked → Request
-new_request channel circuit asked = record { channel = channel; circuit = circuit; asked = asked; stage = Open }
+new_request channel circuit asked =
+    record { channel = channel; circuit = circuit; asked = asked; stage = Open }
 
 -- Of the indices of this channel and this circuit no other channel and no other circuit
 -- has an open request.
 pub record MayIssue (channel circuit : Handle) (x : Issued) : Type 0 where
-  pub on_channel : (q : Handle) (r : Request) → under x.table q ≡ Some r → r.stage ≡ Open → r.channel.index ≡ channel.index → r.channel ≡ channel
-  pub on_circuit : (q : Handle) (r : Request) → under x.table q ≡ Some r → r.stage ≡ Open → r.circuit.index ≡ circuit.index → r.circuit ≡ circuit
+  pub on_channel : (q : Handle) (r : Request) → under x.table q ≡ Some r → r.stage ≡ Open
+      → r.channel.index ≡ channel.index → r.channel ≡ channel
+  pub on_circuit : (q : Handle) (r : Request) → under x.table q ≡ Some r → r.stage ≡ Open
+      → r.circuit.index ≡ circuit.index → r.circuit ≡ circuit
 
 -- this request is the last that was issued
 abbrev pub issued_last : Handle → Request → Issued → Issued
@@ -64,7 +69,8 @@ HasImage m = (m.p1 ≡ normal) × ReadRefused m.data_type m.count m.payload refu
 
 -- A reply completes an open request with the outcome that it means, and ends the draining of an
 -- IOID. Only a value takes memory.
-abbrev pub Completes : Issued → Fields → Handle → Stage → Result (Option (Handle × Outcome)) AllocError → Issued → Type 0
+abbrev pub Completes : Issued → Fields → Handle → Stage
+    → Result (Option (Handle × Outcome)) AllocError → Issued → Type 0
 Completes old m q Open (Ok (Some (p, o))) new = (p ≡ q) × Means m o × (new ≡ without q old)
 Completes old m q Open (Ok None) new = ⊥
 Completes old m q Open (Err e) new = HasImage m × (new ≡ old)
@@ -73,15 +79,18 @@ Completes old m q Draining (Ok (Some e)) new = ⊥
 Completes old m q Draining (Err e) new = ⊥
 
 -- A reply was read that is about this request, or about none.
-abbrev pub AnswersOne : Issued → Fields → Option (Handle × Request) → Result (Option (Handle × Outcome)) AllocError → Issued → Type 0
+abbrev pub AnswersOne : Issued → Fields → Option (Handle × Request)
+    → Result (Option (Handle × Outcome)) AllocError → Issued → Type 0
 AnswersOne old m (Some (q, r)) answer new = Completes old m q r.stage answer new
 AnswersOne old m None (Ok None) new = new ≡ old
 AnswersOne old m None (Ok (Some e)) new = ⊥
 AnswersOne old m None (Err e) new = ⊥
 
 -- From old, this reply was read on this circuit, with this answer, and left new.
-abbrev pub Answers : Issued → Handle → Fields → Result (Option (Handle × Outcome)) AllocError → Issued → Type 0
-Answers old circuit m answer new = AnswersOne old m (answered_by circuit m.command m.p2 old.table) answer new
+abbrev pub Answers : Issued → Handle → Fields → Result (Option (Handle × Outcome)) AllocError
+    → Issued → Type 0
+Answers old circuit m answer new =
+    AnswersOne old m (answered_by circuit m.command m.p2 old.table) answer new
 
 -- the handle of this request, if it is open
 abbrev pub if_open : Handle → Stage → Option Handle

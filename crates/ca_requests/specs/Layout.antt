@@ -5,14 +5,15 @@ use Rattle.std.specs.List.{AllByRecursion}
 use Rattle.ca_arena.specs.declared.handle.Handle.{Handle}
 use Rattle.ca_arena.specs.Arena.{Place, place_at}
 use Rattle.ca_ids.specs.Table.{Table, kept_of, with_changed}
-use Rattle.ca_requests.specs.declared.drops.Which.{Which}
-use Rattle.ca_requests.specs.declared.drops.Which.TheVariants as which
+use Rattle.ca_requests.specs.declared.drops.RequestsMeant.{RequestsMeant}
+use Rattle.ca_requests.specs.declared.drops.RequestsMeant.TheVariants as which
 use Rattle.ca_requests.specs.Calls.{Issued}
 use Rattle.ca_requests.specs.Requests.{Draining, Request, asks_on, in_order_of_issue, was_sent_on}
 
 -- those of the listed handles that are open, in their order
 abbrev pub issued_of : Table Request → List Handle → Issued
-issued_of table listed = record { table = table; order = in_order_of_issue (λ (q : Request). true) table listed }
+issued_of table listed =
+    record { table = table; order = in_order_of_issue (λ (q : Request). true) table listed }
 
 -- the handle was given
 abbrev pub WasGiven : Table Request → Handle → Type 0
@@ -23,12 +24,12 @@ abbrev pub AreGiven : Table Request → List Handle → Type 0
 AreGiven t listed = AllByRecursion (WasGiven t) listed
 
 -- the requests that are meant
-abbrev pub named : Which → Request → Bool
+abbrev pub named : RequestsMeant → Request → Bool
 named (which.OnChannel channel) = asks_on channel
 named (which.OnCircuit circuit) = was_sent_on circuit
 
 -- a place whose id is free if the request there is meant
-abbrev pub place_freed : Which → Place Request → Place Request
+abbrev pub place_freed : RequestsMeant → Place Request → Place Request
 place_freed w p = record p { value = kept_of (named w) p.value }
 
 -- a request is over, and its IOID drains

@@ -18,14 +18,24 @@ use Rattle.ca_wire.specs.Header.{HeaderSpells}
 
 -- the message of this header with this payload
 abbrev pub message_of : Header → List ℕ → Fields
-message_of h payload = record { command = h.command; data_type = h.data_type; count = h.count; p1 = h.p1; p2 = h.p2; payload = payload }
+message_of h payload =
+    record {
+      command = h.command;
+      data_type = h.data_type;
+      count = h.count;
+      p1 = h.p1;
+      p2 = h.p2;
+      payload = payload;
+    }
 
 -- An image means its value, or why it has none; another status means that the read failed
 -- ("CA_PROTO_READ_NOTIFY", "CA_PROTO_EVENT_ADD").
 abbrev pub ImageMeans : Fields → Outcome → Type 0
-ImageMeans m (outcome.Value v meta) = (m.p1 ≡ normal) × (t : DataType) × (type_number t ≡ m.data_type)
+ImageMeans m (outcome.Value v meta) =
+    (m.p1 ≡ normal) × (t : DataType) × (type_number t ≡ m.data_type)
     × Reads t m.count m.payload (elements v) meta
-ImageMeans m (outcome.Unreadable e) = (m.p1 ≡ normal) × (e ≢ OutOfMemory) × ReadRefused m.data_type m.count m.payload e
+ImageMeans m (outcome.Unreadable e) =
+    (m.p1 ≡ normal) × (e ≢ OutOfMemory) × ReadRefused m.data_type m.count m.payload e
 ImageMeans m (outcome.Failed status) = (m.p1 ≢ normal) × (status.number ≡ m.p1)
 ImageMeans m o = ⊥
 
@@ -49,8 +59,11 @@ ErrorMeans m o = ⊥
 -- it confirms a cancel.
 abbrev pub Means : Fields → Outcome → Type 0
 Means m o =
-    (((m.command ≡ command_number command.ReadNotify) ⊎ ((m.command ≡ command_number command.EventAdd) × (m.payload ≢ []))) × ImageMeans m o)
-    ⊎ (((m.command ≡ command_number command.WriteNotify) × StatusMeans m o) ⊎ (((m.command ≡ command_number command.CreateChannel) × CreationMeans o)
+    (((m.command ≡ command_number command.ReadNotify)
+    ⊎ ((m.command ≡ command_number command.EventAdd) × (m.payload ≢ [])))
+    × ImageMeans m o)
+    ⊎ (((m.command ≡ command_number command.WriteNotify) × StatusMeans m o)
+    ⊎ (((m.command ≡ command_number command.CreateChannel) × CreationMeans o)
     ⊎ ((m.command ≡ command_number command.Error) × ErrorMeans m o)))
 
 -- An ERROR quotes the complete header of the request that failed, before its text.

@@ -1,6 +1,7 @@
 -- Vocabulary: a client's requests, in their table of IOIDs (sections "CA_PROTO_READ_NOTIFY" and
 -- "CA_PROTO_WRITE_NOTIFY").
-use Rattle.std.specs.Prelude.{ℕ, ◌==◌, ◌&&◌, Bool, true, false, List, Option, Some, None, filter, if◌then◌else◌, option_and_then, option_map, unwrap_or}
+use Rattle.std.specs.Prelude.{ℕ, ◌==◌, ◌&&◌, Bool, true, false, List, Option, Some, None, filter}
+use Rattle.std.specs.Prelude.{if◌then◌else◌, option_and_then, option_map, unwrap_or}
 use Rattle.ca_text.specs.Command.{command_number}
 use Rattle.ca_text.specs.declared.command.Command.{Command}
 use Rattle.ca_text.specs.declared.command.Command.TheVariants as command
@@ -39,10 +40,13 @@ was_sent_on circuit q = same_handle q.circuit circuit
 
 -- The request that a reply of this command and IOID on this circuit is about. A reply of another
 -- command is about none.
-abbrev pub answered_by : Handle → (command_read ioid : ℕ) → Table Request → Option (Handle × Request)
+abbrev pub answered_by : Handle → (command_read ioid : ℕ) → Table Request
+    → Option (Handle × Request)
 answered_by circuit command_read ioid t =
     option_and_then
-    (λ (e : Handle × Request). if was_sent_on circuit e.1 && command_number (command_of e.1.asked) == command_read then Some e else None)
+    (λ (e : Handle × Request).
+    if was_sent_on circuit e.1 && command_number (command_of e.1.asked) == command_read then Some e
+    else None)
     (by_wire t ioid)
 
 -- ---- in order of issue
@@ -54,7 +58,8 @@ is_open_in Draining = false
 
 -- the request of this handle is open, and the test names it
 abbrev pub is_open : (Request → Bool) → Table Request → Handle → Bool
-is_open which t q = unwrap_or (option_map (λ (r : Request). which r && is_open_in r.stage) (under t q)) false
+is_open which t q =
+    unwrap_or (option_map (λ (r : Request). which r && is_open_in r.stage) (under t q)) false
 
 -- of these requests, in order of issue, those that are open and that the test names
 abbrev pub in_order_of_issue : (Request → Bool) → Table Request → List Handle → List Handle

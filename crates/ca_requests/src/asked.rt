@@ -15,7 +15,7 @@ pub enum Asked {
 
 /// How far a request is.
 #[derive(Clone, Copy, Debug, PartialEq, Eq)]
-pub enum Stage {
+pub enum RequestStage {
     /// It is open.
     Open,
     /// It is over, and its IOID drains.
@@ -34,14 +34,14 @@ impl Asked {
     }
 }
 
-impl Stage {
+impl RequestStage {
     /// Whether the request is open.
     pub fn is_open(self) -> bool
         ensures { result ≡ is_open_in (stage_of self) }
     {
         match self {
-            Stage::Open => true,
-            Stage::Draining => false,
+            RequestStage::Open => true,
+            RequestStage::Draining => false,
         }
     }
 }

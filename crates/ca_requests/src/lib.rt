@@ -4,13 +4,13 @@
 
 mod asked;
 mod drops;
-mod line;
 mod lines;
 mod outcome;
 mod request;
+mod request_list;
 mod requests;
 
-pub use asked::{Asked, Stage};
+pub use asked::{Asked, RequestStage};
 pub use outcome::image_outcome;
 pub use request::Request;
 pub use requests::Requests;

@@ -2,7 +2,7 @@ ghost use Rattle.std.specs.Prelude.{◌≡◌};
 ghost use Rattle.ca_ids.specs.Table.{same_handle};
 ghost use Rattle.ca_requests.specs.Requests.{asks_on, is_open_in, was_sent_on};
 
-use crate::asked::{Asked, Stage};
+use crate::asked::{Asked, RequestStage};
 use ca_arena::Handle;
 use std::marker::Model;
 
@@ -16,7 +16,7 @@ pub struct Request {
     /// What was asked.
     pub asked: Asked,
     /// Whether it is open.
-    pub stage: Stage,
+    pub stage: RequestStage,
 }
 
 impl Model for Request {
@@ -25,7 +25,8 @@ impl Model for Request {
 
     ghost Value = { request.Request };
 
-    ghost use Rattle.ca_requests.specs.Forms.{asked_again, asked_from, asked_of, stage_again, stage_from, stage_of};
+    ghost use Rattle.ca_requests.specs.Forms.{asked_again, asked_from, asked_of, stage_again};
+    ghost use Rattle.ca_requests.specs.Forms.{stage_from, stage_of};
 
     ghost view = { λ q. record {
       channel = q.channel;

@@ -1,18 +1,21 @@
 ghost use Rattle.std.specs.Prelude.{◌≡◌, [], OnErr, OnOk, true};
 ghost use Rattle.ca_ids.specs.Holding.{IsVacant};
 ghost use Rattle.ca_ids.specs.Table.{MayGive};
-ghost use Rattle.ca_requests.specs.Calls.{Answers, Issues, MayIssue, WhyNot, failed_in, issued_last, new_request, open_of, with_table, without, without_if};
+ghost use Rattle.ca_requests.specs.Calls.{Answers, Issues, MayIssue, WhyNot, failed_in};
+ghost use Rattle.ca_requests.specs.Calls.{issued_last, new_request, open_of, with_table, without};
+ghost use Rattle.ca_requests.specs.Calls.{without_if};
 ghost use Rattle.ca_requests.specs.Forms.{asked_of};
 ghost use Rattle.ca_requests.specs.Layout.{named};
 ghost use Rattle.ca_requests.specs.Meaning.{message_of};
-ghost use Rattle.ca_requests.specs.Requests.{answered_by, asks_on, channel_gone, channel_over, circuit_gone, in_order_of_issue, is_open, was_sent_on};
+ghost use Rattle.ca_requests.specs.Requests.{answered_by, asks_on, channel_gone, channel_over};
+ghost use Rattle.ca_requests.specs.Requests.{circuit_gone, in_order_of_issue, is_open, was_sent_on};
 
-use crate::asked::{Asked, Stage};
-use crate::drops::{Which, end_each, free_all};
-use crate::line::{GROWTH, Line};
+use crate::asked::{Asked, RequestStage};
+use crate::drops::{RequestsMeant, end_each, free_all};
 use crate::lines::{hand_out, note, prepare};
 use crate::outcome::{image_outcome_into, status_outcome};
 use crate::request::{Request, is_same};
+use crate::request_list::{GROWTH, RequestList};
 use ca_arena::Handle;
 use ca_dbr::{Outcome, Value};
 use ca_ids::{HeldTable, WireId};
@@ -38,9 +41,9 @@ pub struct Requests {
     // How many are listed before those that are over are taken out.
     limit: usize,
     // Those of each circuit, by its index.
-    circuits: Vec<Line>,
+    circuits: Vec<RequestList>,
     // Those of each channel, by its index.
-    channels: Vec<Line>,
+    channels: Vec<RequestList>,
     // Values that are no longer used: those that come take their memory.
     spare: Vec<Value>,
 }
@@ -134,7 +137,7 @@ impl Requests {
             channel,
             circuit,
             asked,
-            stage: Stage::Open,
+            stage: RequestStage::Open,
         };
         match self.table.open_at(vacant, request) {
             Ok(()) => {
@@ -258,7 +261,7 @@ impl Requests {
     {
         let alloc = *self.listed.allocator();
         let mut told = hand_out(alloc, &mut self.channels, channel);
-        keep_open(&mut told, &self.table, Which::OnChannel(channel));
+        keep_open(&mut told, &self.table, RequestsMeant::OnChannel(channel));
         end_each(&mut self.table, &told);
         told
     }
@@ -267,7 +270,7 @@ impl Requests {
     pub fn free_channel(&mut self, channel: Handle)
         ensures { self.new ≡ with_table (channel_gone channel self.old.table) self.old }
     {
-        free_all(&mut self.table, Which::OnChannel(channel));
+        free_all(&mut self.table, RequestsMeant::OnChannel(channel));
     }
 
     /// The IOIDs of the requests that were sent on this circuit are free: those that were open, in
@@ -278,21 +281,21 @@ impl Requests {
     {
         let alloc = *self.listed.allocator();
         let mut told = hand_out(alloc, &mut self.circuits, circuit);
-        keep_open(&mut told, &self.table, Which::OnCircuit(circuit));
-        free_all(&mut self.table, Which::OnCircuit(circuit));
+        keep_open(&mut told, &self.table, RequestsMeant::OnCircuit(circuit));
+        free_all(&mut self.table, RequestsMeant::OnCircuit(circuit));
         told
     }
 }
 
 // Takes those out of a list that are not open, or not meant.
-fn keep_open(listed: &mut Vec<Handle>, table: &HeldTable<Request>, which: Which)
+fn keep_open(listed: &mut Vec<Handle>, table: &HeldTable<Request>, which: RequestsMeant)
     ensures { listed.new.items ≡ in_order_of_issue (named which) table.now listed.old.items }
 {
     listed.retain(|handle| is_meant(table, *handle, which));
 }
 
 // Whether the request of this handle is open, and meant.
-fn is_meant(table: &HeldTable<Request>, handle: Handle, which: Which) -> bool
+fn is_meant(table: &HeldTable<Request>, handle: Handle, which: RequestsMeant) -> bool
     ensures { result ≡ is_open (named which) table.now handle }
 {
     match table.by_handle(handle) {

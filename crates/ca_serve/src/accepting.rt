@@ -1,9 +1,12 @@
+//! The thread that accepts connections, which is the one that called `serve`. Each connection gets
+//! a thread, with a share in the count of applied writes, which comes back as the thread is joined.
+//! Begin at `accept_all`.
 ghost use Rattle.std.specs.Prelude.{◌≡◌, ◌+◌, ◌-◌, ◌^◌};
 ghost use Rattle.indexmap.specs.IndexMap.{index_map_len};
 
-use crate::circuit::{Circuit, Gathered};
-use crate::line::Line;
-use crate::locked::Shared;
+use crate::circuit::{CircuitThread, Gathered};
+use crate::circuit_socket::CircuitSocket;
+use crate::locked::SharedServer;
 use crate::processing::Device;
 use crate::ringing::{Bell, Wake};
 use crate::tally::Tally;
@@ -54,8 +57,8 @@ pub(crate) type Running<L> = IndexMap<u64, JoinHandle<Gathered<L>>>;
 // What a circuit's thread needs beside its circuit and its share.
 #[derive(Drop)]
 struct Accepted<L: Ledger, D: Device> {
-    shared: Arc<Shared<L, D>>,
-    line: Line,
+    shared: Arc<SharedServer<L, D>>,
+    line: CircuitSocket,
     number: u64,
     tally: Tally,
     // Whether the circuit is to be closed at once.
@@ -79,7 +82,7 @@ pub(crate) fn accept_all<
 >(
     rt: R,
     alloc: Global,
-    shared: &Arc<Shared<L, D>>,
+    shared: &Arc<SharedServer<L, D>>,
     door: &mut Door,
     circuits: Option<u64>,
     running: &mut Running<L>,
@@ -117,7 +120,7 @@ impl Door {
     fn wait<L: Ledger, D: Device, R: Wait + Net + Clock>(
         &mut self,
         rt: &R,
-        shared: &Shared<L, D>,
+        shared: &SharedServer<L, D>,
         error: &io::Error,
     ) {
         let goes_on = match error.kind() {
@@ -135,7 +138,7 @@ impl Door {
     fn turn_away<L: Ledger, D: Device, R: Wait + Net>(
         &mut self,
         rt: &R,
-        shared: &Shared<L, D>,
+        shared: &SharedServer<L, D>,
     ) -> bool {
         let _held = shared.parking.polls.lock(rt);
         self.spare = None;
@@ -158,7 +161,7 @@ fn has_no_descriptor(error: &io::Error) -> bool {
 // server is to end.
 fn looked<L: Ledger, D: Device, R: Wait>(
     rt: &R,
-    shared: &Shared<L, D>,
+    shared: &SharedServer<L, D>,
 ) -> (u64, Option<u64>, bool) {
     let mut guard = shared.locked.lock(rt);
     let gone = guard.gone.pop();
@@ -179,7 +182,7 @@ fn accept_one<
 >(
     rt: R,
     alloc: Global,
-    shared: &Arc<Shared<L, D>>,
+    shared: &Arc<SharedServer<L, D>>,
     stream: TcpStream,
     number: u64,
     running: &mut Running<L>,
@@ -213,7 +216,7 @@ fn accept_one<
 fn taken<L: Ledger, D: Device, R: Wait>(
     rt: &R,
     alloc: Global,
-    shared: &Arc<Shared<L, D>>,
+    shared: &Arc<SharedServer<L, D>>,
     stream: TcpStream,
     number: u64,
     running: usize,
@@ -257,7 +260,7 @@ fn merge<L: Ledger, R: Threads>(rt: &R, handle: JoinHandle<Gathered<L>>, all: &m
 // to close it at once.
 fn entered<L: Ledger, D: Device, R: Wait>(
     rt: &R,
-    shared: &Shared<L, D>,
+    shared: &SharedServer<L, D>,
     parker: Arc<Parker>,
     running: usize,
     is_to_end: &AtomicBool,
@@ -286,7 +289,7 @@ fn entered<L: Ledger, D: Device, R: Wait>(
 
 fn prepared<L: Ledger, D: Device>(
     alloc: Global,
-    shared: &Arc<Shared<L, D>>,
+    shared: &Arc<SharedServer<L, D>>,
     number: u64,
     stream: TcpStream,
 ) -> Result<(Accepted<L, D>, Arc<Parker>), Refusal> {
@@ -296,7 +299,7 @@ fn prepared<L: Ledger, D: Device>(
     let tally = shared.tally()?;
     let accepted = Accepted {
         shared,
-        line: Line::new(alloc, stream, Arc::try_clone(&parker)?)?,
+        line: CircuitSocket::new(alloc, stream, Arc::try_clone(&parker)?)?,
         number,
         tally,
         ends: Arc::try_clone(&is_to_end)?,
@@ -343,7 +346,7 @@ fn start_circuit<
         is_to_end,
         ends,
     } = accepted;
-    let work = Circuit::new(shared, line, circuit, number, tally, ends, share);
+    let work = CircuitThread::new(shared, line, circuit, number, tally, ends, share);
     started_or_ended(rt, work, &is_to_end)
 }
 

@@ -1,15 +1,17 @@
-ghost use Rattle.std.specs.Prelude.{◌≡◌, ◌<◌, ◌≤◌, length};
+//! The thread of one circuit. Begin at its `run`: each turn (`turned`) handles messages under the
+//! lock; the socket is written, read and waited for with the lock released.
+ghost use Rattle.std.specs.Prelude.{◌≡◌, ◌<◌};
 
-use crate::line::{Line, Moved, Written};
-use crate::locked::{Locked, Shared};
+use crate::circuit_socket::{CircuitSocket, SocketRead, Written};
+use crate::locked::{LockedServer, SharedServer};
 use crate::parking::{park, token_of, unpark};
 use crate::patience::Patience;
 use crate::processing::Device;
 use crate::ringing::{Rings, ring};
 use crate::tally::Tally;
-use crate::work::Work;
+use crate::work::ThreadWork;
 use ca_arena::Handle;
-use ca_server_core::Step;
+use ca_server_core::CoreStep;
 use ca_wire::Pipe;
 use indexmap::IndexSet;
 use std::net::{Net, TcpListener, TcpStream};
@@ -36,9 +38,9 @@ pub(crate) struct Gathered<L: Ledger> {
 
 /// A circuit's thread.
 #[derive(Drop)]
-pub(crate) struct Circuit<L: Ledger, D: Device> {
-    shared: Arc<Shared<L, D>>,
-    line: Line,
+pub(crate) struct CircuitThread<L: Ledger, D: Device> {
+    shared: Arc<SharedServer<L, D>>,
+    line: CircuitSocket,
     circuit: Handle,
     number: u64,
     tally: Tally,
@@ -58,19 +60,19 @@ enum Turn {
     Closed(Pipe),
 }
 
-impl<L: Ledger, D: Device> Circuit<L, D> {
+impl<L: Ledger, D: Device> CircuitThread<L, D> {
     pub(crate) fn new(
-        shared: Arc<Shared<L, D>>,
-        line: Line,
+        shared: Arc<SharedServer<L, D>>,
+        line: CircuitSocket,
         circuit: Handle,
         number: u64,
         tally: Tally,
         is_to_end: Arc<AtomicBool>,
         share: Share<L>,
-    ) -> Circuit<L, D>
+    ) -> CircuitThread<L, D>
         requires { share.parts ≡ 1 }
     {
-        Circuit {
+        CircuitThread {
             shared,
             line,
             circuit,
@@ -82,13 +84,13 @@ impl<L: Ledger, D: Device> Circuit<L, D> {
     }
 }
 
-impl<L: Ledger, D: Device> Work<Gathered<L>> for Circuit<L, D> {
+impl<L: Ledger, D: Device> ThreadWork<Gathered<L>> for CircuitThread<L, D> {
     // Reads, steps and writes until the circuit is closed.
     fn run<R: Wait + Clock + Net<Stream = TcpStream, Listener = TcpListener>>(
         self,
         rt: &R,
     ) -> Gathered<L> {
-        let Circuit {
+        let CircuitThread {
             shared,
             mut line,
             circuit,
@@ -99,9 +101,9 @@ impl<L: Ledger, D: Device> Work<Gathered<L>> for Circuit<L, D> {
         } = self;
         let is_joined = line.join(&shared.parking.registry, token_of(circuit));
         let mut moved = if is_joined && !is_to_end.load(Ordering::SeqCst) {
-            Moved::Later
+            SocketRead::Later
         } else {
-            Moved::Ended
+            SocketRead::Ended
         };
         let mut rings = Rings::new(shared.alloc);
         let mut patience = Patience::new(shared.patience);
@@ -116,7 +118,7 @@ impl<L: Ledger, D: Device> Work<Gathered<L>> for Circuit<L, D> {
                     rings.ring_all(&shared.rung);
                     ring(&shared.accepting);
                     if !patience.is_over {
-                        write_left(rt, &shared, &mut line, &left);
+                        write_left(rt, &shared, &mut line, left);
                     }
                     break;
                 }
@@ -127,7 +129,7 @@ impl<L: Ledger, D: Device> Work<Gathered<L>> for Circuit<L, D> {
                     let took = line.written != before;
                     rings.ring_all(&shared.rung);
                     let written = patience.after(rt, written, took);
-                    let is_busy = took || matches!(moved, Moved::Count(_));
+                    let is_busy = took || matches!(moved, SocketRead::Count(_));
                     moved = go_on(
                         rt, &shared, circuit, is_busy, &turn, written, &patience, &mut line,
                     );
@@ -150,7 +152,7 @@ fn handed_back<L: Ledger>(share: Share<L>) -> Gathered<L>
 
 // The thread that accepts circuits is to join this one. Where there were no room for its number, it
 // would be joined at the server's end.
-fn note_gone<L: Ledger, D: Device, R: Wait>(rt: &R, shared: &Shared<L, D>, number: u64) {
+fn note_gone<L: Ledger, D: Device, R: Wait>(rt: &R, shared: &SharedServer<L, D>, number: u64) {
     let _full = shared.locked.lock(rt).gone.push(number);
     ring(&shared.accepting);
 }
@@ -159,10 +161,10 @@ fn note_gone<L: Ledger, D: Device, R: Wait>(rt: &R, shared: &Shared<L, D>, numbe
 // be sent.
 fn turned<L: Ledger, D: Device, R: Wait + Clock>(
     rt: &R,
-    shared: &Shared<L, D>,
+    shared: &SharedServer<L, D>,
     circuit: Handle,
-    moved: Moved,
-    line: &mut Line,
+    moved: SocketRead,
+    line: &mut CircuitSocket,
     share: &mut Share<L>,
     rings: &mut Rings,
 ) -> Turn
@@ -189,29 +191,29 @@ fn turned<L: Ledger, D: Device, R: Wait + Clock>(
 // a second is parked.
 fn go_on<L: Ledger, D: Device, R: Wait + Clock + Net>(
     rt: &R,
-    shared: &Shared<L, D>,
+    shared: &SharedServer<L, D>,
     circuit: Handle,
     is_busy: bool,
     turn: &Turn,
     written: Written,
     patience: &Patience,
-    line: &mut Line,
-) -> Moved {
+    line: &mut CircuitSocket,
+) -> SocketRead {
     if is_busy && line.is_parked() {
         unpark(rt, shared, circuit, line);
     }
     match written {
-        Written::Failed => Moved::Ended,
+        Written::Failed => SocketRead::Ended,
         Written::Some => {
             let registry = &shared.parking.registry;
             if line.is_full(rt, registry, token_of(circuit), patience.left(rt)) {
                 park(rt, shared, circuit, line);
             }
-            Moved::Later
+            SocketRead::Later
         }
         Written::All => match turn {
             Turn::Idle => read(rt, shared, circuit, line),
-            _ => Moved::Later,
+            _ => SocketRead::Later,
         },
     }
 }
@@ -220,15 +222,15 @@ fn go_on<L: Ledger, D: Device, R: Wait + Clock + Net>(
 // second the circuit is parked.
 fn read<L: Ledger, D: Device, R: Wait + Clock>(
     rt: &R,
-    shared: &Shared<L, D>,
+    shared: &SharedServer<L, D>,
     circuit: Handle,
-    line: &mut Line,
-) -> Moved {
+    line: &mut CircuitSocket,
+) -> SocketRead {
     match line.read() {
-        Moved::Later => {
+        SocketRead::Later => {
             if line.is_idle(rt) {
                 park(rt, shared, circuit, line);
-                return Moved::Later;
+                return SocketRead::Later;
             }
             line.read()
         }
@@ -238,15 +240,20 @@ fn read<L: Ledger, D: Device, R: Wait + Clock>(
 
 // Gives the server what was read. A circuit at its end is cut, and so is one whose bytes there is
 // no memory for.
-fn take_in<L: Ledger>(locked: &mut Locked<L>, circuit: Handle, moved: Moved, buffer: &[u8]) {
+fn take_in<L: Ledger>(
+    locked: &mut LockedServer<L>,
+    circuit: Handle,
+    moved: SocketRead,
+    buffer: &[u8],
+) {
     if locked.ending {
         locked.state.cut(circuit);
         return;
     }
     match moved {
-        Moved::Later => {}
-        Moved::Ended => locked.state.cut(circuit),
-        Moved::Count(count) => {
+        SocketRead::Later => {}
+        SocketRead::Ended => locked.state.cut(circuit),
+        SocketRead::Count(count) => {
             if count > buffer.len() {
                 return;
             }
@@ -258,10 +265,11 @@ fn take_in<L: Ledger>(locked: &mut Locked<L>, circuit: Handle, moved: Moved, buf
 }
 
 // Handles messages of a circuit, up to a number of them, and then puts its updates out. The clock
-// is read once: that takes as long as a third of a put. A write after another is a nanosecond later.
+// is read once: that takes as long as a third of a put. A write after another is a nanosecond
+// later.
 fn steps<L: Ledger, R: Clock>(
     rt: &R,
-    locked: &mut Locked<L>,
+    locked: &mut LockedServer<L>,
     slow: &IndexSet<Vec<u8>>,
     circuit: Handle,
     share: &mut Share<L>,
@@ -273,13 +281,13 @@ fn steps<L: Ledger, R: Clock>(
     locked.stamp(rt);
     for _ in 0..STEPS {
         match locked.step(slow, circuit, share, rings) {
-            Step::Handled(_) => {}
-            Step::NeedBytes => {
+            CoreStep::Handled(_) => {}
+            CoreStep::NeedBytes => {
                 locked.state.pump(circuit);
                 return Turn::Idle;
             }
-            Step::OutputFull => return Turn::Busy,
-            Step::Closed(_, left) => return Turn::Closed(left),
+            CoreStep::OutputFull => return Turn::Busy,
+            CoreStep::Closed(_, left) => return Turn::Closed(left),
         }
     }
     locked.state.pump(circuit);
@@ -289,21 +297,19 @@ fn steps<L: Ledger, R: Clock>(
 // Hands bytes that wait over to the line. A circuit is idle if nothing more waits then; one that is
 // closed is counted, and has no bell any more.
 fn take_out<L: Ledger>(
-    locked: &mut Locked<L>,
+    locked: &mut LockedServer<L>,
     circuit: Handle,
     turn: Turn,
-    line: &mut Line,
+    line: &mut CircuitSocket,
 ) -> Turn {
     if let Turn::Closed(left) = turn {
         locked.bells.swap_remove(&circuit.index);
         locked.closed = locked.closed.saturating_add(1);
         return Turn::Closed(left);
     }
-    let waiting = locked.state.out_bytes(circuit);
-    let all = waiting.len();
-    let count = line.take_out(waiting);
-    locked.state.sent(circuit, count);
-    let is_idle = matches!(turn, Turn::Idle) && count == all && locked.state.is_open(circuit);
+    let is_all = line.take_out(&mut locked.state, circuit)
+        || locked.state.out_bytes(circuit).is_empty();
+    let is_idle = matches!(turn, Turn::Idle) && is_all && locked.state.is_open(circuit);
     locked.rest(circuit, is_idle);
     match turn {
         Turn::Idle if !is_idle => Turn::Busy,
@@ -314,20 +320,18 @@ fn take_out<L: Ledger>(
 // Writes what a closed circuit left. A client that takes nothing is waited for that often.
 fn write_left<L: Ledger, D: Device, R: Wait + Clock>(
     rt: &R,
-    shared: &Shared<L, D>,
-    line: &mut Line,
-    left: &Pipe,
+    shared: &SharedServer<L, D>,
+    line: &mut CircuitSocket,
+    left: Pipe,
 ) {
-    let mut rest = left.bytes();
+    let mut left = left;
     let mut waits = 0u32;
     for _ in rt.forever() {
-        let count = line.take_out(rest);
-        let (_, after) = rest.split_at(count);
-        rest = after;
+        line.take_left(&mut left);
         let before = line.written;
         match line.write() {
             Written::Failed => return,
-            Written::All if rest.is_empty() => return,
+            Written::All if left.bytes().is_empty() => return,
             Written::All => {}
             Written::Some => {
                 let is_ending = shared.locked.lock(rt).ending;

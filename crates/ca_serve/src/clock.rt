@@ -1,3 +1,5 @@
+//! The two clocks of a server: time stamps of writes, in nanoseconds since 1990, which never go
+//! back; and moments in milliseconds, by which beacons are due and patience ends.
 use std::time::{Clock, Duration};
 
 // From 1970-01-01 to 1990-01-01, in seconds.

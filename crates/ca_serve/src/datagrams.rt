@@ -1,8 +1,10 @@
+//! The thread that answers searches and sends beacons, by one socket. What goes out is the core's
+//! to say; if a datagram cannot be sent, nothing is done about it.
 use crate::clock::moment_now;
-use crate::locked::Shared;
+use crate::locked::SharedServer;
 use crate::processing::Device;
 use crate::tally::Tally;
-use crate::work::Work;
+use crate::work::ThreadWork;
 use mio::net::UdpSocket;
 use mio::{Events, Poll};
 use std::alloc::Global;
@@ -27,8 +29,8 @@ const PAUSE: u64 = 10;
 
 /// The thread that answers searches, and sends beacons.
 #[derive(Drop)]
-pub(crate) struct Datagrams<L: Ledger, D: Device> {
-    pub(crate) shared: Arc<Shared<L, D>>,
+pub(crate) struct DatagramThread<L: Ledger, D: Device> {
+    pub(crate) shared: Arc<SharedServer<L, D>>,
     pub(crate) desk: Desk,
     pub(crate) tally: Tally,
 }
@@ -43,9 +45,9 @@ pub(crate) struct Desk {
     pub(crate) beacons: SocketAddr,
 }
 
-impl<L: Ledger, D: Device> Work<()> for Datagrams<L, D> {
+impl<L: Ledger, D: Device> ThreadWork<()> for DatagramThread<L, D> {
     fn run<R: Wait + Clock + Net<Stream = TcpStream, Listener = TcpListener>>(self, rt: &R) {
-        let Datagrams {
+        let DatagramThread {
             shared,
             mut desk,
             mut tally,
@@ -66,16 +68,16 @@ impl<L: Ledger, D: Device> Work<()> for Datagrams<L, D> {
                 break;
             }
             match answer_some(rt, &shared, &mut desk, &mut tally) {
-                Answered::Some => {}
-                Answered::All => desk.wait(rt, due.saturating_sub(now)),
-                Answered::Failed => thread::sleep(rt, Duration::from_millis(PAUSE)),
+                Answering::Some => {}
+                Answering::All => desk.wait(rt, due.saturating_sub(now)),
+                Answering::Failed => thread::sleep(rt, Duration::from_millis(PAUSE)),
             }
         }
     }
 }
 
 // What is left of the datagrams that came.
-enum Answered {
+enum Answering {
     All,
     // More may be there.
     Some,
@@ -96,7 +98,7 @@ impl Desk {
 // Sends the beacon, if one is due, and tells whether one was. One that cannot be sent is left out.
 fn beacon<L: Ledger, D: Device, R: Wait>(
     rt: &R,
-    shared: &Shared<L, D>,
+    shared: &SharedServer<L, D>,
     desk: &Desk,
     now: u64,
 ) -> bool {
@@ -110,10 +112,10 @@ fn beacon<L: Ledger, D: Device, R: Wait>(
 // Answers some datagrams, and tells what may be left.
 fn answer_some<L: Ledger, D: Device, R: Wait>(
     rt: &R,
-    shared: &Shared<L, D>,
+    shared: &SharedServer<L, D>,
     desk: &mut Desk,
     tally: &mut Tally,
-) -> Answered {
+) -> Answering {
     for _ in 0..DATAGRAMS {
         match desk.socket.recv_from(desk.buffer.as_mut_slice()) {
             Ok((count, from)) => {
@@ -129,21 +131,21 @@ fn answer_some<L: Ledger, D: Device, R: Wait>(
                 }
             }
             Err(error) => match error.kind() {
-                io::ErrorKind::WouldBlock => return Answered::All,
+                io::ErrorKind::WouldBlock => return Answering::All,
                 io::ErrorKind::Interrupted => {}
                 // Of another fault there is nothing to be done: it may be of a datagram that was
                 // sent.
-                _ => return Answered::Failed,
+                _ => return Answering::Failed,
             },
         }
     }
-    Answered::Some
+    Answering::Some
 }
 
 // Answers the searches of a datagram. What cannot be sent is left out: a client searches again.
 fn answer<L: Ledger, D: Device, R: Wait>(
     rt: &R,
-    shared: &Shared<L, D>,
+    shared: &SharedServer<L, D>,
     socket: &UdpSocket,
     bytes: &[u8],
     from: SocketAddr,

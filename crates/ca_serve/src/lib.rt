@@ -9,9 +9,9 @@
 
 mod accepting;
 mod circuit;
+mod circuit_socket;
 mod clock;
 mod datagrams;
-mod line;
 mod locked;
 mod meter;
 mod parking;

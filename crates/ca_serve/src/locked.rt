@@ -1,3 +1,5 @@
+//! What the threads of a server share (`SharedServer`), and the part of it that is under the lock
+//! (`LockedServer`). A step and a finish note here which threads are to be woken for what they did.
 ghost use Rattle.std.specs.Prelude.{◌≡◌, ◌<◌};
 
 use crate::clock::{milliseconds, next_stamp, parts_of, stamp_after};
@@ -9,7 +11,7 @@ use crate::serving::Options;
 use crate::tally::Tally;
 use ca_arena::Handle;
 use ca_server::{State, locked_finish, locked_step};
-use ca_server_core::{Cause, Effect, Step};
+use ca_server_core::{CoreStep, Effect, EndCause};
 use ca_wire::Sid;
 use indexmap::{IndexMap, IndexSet};
 use mio::Waker;
@@ -25,7 +27,7 @@ const LOOKS: u32 = 32;
 
 /// What lies under the lock.
 #[derive(Drop)]
-pub(crate) struct Locked<L: Ledger> {
+pub(crate) struct LockedServer<L: Ledger> {
     pub(crate) state: State<L>,
     /// The records that a put made busy, and that no thread has taken up yet, by their places among
     /// the slow ones. There is room for all.
@@ -49,8 +51,8 @@ pub(crate) struct Locked<L: Ledger> {
 
 /// What the threads share.
 #[derive(Drop)]
-pub(crate) struct Shared<L: Ledger, D: Device> {
-    pub(crate) locked: Mutex<Locked<L>>,
+pub(crate) struct SharedServer<L: Ledger, D: Device> {
+    pub(crate) locked: Mutex<LockedServer<L>>,
     /// A record became busy, or the server is to end.
     pub(crate) given: Condvar,
     /// There are bells for the ringing thread, or the server is to end.
@@ -69,7 +71,7 @@ pub(crate) struct Shared<L: Ledger, D: Device> {
     pub(crate) alloc: Global,
 }
 
-impl<L: Ledger, D: Device> Shared<L, D> {
+impl<L: Ledger, D: Device> SharedServer<L, D> {
     /// No record is busy, and there was no circuit yet.
     pub(crate) fn new(
         alloc: Global,
@@ -80,7 +82,7 @@ impl<L: Ledger, D: Device> Shared<L, D> {
         answering: Waker,
         device: D,
         options: Options,
-    ) -> Result<Shared<L, D>, AllocError> {
+    ) -> Result<SharedServer<L, D>, AllocError> {
         let Options {
             circuits: _,
             patience,
@@ -89,8 +91,8 @@ impl<L: Ledger, D: Device> Shared<L, D> {
         let busy = VecDeque::with_capacity(alloc, slow.len())?;
         let mut in_hand = Vec::new(alloc);
         in_hand.resize(slow.len(), false)?;
-        Ok(Shared {
-            locked: Mutex::new(Locked {
+        Ok(SharedServer {
+            locked: Mutex::new(LockedServer {
                 state,
                 busy,
                 in_hand,
@@ -114,9 +116,9 @@ impl<L: Ledger, D: Device> Shared<L, D> {
         })
     }
 
-    /// Takes the lock for a turn. While others have it the thread looks again for some microseconds:
-    /// a turn takes less than a sleep and a wake.
-    pub(crate) fn lock<R: Wait>(&self, rt: &R) -> MutexGuard<'_, Locked<L>> {
+    /// Takes the lock for a turn. While others have it the thread looks again for some
+    /// microseconds: a turn takes less than a sleep and a wake.
+    pub(crate) fn lock<R: Wait>(&self, rt: &R) -> MutexGuard<'_, LockedServer<L>> {
         for _ in 0..LOOKS {
             if let Some(guard) = self.locked.try_lock() {
                 return guard;
@@ -136,7 +138,7 @@ impl<L: Ledger, D: Device> Shared<L, D> {
     }
 
     /// Tells the meter how many writes were applied.
-    pub(crate) fn note_writes(&self, locked: &Locked<L>) {
+    pub(crate) fn note_writes(&self, locked: &LockedServer<L>) {
         if let Some(meter) = &self.meter {
             meter.note_writes(locked.state.applied());
         }
@@ -166,7 +168,7 @@ impl<L: Ledger, D: Device> Shared<L, D> {
     }
 }
 
-impl<L: Ledger> Locked<L> {
+impl<L: Ledger> LockedServer<L> {
     /// One step of a circuit. A record that it makes busy is handed on, and idle circuits that its
     /// write may have reached are to be rung.
     pub(crate) fn step(
@@ -175,18 +177,18 @@ impl<L: Ledger> Locked<L> {
         circuit: Handle,
         share: &mut Share<L>,
         rings: &mut Rings,
-    ) -> Step
+    ) -> CoreStep
         requires { 0 < share.old.parts }
         ensures { share.new.parts ≡ share.old.parts }
     {
         let step = locked_step(&mut self.state, circuit, share);
         match &step {
-            Step::Handled(Effect::Wrote(sid)) => self.reach_by(circuit, *sid, rings),
-            Step::Handled(Effect::Busied(sid)) => {
+            CoreStep::Handled(Effect::Wrote(sid)) => self.reach_by(circuit, *sid, rings),
+            CoreStep::Handled(Effect::Busied(sid)) => {
                 self.hand_on_of(slow, circuit, *sid);
                 self.reach_by(circuit, *sid, rings);
             }
-            Step::Closed(Cause::OutOfMemory, _) => {
+            CoreStep::Closed(EndCause::OutOfMemory, _) => {
                 self.hand_on_all(slow);
                 self.reach_all(rings);
             }
@@ -209,7 +211,7 @@ impl<L: Ledger> Locked<L> {
     // may have updates of it are to be rung. The circuit that wrote is in its turn.
     fn reach_by(&mut self, circuit: Handle, sid: u32, rings: &mut Rings) {
         self.stamp_as(next_stamp(self.stamped));
-        let Locked { state, bells, .. } = self;
+        let LockedServer { state, bells, .. } = self;
         if let Some(name) = state.served_name(circuit, Sid::new(sid)) {
             reach(state, bells, name, Some(circuit), rings);
         }

@@ -1,11 +1,14 @@
+//! Parking: a circuit on which nothing moves gives up its own poll, and its socket joins a poll
+//! that all such circuits share. Here are the way there and back, and the thread that waits at that
+//! poll.
 ghost use Rattle.std.specs.Prelude.{◌≡◌, ◌<◌};
 
 use crate::accepting::new_poll;
-use crate::line::{Line, Own};
-use crate::locked::Shared;
+use crate::circuit_socket::{CircuitSocket, Own};
+use crate::locked::SharedServer;
 use crate::processing::Device;
 use crate::ringing::{Rings, ring};
-use crate::work::Work;
+use crate::work::ThreadWork;
 use ca_arena::Handle;
 use ca_text::Refusal;
 use mio::{Events, Poll, Registry, Token, Waker};
@@ -45,7 +48,7 @@ impl Parking {
         &self,
         rt: &R,
         alloc: Global,
-        line: &mut Line,
+        line: &mut CircuitSocket,
     ) -> Result<Arc<Waker>, Refusal> {
         let mut polls = self.polls.lock(rt);
         if *polls >= MOST_POLLS {
@@ -78,9 +81,9 @@ pub(crate) fn token_of(circuit: Handle) -> Token {
 /// the next wait.
 pub(crate) fn unpark<L: Ledger, D: Device, R: Wait + Net>(
     rt: &R,
-    shared: &Shared<L, D>,
+    shared: &SharedServer<L, D>,
     circuit: Handle,
-    line: &mut Line,
+    line: &mut CircuitSocket,
 ) {
     if let Ok(waker) = shared.parking.own(rt, shared.alloc, line) {
         ring(&waker);
@@ -94,9 +97,9 @@ pub(crate) fn unpark<L: Ledger, D: Device, R: Wait + Net>(
 /// waits.
 pub(crate) fn park<L: Ledger, D: Device, R: Wait>(
     rt: &R,
-    shared: &Shared<L, D>,
+    shared: &SharedServer<L, D>,
     circuit: Handle,
-    line: &mut Line,
+    line: &mut CircuitSocket,
 ) {
     if !line.join(&shared.parking.registry, token_of(circuit)) {
         return;
@@ -109,7 +112,7 @@ pub(crate) fn park<L: Ledger, D: Device, R: Wait>(
 // From now on a ring of the circuit's bell is for this waker, or for the parker.
 fn hang<L: Ledger, D: Device, R: Wait>(
     rt: &R,
-    shared: &Shared<L, D>,
+    shared: &SharedServer<L, D>,
     circuit: Handle,
     waker: Option<Arc<Waker>>,
 ) {
@@ -124,12 +127,12 @@ fn hang<L: Ledger, D: Device, R: Wait>(
 /// The thread that waits at the sockets of all circuits that are parked.
 #[derive(Drop)]
 pub(crate) struct Poller<L: Ledger, D: Device> {
-    pub(crate) shared: Arc<Shared<L, D>>,
+    pub(crate) shared: Arc<SharedServer<L, D>>,
     pub(crate) poll: Poll,
     pub(crate) events: Events<Global>,
 }
 
-impl<L: Ledger, D: Device> Work<()> for Poller<L, D> {
+impl<L: Ledger, D: Device> ThreadWork<()> for Poller<L, D> {
     // Wakes the threads of the circuits whose sockets are ready, until the server is to end; after
     // a wait that failed those of all.
     fn run<R: Wait + Clock + Net<Stream = TcpStream, Listener = TcpListener>>(self, rt: &R) {
@@ -155,7 +158,7 @@ impl<L: Ledger, D: Device> Work<()> for Poller<L, D> {
 // Notes whose threads are to be woken. Says whether the server is to end.
 fn noted<L: Ledger, D: Device, R: Wait>(
     rt: &R,
-    shared: &Shared<L, D>,
+    shared: &SharedServer<L, D>,
     is_told: bool,
     events: &Events<Global>,
     rings: &mut Rings,

@@ -1,5 +1,7 @@
+//! The limit, if there is one, on how long a client may take none of the bytes that wait for it:
+//! then its circuit is cut.
+use crate::circuit_socket::Written;
 use crate::clock::moment_now;
-use crate::line::Written;
 use std::time::{Clock, Duration};
 
 /// How long a circuit's socket may take nothing while bytes wait to be sent.

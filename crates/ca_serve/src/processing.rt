@@ -1,6 +1,8 @@
-use crate::locked::{Locked, Shared};
+//! Slow records: the `Device` that processes what was put to one, and the two threads that call it,
+//! with the lock released, and then finish the put.
+use crate::locked::{LockedServer, SharedServer};
 use crate::ringing::Rings;
-use crate::work::Work;
+use crate::work::ThreadWork;
 use ca_dbr::Value;
 use ca_text::Refusal;
 use std::alloc::Global;
@@ -23,10 +25,10 @@ pub trait Device: Drop {
 /// A processing thread.
 #[derive(Drop)]
 pub(crate) struct Processor<L: Ledger, D: Device> {
-    pub(crate) shared: Arc<Shared<L, D>>,
+    pub(crate) shared: Arc<SharedServer<L, D>>,
 }
 
-impl<L: Ledger, D: Device> Work<()> for Processor<L, D> {
+impl<L: Ledger, D: Device> ThreadWork<()> for Processor<L, D> {
     // Takes up one record after another, until the server is to end: nobody would hear of a put
     // that is finished then.
     fn run<R: Wait + Clock + Net<Stream = TcpStream, Listener = TcpListener>>(self, rt: &R) {
@@ -54,7 +56,7 @@ impl<L: Ledger, D: Device> Work<()> for Processor<L, D> {
 // Has the device process the put that makes the record of this name busy.
 fn process<L: Ledger, D: Device, R: Wait + Clock>(
     rt: &R,
-    shared: &Shared<L, D>,
+    shared: &SharedServer<L, D>,
     place: usize,
     name: &[u8],
 ) {
@@ -76,7 +78,7 @@ fn process<L: Ledger, D: Device, R: Wait + Clock>(
 // The put of the record of this name was processed: whoever is to hear of it is woken.
 fn finish<L: Ledger, D: Device, R: Wait + Clock>(
     rt: &R,
-    shared: &Shared<L, D>,
+    shared: &SharedServer<L, D>,
     place: usize,
     name: &[u8],
 ) {
@@ -92,7 +94,7 @@ fn finish<L: Ledger, D: Device, R: Wait + Clock>(
 
 // What was put to the record of this name, unless the server is to end.
 fn value_of<L: Ledger>(
-    locked: &Locked<L>,
+    locked: &LockedServer<L>,
     alloc: Global,
     name: &[u8],
 ) -> Option<Result<Value, Refusal>> {

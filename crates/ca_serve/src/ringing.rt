@@ -1,6 +1,8 @@
-use crate::locked::Shared;
+//! How the thread of a circuit is woken. Bells are noted under the lock and rung once it is
+//! released, by the thread that noted them or, if they are many, by the ringing thread.
+use crate::locked::SharedServer;
 use crate::processing::Device;
-use crate::work::Work;
+use crate::work::ThreadWork;
 use ca_arena::Handle;
 use mio::Waker;
 use std::alloc::{AllocError, Global};
@@ -133,10 +135,10 @@ pub(crate) fn ring(waker: &Waker) {
 /// The thread that rings bells where there are many, so that whoever wrote goes on.
 #[derive(Drop)]
 pub(crate) struct Ringer<L: Ledger, D: Device> {
-    pub(crate) shared: Arc<Shared<L, D>>,
+    pub(crate) shared: Arc<SharedServer<L, D>>,
 }
 
-impl<L: Ledger, D: Device> Work<()> for Ringer<L, D> {
+impl<L: Ledger, D: Device> ThreadWork<()> for Ringer<L, D> {
     // Rings what was handed over, with no lock held. At the end all bells are rung by whoever ends
     // the server.
     fn run<R: Wait + Clock + Net<Stream = TcpStream, Listener = TcpListener>>(self, rt: &R) {

@@ -1,9 +1,11 @@
+//! `serve` from its sockets to its count of applied writes: polls are opened, five threads are
+//! started beside those of circuits, and all are joined at the end.
 ghost use Rattle.std.specs.Prelude.{◌≡◌, ◌-◌, ◌^◌, None};
 
 use crate::accepting::{Door, SOCKET, accept_all, join_all, new_poll};
 use crate::clock::moment_now;
-use crate::datagrams::{Datagrams, Desk};
-use crate::locked::Shared;
+use crate::datagrams::{DatagramThread, Desk};
+use crate::locked::SharedServer;
 use crate::meter::Meter;
 use crate::parking::{Parking, Poller, SOCKETS};
 use crate::processing::{Device, Processor};
@@ -48,7 +50,8 @@ pub struct Options {
 }
 
 impl Options {
-    /// Those of a server that cuts no circuit for what its socket does not take, and counts nothing.
+    /// Those of a server that cuts no circuit for what its socket does not take, and counts
+    /// nothing.
     pub fn new(circuits: Option<u64>) -> Options
         ensures circuits { result.circuits ≡ circuits }
         ensures others { (result.patience ≡ None) × (result.meter ≡ None) }
@@ -128,7 +131,7 @@ fn serve_as<
     let (poll, parking) = open_parking(&rt)?;
     let shared = Arc::new(
         alloc,
-        Shared::new(
+        SharedServer::new(
             alloc,
             state,
             slow_names(alloc, records)?,
@@ -279,7 +282,7 @@ fn start_helpers<
 >(
     rt: R,
     alloc: Global,
-    shared: &Arc<Shared<L, D>>,
+    shared: &Arc<SharedServer<L, D>>,
     desk: Desk,
     poll: Poll,
     helpers: &mut Vec<JoinHandle<()>>,
@@ -303,7 +306,7 @@ fn start_processor<
         + Copy
         + Send
         + 'static,
->(rt: R, shared: &Arc<Shared<L, D>>) -> Result<JoinHandle<()>, Refusal> {
+>(rt: R, shared: &Arc<SharedServer<L, D>>) -> Result<JoinHandle<()>, Refusal> {
     let shared = Arc::try_clone(shared)?;
     started(rt, Processor { shared })
 }
@@ -318,10 +321,10 @@ fn start_datagrams<
         + Copy
         + Send
         + 'static,
->(rt: R, shared: &Arc<Shared<L, D>>, desk: Desk) -> Result<JoinHandle<()>, Refusal> {
+>(rt: R, shared: &Arc<SharedServer<L, D>>, desk: Desk) -> Result<JoinHandle<()>, Refusal> {
     let shared = Arc::try_clone(shared)?;
     let tally = shared.tally()?;
-    let datagrams = Datagrams {
+    let datagrams = DatagramThread {
         shared,
         desk,
         tally,
@@ -339,7 +342,12 @@ fn start_poller<
         + Copy
         + Send
         + 'static,
->(rt: R, alloc: Global, shared: &Arc<Shared<L, D>>, poll: Poll) -> Result<JoinHandle<()>, Refusal> {
+>(
+    rt: R,
+    alloc: Global,
+    shared: &Arc<SharedServer<L, D>>,
+    poll: Poll,
+) -> Result<JoinHandle<()>, Refusal> {
     let shared = Arc::try_clone(shared)?;
     let events = Events::with_capacity(alloc, SOCKETS)?;
     let poller = Poller {
@@ -360,7 +368,7 @@ fn start_ringer<
         + Copy
         + Send
         + 'static,
->(rt: R, shared: &Arc<Shared<L, D>>) -> Result<JoinHandle<()>, Refusal> {
+>(rt: R, shared: &Arc<SharedServer<L, D>>) -> Result<JoinHandle<()>, Refusal> {
     let shared = Arc::try_clone(shared)?;
     started(rt, Ringer { shared })
 }

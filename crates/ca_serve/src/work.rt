@@ -1,3 +1,5 @@
+//! How a thread is started for its work (`ThreadWork`), and what becomes of the work if the system
+//! has no thread for it.
 use ca_text::Refusal;
 use std::net::{Net, TcpListener, TcpStream};
 use std::sync::Wait;
@@ -7,7 +9,7 @@ use std::thread::{JoinHandle, Threads};
 use std::time::Clock;
 
 /// Work for a thread of its own.
-pub(crate) trait Work<T>: Drop {
+pub(crate) trait ThreadWork<T>: Drop {
     fn run<R: Wait + Clock + Net<Stream = TcpStream, Listener = TcpListener>>(self, rt: &R) -> T;
 }
 
@@ -22,7 +24,7 @@ pub(crate) fn started<
         + Copy
         + Send
         + 'static,
-    W: Work<T> + Send + 'static,
+    W: ThreadWork<T> + Send + 'static,
 >(rt: R, work: W) -> Result<JoinHandle<T>, Refusal> {
     match thread::spawn(&rt, move || work.run(&rt)) {
         Ok(handle) => Ok(handle),
@@ -41,7 +43,7 @@ pub(crate) fn started_or_ended<
         + Copy
         + Send
         + 'static,
-    W: Work<T> + Send + 'static,
+    W: ThreadWork<T> + Send + 'static,
 >(rt: R, work: W, is_to_end: &AtomicBool) -> Result<JoinHandle<T>, T> {
     match thread::spawn(&rt, move || work.run(&rt)) {
         Ok(handle) => Ok(handle),

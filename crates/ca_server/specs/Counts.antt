@@ -25,7 +25,9 @@ pub record CountsOne (old new : Server) : Type 0 where
 -- A finish of the busy put of the record of this name: the put that waits for it next is
 -- applied, if there is one.
 pub record CountsNext (old : Server) (name : List ℕ) (new : Server) : Type 0 where
-  pub idle : (r : Record) → record_named old.records name ≡ Some r → r.waiting ≡ [] → new.applied ≡ old.applied
-  pub next : (r : Record) (p : WaitingPut) (ps : List WaitingPut) → record_named old.records name ≡ Some r → r.waiting ≡ p ∷ ps → new.applied ≡ old.applied + 1
+  pub idle : (r : Record) → record_named old.records name ≡ Some r → r.waiting ≡ []
+      → new.applied ≡ old.applied
+  pub next : (r : Record) (p : WaitingPut) (ps : List WaitingPut)
+      → record_named old.records name ≡ Some r → r.waiting ≡ p ∷ ps → new.applied ≡ old.applied + 1
   pub most : new.applied + waiting new ≤ old.applied + waiting old
   pub apart : AreApart old.records → AreApart new.records

@@ -1,5 +1,6 @@
 -- Vocabulary: what is kept under a server's lock, and what a step and a finish make of it.
-use Rattle.std.specs.Prelude.{ℕ, ◌≡◌, ◌+◌, ◌<◌, ◌≤◌, ◌⊎◌, true, false, List, [], Option, Some, None, Result, Ok, Err, length, slice_index_or, slice_set, sum}
+use Rattle.std.specs.Prelude.{ℕ, ◌≡◌, ◌+◌, ◌<◌, ◌≤◌, ◌⊎◌, true, false, List, [], Option, Some, None}
+use Rattle.std.specs.Prelude.{Result, Ok, Err, length, slice_index_or, slice_set, sum}
 use Rattle.ca_arena.specs.declared.handle.Handle.{Handle}
 use Rattle.ca_ids.specs.Table.{under}
 use Rattle.ca_server.specs.Counts.{AreApart}
@@ -34,9 +35,11 @@ IsAtMost y h = (is_open (under y.circuits h) ≡ true) × (y.applied + waiting y
 -- An open circuit at the greatest number is closed by a cut, unstepped, and nothing is counted.
 -- Else the server makes its step of the circuit once; count and share grow by the writes that this
 -- step applied and by the credits of the circuit, which fall to zero.
-abbrev pub LockedStep : (old : Server) (count : ℕ) (credits : List ℕ) (share : ℕ) → Handle → Stepped → (new : Server) (count' : ℕ) (credits' : List ℕ) (share' : ℕ) → Type 0
+abbrev pub LockedStep : (old : Server) (count : ℕ) (credits : List ℕ) (share : ℕ) → Handle → Stepped
+    → (new : Server) (count' : ℕ) (credits' : List ℕ) (share' : ℕ) → Type 0
 LockedStep old count credits share h did new count' credits' share' =
-    (IsAtMost old h × Cuts old h new × (did ≡ Closed why.Cut []) × (count' ≡ count) × (credits' ≡ credits) × (share' ≡ share))
+    (IsAtMost old h × Cuts old h new × (did ≡ Closed why.Cut []) × (count' ≡ count)
+    × (credits' ≡ credits) × (share' ≡ share))
     ⊎ (((is_open (under old.circuits h) ≡ false) ⊎ (old.applied + waiting old < applied_limit))
     × Steps old h did new
     × (count' + old.applied ≡ count + new.applied + credit_of credits h)
@@ -50,6 +53,9 @@ credited (Some h) credits = slice_set credits h.index (credit_of credits h + 1)
 
 -- The server makes its finish once; a credit is added exactly if that applied a put that waited, to
 -- the circuit of the put.
-abbrev pub LockedFinish : (old : Server) (credits : List ℕ) (name : List ℕ) → List (Handle × Fields) → Result (Unit {0}) Refusal → (new : Server) (credits' : List ℕ) → Type 0
-LockedFinish old credits name sent (Ok _) new credits' = Finishes old name sent (Ok tt) new × (credits' ≡ credited (first_waiting old name) credits)
-LockedFinish old credits name sent (Err e) new credits' = Finishes old name sent (Err e) new × (credits' ≡ credits)
+abbrev pub LockedFinish : (old : Server) (credits : List ℕ) (name : List ℕ) → List (Handle × Fields)
+    → Result (Unit {0}) Refusal → (new : Server) (credits' : List ℕ) → Type 0
+LockedFinish old credits name sent (Ok _) new credits' =
+    Finishes old name sent (Ok tt) new × (credits' ≡ credited (first_waiting old name) credits)
+LockedFinish old credits name sent (Err e) new credits' =
+    Finishes old name sent (Err e) new × (credits' ≡ credits)

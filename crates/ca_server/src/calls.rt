@@ -1,9 +1,11 @@
 //! Calls of a server under its lock that pass on to the core.
-ghost use Rattle.std.specs.Prelude.{◌≡◌, ◌≤◌, Bool, Err, IfErr, IfOk, List, Ok, [], false, length, map, option_copied, option_map, unwrap_or, ℕ};
+ghost use Rattle.std.specs.Prelude.{◌≡◌, ◌≤◌, Bool, Err, IfErr, IfOk, List, Ok, [], false, length};
+ghost use Rattle.std.specs.Prelude.{map, option_copied, option_map, unwrap_or, ℕ};
 ghost use Rattle.ca_arena.specs.declared.handle.Handle.{Handle};
 ghost use Rattle.ca_dbr.specs.Elements.{elements};
 ghost use Rattle.ca_ids.specs.Table.{has_free, under};
-ghost use Rattle.ca_model.specs.ServerCalls.{AddsRecord, AnswersDatagram, Beacons, Posts, Removes, stamped};
+ghost use Rattle.ca_model.specs.ServerCalls.{AddsRecord, AnswersDatagram, Beacons, Posts, Removes};
+ghost use Rattle.ca_model.specs.ServerCalls.{stamped};
 ghost use Rattle.ca_model.specs.ServerSteps.{Accepts, Cuts, Gives, Pumps, Sends, Update, output_of};
 ghost use Rattle.ca_records.specs.Record.{unset};
 ghost use Rattle.ca_text.specs.declared.refusal.Refusal.TheVariants.{OutOfMemory};
@@ -13,9 +15,9 @@ ghost use Rattle.ca_server_core.specs.Asking.{AreAllAmong, NamesUnder, busy_circ
 use crate::state::State;
 use ca_arena::Handle;
 use ca_dbr::{Meta, Value};
-use ca_server_core::Line;
+use ca_server_core::RecordWatchers;
 use ca_text::Refusal;
-use ca_wire::Sid;
+use ca_wire::{Pipe, Sid};
 use std::sync::ledger::Ledger;
 
 // The server's other calls under the lock. None of them counts a write.
@@ -64,6 +66,19 @@ impl<L: Ledger> State<L> {
             × (self.new.credits.items ≡ self.old.credits.items) }
     {
         self.core.sent(circuit, n);
+    }
+
+    /// All bytes that wait on a circuit are handed over, in place of those that are there, whose
+    /// memory serves for more: none wait if its end is not open. Nothing is copied, and it does not
+    /// allocate.
+    pub fn hand_over(&mut self, circuit: Handle, to: &mut Pipe)
+        ensures handed { to.new ≡ output_of (under self.old.core.circuits circuit) }
+        ensures left { Sends self.old.core circuit
+            (length (output_of (under self.old.core.circuits circuit))) self.new.core }
+        ensures counts { (self.new.count ≡ self.old.count)
+            × (self.new.credits.items ≡ self.old.credits.items) }
+    {
+        self.core.hand_over(circuit, to);
     }
 
     /// Puts updates that wait on a circuit after what waits to be sent, until none may go. Nothing
@@ -117,7 +132,7 @@ impl<L: Ledger> State<L> {
     ///
     /// Others may be among them: right after such a call also those whose ends it ended, without
     /// memory for their updates.
-    pub fn watching(&self, name: &[u8]) -> Option<&Line>
+    pub fn watching(&self, name: &[u8]) -> Option<&RecordWatchers>
         ensures { AreAllAmong self.now.core name.now
             (unwrap_or (option_copied result) []) }
     {

@@ -3,8 +3,10 @@ ghost use Rattle.std.specs.Prelude.{◌≡◌, ◌≤◌, ◌+◌, Bool, Err, Li
 ghost use Rattle.ca_arena.specs.declared.handle.Handle.{Handle};
 ghost use Rattle.ca_server.specs.Counts.{AreApart, CountsNext, CountsNothing, CountsOne};
 ghost use Rattle.ca_model.specs.Server.{Server};
-ghost use Rattle.ca_model.specs.ServerCalls.{AddsRecord, Beacons, Finishes, Posts, Removes, stamped, waiting};
-ghost use Rattle.ca_model.specs.ServerSteps.{Accepts, Cuts, Gives, Pumps, Sends, Stepped, Steps, Update};
+ghost use Rattle.ca_model.specs.ServerCalls.{AddsRecord, Beacons, Finishes, Posts, Removes};
+ghost use Rattle.ca_model.specs.ServerCalls.{stamped, waiting};
+ghost use Rattle.ca_model.specs.ServerSteps.{Accepts, Cuts, Gives, Pumps, Sends, Stepped, Steps};
+ghost use Rattle.ca_model.specs.ServerSteps.{Update};
 ghost use Rattle.ca_model.specs.Speech.{Stored};
 ghost use Rattle.ca_records.specs.Record.{RecordState};
 ghost use Rattle.ca_records.specs.declared.puts.Stamp.{Stamp};

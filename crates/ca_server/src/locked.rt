@@ -12,7 +12,7 @@ ghost use Rattle.ca_wire.specs.Fields.{Fields};
 
 use crate::state::State;
 use ca_arena::Handle;
-use ca_server_core::{Cause, ServerCore, Step};
+use ca_server_core::{CoreStep, EndCause, ServerCore};
 use ca_text::{APPLIED_LIMIT, Refusal};
 use ca_wire::Pipe;
 use std::sync::ledger::{Ledger, Share};
@@ -22,7 +22,11 @@ use std::sync::ledger::{Ledger, Share};
 ///
 /// While 2^63 writes are applied or wait, an open circuit is cut, and handles no message. As after
 /// each cut, one more step reports what is left of it and takes its credits over.
-pub fn locked_step<L: Ledger>(state: &mut State<L>, circuit: Handle, share: &mut Share<L>) -> Step
+pub fn locked_step<L: Ledger>(
+    state: &mut State<L>,
+    circuit: Handle,
+    share: &mut Share<L>,
+) -> CoreStep
     requires { 0 < share.old.parts }
     ensures step { LockedStep state.old.core state.old.count state.old.credits.items
         share.old.amount circuit (stepped result) state.new.core state.new.count
@@ -38,7 +42,7 @@ pub fn locked_step<L: Ledger>(state: &mut State<L>, circuit: Handle, share: &mut
     } = state;
     if is_at_most(core, circuit) {
         core.cut(circuit);
-        return Step::Closed(Cause::Cut, Pipe::new(*credits.allocator()));
+        return CoreStep::Closed(EndCause::Cut, Pipe::new(*credits.allocator()));
     }
     let before = core.applied();
     let step = core.step(circuit);

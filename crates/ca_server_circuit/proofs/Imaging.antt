@@ -26,7 +26,7 @@ use Rattle.ca_wire.specs.Messages.{status_reply, update, value_reply}
 use Rattle.ca_model.specs.Faults.{read_count, type_of}
 use Rattle.ca_model.specs.Speech.{Stored}
 use Rattle.ca_model.specs.Updates.{ShowsTo, update_count}
-use Rattle.ca_server_circuit.specs.declared.read.Asked.{Asked}
+use Rattle.ca_server_circuit.specs.declared.read.ReadSize.{ReadSize}
 use Rattle.ca_server_circuit.specs.Showing.{IsInOrder, ShowsRead, status_for}
 use Rattle.ca_server_circuit.specs.Imaging.{image_as, image_in, shown_image}
 use Rattle.ca_server_circuit.proofs.Pumps.{fails-update, shows-update}
@@ -118,7 +118,7 @@ module _ (head : Fields) (made : Result (List ℕ) Refusal) (old new : LinkState
 
 -- ---- a read
 
-module _ (r : RecordState) (m : Fields) (a : Asked) (order : IsInOrder r m a) (n : ℕ) (n-is : n ≡ m.data_type) (e : Elements) (e-is : e ≡ r.value) (meta : Meta) (meta-is : meta ≡ r.meta) where
+module _ (r : RecordState) (m : Fields) (a : ReadSize) (order : IsInOrder r m a) (n : ℕ) (n-is : n ≡ m.data_type) (e : Elements) (e-is : e ≡ r.value) (meta : Meta) (meta-is : meta ≡ r.meta) where
   typed-so : type_of n ≡ Some order.t
   typed-so = ap type_of n-is ∙ order.typed
 

@@ -35,7 +35,7 @@ use Rattle.ca_model.specs.Server.{Server, ServerEnd, new_server}
 use Rattle.ca_model.specs.ServerSteps.{Acts}
 use Rattle.ca_server_circuit.specs.declared.seek.Seat.{Seat}
 use Rattle.ca_server_circuit.specs.declared.step.FollowUp.{FollowUp}
-use Rattle.ca_server_circuit.specs.declared.cause.Cause.TheVariants as cause
+use Rattle.ca_server_circuit.specs.declared.cause.EndCause.TheVariants as cause
 use Rattle.ca_server_circuit.specs.declared.step.EndStep.TheVariants.{Breaks, Handled}
 use Rattle.ca_server_circuit.specs.Handling as here
 use Rattle.ca_server_circuit.specs.Handling.{AllStay, Does, MayLack, Recorded, known, replied}

@@ -27,7 +27,7 @@ use Rattle.ca_records.specs.Rules.{may_read}
 use Rattle.ca_wire.specs.Fields.{Fields}
 use Rattle.ca_wire.specs.Messages.{alone, read_request, status_reply, value_reply}
 use Rattle.ca_model.specs.Faults.{read_count, read_fault, read_shown, too_many, type_of}
-use Rattle.ca_server_circuit.specs.declared.read.Asked.{Asked}
+use Rattle.ca_server_circuit.specs.declared.read.ReadSize.{ReadSize}
 use Rattle.ca_server_circuit.specs.Showing.{AnswersRead, IsInOrder, ShowsRead, answer_alone, status_for}
 use Rattle.ca_server_circuit.proofs.Types.{type-of-none, type-of-number}
 
@@ -76,7 +76,7 @@ module _ (r : RecordState) (rights : ℕ) (m : Fields) where
   refused-so _ = refl
 
   -- a read in order is answered by what it is shown
-  pub answers-shown : (a : Asked) (reply : Fields) → IsInOrder r m a → may_read rights ≡ true → ShowsRead r m reply → AnswersRead r rights m reply
+  pub answers-shown : (a : ReadSize) (reply : Fields) → IsInOrder r m a → may_read rights ≡ true → ShowsRead r m reply → AnswersRead r rights m reply
   answers-shown a reply order right shows = by shows.shows
     where
       same : order.t ≡ shows.t
@@ -119,7 +119,7 @@ module _ (r : RecordState) (rights : ℕ) (m : Fields) where
       by (inr h) = over-size t n h
 
 -- what an image has for bytes
-pub image-size : (r : RecordState) (m : Fields) (a : Asked) (t : DataType) (e : Elements) → IsInOrder r m a → type_number t ≡ m.data_type → shown r.value a.count t.base ≡ Ok e → IsValue e → (length (image t e r.meta) ≡ a.size) × (count_of e ≡ a.count)
+pub image-size : (r : RecordState) (m : Fields) (a : ReadSize) (t : DataType) (e : Elements) → IsInOrder r m a → type_number t ≡ m.data_type → shown r.value a.count t.base ≡ Ok e → IsValue e → (length (image t e r.meta) ≡ a.size) × (count_of e ≡ a.count)
 image-size r m a t e order numbered is valued =
     let kind = shown-is r.value a.count t.base e is in
     let same : order.t ≡ t = some_is order.t t (sym order.typed ∙ type-of-number t m.data_type numbered) in (
@@ -132,7 +132,7 @@ or-false : (a b : Bool) → (a || b) ≡ false → b ≡ false
 or-false true b h = absurd cc
 or-false false b h = h
 
-pub within-limit : (r : RecordState) (m : Fields) (a : Asked) → IsInOrder r m a → a.size ≤ payload_limit
+pub within-limit : (r : RecordState) (m : Fields) (a : ReadSize) → IsInOrder r m a → a.size ≤ payload_limit
 within-limit r m a order =
     let few : nat_lt payload_limit (size_of_image order.t (read_count r m)) ≡ false = or-false (nat_lt r.count (read_count r m)) (nat_lt payload_limit (size_of_image order.t (read_count r m))) order.few in
     let le : size_of_image order.t (read_count r m) ≤ payload_limit = ltb-false payload_limit (size_of_image order.t (read_count r m)) few in
@@ -140,14 +140,14 @@ within-limit r m a order =
     omega (arith, le, is)
 
 -- what was written shows the read
-pub shows-value : (r : RecordState) (m reply : Fields) (a : Asked) (t : DataType) (e : Elements) → IsInOrder r m a → type_number t ≡ m.data_type → shown r.value a.count t.base ≡ Ok e → reply ≡ value_reply m (count_of e) (image t e r.meta) → ShowsRead r m reply
+pub shows-value : (r : RecordState) (m reply : Fields) (a : ReadSize) (t : DataType) (e : Elements) → IsInOrder r m a → type_number t ≡ m.data_type → shown r.value a.count t.base ≡ Ok e → reply ≡ value_reply m (count_of e) (image t e r.meta) → ShowsRead r m reply
 shows-value r m reply a t e order numbered is replies = record {
   t = t;
   typed = type-of-number t m.data_type numbered;
   shows = inl (e, ap (λ (n : ℕ). shown r.value n t.base) (sym order.count) ∙ is, replies);
 }
 
-pub shows-refusal : (r : RecordState) (m reply : Fields) (a : Asked) (t : DataType) (why : Refusal) → IsInOrder r m a → type_number t ≡ m.data_type → shown r.value a.count t.base ≡ Err why → reply ≡ status_reply m (status_for why) → ShowsRead r m reply
+pub shows-refusal : (r : RecordState) (m reply : Fields) (a : ReadSize) (t : DataType) (why : Refusal) → IsInOrder r m a → type_number t ≡ m.data_type → shown r.value a.count t.base ≡ Err why → reply ≡ status_reply m (status_for why) → ShowsRead r m reply
 shows-refusal r m reply a t why order numbered is replies = record {
   t = t;
   typed = type-of-number t m.data_type numbered;
@@ -155,7 +155,7 @@ shows-refusal r m reply a t why order numbered is replies = record {
 }
 
 -- why nothing was written
-pub shows-fails : (r : RecordState) (m reply : Fields) (a : Asked) (why : Refusal) → IsInOrder r m a → (why ≡ refusal.OutOfMemory → ⊥) → reply ≡ status_reply m (status_for why)
+pub shows-fails : (r : RecordState) (m reply : Fields) (a : ReadSize) (why : Refusal) → IsInOrder r m a → (why ≡ refusal.OutOfMemory → ⊥) → reply ≡ status_reply m (status_for why)
     → ((20 < m.data_type) × (why ≡ refusal.BadType)) ⊎ ((t : DataType) × (type_number t ≡ m.data_type) × Fails (shown r.value a.count t.base) why) → ShowsRead r m reply
 shows-fails r m reply a why order memory replies (inl bad) = absurd (none-typed order.t (sym (type-of-none m.data_type bad.0) ∙ order.typed))
   where
@@ -192,7 +192,7 @@ shows-alone r rights w n v recorded right few same is =
     let held = recorded.value in
     let one : count_of r.value ≡ 1 = ap count_of (sym same) ∙ is.one in
     let asks : read_count r m ≡ 1 = one-read w.count (count_of r.value) few one in
-    let a : Asked = record { count = 1; size = size_of_image t 1 } in
+    let a : ReadSize = record { count = 1; size = size_of_image t 1 } in
     let within : 1 ≤ r.count = omega (arith, held.one, held.within) in
     let order : IsInOrder r m a = record {
       t = t;

@@ -15,11 +15,15 @@ use Rattle.ca_server_subscriptions.specs.Subscribed.{HasRoom, is_on}
 -- into the output, and then none may.
 pub record ShowsAtOnce (r : RecordState) (mask : ℕ) (old new : ServerEnd) : Type 0 where
   pub on : list_any (is_on r.name) old.subscriptions ≡ true
-  pub room : HasRoom (events_of (with_post r.name mask (record { value = r.value; meta = r.meta }) old))
+  pub room : HasRoom
+      (events_of (with_post r.name mask (record { value = r.value; meta = r.meta }) old))
   pub update : Update
-  pub leaves : Leaves (with_post r.name mask (record { value = r.value; meta = r.meta }) old) update new
+  pub leaves : Leaves
+      (with_post r.name mask (record { value = r.value; meta = r.meta }) old) update new
   pub rests : Rests new
 
 -- On a circuit there was a post to the record at a place, and then a pump.
-abbrev pub ShowsAt : Handle → (place : ℕ) → (mask : ℕ) → ServerCircuit → Store → ServerCircuit → Type 0
-ShowsAt h place mask old s new = (mid : ServerCircuit) × PostsAt h place mask old s mid s × PumpsAt h mid s new s
+abbrev pub ShowsAt : Handle → (place : ℕ) → (mask : ℕ) → ServerCircuit → Store → ServerCircuit
+    → Type 0
+ShowsAt h place mask old s new =
+    (mid : ServerCircuit) × PostsAt h place mask old s mid s × PumpsAt h mid s new s

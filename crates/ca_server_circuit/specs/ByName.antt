@@ -1,5 +1,6 @@
 -- Working: the open channels of a circuit by the names of their records.
-use Rattle.std.specs.Prelude.{ℕ, ◌≡◌, ◌<◌, ◌≤◌, Bool, true, false, List, [], ◌∷◌, ◌++◌, Option, Some, None, filter, length, map, unwrap_or}
+use Rattle.std.specs.Prelude.{ℕ, ◌≡◌, ◌<◌, ◌≤◌, Bool, true, false, List, [], ◌∷◌, ◌++◌, Option}
+use Rattle.std.specs.Prelude.{Some, None, filter, length, map, unwrap_or}
 use Rattle.std.specs.Map.{lookup}
 use Rattle.std.specs.Str.{bytes_eq}
 use Rattle.ca_arena.specs.declared.handle.Handle.{Handle}
@@ -20,7 +21,8 @@ IsLastTo name t (Some h) = (others : List Handle) × (channels_to name t ≡ oth
 -- record is done with those that are left.
 abbrev pub RetiresLast : List ℕ → ServerEnd → Bool → ServerEnd → Type 0
 RetiresLast name e true new =
-    (without_channels name new ≡ without_channels name e) × (length (channels_to name new.channels) < length (channels_to name e.channels))
+    (without_channels name new ≡ without_channels name e)
+    × (length (channels_to name new.channels) < length (channels_to name e.channels))
 RetiresLast name e false new = (channels_to name e.channels ≡ []) × (new ≡ e)
 
 -- ---- lines of them, each under the name of its record
@@ -58,22 +60,30 @@ AreFrom i (h ∷ hs) = (i ≤ h.index) × AreFrom i hs
 -- a channel of this index has this place in a line, if those of lower indices
 -- come before all others
 abbrev pub IsItsPlace : (index : ℕ) → List Handle → (place : ℕ) → Type 0
-IsItsPlace index hs place = (below from : List Handle) → hs ≡ below ++ from → AreBelow index below → AreFrom index from → place ≡ length below
+IsItsPlace index hs place =
+    (below from : List Handle) → hs ≡ below ++ from → AreBelow index below → AreFrom index from
+    → place ≡ length below
 
 -- a channel enters a line: after those of lower indices
 abbrev pub EntersLine : Handle → (old new : List Handle) → Type 0
-EntersLine h old new = (below from : List Handle) → old ≡ below ++ from → AreBelow h.index below → AreFrom h.index from → new ≡ below ++ h ∷ from
+EntersLine h old new =
+    (below from : List Handle) → old ≡ below ++ from → AreBelow h.index below → AreFrom h.index from
+    → new ≡ below ++ h ∷ from
 
 -- a channel is gone from a line
 abbrev pub GoesFromLine : Handle → (old new : List Handle) → Type 0
-GoesFromLine h old new = (below from : List Handle) → old ≡ below ++ h ∷ from → AreBelow h.index below → AreFrom h.index from → new ≡ below ++ from
+GoesFromLine h old new =
+    (below from : List Handle) → old ≡ below ++ h ∷ from → AreBelow h.index below
+    → AreFrom h.index from → new ≡ below ++ from
 
 -- A channel entered the line of this name. All other lines have what they had.
 pub record Enters (name : List ℕ) (h : Handle) (old new : Lines) : Type 0 where
   pub own : EntersLine h (channels_in old name) (channels_in new name)
-  pub stay : (other : List ℕ) → bytes_eq other name ≡ false → channels_in new other ≡ channels_in old other
+  pub stay : (other : List ℕ) → bytes_eq other name ≡ false
+      → channels_in new other ≡ channels_in old other
 
 -- A channel is gone from the line of this name. All other lines have what they had.
 pub record Goes (name : List ℕ) (h : Handle) (old new : Lines) : Type 0 where
   pub own : GoesFromLine h (channels_in old name) (channels_in new name)
-  pub stay : (other : List ℕ) → bytes_eq other name ≡ false → channels_in new other ≡ channels_in old other
+  pub stay : (other : List ℕ) → bytes_eq other name ≡ false
+      → channels_in new other ≡ channels_in old other

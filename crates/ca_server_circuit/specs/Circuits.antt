@@ -1,5 +1,6 @@
 -- Working: a circuit as the statement has it, and what the calls of one answer and leave.
-use Rattle.std.specs.Prelude.{ℕ, ◌≡◌, ◌≢◌, true, false, List, [], Some, None, Ok, Err, Result, Bool, Option}
+use Rattle.std.specs.Prelude.{ℕ, ◌≡◌, ◌≢◌, true, false, List, [], Some, None, Ok, Err, Result, Bool}
+use Rattle.std.specs.Prelude.{Option}
 use Rattle.ca_arena.specs.declared.handle.Handle.{Handle}
 use Rattle.ca_link.specs.Calls.{IsOpen}
 use Rattle.ca_link.specs.Link.{with_given, with_handed}
@@ -8,14 +9,14 @@ use Rattle.ca_text.specs.declared.refusal.Refusal.{Refusal}
 use Rattle.ca_text.specs.declared.refusal.Refusal.TheVariants as refusal
 use Rattle.ca_model.specs.Server.{ServerCircuit}
 use Rattle.ca_model.specs.Server as server
-use Rattle.ca_server_circuit.specs.declared.circuit.State.{State}
-use Rattle.ca_server_circuit.specs.declared.circuit.State.TheVariants.{Ended, Open}
+use Rattle.ca_server_circuit.specs.declared.circuit.CircuitState.{CircuitState}
+use Rattle.ca_server_circuit.specs.declared.circuit.CircuitState.TheVariants.{Ended, Open}
 use Rattle.ca_server_circuit.specs.Sound.{EndIsSound}
 use Rattle.ca_server_circuit.specs.Stepping.{why_is}
 use Rattle.std.specs.List.{list_any}
 use Rattle.ca_server_subscriptions.specs.Subscribed.{is_on}
 
-abbrev pub circuit_of : State → ServerCircuit
+abbrev pub circuit_of : CircuitState → ServerCircuit
 circuit_of (Open e) = server.Open e
 circuit_of (Ended cause left) = server.Ended (why_is cause) left
 
@@ -30,11 +31,15 @@ CircuitIsSound rs h (server.Open e) = EndIsSound rs h e
 CircuitIsSound rs h (server.Ended w left) = Unit {0}
 
 -- these bytes came
-abbrev pub GivesAt : (now : ℕ) → List ℕ → ServerCircuit → Result (Unit {0}) Refusal → ServerCircuit → Type 0
-GivesAt now bytes (server.Open e) (Ok _) new = new ≡ server.Open (record e { link = with_given now bytes e.link })
-GivesAt now bytes (server.Open e) (Err refusal.OutOfMemory) new = (bytes ≢ []) × (new ≡ server.Open e)
+abbrev pub GivesAt : (now : ℕ) → List ℕ → ServerCircuit → Result (Unit {0}) Refusal → ServerCircuit
+    → Type 0
+GivesAt now bytes (server.Open e) (Ok _) new =
+    new ≡ server.Open (record e { link = with_given now bytes e.link })
+GivesAt now bytes (server.Open e) (Err refusal.OutOfMemory) new =
+    (bytes ≢ []) × (new ≡ server.Open e)
 GivesAt now bytes (server.Open e) (Err _) new = ⊥
-GivesAt now bytes (server.Ended w left) result new = (result ≡ Err refusal.CircuitClosed) × (new ≡ server.Ended w left)
+GivesAt now bytes (server.Ended w left) result new =
+    (result ≡ Err refusal.CircuitClosed) × (new ≡ server.Ended w left)
 
 -- the first n bytes that waited were handed over
 abbrev pub SendsAt : ℕ → ServerCircuit → ServerCircuit → Type 0

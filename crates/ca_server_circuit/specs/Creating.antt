@@ -28,11 +28,17 @@ creation_replies s e m state sid =
 
 -- the end with a channel of this message under a handle
 abbrev pub with_channel : Handle → Fields → ServerEnd → ServerEnd
-with_channel h m e = record e { settled = true; channels = with_held h (record { cid = m.p1; name = text_in m.payload; retired = false }) e.channels }
+with_channel h m e =
+    record e {
+      settled = true;
+      channels = with_held h
+          (record { cid = m.p1; name = text_in m.payload; retired = false }) e.channels;
+    }
 
 -- A channel was created for the message to the record of its name, which is at this place; and what
 -- is left to do is that.
-pub record IsCreation (s : Store) (e : ServerEnd) (m : Fields) (place : ℕ) (did : FollowUp) (new : ServerEnd) : Type 0 where
+pub record IsCreation (s : Store) (e : ServerEnd) (m : Fields) (place : ℕ) (did : FollowUp)
+    (new : ServerEnd) : Type 0 where
   pub r : Record
   pub named : record_named (records_of s) (text_in m.payload) ≡ Some r
   pub h : Handle
@@ -41,7 +47,8 @@ pub record IsCreation (s : Store) (e : ServerEnd) (m : Fields) (place : ℕ) (di
   pub leaves : new ≡ replied (creation_replies s e m r.state (wire_of h)) (with_channel h m e)
 
 -- what is due for a CREATE_CHAN was done
-pub record Creation (port : ℕ) (s : Store) (e : ServerEnd) (m : Fields) (new : ServerEnd) : Type 0 where
+pub record Creation (port : ℕ) (s : Store) (e : ServerEnd) (m : Fields)
+    (new : ServerEnd) : Type 0 where
   pub replies : List Fields
   pub action : Action
   pub due : Creates (known port s e) m replies action
@@ -54,4 +61,5 @@ pub record Creation (port : ℕ) (s : Store) (e : ServerEnd) (m : Fields) (new :
 -- the same, with what it leaves the server to do
 abbrev pub CreatesBy : (port : ℕ) → Store → ServerEnd → Fields → FollowUp → ServerEnd → Type 0
 CreatesBy port s e m did new =
-    (c : Creation port s e m new) × (m.command ≡ command_number command.CreateChannel → Tells m c.action did s)
+    (c : Creation port s e m new)
+    × (m.command ≡ command_number command.CreateChannel → Tells m c.action did s)

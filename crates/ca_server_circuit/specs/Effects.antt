@@ -3,10 +3,15 @@ use Rattle.std.specs.Prelude.{◌==◌, true, false, if◌then◌else◌}
 use Rattle.ca_text.specs.Command.{command_number}
 use Rattle.ca_text.specs.declared.command.Command.TheVariants as command
 use Rattle.ca_wire.specs.Fields.{Fields}
-use Rattle.ca_model.specs.Due.{Action, Adds, Applies, Clears, Drops, Greets, Names, Nothing, Opens, Switches, Waits}
+use Rattle.ca_model.specs.Due.{Action, Adds, Applies, Clears, Drops, Greets, Names, Nothing, Opens}
+use Rattle.ca_model.specs.Due.{Switches, Waits}
 use Rattle.ca_server_circuit.specs.Peeking.{is_write}
 use Rattle.ca_server_circuit.specs.declared.effect.Effect.{Effect}
-use Rattle.ca_server_circuit.specs.declared.effect.Effect.TheVariants.{Busied, Cancelled, Cleared, Created, Queued, Quiet, Refused, Subscribed, Switched, WriteRefused, Wrote}
+use Rattle.ca_server_circuit.specs.declared.effect.Effect.TheVariants.{Busied, Cancelled, Cleared}
+use Rattle.ca_server_circuit.specs.declared.effect.Effect.TheVariants.{Created, Queued, Quiet}
+use Rattle.ca_server_circuit.specs.declared.effect.Effect.TheVariants.{Refused, Subscribed}
+use Rattle.ca_server_circuit.specs.declared.effect.Effect.TheVariants.{Switched, WriteRefused}
+use Rattle.ca_server_circuit.specs.declared.effect.Effect.TheVariants.{Wrote}
 
 -- Each action has its effect. A CREATE_CHAN that does nothing was refused, and so was a
 -- WRITE or a WRITE_NOTIFY; of what else does nothing, and of a greeting or a name of the

@@ -11,14 +11,16 @@ use Rattle.ca_model.specs.Ends as why
 use Rattle.ca_model.specs.Server.{OpenChannel, ServerCircuit}
 use Rattle.ca_model.specs.Server as server
 use Rattle.ca_server_circuit.specs.Clearing.{ArePuts}
-use Rattle.ca_server_circuit.specs.declared.cause.Cause.{Cause}
+use Rattle.ca_server_circuit.specs.declared.cause.EndCause.{EndCause}
 use Rattle.ca_server_circuit.specs.Stepping.{why_is}
 
 -- ---- the puts of a circuit
 
 -- each record is at its place still, and as it was but for its puts
 abbrev pub KeepsPlaces : Store → Store → Type 0
-KeepsPlaces s t = (place : ℕ) (r : Record) → HasAt s place r → (q : Record) × HasAt t place q × (q.state ≡ r.state)
+KeepsPlaces s t =
+    (place : ℕ) (r : Record) → HasAt s place r
+    → (q : Record) × HasAt t place q × (q.state ≡ r.state)
 
 -- the puts of a circuit that wait were taken out
 pub record WithdrawsAll (h : Handle) (s t : Store) : Type 0 where
@@ -31,12 +33,15 @@ pub record WithdrawsAll (h : Handle) (s t : Store) : Type 0 where
 -- the record for which it waits
 abbrev pub ArePutsFrom : ℕ → Handle → List Record → Table OpenChannel → Type 0
 ArePutsFrom n h rs t =
-    (i : ℕ) (r : Record) (k : ℕ) (w : WaitingPut) → At rs i r → At r.waiting k w → same_handle w.put.circuit h ≡ true
-    → (c : OpenChannel) × (under t w.put.channel ≡ Some c) × (c.name ≡ r.state.name) × (c.retired ≡ false) × (n ≤ w.put.channel.index)
+    (i : ℕ) (r : Record) (k : ℕ) (w : WaitingPut) → At rs i r → At r.waiting k w
+    → same_handle w.put.circuit h ≡ true
+    → (c : OpenChannel) × (under t w.put.channel ≡ Some c) × (c.name ≡ r.state.name)
+    × (c.retired ≡ false) × (n ≤ w.put.channel.index)
 
 -- The puts of the channels from this index on, and before the other, were taken out.
 pub record Walks (n last : ℕ) (h : Handle) (t : Table OpenChannel) (s u : Store) : Type 0 where
-  pub rest : withdrawn (λ (p : Put). same_handle p.circuit h) (records_of u) ≡ withdrawn (λ (p : Put). same_handle p.circuit h) (records_of s)
+  pub rest : withdrawn (λ (p : Put). same_handle p.circuit h) (records_of u)
+      ≡ withdrawn (λ (p : Put). same_handle p.circuit h) (records_of s)
   pub rules : u.rules ≡ s.rules
   pub stamp : u.stamp ≡ s.stamp
   pub places : KeepsPlaces s u
@@ -55,6 +60,6 @@ EndsAt h (server.Open e) s w new t = (new ≡ server.Ended w e.link.output) × W
 EndsAt h (server.Ended v left) s w new t = (new ≡ server.Ended v left) × (t ≡ s)
 
 -- why an end has ended, and what it left; one that is open is cut
-abbrev pub IsLeft : ServerCircuit → Cause → List ℕ → Type 0
+abbrev pub IsLeft : ServerCircuit → EndCause → List ℕ → Type 0
 IsLeft (server.Open e) cause left = (why_is cause ≡ why.Cut) × (left ≡ e.link.output)
 IsLeft (server.Ended w bytes) cause left = (why_is cause ≡ w) × (left ≡ bytes)

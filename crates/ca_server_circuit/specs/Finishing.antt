@@ -18,6 +18,7 @@ with_reply p e = record e { link = with_sent (finish_reply p ∷ []) e.link }
 abbrev pub RepliesAt : Put → ServerCircuit → Store → ServerCircuit → Store → Type 0
 RepliesAt p (server.Open e) s new t =
     ((is_some (under e.channels p.channel) ≡ true) × (new ≡ server.Open (with_reply p e)) × (t ≡ s))
-    ⊎ (((is_some (under e.channels p.channel) ≡ true) × (new ≡ server.Ended why.OutOfMemory e.link.output) × WithdrawsAll p.circuit s t)
+    ⊎ (((is_some (under e.channels p.channel) ≡ true)
+    × (new ≡ server.Ended why.OutOfMemory e.link.output) × WithdrawsAll p.circuit s t)
     ⊎ ((is_some (under e.channels p.channel) ≡ false) × (new ≡ server.Open e) × (t ≡ s)))
 RepliesAt p (server.Ended w left) s new t = (new ≡ server.Ended w left) × (t ≡ s)

@@ -1,19 +1,23 @@
 -- Working: what the end of a circuit makes of one message, with the records of its server.
-use Rattle.std.specs.Prelude.{ℕ, ◌≡◌, ◌≢◌, ◌==◌, ◌&&◌, ◌⊎◌, Bool, true, false, List, [], Some, map, option_map}
+use Rattle.std.specs.Prelude.{ℕ, ◌≡◌, ◌≢◌, ◌==◌, ◌&&◌, ◌⊎◌, Bool, true, false, List, [], Some, map}
+use Rattle.std.specs.Prelude.{option_map}
 use Rattle.ca_arena.specs.declared.handle.Handle.{Handle}
 use Rattle.ca_ids.specs.Table.{Table, by_wire, held, is_full, same_handle, under}
 use Rattle.ca_ids.specs.Wire.{wire_of}
 use Rattle.ca_link.specs.Link.{with_sent}
 use Rattle.ca_records.specs.declared.puts.Put.{Put}
 use Rattle.ca_records.specs.declared.puts.Stamp.{Stamp}
-use Rattle.ca_records.specs.Puts.{Record, record_named, with_record, with_value, with_waiting, withdrawn, written_meta}
+use Rattle.ca_records.specs.Puts.{Record, record_named, with_record, with_value, with_waiting}
+use Rattle.ca_records.specs.Puts.{withdrawn, written_meta}
 use Rattle.ca_records.specs.Store.{HasAt, Store, records_of}
 use Rattle.ca_text.specs.Command.{command_number}
 use Rattle.ca_text.specs.declared.command.Command.TheVariants as command
 use Rattle.ca_text.specs.Status.{bad_channel}
 use Rattle.ca_wire.specs.Fields.{Fields}
 use Rattle.ca_wire.specs.Messages.{error_reply, status_reply, text_in}
-use Rattle.ca_model.specs.Due.{Action, Adds, Applies, Clears, Due, EventDue, IsCreated, IsNotCreated, Knows, Names, Nothing, Opens, PutDue, ReadDue, StrayDue, Waits, WriteDue}
+use Rattle.ca_model.specs.Due.{Action, Adds, Applies, Clears, Due, EventDue, IsCreated}
+use Rattle.ca_model.specs.Due.{IsNotCreated, Knows, Names, Nothing, Opens, PutDue, ReadDue}
+use Rattle.ca_model.specs.Due.{StrayDue, Waits, WriteDue}
 use Rattle.ca_model.specs.Server.{OpenChannel, Server, ServerEnd, key_of}
 use Rattle.ca_model.specs.ServerSteps.{Acts, IsPut, known_channel, known_record}
 use Rattle.ca_server_circuit.specs.Effects.{effect_due}
@@ -45,7 +49,8 @@ known port s e = record {
 -- the record of each open channel is there, unless that is retired
 abbrev pub AreServed : List Record → Table OpenChannel → Type 0
 AreServed records t =
-    (h : Handle) (c : OpenChannel) → under t h ≡ Some c → c.retired ≡ false → (r : Record) × (record_named records c.name ≡ Some r)
+    (h : Handle) (c : OpenChannel) → under t h ≡ Some c → c.retired ≡ false
+    → (r : Record) × (record_named records c.name ≡ Some r)
 
 -- each channel that is open stays so
 abbrev pub AllStay : Table OpenChannel → Table OpenChannel → Type 0
@@ -54,23 +59,34 @@ AllStay old new = (h : Handle) (c : OpenChannel) → under old h ≡ Some c → 
 -- ---- what a message does
 
 -- What a message makes of the records under a stamp: `Records` of the server round them.
-abbrev pub Recorded : List Record → Stamp → Handle → ServerEnd → Fields → Action → List Record → Type 0
-Recorded rs s h e m (Applies name value false) new = new ≡ with_record name (with_value value (written_meta s)) rs
+abbrev pub Recorded : List Record → Stamp → Handle → ServerEnd → Fields → Action → List Record
+    → Type 0
+Recorded rs s h e m (Applies name value false) new =
+    new ≡ with_record name (with_value value (written_meta s)) rs
 Recorded rs s h e m (Applies name value true) new =
     (p : Put) × IsPut h e m p
-    × (new ≡ with_record name (λ (r : Record). record (with_value value (written_meta s) r) { busy = Some p }) rs)
+    × (new
+    ≡ with_record name
+    (λ (r : Record). record (with_value value (written_meta s) r) { busy = Some p }) rs)
 Recorded rs s h e m (Waits name value) new =
-    (p : Put) × IsPut h e m p × (new ≡ with_record name (with_waiting (record { put = p; value = value })) rs)
-Recorded rs s h e m (Clears sid) new = new ≡ withdrawn (λ (p : Put). same_handle p.circuit h && wire_of p.channel == sid) rs
+    (p : Put) × IsPut h e m p
+    × (new ≡ with_record name (with_waiting (record { put = p; value = value })) rs)
+Recorded rs s h e m (Clears sid) new =
+    new ≡ withdrawn (λ (p : Put). same_handle p.circuit h && wire_of p.channel == sid) rs
 Recorded rs s h e m action new = new ≡ rs
 
 -- A channel is created by a CREATE_CHAN, to a record that is there; and a put waits on the record
 -- of its channel, and a subscription begins on that of its own.
 abbrev pub Fits : List Record → ServerEnd → Fields → Action → Type 0
-Fits rs e m (Opens c) = (r : Record) × (record_named rs c.name ≡ Some r) × (m.command ≡ command_number command.CreateChannel)
-Fits rs e m (Waits name value) = (c : Handle × OpenChannel) × (by_wire e.channels m.p1 ≡ Some c) × (c.1.name ≡ name) × (c.1.retired ≡ false)
+Fits rs e m (Opens c) =
+    (r : Record) × (record_named rs c.name ≡ Some r)
+    × (m.command ≡ command_number command.CreateChannel)
+Fits rs e m (Waits name value) =
+    (c : Handle × OpenChannel) × (by_wire e.channels m.p1 ≡ Some c) × (c.1.name ≡ name)
+    × (c.1.retired ≡ false)
 Fits rs e m (Adds x) =
-    (c : Handle × OpenChannel) × (by_wire e.channels m.p1 ≡ Some c) × (c.1.name ≡ x.name) × (c.1.retired ≡ false) × (x.wanted.sid ≡ m.p1)
+    (c : Handle × OpenChannel) × (by_wire e.channels m.p1 ≡ Some c) × (c.1.name ≡ x.name)
+    × (c.1.retired ≡ false) × (x.wanted.sid ≡ m.p1)
 Fits rs e m action = Unit {0}
 
 -- whether a write was applied
@@ -91,15 +107,21 @@ effect_of (effect.Opened place sid) = told.Created sid
 -- began, or a channel was created. Any other leaves nothing, and is told.
 abbrev pub Tells : Fields → Action → FollowUp → Store → Type 0
 Tells m (Applies name value busies) did t =
-    (place : ℕ) × (r : Record) × (did ≡ effect.Wrote place busies m.p1) × HasAt t place r × (r.state.name ≡ name) × (r.state.value ≡ value)
+    (place : ℕ) × (r : Record) × (did ≡ effect.Wrote place busies m.p1) × HasAt t place r
+    × (r.state.name ≡ name) × (r.state.value ≡ value)
     × (r.state.meta ≡ written_meta t.stamp)
-Tells m (Adds x) did t = (place : ℕ) × (r : Record) × (did ≡ effect.Began place x.wanted.sid x.wanted.id) × HasAt t place r × (r.state.name ≡ x.name)
-Tells m (Opens c) did t = (place : ℕ) × (r : Record) × (did ≡ effect.Opened place c.sid) × HasAt t place r × (r.state.name ≡ c.name)
+Tells m (Adds x) did t =
+    (place : ℕ) × (r : Record) × (did ≡ effect.Began place x.wanted.sid x.wanted.id)
+    × HasAt t place r × (r.state.name ≡ x.name)
+Tells m (Opens c) did t =
+    (place : ℕ) × (r : Record) × (did ≡ effect.Opened place c.sid) × HasAt t place r
+    × (r.state.name ≡ c.name)
 Tells m action did t = did ≡ effect.Quiet (effect_due m action)
 
 -- What is due by this relation was done: the replies wait, and so the records and
 -- the end are after it.
-pub record Does (D : List Fields → Action → Type 0) (s : Store) (h : Handle) (e : ServerEnd) (m : Fields) (did : FollowUp) (t : Store) (new : ServerEnd) : Type 0 where
+pub record Does (D : List Fields → Action → Type 0) (s : Store) (h : Handle) (e : ServerEnd)
+    (m : Fields) (did : FollowUp) (t : Store) (new : ServerEnd) : Type 0 where
   pub replies : List Fields
   pub action : Action
   pub due : D replies action
@@ -130,25 +152,30 @@ AsksMemory m replies action = replies ≢ []
 -- Whatever is due for the message, there may be no memory for it. That something is always
 -- due is not shown here.
 abbrev pub MayLack : Knows → Fields → Type 0
-MayLack k m = (replies : List Fields) (action : Action) → Due k m replies action → AsksMemory m replies action
+MayLack k m =
+    (replies : List Fields) (action : Action) → Due k m replies action → AsksMemory m replies action
 
 -- ---- by commands: the relations of `Due`
 
 -- READ_NOTIFY
 abbrev pub Reads : Knows → Fields → List Fields → Action → Type 0
-Reads k m replies action = ReadDue k m replies action ⊎ StrayDue k m (λ cid. status_reply m bad_channel) replies action
+Reads k m replies action =
+    ReadDue k m replies action ⊎ StrayDue k m (λ cid. status_reply m bad_channel) replies action
 
 -- WRITE
 abbrev pub Writes : Knows → Fields → List Fields → Action → Type 0
-Writes k m replies action = WriteDue k m replies action ⊎ StrayDue k m (λ cid. error_reply cid bad_channel m) replies action
+Writes k m replies action =
+    WriteDue k m replies action ⊎ StrayDue k m (λ cid. error_reply cid bad_channel m) replies action
 
 -- WRITE_NOTIFY
 abbrev pub Puts : Knows → Fields → List Fields → Action → Type 0
-Puts k m replies action = PutDue k m replies action ⊎ StrayDue k m (λ cid. status_reply m bad_channel) replies action
+Puts k m replies action =
+    PutDue k m replies action ⊎ StrayDue k m (λ cid. status_reply m bad_channel) replies action
 
 -- EVENT_ADD
 abbrev pub Subscribes : Knows → Fields → List Fields → Action → Type 0
-Subscribes k m replies action = EventDue k m replies action ⊎ StrayDue k m (λ cid. error_reply cid bad_channel m) replies action
+Subscribes k m replies action =
+    EventDue k m replies action ⊎ StrayDue k m (λ cid. error_reply cid bad_channel m) replies action
 
 -- CREATE_CHAN
 abbrev pub Creates : Knows → Fields → List Fields → Action → Type 0

@@ -15,9 +15,13 @@ use Rattle.ca_model.specs.Speech.{In}
 -- this name; or for none.
 abbrev pub NamesBy : ServerEnd → (sid : ℕ) → Option (List ℕ) → Type 0
 NamesBy e sid (Some name) =
-    ((c : Handle × OpenChannel) × In (held e.channels) c × (wire_of c.0 ≡ sid) × (c.1.retired ≡ false))
-    × ((c : Handle × OpenChannel) → In (held e.channels) c → wire_of c.0 ≡ sid → c.1.retired ≡ false → c.1.name ≡ name)
-NamesBy e sid None = (c : Handle × OpenChannel) → In (held e.channels) c → wire_of c.0 ≡ sid → c.1.retired ≡ false → ⊥
+    ((c : Handle × OpenChannel) × In (held e.channels) c × (wire_of c.0 ≡ sid)
+    × (c.1.retired ≡ false))
+    × ((c : Handle × OpenChannel) → In (held e.channels) c → wire_of c.0 ≡ sid → c.1.retired ≡ false
+    → c.1.name ≡ name)
+NamesBy e sid None =
+    (c : Handle × OpenChannel) → In (held e.channels) c → wire_of c.0 ≡ sid → c.1.retired ≡ false
+    → ⊥
 
 -- the same of a circuit, if its end is open
 abbrev pub NamesAt : ServerCircuit → (sid : ℕ) → Option (List ℕ) → Type 0

@@ -14,15 +14,18 @@ use Rattle.ca_server_subscriptions.specs.Subscribed.{HasRoom}
 
 -- an end after a post of the value of a record
 abbrev pub posted : Record → (mask : ℕ) → ServerEnd → ServerEnd
-posted r mask e = with_post r.state.name mask (record { value = r.state.value; meta = r.state.meta }) e
+posted r mask e =
+    with_post r.state.name mask (record { value = r.state.value; meta = r.state.meta }) e
 
 -- A post to the record at a place: the end has its updates, or has ended out of memory for one, if
 -- the post concerns it.
-abbrev pub PostsAt : Handle → (place : ℕ) → (mask : ℕ) → ServerCircuit → Store → ServerCircuit → Store → Type 0
+abbrev pub PostsAt : Handle → (place : ℕ) → (mask : ℕ) → ServerCircuit → Store → ServerCircuit
+    → Store → Type 0
 PostsAt h place mask (server.Open e) s new t =
     (r : Record) × HasAt s place r
     × (((new ≡ server.Open (posted r mask e)) × HasRoom (events_of (posted r mask e)) × (t ≡ s))
-    ⊎ ((is_concerned r.state.name mask (server.Open e) ≡ true) × (new ≡ server.Ended why.OutOfMemory e.link.output) × WithdrawsAll h s t))
+    ⊎ ((is_concerned r.state.name mask (server.Open e) ≡ true)
+    × (new ≡ server.Ended why.OutOfMemory e.link.output) × WithdrawsAll h s t))
 PostsAt h place mask (server.Ended w left) s new t = (new ≡ server.Ended w left) × (t ≡ s)
 
 -- whether a circuit has a subscription on the record at a place

@@ -5,7 +5,7 @@ use Rattle.std.specs.declared.alloc.AllocError.{AllocError}
 use Rattle.ca_arena.specs.declared.handle.Handle.{Handle}
 use Rattle.ca_records.specs.Store.{Store}
 use Rattle.ca_text.specs.declared.command.Command.TheVariants as command
-use Rattle.ca_wire.specs.declared.alone.Alone.{Alone}
+use Rattle.ca_wire.specs.declared.scalar_message.ScalarMessage.{ScalarMessage}
 use Rattle.ca_wire.specs.declared.requests.Wanted.{Wanted}
 use Rattle.ca_model.specs.Ends as why
 use Rattle.ca_model.specs.Server.{ServerCircuit, ServerEnd}
@@ -21,14 +21,16 @@ abbrev pub PumpsOne : ServerEnd → Result Bool AllocError → ServerEnd → Typ
 PumpsOne old (Ok true) new = (u : Update) × Leaves old u new
 PumpsOne old (Ok false) new = Rests old × (new ≡ old)
 PumpsOne old (Err e) new =
-    ((u : Update) × (x : ServerEnd) × Leaves old u x) × (new.link.output ≡ old.link.output) × (new.channels ≡ old.channels)
+    ((u : Update) × (x : ServerEnd) × Leaves old u x) × (new.link.output ≡ old.link.output)
+    × (new.channels ≡ old.channels)
 
 -- Updates went into the output until none may; or there is no memory for the next, and the output
 -- has those before it.
 abbrev pub PumpsEnd : ServerEnd → Result (Unit {0}) AllocError → ServerEnd → Type 0
 PumpsEnd old (Ok _) new = (us : List Update) × FoldsTo Leaves old us new × Rests new
 PumpsEnd old (Err e) new =
-    (us : List Update) × (after : ServerEnd) × FoldsTo Leaves old us after × (Rests after → ⊥) × (new.link.output ≡ after.link.output)
+    (us : List Update) × (after : ServerEnd) × FoldsTo Leaves old us after × (Rests after → ⊥)
+    × (new.link.output ≡ after.link.output)
     × (new.channels ≡ old.channels)
 
 -- The same on a circuit: an end without memory for the next has ended.
@@ -36,9 +38,11 @@ abbrev pub PumpsAt : Handle → ServerCircuit → Store → ServerCircuit → St
 PumpsAt h (server.Open e) s new t =
     (us : List Update) × (after : ServerEnd) × FoldsTo Leaves e us after
     × ((Rests after × (new ≡ server.Open after) × HasRoom (events_of after) × (t ≡ s))
-    ⊎ ((Rests after → ⊥) × (new ≡ server.Ended why.OutOfMemory after.link.output) × WithdrawsAll h s t))
+    ⊎ ((Rests after → ⊥) × (new ≡ server.Ended why.OutOfMemory after.link.output)
+    × WithdrawsAll h s t))
 PumpsAt h (server.Ended w left) s new t = (new ≡ server.Ended w left) × (t ≡ s)
 
 -- the update that shows one element to whoever asked so, by these eight bytes
-abbrev pub update_alone : Wanted → ℕ → Alone
-update_alone w n = record { command = command.EventAdd; data_type = w.data_type; id = w.id; payload = n }
+abbrev pub update_alone : Wanted → ℕ → ScalarMessage
+update_alone w n =
+    record { command = command.EventAdd; data_type = w.data_type; id = w.id; payload = n }

@@ -31,11 +31,13 @@ early r rights m = early_put_fault r rights m (base_type_of m.data_type)
 -- before they are read
 abbrev pub IsGiven : RecordState → (rights : ℕ) → Fields → Given → Type 0
 IsGiven r rights m (given.Elements v) =
-    (early r rights m ≡ None) × PutReads m (elements v) × (0 < count_of (elements v)) × (count_of (elements v) ≤ r.count)
+    (early r rights m ≡ None) × PutReads m (elements v) × (0 < count_of (elements v))
+    × (count_of (elements v) ≤ r.count)
 IsGiven r rights m (given.Fault s) = early r rights m ≡ Some s.number
 
 -- A write without a fault of this message to this record leaves next, under the stamp of the store.
-pub record IsTaken (s : Store) (r : Record) (rights : ℕ) (put : Option Put) (m : Fields) (begun : Begun) (next : Record) : Type 0 where
+pub record IsTaken (s : Store) (r : Record) (rights : ℕ) (put : Option Put) (m : Fields)
+    (begun : Begun) (next : Record) : Type 0 where
   pub e : Elements
   pub no_early : early r.state rights m ≡ None
   pub reads : PutReads m e
@@ -48,9 +50,13 @@ pub record IsTaken (s : Store) (r : Record) (rights : ℕ) (put : Option Put) (m
 abbrev pub IsRefused : Record → (rights : ℕ) → Option Put → Fields → ℕ → Type 0
 IsRefused r rights put m status =
     (early r.state rights m ≡ Some status)
-    ⊎ ((early r.state rights m ≡ None) × ((e : Elements) × PutReads m e × (write_fault r put e ≡ Some status)))
+    ⊎ ((early r.state rights m ≡ None)
+    × ((e : Elements) × PutReads m e × (write_fault r put e ≡ Some status)))
 
 -- What a write of this message to the record at a place comes to, and leaves.
-abbrev pub WritesTo : Store → (place : ℕ) → (rights : ℕ) → Option Put → Fields → Begun → Store → Type 0
-WritesTo s place rights put m (Refused status) t = (r : Record) × HasAt s place r × IsRefused r rights put m status.number × (t ≡ s)
-WritesTo s place rights put m begun t = (r : Record) × (next : Record) × IsTaken s r rights put m begun next × Becomes s place r next t
+abbrev pub WritesTo : Store → (place : ℕ) → (rights : ℕ) → Option Put → Fields → Begun → Store
+    → Type 0
+WritesTo s place rights put m (Refused status) t =
+    (r : Record) × HasAt s place r × IsRefused r rights put m status.number × (t ≡ s)
+WritesTo s place rights put m begun t =
+    (r : Record) × (next : Record) × IsTaken s r rights put m begun next × Becomes s place r next t

@@ -1,5 +1,6 @@
 -- Working: a record is removed, on one circuit.
-use Rattle.std.specs.Prelude.{ℕ, ◌≡◌, ◌<◌, ◌&&◌, ◌||◌, ◌⊎◌, ◌++◌, Bool, true, not, List, Option, length, map, option_map, take}
+use Rattle.std.specs.Prelude.{ℕ, ◌≡◌, ◌<◌, ◌&&◌, ◌||◌, ◌⊎◌, ◌++◌, Bool, true, not, List, Option}
+use Rattle.std.specs.Prelude.{length, map, option_map, take}
 use Rattle.std.specs.Str.{bytes_eq}
 use Rattle.ca_arena.specs.declared.handle.Handle.{Handle}
 use Rattle.ca_arena.specs.Arena.{Place}
@@ -38,7 +39,8 @@ without_record c = record c { retired = true }
 
 -- what holds an index, after the removal of a record
 abbrev pub retired_in : List ℕ → Option OpenChannel → Option OpenChannel
-retired_in name o = option_map (λ (c : OpenChannel). record c { retired = c.retired || bytes_eq c.name name }) o
+retired_in name o =
+    option_map (λ (c : OpenChannel). record c { retired = c.retired || bytes_eq c.name name }) o
 
 abbrev pub retired_at : List ℕ → Place OpenChannel → Place OpenChannel
 retired_at name p = record p { value = retired_in name p.value }
@@ -47,12 +49,16 @@ retired_at name p = record p { value = retired_in name p.value }
 
 -- the end whose channel under this handle is retired, without its subscriptions
 abbrev pub without_channel : Handle → ServerEnd → ServerEnd
-without_channel h e = without_subscriptions (is_of_sid (wire_of h)) (record e { channels = with_changed without_record h e.channels })
+without_channel h e =
+    without_subscriptions (is_of_sid (wire_of h))
+    (record e { channels = with_changed without_record h e.channels })
 
 -- the end whose channels to the record of this name are retired without their subscriptions:
 -- `end_without` but for the messages
 abbrev pub without_channels : List ℕ → ServerEnd → ServerEnd
-without_channels name e = without_subscriptions (is_on (channels_of name e)) (record e { channels = with_each (retired name) e.channels })
+without_channels name e =
+    without_subscriptions (is_on (channels_of name e))
+    (record e { channels = with_each (retired name) e.channels })
 
 -- some of these messages wait to be sent, the first ones, but not all
 abbrev pub SendsSome : List Fields → LinkState → LinkState → Type 0
@@ -72,9 +78,11 @@ MayLose rs h (server.Ended w left) = Unit {0}
 
 -- A circuit loses a record: or its end has ended out of memory for a SERVER_DISCONN, and
 -- left those before it.
-abbrev pub LosesAt : Handle → (name : List ℕ) → ServerCircuit → Store → ServerCircuit → Store → Type 0
+abbrev pub LosesAt : Handle → (name : List ℕ) → ServerCircuit → Store → ServerCircuit → Store
+    → Type 0
 LosesAt h name (server.Open e) s new t =
     ((new ≡ server.Open (end_without name e)) × HasRoom (events_of (end_without name e)) × (t ≡ s))
     ⊎ ((k : ℕ) × (k < length (channels_of name e))
-    × (new ≡ server.Ended why.OutOfMemory (e.link.output ++ spelled (take k (disconnects name e)))) × WithdrawsAll h s t)
+    × (new ≡ server.Ended why.OutOfMemory (e.link.output ++ spelled (take k (disconnects name e))))
+    × WithdrawsAll h s t)
 LosesAt h name (server.Ended w left) s new t = (new ≡ server.Ended w left) × (t ≡ s)

@@ -25,7 +25,8 @@ pub record IsServed (s : Store) (e : ServerEnd) (sid : ℕ) (seat : Seat) : Type
 abbrev pub IsStray : ServerEnd → ℕ → ℕ → Type 0
 IsStray e sid cid =
     ((by_wire e.channels sid ≡ None) × (cid ≡ no_cid))
-    ⊎ ((c : Handle × OpenChannel) × (by_wire e.channels sid ≡ Some c) × (c.1.retired ≡ true) × (c.1.cid ≡ cid))
+    ⊎ ((c : Handle × OpenChannel) × (by_wire e.channels sid ≡ Some c) × (c.1.retired ≡ true)
+    × (c.1.cid ≡ cid))
 
 abbrev pub Seeks : Store → ServerEnd → ℕ → Sought → Type 0
 Seeks s e sid (Served seat) = IsServed s e sid seat

@@ -11,12 +11,12 @@ use Rattle.ca_dbr.specs.Types.{size_of_image}
 use Rattle.ca_records.specs.Record.{RecordState}
 use Rattle.ca_records.specs.Rules.{may_read}
 use Rattle.ca_text.specs.declared.command.Command.TheVariants as command
-use Rattle.ca_wire.specs.declared.alone.Alone.{Alone}
+use Rattle.ca_wire.specs.declared.scalar_message.ScalarMessage.{ScalarMessage}
 use Rattle.ca_wire.specs.declared.requests.Wanted.{Wanted}
 use Rattle.ca_wire.specs.Fields.{Fields}
 use Rattle.ca_wire.specs.Messages.{status_reply, value_reply}
 use Rattle.ca_model.specs.Faults.{read_count, read_fault, read_shown, too_many, type_of}
-use Rattle.ca_server_circuit.specs.declared.read.Asked.{Asked}
+use Rattle.ca_server_circuit.specs.declared.read.ReadSize.{ReadSize}
 
 -- the status for a value that is not shown
 abbrev pub status_for : Refusal → ℕ
@@ -27,13 +27,14 @@ status_for _ = get_fail
 -- elements that it is shown.
 abbrev pub AnswersRead : RecordState → (rights : ℕ) → Fields → Fields → Type 0
 AnswersRead r rights m reply =
-    ((status : ℕ) × (read_fault r rights m (type_of m.data_type) ≡ Some status) × (reply ≡ status_reply m status))
+    ((status : ℕ) × (read_fault r rights m (type_of m.data_type) ≡ Some status)
+    × (reply ≡ status_reply m status))
     ⊎ ((read_fault r rights m (type_of m.data_type) ≡ None)
     × ((t : DataType) × (e : Elements) × (type_of m.data_type ≡ Some t) × (read_shown r m t ≡ Ok e)
     × (reply ≡ value_reply m (count_of e) (image t e r.meta))))
 
 -- A read asks for this much, of a type that exists, and not for too much.
-pub record IsInOrder (r : RecordState) (m : Fields) (a : Asked) : Type 0 where
+pub record IsInOrder (r : RecordState) (m : Fields) (a : ReadSize) : Type 0 where
   pub t : DataType
   pub typed : type_of m.data_type ≡ Some t
   pub count : a.count ≡ read_count r m
@@ -41,7 +42,7 @@ pub record IsInOrder (r : RecordState) (m : Fields) (a : Asked) : Type 0 where
   pub few : too_many r t (read_count r m) ≡ false
 
 -- what a read asks for, or the first fault that its elements do not matter for
-abbrev pub IsWanted : RecordState → (rights : ℕ) → Fields → Result Asked Status → Type 0
+abbrev pub IsWanted : RecordState → (rights : ℕ) → Fields → Result ReadSize Status → Type 0
 IsWanted r rights m (Ok a) = IsInOrder r m a × (may_read rights ≡ true)
 IsWanted r rights m (Err s) = read_fault r rights m (type_of m.data_type) ≡ Some s.number
 
@@ -50,9 +51,11 @@ pub record ShowsRead (r : RecordState) (m reply : Fields) : Type 0 where
   pub t : DataType
   pub typed : type_of m.data_type ≡ Some t
   pub shows :
-      ((e : Elements) × (read_shown r m t ≡ Ok e) × (reply ≡ value_reply m (count_of e) (image t e r.meta)))
+      ((e : Elements) × (read_shown r m t ≡ Ok e)
+      × (reply ≡ value_reply m (count_of e) (image t e r.meta)))
       ⊎ ((why : Refusal) × (read_shown r m t ≡ Err why) × (reply ≡ status_reply m (status_for why)))
 
 -- the answer to this read that shows one element by these eight bytes
-abbrev pub answer_alone : Wanted → ℕ → Alone
-answer_alone w n = record { command = command.ReadNotify; data_type = w.data_type; id = w.id; payload = n }
+abbrev pub answer_alone : Wanted → ℕ → ScalarMessage
+answer_alone w n =
+    record { command = command.ReadNotify; data_type = w.data_type; id = w.id; payload = n }

@@ -1,5 +1,6 @@
 -- Working: what one step of an open end comes to.
-use Rattle.std.specs.Prelude.{ℕ, ◌≡◌, ◌+◌, ◌<◌, ◌≤◌, ◌++◌, List, Option, None, Some, drop, length, replicate, take}
+use Rattle.std.specs.Prelude.{ℕ, ◌≡◌, ◌+◌, ◌<◌, ◌≤◌, ◌++◌, List, Option, None, Some, drop, length}
+use Rattle.std.specs.Prelude.{replicate, take}
 use Rattle.ca_arena.specs.declared.handle.Handle.{Handle}
 use Rattle.ca_dbr.specs.Octets.{AreBytes}
 use Rattle.ca_link.specs.Link.{TakesFirst, with_rest}
@@ -22,22 +23,23 @@ use Rattle.ca_model.specs.Due.{Action, Due, Knows}
 use Rattle.ca_model.specs.Ends.{Why}
 use Rattle.ca_model.specs.Ends as why
 use Rattle.ca_model.specs.Server.{ServerEnd}
-use Rattle.ca_server_circuit.specs.declared.cause.Cause.{Cause}
-use Rattle.ca_server_circuit.specs.declared.cause.Cause.TheVariants as cause
+use Rattle.ca_server_circuit.specs.declared.cause.EndCause.{EndCause}
+use Rattle.ca_server_circuit.specs.declared.cause.EndCause.TheVariants as cause
 use Rattle.ca_server_circuit.specs.declared.step.FollowUp.{FollowUp}
 use Rattle.ca_server_circuit.specs.declared.step.EndStep.{EndStep}
-use Rattle.ca_server_circuit.specs.declared.step.EndStep.TheVariants.{Breaks, Handled, NeedBytes, OutputFull}
+use Rattle.ca_server_circuit.specs.declared.step.EndStep.TheVariants.{Breaks, Handled, NeedBytes}
+use Rattle.ca_server_circuit.specs.declared.step.EndStep.TheVariants.{OutputFull}
 use Rattle.ca_server_circuit.specs.Handling.{AllStay, Does, MayLack, known}
 
 -- the cause, as the statement names it
-abbrev pub why_is : Cause → Why
+abbrev pub why_is : EndCause → Why
 why_is cause.OutOfMemory = why.OutOfMemory
 why_is cause.Misaligned = why.Misaligned
 why_is cause.TooLarge = why.TooLarge
 why_is cause.Cut = why.Cut
 
 -- the cause for which an end is closed if its link refuses to read
-abbrev pub cause_for : Refusal → Cause
+abbrev pub cause_for : Refusal → EndCause
 cause_for refusal.Misaligned = cause.Misaligned
 cause_for refusal.TooLarge = cause.TooLarge
 cause_for _ = cause.OutOfMemory
@@ -54,10 +56,13 @@ abbrev pub after_first : {e : ServerEnd} → Takes e → ServerEnd
 after_first {e} t = record e { link = with_rest t.rest e.link }
 
 -- Why an end breaks: out of memory for its first message, or at a bad header.
-abbrev pub BreaksBy : (port : ℕ) → Store → ServerEnd → Cause → Type 0
-BreaksBy port s e cause.OutOfMemory = (t : Takes e) × AreBytes e.link.input.bytes × MayLack (known port s (after_first t)) t.m
-BreaksBy port s e cause.Misaligned = (length e.link.output < output_limit) × BadAt e.link.input.bytes refusal.Misaligned
-BreaksBy port s e cause.TooLarge = (length e.link.output < output_limit) × BadAt e.link.input.bytes refusal.TooLarge
+abbrev pub BreaksBy : (port : ℕ) → Store → ServerEnd → EndCause → Type 0
+BreaksBy port s e cause.OutOfMemory =
+    (t : Takes e) × AreBytes e.link.input.bytes × MayLack (known port s (after_first t)) t.m
+BreaksBy port s e cause.Misaligned =
+    (length e.link.output < output_limit) × BadAt e.link.input.bytes refusal.Misaligned
+BreaksBy port s e cause.TooLarge =
+    (length e.link.output < output_limit) × BadAt e.link.input.bytes refusal.TooLarge
 BreaksBy port s e cause.Cut = ⊥
 
 -- One step of an open end on this circuit: what it did, and left. An end that breaks is to be
@@ -65,10 +70,13 @@ BreaksBy port s e cause.Cut = ⊥
 abbrev pub EndSteps : (port : ℕ) → Handle → ServerEnd → Store → EndStep → ServerEnd → Store → Type 0
 EndSteps port h e s OutputFull new t = (output_limit ≤ length e.link.output) × (new ≡ e) × (t ≡ s)
 EndSteps port h e s NeedBytes new t =
-    (length e.link.output < output_limit) × NoneBegins e.link.input.bytes × NotBad e.link.input.bytes × (new ≡ e) × (t ≡ s)
+    (length e.link.output < output_limit) × NoneBegins e.link.input.bytes
+    × NotBad e.link.input.bytes × (new ≡ e) × (t ≡ s)
 EndSteps port h e s (Handled did) new t =
     (x : Takes e) × Does (Due (known port s (after_first x)) x.m) s h (after_first x) x.m did t new
-EndSteps port h e s (Breaks c) new t = BreaksBy port s e c × (new.link.output ≡ e.link.output) × AllStay e.channels new.channels × (t ≡ s)
+EndSteps port h e s (Breaks c) new t =
+    BreaksBy port s e c × (new.link.output ≡ e.link.output) × AllStay e.channels new.channels
+    × (t ≡ s)
 
 -- the end without its first message, of 24 bytes
 abbrev pub after_short : ServerEnd → ServerEnd
@@ -76,9 +84,12 @@ after_short e = record e { link = with_rest (drop 24 e.link.input.bytes) e.link 
 
 -- What is due by this relation was done for the first message, which is of this command, names
 -- this, and is 24 bytes.
-abbrev pub DoesShort : (Knows → Fields → List Fields → Action → Type 0) → Command → Wanted → Handle → Store → ServerEnd → FollowUp → Store → ServerEnd → Type 0
+abbrev pub DoesShort : (Knows → Fields → List Fields → Action → Type 0) → Command → Wanted → Handle
+    → Store → ServerEnd → FollowUp → Store → ServerEnd → Type 0
 DoesShort D c w h s e did t new =
-    (port : ℕ) → Does (D (known port s (after_short e)) (short_in e.link.input.bytes c w)) s h (after_short e) (short_in e.link.input.bytes c w) did t new
+    (port : ℕ)
+    → Does (D (known port s (after_short e)) (short_in e.link.input.bytes c w)) s h (after_short e)
+    (short_in e.link.input.bytes c w) did t new
 
 -- What a fast path answers: none, and then nothing has changed; or what it did, which is
 -- a step as any other.
@@ -94,7 +105,15 @@ done_for w = record { data_type = w.data_type; id = w.id }
 
 -- the message of this header with this payload
 abbrev pub message_of : Header → List ℕ → Fields
-message_of h payload = record { command = h.command; data_type = h.data_type; count = h.count; p1 = h.p1; p2 = h.p2; payload = payload }
+message_of h payload =
+    record {
+      command = h.command;
+      data_type = h.data_type;
+      count = h.count;
+      p1 = h.p1;
+      p2 = h.p2;
+      payload = payload;
+    }
 
 -- the message at the front of these bytes, which has this header
 abbrev pub first_at : List ℕ → Head → Fields
@@ -102,11 +121,17 @@ first_at bytes head = message_of head.header (take head.header.size (drop head.s
 
 -- the end without it
 abbrev pub after_head : Head → ServerEnd → ServerEnd
-after_head head e = record e { link = with_rest (drop (head.start + head.header.size) e.link.input.bytes) e.link }
+after_head head e =
+    record e { link = with_rest (drop (head.start + head.header.size) e.link.input.bytes) e.link }
 
 -- the ERROR with this CID that says this status, and quotes this header
 abbrev pub error_on : ℕ → ℕ → Header → Fields
-error_on cid status h = record (bare command.Error) { p1 = cid; p2 = status; payload = header_spelling h ++ replicate 8 0 }
+error_on cid status h =
+    record (bare command.Error) {
+      p1 = cid;
+      p2 = status;
+      payload = header_spelling h ++ replicate 8 0;
+    }
 
 -- what a header of a request on a channel names
 abbrev pub named_by : Header → Wanted

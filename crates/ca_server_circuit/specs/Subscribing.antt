@@ -20,7 +20,8 @@ events_of e = record { subscriptions = e.subscriptions; queues = e.queues }
 
 -- the subscription of an EVENT_ADD may begin: its key is in use or not, beside that many others
 abbrev pub MayBegin : (in_use : Bool) → (others : ℕ) → Fields → Type 0
-MayBegin in_use others m = IsAskable (wanted_in m) × (in_use ≡ false) × (others < circuit_queues * queue_subscriptions)
+MayBegin in_use others m =
+    IsAskable (wanted_in m) × (in_use ≡ false) × (others < circuit_queues * queue_subscriptions)
 
 -- it may begin on an end
 pub record CanJoin (e : ServerEnd) (m : Fields) : Type 0 where
@@ -30,11 +31,14 @@ pub record CanJoin (e : ServerEnd) (m : Fields) : Type 0 where
 
 -- it began on the end, on this record
 abbrev pub HasJoined : RecordState → Fields → ServerEnd → ServerEnd → Type 0
-HasJoined r m old new = TakesIn (subscription_in m r.name) (record { value = r.value; meta = r.meta }) old new
+HasJoined r m old new =
+    TakesIn (subscription_in m r.name) (record { value = r.value; meta = r.meta }) old new
 
 -- the subscription is on an open channel to the record that it names, which was not removed
 abbrev pub IsOnChannel : Table OpenChannel → Subscription → Type 0
-IsOnChannel t s = (h : Handle) × (c : OpenChannel) × (under t h ≡ Some c) × (wire_of h ≡ s.wanted.sid) × (c.name ≡ s.name) × (c.retired ≡ false)
+IsOnChannel t s =
+    (h : Handle) × (c : OpenChannel) × (under t h ≡ Some c) × (wire_of h ≡ s.wanted.sid)
+    × (c.name ≡ s.name) × (c.retired ≡ false)
 
 -- each of them is
 abbrev pub AreOnChannels : Table OpenChannel → List Subscription → Type 0

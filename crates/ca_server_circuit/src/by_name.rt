@@ -2,7 +2,7 @@
 ghost use Rattle.std.specs.Prelude.{ℕ, ◌≡◌, List, [], None, OnErr, OnOk};
 ghost use Rattle.ca_server_circuit.specs.ByName.{Enters, Goes, channels_in, line_of};
 
-use crate::line::Line;
+use crate::record_channels::RecordChannels;
 use ca_arena::Handle;
 use indexmap::IndexMap;
 use std::alloc::{AllocError, Global};
@@ -12,7 +12,7 @@ use std::marker::Model;
 /// whose record was removed.
 #[derive(Drop)]
 pub(crate) struct ByName {
-    lines: IndexMap<Vec<u8>, Line>,
+    lines: IndexMap<Vec<u8>, RecordChannels>,
 }
 
 impl Model for ByName {
@@ -64,7 +64,7 @@ impl ByName {
         ensures err { OnErr result (self.new ≡ self.old) }
     {
         let alloc = *self.lines.allocator();
-        let line = Line::one(alloc, channel)?;
+        let line = RecordChannels::one(alloc, channel)?;
         let name = Vec::from_slice(alloc, name)?;
         self.lines.insert(name, line)?;
         Ok(())

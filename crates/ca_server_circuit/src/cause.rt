@@ -2,7 +2,7 @@
 
 /// Why a server's end of a circuit ended.
 #[derive(Clone, Copy, Debug, PartialEq, Eq)]
-pub enum Cause {
+pub enum EndCause {
     /// There was no memory for what was asked.
     OutOfMemory,
     /// A header whose payload size is no multiple of 8.

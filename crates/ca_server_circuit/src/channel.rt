@@ -1,7 +1,7 @@
 //! An open channel as a circuit keeps it.
 ghost use Rattle.std.specs.Prelude.{◌≡◌, IfOk, IfSome, false, true};
 
-use crate::name::Name;
+use crate::name::KeptName;
 use ca_wire::Cid;
 use std::alloc::{AllocError, Global};
 use std::marker::Model;
@@ -9,24 +9,24 @@ use std::marker::Model;
 /// An open channel of a circuit. It takes 16 bytes in its table: most circuits have few channels,
 /// and a table takes memory for 64.
 #[derive(Debug, Drop)]
-pub(crate) struct Channel {
-    kept: Box<Kept>,
+pub(crate) struct ServedChannel {
+    kept: Box<KeptChannel>,
 }
 
 /// What is kept of a channel.
 #[derive(Debug, Drop)]
-pub(crate) struct Kept {
+pub(crate) struct KeptChannel {
     cid: Cid,
     // Its record was removed.
     retired: bool,
     // The name of its record.
-    name: Name,
+    name: KeptName,
     // The place of its record when the channel was created. The record is mostly still
     // there; its name decides.
     place: usize,
 }
 
-impl Model for Kept {
+impl Model for KeptChannel {
     ghost use Rattle.ca_model.specs.Server.{OpenChannel};
 
     ghost Value = { OpenChannel };
@@ -34,7 +34,7 @@ impl Model for Kept {
     ghost view = { λ c. record { cid = c.cid; name = c.name; retired = c.retired } };
 }
 
-impl Model for Channel {
+impl Model for ServedChannel {
     ghost use Rattle.ca_model.specs.Server.{OpenChannel};
 
     ghost Value = { OpenChannel };
@@ -42,7 +42,7 @@ impl Model for Channel {
     ghost view = { λ c. c.kept.value };
 }
 
-impl Kept {
+impl KeptChannel {
     // Its id at the client.
     pub(crate) fn cid(&self) -> Cid
         ensures { result ≡ self.now.cid }
@@ -70,11 +70,11 @@ impl Kept {
     }
 
     // A copy of it, if its name has no memory of its own.
-    fn copy(&self) -> Option<Kept>
+    fn copy(&self) -> Option<KeptChannel>
         ensures { IfSome result (λ c. c ≡ self.now) }
     {
         match self.name.copy() {
-            Some(name) => Some(Kept {
+            Some(name) => Some(KeptChannel {
                 cid: self.cid,
                 retired: self.retired,
                 name,
@@ -91,38 +91,38 @@ impl Kept {
     }
 }
 
-impl Channel {
+impl ServedChannel {
     // A channel to the record of this name, which is at this place.
     pub(crate) fn new(
         alloc: Global,
         cid: Cid,
         name: Vec<u8>,
         place: usize,
-    ) -> Result<Channel, AllocError>
+    ) -> Result<ServedChannel, AllocError>
         ensures { IfOk result (λ c.
             c ≡ record { cid = cid; name = name.items; retired = false }) }
     {
-        let kept = Kept {
+        let kept = KeptChannel {
             cid,
             retired: false,
-            name: Name::of(name),
+            name: KeptName::of(name),
             place,
         };
         match Box::new(alloc, kept) {
-            Ok(kept) => Ok(Channel { kept }),
+            Ok(kept) => Ok(ServedChannel { kept }),
             Err(_) => Err(AllocError),
         }
     }
 
     // What is kept of it.
-    pub(crate) fn kept(&self) -> &Kept
+    pub(crate) fn kept(&self) -> &KeptChannel
         ensures { result.now ≡ self.now }
     {
         self.kept.as_ref()
     }
 
     // A copy of what is kept of it, if its name has no memory of its own.
-    pub(crate) fn copy(&self) -> Option<Kept>
+    pub(crate) fn copy(&self) -> Option<KeptChannel>
         ensures { IfSome result (λ c. c ≡ self.now) }
     {
         self.kept().copy()

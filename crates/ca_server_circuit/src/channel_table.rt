@@ -1,12 +1,14 @@
 //! The channels of a circuit under their SIDs and under the names of their records.
-ghost use Rattle.std.specs.Prelude.{◌≡◌, ◌<◌, [], IfOk, OnErr, false, length, option_copied, option_map};
+ghost use Rattle.std.specs.Prelude.{◌≡◌, ◌<◌, [], IfOk, OnErr, false, length, option_copied};
+ghost use Rattle.std.specs.Prelude.{option_map};
 ghost use Rattle.ca_arena.specs.Arena.{place_at};
-ghost use Rattle.ca_ids.specs.Table.{MayGive, by_wire, held_at, is_full, under, with_changed, with_freed, with_held};
+ghost use Rattle.ca_ids.specs.Table.{MayGive, by_wire, held_at, is_full, under, with_changed};
+ghost use Rattle.ca_ids.specs.Table.{with_freed, with_held};
 ghost use Rattle.ca_server_circuit.specs.ByName.{AreByName, channels_to};
 ghost use Rattle.ca_server_circuit.specs.Removing.{without_record};
 
 use crate::by_name::ByName;
-use crate::channel::Channel;
+use crate::channel::ServedChannel;
 use ca_arena::Handle;
 use ca_ids::{HeldTable, WireId};
 use std::alloc::{AllocError, Global};
@@ -15,7 +17,7 @@ use std::marker::Model;
 /// The open channels of a circuit by their SIDs, and by the names of their records.
 #[derive(Drop)]
 pub(crate) struct ChannelTable {
-    table: HeldTable<Channel>,
+    table: HeldTable<ServedChannel>,
     // The channels whose records were not removed.
     by_name: ByName,
 }
@@ -59,21 +61,21 @@ impl ChannelTable {
     }
 
     // The channel of this SID.
-    pub(crate) fn by_wire(&self, sid: WireId) -> Option<(Handle, &Channel)>
+    pub(crate) fn by_wire(&self, sid: WireId) -> Option<(Handle, &ServedChannel)>
         ensures { option_map (λ e. (e.0, e.1.now)) result ≡ by_wire self.now sid }
     {
         self.table.by_wire(sid)
     }
 
     // The channel under this handle.
-    pub(crate) fn by_handle(&self, channel: Handle) -> Option<&Channel>
+    pub(crate) fn by_handle(&self, channel: Handle) -> Option<&ServedChannel>
         ensures { option_copied result ≡ under self.now channel }
     {
         self.table.by_handle(channel)
     }
 
     // The channel of this index, with its handle.
-    pub(crate) fn at(&self, index: usize) -> Option<(Handle, &Channel)>
+    pub(crate) fn at(&self, index: usize) -> Option<(Handle, &ServedChannel)>
         requires { index < length self.now }
         ensures { option_map (λ e. (e.0, e.1.now)) result
             ≡ held_at index (place_at self.now index) }
@@ -89,7 +91,7 @@ impl ChannelTable {
     }
 
     // Opens a channel, and says under which handle. Without memory the channels are as they were.
-    pub(crate) fn open(&mut self, channel: Channel) -> Result<Handle, AllocError>
+    pub(crate) fn open(&mut self, channel: ServedChannel) -> Result<Handle, AllocError>
         requires { channel.retired ≡ false }
         ensures ok { IfOk result (λ h.
             MayGive self.old h × (self.new ≡ with_held h channel self.old)) }
@@ -130,7 +132,7 @@ impl ChannelTable {
 
 // The channel under this handle is no longer in a line: it is to be closed, or
 // its record was removed.
-fn forget(by_name: &mut ByName, table: &HeldTable<Channel>, channel: Handle)
+fn forget(by_name: &mut ByName, table: &HeldTable<ServedChannel>, channel: Handle)
     requires { AreByName by_name.old table.now }
     ensures { AreByName by_name.new (with_freed channel table.now) }
 {

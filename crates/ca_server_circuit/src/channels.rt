@@ -1,14 +1,16 @@
 //! The channels of a circuit, with a copy of the one used last.
-ghost use Rattle.std.specs.Prelude.{◌≡◌, ◌<◌, ◌≤◌, ◌↔◌, length, [], IsSome, IsTrue, IfOk, OnErr, Some, false, is_some, option_map};
+ghost use Rattle.std.specs.Prelude.{◌≡◌, ◌<◌, ◌≤◌, ◌↔◌, length, [], IsSome, IsTrue, IfOk, OnErr};
+ghost use Rattle.std.specs.Prelude.{Some, false, is_some, option_map};
 ghost use Rattle.ca_text.specs.Limits.{arena_slots};
 ghost use Rattle.ca_arena.specs.Arena.{place_at};
-ghost use Rattle.ca_ids.specs.Table.{MayGive, by_wire, held_at, is_full, under, with_changed, with_held};
+ghost use Rattle.ca_ids.specs.Table.{MayGive, by_wire, held_at, is_full, under, with_changed};
+ghost use Rattle.ca_ids.specs.Table.{with_held};
 ghost use Rattle.ca_server_circuit.specs.ByName.{IsLastTo, channels_to};
 ghost use Rattle.ca_server_circuit.specs.Cids.{UsesCid, come, leave};
 ghost use Rattle.ca_server_circuit.specs.Clearing.{without_sid};
 ghost use Rattle.ca_server_circuit.specs.Removing.{without_record};
 
-use crate::channel::{Channel, Kept};
+use crate::channel::{KeptChannel, ServedChannel};
 use crate::channel_table::ChannelTable;
 use ca_arena::Handle;
 use ca_ids::WireId;
@@ -20,16 +22,16 @@ use std::marker::Model;
 /// The open channels of a circuit, by their SIDs, each of which is the wire id of
 /// its channel's handle.
 #[derive(Drop)]
-pub(crate) struct Channels {
+pub(crate) struct ServedChannels {
     // A copy of one of the channels, mostly the only one. With many circuits a message then
     // touches fewer cache lines.
-    front: Option<(Handle, Kept)>,
+    front: Option<(Handle, KeptChannel)>,
     table: ChannelTable,
     // The CIDs in use.
     cids: HashSet<u32>,
 }
 
-impl Model for Channels {
+impl Model for ServedChannels {
     ghost use Rattle.ca_ids.specs.Table.{Table};
     ghost use Rattle.ca_model.specs.Server.{OpenChannel};
 
@@ -42,12 +44,12 @@ impl Model for Channels {
     ghost invariant = { λ c. IsIndexed c.table c.cids × IsInFront c.table c.front };
 }
 
-impl Channels {
+impl ServedChannels {
     // No channels. It does not allocate yet.
-    pub(crate) fn new(alloc: Global) -> Channels
+    pub(crate) fn new(alloc: Global) -> ServedChannels
         ensures { result ≡ [] }
     {
-        Channels {
+        ServedChannels {
             front: None,
             table: ChannelTable::new(alloc),
             cids: HashSet::new(alloc),
@@ -71,7 +73,7 @@ impl Channels {
 
     // The channel of this SID.
     #[inline(always)]
-    pub(crate) fn by_sid(&self, sid: Sid) -> Option<(Handle, &Kept)>
+    pub(crate) fn by_sid(&self, sid: Sid) -> Option<(Handle, &KeptChannel)>
         ensures found { option_map (λ e. (e.0, e.1.now)) result ≡ by_wire self.now sid }
         ensures limit { length self.now ≤ arena_slots }
     {
@@ -85,7 +87,7 @@ impl Channels {
 
     // The channel of this SID, as the table has it.
     #[inline(never)]
-    fn in_table(&self, sid: Sid) -> Option<(Handle, &Kept)>
+    fn in_table(&self, sid: Sid) -> Option<(Handle, &KeptChannel)>
         ensures { option_map (λ e. (e.0, e.1.now)) result ≡ by_wire self.now sid }
     {
         match self.table.by_wire(WireId::new(sid.number())) {
@@ -116,7 +118,7 @@ impl Channels {
     }
 
     // The channel of this index, with its handle.
-    pub(crate) fn at(&self, index: usize) -> Option<(Handle, &Channel)>
+    pub(crate) fn at(&self, index: usize) -> Option<(Handle, &ServedChannel)>
         requires { index < length self.now }
         ensures { option_map (λ e. (e.0, e.1.now)) result
             ≡ held_at index (place_at self.now index) }
@@ -153,7 +155,7 @@ impl Channels {
     }
 
     // Opens a channel, and says under which handle. Without memory the channels are as they were.
-    pub(crate) fn open(&mut self, channel: Channel) -> Result<Handle, AllocError>
+    pub(crate) fn open(&mut self, channel: ServedChannel) -> Result<Handle, AllocError>
         requires room { is_full self.old ≡ false }
         requires new { UsesCid self.old channel.cid → ⊥ }
         requires served { channel.retired ≡ false }
@@ -200,7 +202,7 @@ impl Channels {
 }
 
 // A new channel is copied in front if none is there, unless its name has memory of its own.
-fn come(front: &mut Option<(Handle, Kept)>, channel: Handle, copy: Option<Kept>)
+fn come(front: &mut Option<(Handle, KeptChannel)>, channel: Handle, copy: Option<KeptChannel>)
     ensures { front.new ≡ come channel copy front.old }
 {
     if front.is_some() {
@@ -213,7 +215,7 @@ fn come(front: &mut Option<(Handle, Kept)>, channel: Handle, copy: Option<Kept>)
 }
 
 // The channel under this handle is no longer in front.
-fn leave(front: &mut Option<(Handle, Kept)>, channel: Handle)
+fn leave(front: &mut Option<(Handle, KeptChannel)>, channel: Handle)
     ensures { front.new ≡ leave channel front.old }
 {
     let Some((handle, _)) = &*front else {

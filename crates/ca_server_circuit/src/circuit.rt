@@ -1,11 +1,13 @@
 //! A circuit of a server: its open end, or the bytes that an ended one left.
-ghost use Rattle.std.specs.Prelude.{◌≡◌, ◌≢◌, ◌≤◌, [], IfOk, OnErr, Some, false, length, option_map, true};
+ghost use Rattle.std.specs.Prelude.{◌≡◌, ◌≢◌, ◌≤◌, [], IfOk, OnErr, Some, false, length};
+ghost use Rattle.std.specs.Prelude.{option_map, true};
 ghost use Rattle.ca_model.specs.Server.{ServerEnd, new_end};
 ghost use Rattle.ca_model.specs.Server as server;
 ghost use Rattle.ca_model.specs.ServerSteps.{Rests, output_of};
 ghost use Rattle.ca_records.specs.Store.{IsThere, records_of};
 ghost use Rattle.ca_server_circuit.specs.AtOnce.{ShowsAt};
-ghost use Rattle.ca_server_circuit.specs.Circuits.{CircuitIsSound, GivesAt, IsLive, SendsAt, circuit_of, is_open};
+ghost use Rattle.ca_server_circuit.specs.Circuits.{CircuitIsSound, GivesAt, IsLive, SendsAt};
+ghost use Rattle.ca_server_circuit.specs.Circuits.{circuit_of, is_open};
 ghost use Rattle.ca_server_circuit.specs.Clearing.{ArePuts};
 ghost use Rattle.ca_server_circuit.specs.Concerned.{ConcernsOn, bytes_on, channels_on};
 ghost use Rattle.ca_server_circuit.specs.Ending.{ArePutsAt, EndsAt, IsLeft, WithdrawsAll};
@@ -17,7 +19,7 @@ ghost use Rattle.ca_server_circuit.specs.Removing.{LosesAt, MayLose};
 ghost use Rattle.ca_server_circuit.specs.Serving.{CircuitSteps};
 ghost use Rattle.ca_server_circuit.specs.Stepping.{why_is};
 
-use crate::cause::Cause;
+use crate::cause::EndCause;
 use crate::end::End;
 use crate::step::EndStep;
 use ca_arena::Handle;
@@ -31,15 +33,15 @@ use std::marker::Model;
 /// A circuit of a server.
 #[derive(Drop)]
 pub struct Circuit {
-    state: State,
+    state: CircuitState,
 }
 
 // Its end is open, or ended in another call than a step, and left these bytes. A
 // step reports that once.
 #[derive(Drop)]
-enum State {
+enum CircuitState {
     Open(End),
-    Ended(Cause, Pipe),
+    Ended(EndCause, Pipe),
 }
 
 impl Model for Circuit {
@@ -59,7 +61,7 @@ impl Circuit {
     {
         let end = End::new(alloc, now);
         Circuit {
-            state: State::Open(end),
+            state: CircuitState::Open(end),
         }
     }
 
@@ -70,8 +72,8 @@ impl Circuit {
         ensures { GivesAt now bytes.now self.old result self.new }
     {
         match &mut self.state {
-            State::Open(end) => end.link.give(now, bytes),
-            State::Ended(_, _) => Err(Refusal::CircuitClosed),
+            CircuitState::Open(end) => end.link.give(now, bytes),
+            CircuitState::Ended(_, _) => Err(Refusal::CircuitClosed),
         }
     }
 
@@ -80,8 +82,8 @@ impl Circuit {
         ensures { self.new ≡ self.old }
     {
         match &mut self.state {
-            State::Open(end) => end.link.borrow_from(spares),
-            State::Ended(_, _) => {}
+            CircuitState::Open(end) => end.link.borrow_from(spares),
+            CircuitState::Ended(_, _) => {}
         }
     }
 
@@ -90,8 +92,8 @@ impl Circuit {
         ensures { self.new ≡ self.old }
     {
         match &mut self.state {
-            State::Open(end) => end.link.give_back(spares),
-            State::Ended(_, _) => {}
+            CircuitState::Open(end) => end.link.give_back(spares),
+            CircuitState::Ended(_, _) => {}
         }
     }
 
@@ -100,8 +102,8 @@ impl Circuit {
         ensures { result.now ≡ output_of (Some self.now) }
     {
         match &self.state {
-            State::Open(end) => end.link.out_bytes(),
-            State::Ended(_, _) => &[],
+            CircuitState::Open(end) => end.link.out_bytes(),
+            CircuitState::Ended(_, _) => &[],
         }
     }
 
@@ -117,7 +119,7 @@ impl Circuit {
         ensures { CircuitSteps port circuit self.old records.old result self.new records.new }
     {
         match &mut self.state {
-            State::Open(end) => {
+            CircuitState::Open(end) => {
                 let did = end.step(port, circuit, records);
                 end.know();
                 match did {
@@ -130,7 +132,7 @@ impl Circuit {
                     }
                 }
             }
-            State::Ended(_, _) => None,
+            CircuitState::Ended(_, _) => None,
         }
     }
 
@@ -141,16 +143,16 @@ impl Circuit {
         ensures { RepliesAt put self.old records.old self.new records.new }
     {
         match &mut self.state {
-            State::Open(end) => {
+            CircuitState::Open(end) => {
                 if !end.channels.has(put.channel) {
                     return;
                 }
                 match end.finish(put) {
                     Ok(()) => {}
-                    Err(_) => self.close(put.circuit, Cause::OutOfMemory, records),
+                    Err(_) => self.close(put.circuit, EndCause::OutOfMemory, records),
                 }
             }
-            State::Ended(_, _) => {}
+            CircuitState::Ended(_, _) => {}
         }
     }
 
@@ -171,17 +173,17 @@ impl Circuit {
         ensures watches { WatchesAt place self.old records.old result }
     {
         match &mut self.state {
-            State::Open(end) => match end.post(records.at(place).state(), mask) {
+            CircuitState::Open(end) => match end.post(records.at(place).state(), mask) {
                 Ok(on) => {
                     end.know();
                     on
                 }
                 Err(_) => {
-                    self.close(circuit, Cause::OutOfMemory, records);
+                    self.close(circuit, EndCause::OutOfMemory, records);
                     true
                 }
             },
-            State::Ended(_, _) => false,
+            CircuitState::Ended(_, _) => false,
         }
     }
 
@@ -203,12 +205,12 @@ impl Circuit {
         ensures stays { result ≡ false → self.new ≡ self.old }
     {
         match &mut self.state {
-            State::Open(end) => {
+            CircuitState::Open(end) => {
                 let shown = end.show_at_once(records.at(place).state(), mask);
                 end.know();
                 shown
             }
-            State::Ended(_, _) => false,
+            CircuitState::Ended(_, _) => false,
         }
     }
 
@@ -219,11 +221,11 @@ impl Circuit {
         ensures { PumpsAt circuit self.old records.old self.new records.new }
     {
         match &mut self.state {
-            State::Open(end) => match end.pump() {
+            CircuitState::Open(end) => match end.pump() {
                 Ok(()) => end.know(),
-                Err(_) => self.close(circuit, Cause::OutOfMemory, records),
+                Err(_) => self.close(circuit, EndCause::OutOfMemory, records),
             },
-            State::Ended(_, _) => {}
+            CircuitState::Ended(_, _) => {}
         }
     }
 
@@ -232,8 +234,8 @@ impl Circuit {
         ensures { result ≡ true → (e : ServerEnd) → self.now ≡ server.Open e → Rests e }
     {
         match &self.state {
-            State::Open(end) => end.subscriptions.is_idle(),
-            State::Ended(_, _) => true,
+            CircuitState::Open(end) => end.subscriptions.is_idle(),
+            CircuitState::Ended(_, _) => true,
         }
     }
 
@@ -245,27 +247,27 @@ impl Circuit {
         ensures { LosesAt circuit name.now self.old records.old self.new records.new }
     {
         match &mut self.state {
-            State::Open(end) => match end.lose(name) {
+            CircuitState::Open(end) => match end.lose(name) {
                 Ok(()) => end.know(),
-                Err(_) => self.close(circuit, Cause::OutOfMemory, records),
+                Err(_) => self.close(circuit, EndCause::OutOfMemory, records),
             },
-            State::Ended(_, _) => {}
+            CircuitState::Ended(_, _) => {}
         }
     }
 
     /// Why its end has ended, and what it left. One that is open is cut.
-    pub fn into_left(self) -> (Cause, Pipe)
+    pub fn into_left(self) -> (EndCause, Pipe)
         ensures { IsLeft self result.0 result.1 }
     {
         match self.state {
-            State::Open(end) => (Cause::Cut, end.link.into_left()),
-            State::Ended(cause, left) => (cause, left),
+            CircuitState::Open(end) => (EndCause::Cut, end.link.into_left()),
+            CircuitState::Ended(cause, left) => (cause, left),
         }
     }
 
     /// Its end ends for this cause, if it is open: its puts that wait are taken out of the records,
     /// and what waits to be sent is left. It does not allocate.
-    pub fn end(&mut self, circuit: Handle, cause: Cause, records: &mut ServedRecords)
+    pub fn end(&mut self, circuit: Handle, cause: EndCause, records: &mut ServedRecords)
         requires { CircuitIsSound (records_of records.old) circuit self.old }
         ensures { EndsAt circuit self.old records.old (why_is cause) self.new records.new }
     {
@@ -277,13 +279,13 @@ impl Circuit {
     // which an end has room.
     #[cold]
     #[inline(never)]
-    fn close(&mut self, circuit: Handle, cause: Cause, records: &mut ServedRecords)
+    fn close(&mut self, circuit: Handle, cause: EndCause, records: &mut ServedRecords)
         requires { ArePutsAt circuit (records_of records.old) self.old }
         ensures { EndsAt circuit self.old records.old (why_is cause) self.new records.new }
     {
         match &mut self.state {
-            State::Open(end) => self.state = ended(end, circuit, cause, records),
-            State::Ended(_, _) => {}
+            CircuitState::Open(end) => self.state = ended(end, circuit, cause, records),
+            CircuitState::Ended(_, _) => {}
         }
     }
 
@@ -293,8 +295,20 @@ impl Circuit {
         ensures { SendsAt n self.old self.new }
     {
         match &mut self.state {
-            State::Open(end) => end.link.sent(n),
-            State::Ended(_, _) => {}
+            CircuitState::Open(end) => end.link.sent(n),
+            CircuitState::Ended(_, _) => {}
+        }
+    }
+
+    /// All bytes that wait are handed over, in place of those that are there, whose memory it keeps
+    /// for more. Nothing is copied, and it does not allocate.
+    pub fn hand_over(&mut self, to: &mut Pipe)
+        ensures handed { to.new ≡ output_of (Some self.old) }
+        ensures left { SendsAt (length (output_of (Some self.old))) self.old self.new }
+    {
+        match &mut self.state {
+            CircuitState::Open(end) => end.link.hand_over(to),
+            CircuitState::Ended(_, _) => to.truncate(0),
         }
     }
 
@@ -304,8 +318,8 @@ impl Circuit {
         ensures { ConcernsOn name.now mask place self.now result }
     {
         match &self.state {
-            State::Open(end) => end.subscriptions.concerned_at(place, name, mask),
-            State::Ended(_, _) => None,
+            CircuitState::Open(end) => end.subscriptions.concerned_at(place, name, mask),
+            CircuitState::Ended(_, _) => None,
         }
     }
 
@@ -315,8 +329,8 @@ impl Circuit {
         ensures { result.now ≡ bytes_on self.now }
     {
         match &self.state {
-            State::Open(_) => self.out_bytes(),
-            State::Ended(_, left) => left.bytes(),
+            CircuitState::Open(_) => self.out_bytes(),
+            CircuitState::Ended(_, left) => left.bytes(),
         }
     }
 
@@ -328,8 +342,8 @@ impl Circuit {
         ensures some { OnErr result (channels_on name.now self.now ≢ []) }
     {
         match &self.state {
-            State::Open(end) => end.channels_to(name),
-            State::Ended(_, _) => Ok(Vec::new(alloc)),
+            CircuitState::Open(end) => end.channels_to(name),
+            CircuitState::Ended(_, _) => Ok(Vec::new(alloc)),
         }
     }
 
@@ -338,8 +352,8 @@ impl Circuit {
         ensures { result ≡ is_open (Some self.now) }
     {
         match &self.state {
-            State::Open(_) => true,
-            State::Ended(_, _) => false,
+            CircuitState::Open(_) => true,
+            CircuitState::Ended(_, _) => false,
         }
     }
 
@@ -349,8 +363,8 @@ impl Circuit {
         ensures { NamesAt self.now sid (option_map (λ t. t.now) result) }
     {
         match &self.state {
-            State::Open(end) => end.served_name(sid),
-            State::Ended(_, _) => None,
+            CircuitState::Open(end) => end.served_name(sid),
+            CircuitState::Ended(_, _) => None,
         }
     }
 
@@ -360,8 +374,8 @@ impl Circuit {
         ensures { option_map (λ t. t.now) result ≡ option_map (λ p. p.user) (peer_on self.now) }
     {
         match &self.state {
-            State::Open(end) => Some(end.user.as_slice()),
-            State::Ended(_, _) => None,
+            CircuitState::Open(end) => Some(end.user.as_slice()),
+            CircuitState::Ended(_, _) => None,
         }
     }
 
@@ -371,19 +385,24 @@ impl Circuit {
         ensures { option_map (λ t. t.now) result ≡ option_map (λ p. p.host) (peer_on self.now) }
     {
         match &self.state {
-            State::Open(end) => Some(end.host.as_slice()),
-            State::Ended(_, _) => None,
+            CircuitState::Open(end) => Some(end.host.as_slice()),
+            CircuitState::Ended(_, _) => None,
         }
     }
 }
 
 // The state of a circuit whose end ends for this cause: its puts that wait are taken out of the
 // records, and what waits to be sent is left.
-fn ended(end: &mut End, circuit: Handle, cause: Cause, records: &mut ServedRecords) -> State
+fn ended(
+    end: &mut End,
+    circuit: Handle,
+    cause: EndCause,
+    records: &mut ServedRecords,
+) -> CircuitState
     requires { ArePuts circuit (records_of records.old) end.old.channels }
     ensures state { circuit_of result ≡ server.Ended (why_is cause) end.old.link.output }
     ensures records { WithdrawsAll circuit records.old records.new }
 {
     let left = end.leave(circuit, records);
-    State::Ended(cause, left)
+    CircuitState::Ended(cause, left)
 }

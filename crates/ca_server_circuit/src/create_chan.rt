@@ -12,10 +12,10 @@ ghost use Rattle.ca_server_circuit.specs.declared.step.FollowUp.TheVariants.{Qui
 ghost use Rattle.ca_server_circuit.specs.Handling.{AllStay, replied};
 ghost use Rattle.ca_server_circuit.specs.Stepping.{first_at, message_of};
 
-use crate::channel::Channel;
+use crate::channel::ServedChannel;
 use crate::effect::Effect;
 use crate::end::{End, send};
-use crate::in_place::bare_of;
+use crate::in_place::message_without_payload;
 use crate::step::FollowUp;
 use ca_ids::WireId;
 use ca_records::ServedRecords;
@@ -60,7 +60,7 @@ impl End {
         ensures output { OnErr result (self.new.link.output ≡ self.old.link.output) }
         ensures channels { OnErr result (self.new.channels ≡ self.old.channels) }
     {
-        let reply = failed_reply(self.alloc, &bare_of(self.alloc, header));
+        let reply = failed_reply(self.alloc, &message_without_payload(self.alloc, header));
         send(&mut self.link, &reply)?;
         Ok(FollowUp::Quiet(Effect::Refused))
     }
@@ -88,12 +88,12 @@ impl End {
         let state = served.state();
         let rights = records.rights(&self.user, &self.host, state.name());
         let name = Vec::from_slice(self.alloc, state.name())?;
-        let channel = Channel::new(self.alloc, Cid::new(head.header.p1), name, place)?;
+        let channel = ServedChannel::new(self.alloc, Cid::new(head.header.p1), name, place)?;
         let handle = self.channels.open(channel)?;
         let sid = Sid::new(WireId::of(handle).number());
         let data_type = state.value().base_type().number();
         let waited = self.link.out_bytes().len();
-        let request = bare_of(self.alloc, &head.header);
+        let request = message_without_payload(self.alloc, &head.header);
         send(&mut self.link, &rights_reply(self.alloc, &request, rights))?;
         let reply = created_reply(self.alloc, &request, data_type, state.count(), sid);
         match send(&mut self.link, &reply) {

@@ -5,7 +5,7 @@ ghost use Rattle.ca_link.specs.Calls.{IsOpen};
 ghost use Rattle.ca_link.specs.Link.{with_sent};
 ghost use Rattle.ca_model.specs.Server.{new_end};
 
-use crate::channels::Channels;
+use crate::channels::ServedChannels;
 use ca_link::Link;
 use ca_server_subscriptions::SubscriptionsAtNeed;
 use ca_wire::Message;
@@ -20,7 +20,7 @@ pub(crate) struct End {
     // the fewest cache lines.
     pub(crate) link: Link,
     pub(crate) subscriptions: SubscriptionsAtNeed,
-    pub(crate) channels: Channels,
+    pub(crate) channels: ServedChannels,
     // How the peer named itself.
     pub(crate) user: Vec<u8>,
     pub(crate) host: Vec<u8>,
@@ -56,7 +56,7 @@ impl End {
             alloc,
             link: Link::new(alloc, now),
             subscriptions: SubscriptionsAtNeed::new(alloc),
-            channels: Channels::new(alloc),
+            channels: ServedChannels::new(alloc),
             greeted: false,
             settled: false,
             user: Vec::new(alloc),

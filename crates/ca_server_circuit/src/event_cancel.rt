@@ -12,7 +12,7 @@ ghost use Rattle.ca_server_circuit.specs.Stepping.{message_of};
 
 use crate::effect::Effect;
 use crate::end::{End, send};
-use crate::in_place::{bare_of, key_of};
+use crate::in_place::{key_of, message_without_payload};
 use crate::step::FollowUp;
 use ca_wire::{Header, cancel_reply};
 use std::alloc::AllocError;
@@ -29,7 +29,7 @@ impl End {
         ensures output { OnErr result (self.new.link.output ≡ self.old.link.output) }
         ensures channels { OnErr result (self.new.channels ≡ self.old.channels) }
     {
-        let request = bare_of(self.alloc, header);
+        let request = message_without_payload(self.alloc, header);
         send(&mut self.link, &cancel_reply(self.alloc, &request))?;
         self.subscriptions.cancel(key_of(header));
         Ok(FollowUp::Quiet(Effect::Cancelled(header.p1, header.p2)))

@@ -42,26 +42,26 @@ impl End {
         }
         match self.read_fast(records) {
             Some(step) => Some(step),
-            None => self.step_short(circuit, records),
+            None => self.step_scalar(circuit, records),
         }
     }
 
     /// Handles the first message, if it is a WRITE or a WRITE_NOTIFY of one element of at most
     /// eight bytes, in the type of its record, that is applied at once.
     #[inline(always)]
-    fn step_short(&mut self, circuit: Handle, records: &mut ServedRecords) -> Option<EndStep>
+    fn step_scalar(&mut self, circuit: Handle, records: &mut ServedRecords) -> Option<EndStep>
         requires room { length self.old.link.output < output_limit }
         requires served { AreServed (records_of records.old) self.old.channels }
         ensures { IsFast circuit self.old records.old result self.new records.new }
     {
-        if let Some(wanted) = self.link.first_short(Command::Write) {
-            return match self.write_short(records, &wanted) {
+        if let Some(wanted) = self.link.first_of_eight_bytes(Command::Write) {
+            return match self.write_scalar(records, &wanted) {
                 Some(left) => Some(EndStep::Handled(left)),
                 None => None,
             };
         }
-        if let Some(wanted) = self.link.first_short(Command::WriteNotify) {
-            return match self.put_short(circuit, records, &wanted) {
+        if let Some(wanted) = self.link.first_of_eight_bytes(Command::WriteNotify) {
+            return match self.put_notify_scalar(circuit, records, &wanted) {
                 Some(left) => Some(EndStep::Handled(left)),
                 None => None,
             };

@@ -61,7 +61,7 @@ pub(crate) fn named_by(header: &Header) -> Wanted
 }
 
 /// The message of this header without its payload, for a reply that repeats what its header says.
-pub(crate) fn bare_of(alloc: Global, header: &Header) -> Message
+pub(crate) fn message_without_payload(alloc: Global, header: &Header) -> Message
     ensures { result ≡ message_of header.now [] }
 {
     let Header {

@@ -7,9 +7,10 @@ ghost use Rattle.ca_model.specs.ServerCalls.{channels_of, disconnects, end_witho
 ghost use Rattle.ca_server_circuit.specs.ByName.{RetiresLast};
 ghost use Rattle.ca_server_circuit.specs.Concerned.{ids_of};
 ghost use Rattle.ca_server_circuit.specs.Handling.{replied};
-ghost use Rattle.ca_server_circuit.specs.Removing.{SendsSome, TellsSome, leads_to, notices, without_channel, without_channels};
+ghost use Rattle.ca_server_circuit.specs.Removing.{SendsSome, TellsSome, leads_to, notices};
+ghost use Rattle.ca_server_circuit.specs.Removing.{without_channel, without_channels};
 
-use crate::channels::Channels;
+use crate::channels::ServedChannels;
 use crate::end::{End, send};
 use ca_arena::Handle;
 use ca_ids::WireId;
@@ -93,7 +94,7 @@ impl End {
 fn tell_each(
     alloc: Global,
     link: &mut Link,
-    channels: &Channels,
+    channels: &ServedChannels,
     name: &[u8],
 ) -> Result<(), AllocError>
     requires { IsOpen link.old }

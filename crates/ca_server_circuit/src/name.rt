@@ -8,13 +8,13 @@ const SHORT: usize = 22;
 
 /// A name that does not change. A short one is kept in its place, beside what it belongs to.
 #[derive(Debug, Drop)]
-pub(crate) struct Name {
-    kept: Kept,
+pub(crate) struct KeptName {
+    kept: NameBytes,
 }
 
 // Where it is kept.
 #[derive(Debug, Drop)]
-enum Kept {
+enum NameBytes {
     Short(Short),
     Long(Vec<u8>),
 }
@@ -36,7 +36,7 @@ impl Model for Short {
     ghost invariant = { λ s. s.len ≤ 22 };
 }
 
-impl Model for Name {
+impl Model for KeptName {
     ghost use Rattle.std.specs.Prelude.{List, ℕ};
 
     ghost Value = { List ℕ };
@@ -80,30 +80,30 @@ impl Short {
     }
 }
 
-impl Name {
+impl KeptName {
     // This name.
-    pub(crate) fn of(name: Vec<u8>) -> Name
+    pub(crate) fn of(name: Vec<u8>) -> KeptName
         ensures { result ≡ name.items }
     {
         match Short::of(&name) {
-            Some(short) => Name {
-                kept: Kept::Short(short),
+            Some(short) => KeptName {
+                kept: NameBytes::Short(short),
             },
-            None => Name {
-                kept: Kept::Long(name),
+            None => KeptName {
+                kept: NameBytes::Long(name),
             },
         }
     }
 
     // A copy of the name, if it has no memory of its own.
-    pub(crate) fn copy(&self) -> Option<Name>
+    pub(crate) fn copy(&self) -> Option<KeptName>
         ensures { IfSome result (λ n. n ≡ self.now) }
     {
         match &self.kept {
-            Kept::Short(short) => Some(Name {
-                kept: Kept::Short(short.copy()),
+            NameBytes::Short(short) => Some(KeptName {
+                kept: NameBytes::Short(short.copy()),
             }),
-            Kept::Long(_) => None,
+            NameBytes::Long(_) => None,
         }
     }
 
@@ -112,8 +112,8 @@ impl Name {
         ensures { result.now ≡ self.now }
     {
         match &self.kept {
-            Kept::Short(short) => short.as_slice(),
-            Kept::Long(name) => name.as_slice(),
+            NameBytes::Short(short) => short.as_slice(),
+            NameBytes::Long(name) => name.as_slice(),
         }
     }
 }

@@ -11,12 +11,13 @@ ghost use Rattle.ca_model.specs.Faults.{read_count};
 ghost use Rattle.ca_server_circuit.specs.declared.effect.Effect.TheVariants as told;
 ghost use Rattle.ca_server_circuit.specs.declared.step.FollowUp.TheVariants.{Quiet};
 ghost use Rattle.ca_server_circuit.specs.Handling.{AreServed, Reads, Replies, known};
-ghost use Rattle.ca_server_circuit.specs.Showing.{AnswersRead, IsInOrder, IsWanted, ShowsRead, status_for};
+ghost use Rattle.ca_server_circuit.specs.Showing.{AnswersRead, IsInOrder, IsWanted, ShowsRead};
+ghost use Rattle.ca_server_circuit.specs.Showing.{status_for};
 ghost use Rattle.ca_server_circuit.specs.Stepping.{named_by};
 
 use crate::effect::Effect;
 use crate::end::{End, send};
-use crate::fast::read::{send_alone, shown_alone};
+use crate::fast::read::{send_scalar, shown_scalar};
 use crate::in_place::named_by;
 use crate::seek::Sought;
 use crate::shown::Shown;
@@ -30,7 +31,7 @@ use std::alloc::{AllocError, Global};
 
 /// What a read asks for: how many elements, and the bytes of their image.
 #[derive(Clone, Copy, Debug, PartialEq, Eq)]
-pub(crate) struct Asked {
+pub(crate) struct ReadSize {
     pub(crate) count: u32,
     pub(crate) size: usize,
 }
@@ -99,8 +100,8 @@ fn answer(
         × (link.new ≡ with_sent (reply ∷ []) link.old)) }
     ensures err { OnErr result (link.new ≡ link.old) }
 {
-    if let Some(payload) = shown_alone(of, rights, wanted) {
-        return send_alone(link, wanted, payload);
+    if let Some(payload) = shown_scalar(of, rights, wanted) {
+        return send_scalar(link, wanted, payload);
     }
     match measure(of, rights, wanted) {
         Err(status) => {
@@ -132,7 +133,7 @@ fn send_status(
 }
 
 /// What a read asks for, or the status that refuses it. The elements are not looked at.
-fn measure(of: &Record, rights: u32, wanted: &Wanted) -> Result<Asked, Status>
+fn measure(of: &Record, rights: u32, wanted: &Wanted) -> Result<ReadSize, Status>
     ensures { IsWanted of.now rights (read_request wanted.now) result }
 {
     let count = count_of(of, wanted);
@@ -149,7 +150,7 @@ fn measure(of: &Record, rights: u32, wanted: &Wanted) -> Result<Asked, Status>
     if size > PAYLOAD_LIMIT {
         return Err(Status::BADCOUNT);
     }
-    Ok(Asked { count, size })
+    Ok(ReadSize { count, size })
 }
 
 /// How many elements a read asks for: 0 means the present count.
@@ -168,7 +169,7 @@ fn show(
     alloc: Global,
     link: &mut Link,
     of: &Record,
-    asked: Asked,
+    asked: ReadSize,
     wanted: &Wanted,
 ) -> Result<(), AllocError>
     requires open { IsOpen link.old }

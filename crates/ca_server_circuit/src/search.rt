@@ -10,7 +10,7 @@ ghost use Rattle.ca_server_circuit.specs.Stepping.{first_at};
 
 use crate::effect::Effect;
 use crate::end::{End, send};
-use crate::in_place::bare_of;
+use crate::in_place::message_without_payload;
 use crate::step::FollowUp;
 use ca_records::ServedRecords;
 use ca_wire::{Head, not_found_reply, search_reply};
@@ -39,7 +39,7 @@ impl End {
         ensures output { OnErr result (self.new.link.output ≡ self.old.link.output) }
         ensures channels { OnErr result (self.new.channels ≡ self.old.channels) }
     {
-        let request = bare_of(self.alloc, &head.header);
+        let request = message_without_payload(self.alloc, &head.header);
         if records.has(self.text(head)) {
             let reply = search_reply(self.alloc, port, &request)?;
             send(&mut self.link, &reply)?;

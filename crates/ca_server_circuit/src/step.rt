@@ -6,11 +6,12 @@ ghost use Rattle.ca_records.specs.Store.{records_of};
 ghost use Rattle.ca_wire.specs.Reading.{IsWhole};
 ghost use Rattle.ca_model.specs.Due.{Due};
 ghost use Rattle.ca_server_circuit.specs.Clearing.{ArePuts};
-ghost use Rattle.ca_server_circuit.specs.Handling.{AllStay, AreServed, Does, MayLack, effect_of, is_wrote, known};
+ghost use Rattle.ca_server_circuit.specs.Handling.{AllStay, AreServed, Does, MayLack, effect_of};
+ghost use Rattle.ca_server_circuit.specs.Handling.{is_wrote, known};
 ghost use Rattle.ca_server_circuit.specs.Stepping.{EndSteps, cause_for, first_at};
 
 use crate::bytes::know_bytes;
-use crate::cause::Cause;
+use crate::cause::EndCause;
 use crate::effect::Effect;
 use crate::end::End;
 use ca_arena::Handle;
@@ -43,7 +44,7 @@ pub enum EndStep {
     /// So much waits to be sent that no message is handled.
     OutputFull,
     /// The end is to be closed.
-    Breaks(Cause),
+    Breaks(EndCause),
 }
 
 impl FollowUp {
@@ -112,7 +113,7 @@ impl End {
                     self.link.drop_front(head.start + head.header.size as usize);
                     EndStep::Handled(left)
                 }
-                Err(_) => EndStep::Breaks(Cause::OutOfMemory),
+                Err(_) => EndStep::Breaks(EndCause::OutOfMemory),
             },
             One::More => EndStep::NeedBytes,
             One::Bad(refusal) => EndStep::Breaks(cause_of(refusal)),
@@ -173,12 +174,12 @@ impl End {
 }
 
 /// The cause of an end whose next header is refused for this.
-fn cause_of(refusal: Refusal) -> Cause
+fn cause_of(refusal: Refusal) -> EndCause
     ensures { result ≡ cause_for refusal }
 {
     match refusal {
-        Refusal::Misaligned => Cause::Misaligned,
-        Refusal::TooLarge => Cause::TooLarge,
-        _ => Cause::OutOfMemory,
+        Refusal::Misaligned => EndCause::Misaligned,
+        Refusal::TooLarge => EndCause::TooLarge,
+        _ => EndCause::OutOfMemory,
     }
 }

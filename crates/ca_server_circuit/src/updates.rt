@@ -1,5 +1,6 @@
 //! Updates of an open end: a post makes them, and a pump sends them.
-ghost use Rattle.std.specs.Prelude.{◌≡◌, ◌<◌, ◌≤◌, ◌==◌, IfOk, IfSome, OnErr, OnOk, [], ◌∷◌, false, if◌then◌else◌, length, replicate, true};
+ghost use Rattle.std.specs.Prelude.{◌≡◌, ◌<◌, ◌≤◌, ◌==◌, IfOk, IfSome, OnErr, OnOk, [], ◌∷◌, false};
+ghost use Rattle.std.specs.Prelude.{if◌then◌else◌, length, replicate, true};
 ghost use Rattle.std.specs.List.{list_any};
 ghost use Rattle.ca_text.specs.Limits.{element_limit, output_limit, payload_limit};
 ghost use Rattle.ca_dbr.specs.Elements.{count_of};
@@ -21,7 +22,7 @@ use ca_link::Link;
 use ca_records::Record;
 use ca_server_subscriptions::Update;
 use ca_text::{Command, Status};
-use ca_wire::{Alone, Answered, Ioid, Wanted, update_head};
+use ca_wire::{Answered, Ioid, ScalarMessage, Wanted, update_head};
 use std::alloc::{AllocError, Global};
 
 impl End {
@@ -60,8 +61,8 @@ impl End {
         let Some(wanted) = self.subscriptions.sole(of.name(), mask) else {
             return false;
         };
-        match value_alone(&wanted, of) {
-            Some(payload) => send_alone(&mut self.link, &wanted, payload).is_ok(),
+        match value_scalar(&wanted, of) {
+            Some(payload) => send_scalar(&mut self.link, &wanted, payload).is_ok(),
             None => false,
         }
     }
@@ -141,8 +142,8 @@ fn show(alloc: Global, link: &mut Link, wanted: &Wanted, shown: &Update) -> Resu
     ensures some { OnErr result ((m : Fields) × ShowsTo wanted.now shown.now m) }
     ensures err { OnErr result (link.new ≡ link.old) }
 {
-    match shown_alone(wanted, shown) {
-        Some(payload) => send_alone(link, wanted, payload),
+    match shown_scalar(wanted, shown) {
+        Some(payload) => send_scalar(link, wanted, payload),
         None => show_image(alloc, link, *wanted, shown),
     }
 }
@@ -150,7 +151,7 @@ fn show(alloc: Global, link: &mut Link, wanted: &Wanted, shown: &Update) -> Resu
 /// The eight bytes that show an update as its subscription asks, if it has one element, of the
 /// type that is asked for.
 #[inline(always)]
-fn shown_alone(wanted: &Wanted, shown: &Update) -> Option<u64>
+fn shown_scalar(wanted: &Wanted, shown: &Update) -> Option<u64>
     ensures { IfSome result (λ n.
         ShowsTo wanted.now shown.now (alone (update_alone wanted.now n))) }
 {
@@ -163,7 +164,7 @@ fn shown_alone(wanted: &Wanted, shown: &Update) -> Option<u64>
 /// The eight bytes that show a record's value as a subscription asks, if it has one element, of the
 /// type that is asked for.
 #[inline(always)]
-fn value_alone(wanted: &Wanted, of: &Record) -> Option<u64>
+fn value_scalar(wanted: &Wanted, of: &Record) -> Option<u64>
     ensures { IfSome result (λ n. ShowsTo wanted.now
         (record { value = of.now.value; meta = of.now.meta }) (alone (update_alone wanted.now n))) }
 {
@@ -177,19 +178,19 @@ fn value_alone(wanted: &Wanted, of: &Record) -> Option<u64>
 /// was. As a function of its own it writes the message in its place; inlined, after all those
 /// tests, it made the message elsewhere and copied it.
 #[inline(never)]
-fn send_alone(link: &mut Link, wanted: &Wanted, payload: u64) -> Result<(), AllocError>
+fn send_scalar(link: &mut Link, wanted: &Wanted, payload: u64) -> Result<(), AllocError>
     requires { IsOpen link.old }
     ensures ok { OnOk result (link.new
         ≡ with_sent (alone (update_alone wanted.now payload) ∷ []) link.old) }
     ensures err { OnErr result (link.new ≡ link.old) }
 {
-    let said = Alone {
+    let said = ScalarMessage {
         command: Command::EventAdd,
         data_type: wanted.data_type,
         id: wanted.id,
         payload,
     };
-    match link.queue_alone(said) {
+    match link.queue_scalar(said) {
         Ok(()) => Ok(()),
         Err(_) => Err(AllocError),
     }

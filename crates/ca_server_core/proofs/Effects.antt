@@ -10,8 +10,8 @@ use Rattle.ca_server_circuit.specs.declared.step.FollowUp.{FollowUp}
 use Rattle.ca_server_circuit.specs.Effects.{effect_due}
 use Rattle.ca_server_circuit.specs.Handling.{Tells, effect_of}
 use Rattle.ca_server_circuit.specs.declared.effect.Effect.{Effect}
-use Rattle.ca_server_core.specs.declared.stepping.Step.{Step}
-use Rattle.ca_server_core.specs.declared.stepping.Step.TheVariants as own
+use Rattle.ca_server_core.specs.declared.stepping.CoreStep.{CoreStep}
+use Rattle.ca_server_core.specs.declared.stepping.CoreStep.TheVariants as own
 use Rattle.ca_server_core.specs.Effects.{TellsEffect}
 use Rattle.ca_server_core.specs.Serving.{stepped}
 use Rattle.ca_server_core.proofs.Followed.{MakesBy}
@@ -31,7 +31,7 @@ told-as m (Drops k) did u is = ap effect_of is
 told-as m (Switches on) did u is = ap effect_of is
 
 -- a step that says that, if it handled the message
-pub tells-by : (y : Server) (h : Handle) (did : FollowUp) (result : Step) (new : Server) → MakesBy (λ (m : Fields) (a : Action). effect_of did ≡ effect_due m a) y h (stepped result) new → ((e : Effect) → result ≡ own.Handled e → e ≡ effect_of did)
+pub tells-by : (y : Server) (h : Handle) (did : FollowUp) (result : CoreStep) (new : Server) → MakesBy (λ (m : Fields) (a : Action). effect_of did ≡ effect_due m a) y h (stepped result) new → ((e : Effect) → result ≡ own.Handled e → e ≡ effect_of did)
     → TellsEffect y h result new
 tells-by y h did (own.Handled e) new made is = (made.0, is e refl ∙ made.1)
 tells-by y h did own.NeedBytes new made is = tt
@@ -39,11 +39,11 @@ tells-by y h did own.OutputFull new made is = tt
 tells-by y h did (own.Closed c left) new made is = tt
 
 -- one that handled none reports nothing
-pub tells-none : (y : Server) (h : Handle) (result : Step) (new : Server) → (stepped result ≡ steps.Handled → ⊥) → TellsEffect y h result new
+pub tells-none : (y : Server) (h : Handle) (result : CoreStep) (new : Server) → (stepped result ≡ steps.Handled → ⊥) → TellsEffect y h result new
 tells-none y h (own.Handled e) new other = absurd (other refl)
 tells-none y h own.NeedBytes new other = tt
 tells-none y h own.OutputFull new other = tt
 tells-none y h (own.Closed c left) new other = tt
 
-pub quiet-none : (result : Step) (e q : Effect) → (stepped result ≡ steps.Handled → ⊥) → result ≡ own.Handled e → e ≡ q
+pub quiet-none : (result : CoreStep) (e q : Effect) → (stepped result ≡ steps.Handled → ⊥) → result ≡ own.Handled e → e ≡ q
 quiet-none result e q other is = absurd (other (ap stepped is))

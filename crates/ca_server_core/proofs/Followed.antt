@@ -21,12 +21,12 @@ use Rattle.ca_model.specs.Server.{Ended, Open, OpenChannel, Server, ServerCircui
 use Rattle.ca_model.specs.ServerSteps.{Acts, MayEnd, Next, Reaches, Stepped, Steps, StepsAt, after_post, closed, is_write, output_of, reached, stored_now, write_mask}
 use Rattle.ca_model.specs.ServerSteps as steps
 use Rattle.ca_model.specs.Speech.{In, Stored}
-use Rattle.ca_server_circuit.specs.declared.cause.Cause.{Cause}
+use Rattle.ca_server_circuit.specs.declared.cause.EndCause.{EndCause}
 use Rattle.ca_server_circuit.specs.declared.effect.Effect.{Effect}
 use Rattle.ca_server_circuit.specs.declared.step.FollowUp.{FollowUp}
 use Rattle.ca_server_circuit.specs.declared.step.FollowUp.TheVariants as effect
 use Rattle.ca_server_circuit.specs.declared.step.EndStep.TheVariants as step
-use Rattle.ca_server_core.specs.declared.stepping.Step.{Step}
+use Rattle.ca_server_core.specs.declared.stepping.CoreStep.{CoreStep}
 use Rattle.ca_server_core.specs.Covering.{AreLed, AreListed, Covers, HasTo, Leads}
 use Rattle.ca_server_circuit.specs.Ending.{EndsAt}
 use Rattle.ca_server_core.specs.Ending.{EndsIn}
@@ -314,7 +314,7 @@ module _ (port now n : ℕ) (b : Clock) (s u : Store) (t : Circuits) (h : Handle
   no-true is = absurd cc
 
   -- it stays open, and nothing else follows or all of it did
-  stays-open : (x : Store) (last : Circuits) (result : Step) (final : Circuits) (z : ServerEnd) (gone : Handle → Bool) → gone h ≡ false → under last h ≡ Some (Open z) → Settles last h (length e.link.output) result final → Reaches the-next.0.action gone the-next.0.after (server_of port x now last b k)
+  stays-open : (x : Store) (last : Circuits) (result : CoreStep) (final : Circuits) (z : ServerEnd) (gone : Handle → Bool) → gone h ≡ false → under last h ≡ Some (Open z) → Settles last h (length e.link.output) result final → Reaches the-next.0.action gone the-next.0.after (server_of port x now last b k)
       → MakesBy P y h (stepped result) (server_of port x now final b k)
   stays-open x last result final z gone stays at settled reach =
       let answer : stepped result ≡ steps.Handled = subst (λ (o : Option ServerCircuit). IsSettled o (length e.link.output) result) at settled.0 in
@@ -324,7 +324,7 @@ module _ (port now n : ℕ) (b : Clock) (s u : Store) (t : Circuits) (h : Handle
       (step-by P y h e (server_of port x now last b k) there (the-next.0, gone, stays, reach) (subst (λ (z : Fields). P z the-next.0.action) (sym the-next.3) (subst (λ (a : Action). P d.0.m a) (sym the-next.2) holds))))
 
   -- it has ended out of memory for what follows
-  ended-after : (x : Store) (last : Circuits) (result : Step) (final : Circuits) (left : List ℕ) → under last h ≡ Some (Ended why.OutOfMemory left) → take (length e.link.output) left ≡ e.link.output → Settles last h (length e.link.output) result final → LacksItself y h e (server_of port x now (with_freed h last) b k)
+  ended-after : (x : Store) (last : Circuits) (result : CoreStep) (final : Circuits) (left : List ℕ) → under last h ≡ Some (Ended why.OutOfMemory left) → take (length e.link.output) left ≡ e.link.output → Settles last h (length e.link.output) result final → LacksItself y h e (server_of port x now (with_freed h last) b k)
       → MakesBy P y h (stepped result) (server_of port x now final b k)
   ended-after x last result final left at first settled lacks =
       let answer : stepped result ≡ steps.Closed why.OutOfMemory (take (length e.link.output) left) = subst (λ (o : Option ServerCircuit). IsSettled o (length e.link.output) result) at settled.0 in
@@ -337,7 +337,7 @@ module _ (port now n : ℕ) (b : Clock) (s u : Store) (t : Circuits) (h : Handle
   left-is = handled-output y s u h e (after_first d.0) new d.0.m did _ refl refl d.1
 
   -- a message with nothing to follow
-  rests : (x : Store) (last : Circuits) (result : Step) (final : Circuits) (said : Effect) → did ≡ effect.Quiet said → ((z : Server) → Reaches the-next.0.action (λ (g : Handle). false) z z) → Follows did h mid_table u last x → Settles last h (length e.link.output) result final
+  rests : (x : Store) (last : Circuits) (result : CoreStep) (final : Circuits) (said : Effect) → did ≡ effect.Quiet said → ((z : Server) → Reaches the-next.0.action (λ (g : Handle). false) z z) → Follows did h mid_table u last x → Settles last h (length e.link.output) result final
       → MakesBy P y h (stepped result) (server_of port x now final b k)
   rests x last result final said quiet reach f settled =
       let same = subst (λ (q : FollowUp). Follows q h mid_table u last x) quiet f in
@@ -346,7 +346,7 @@ module _ (port now n : ℕ) (b : Clock) (s u : Store) (t : Circuits) (h : Handle
       (subst (λ (z : Server). Reaches the-next.0.action (λ (g : Handle). false) the-next.0.after z) (sym whole) (reach the-next.0.after))
 
   -- a write
-  writes : (x : Store) (last : Circuits) (result : Step) (final : Circuits) (name : List ℕ) (value : Elements) (busies : Bool) → the-next.0.action ≡ Applies name value busies → Tells d.0.m (Applies name value busies) did u → Follows did h mid_table u last x → IsSound (records_of x) last → Settles last h (length e.link.output) result final
+  writes : (x : Store) (last : Circuits) (result : CoreStep) (final : Circuits) (name : List ℕ) (value : Elements) (busies : Bool) → the-next.0.action ≡ Applies name value busies → Tells d.0.m (Applies name value busies) did u → Follows did h mid_table u last x → IsSound (records_of x) last → Settles last h (length e.link.output) result final
       → MakesBy P y h (stepped result) (server_of port x now final b k)
   writes x last result final name value busies is told f sound settled =
       let from = subst (λ (q : FollowUp). Follows q h mid_table u last x) told.2 f in
@@ -361,7 +361,7 @@ module _ (port now n : ℕ) (b : Clock) (s u : Store) (t : Circuits) (h : Handle
       subst (λ (q : List ℕ × Stored). ReachesAll q.0 write_mask q.1 from.2.0 mid_table u last x) (λ i. (name_is i, v_is i)) from.2.1 in
       by-gone x last result final name value busies is from.2.0 all sound settled (from.2.0 h) refl
     where
-      by-gone : (x : Store) (last : Circuits) (result : Step) (final : Circuits) (name : List ℕ) (value : Elements) (busies : Bool) → the-next.0.action ≡ Applies name value busies → (gone : Handle → Bool) → ReachesAll name write_mask (stored_now mid value) gone mid_table u last x → IsSound (records_of x) last → Settles last h (length e.link.output) result final
+      by-gone : (x : Store) (last : Circuits) (result : CoreStep) (final : Circuits) (name : List ℕ) (value : Elements) (busies : Bool) → the-next.0.action ≡ Applies name value busies → (gone : Handle → Bool) → ReachesAll name write_mask (stored_now mid value) gone mid_table u last x → IsSound (records_of x) last → Settles last h (length e.link.output) result final
           → (q : Bool) → gone h ≡ q → MakesBy P y h (stepped result) (server_of port x now final b k)
       by-gone x last result final name value busies is gone all sound settled q out =
           let v : Stored = stored_now mid value in
@@ -393,7 +393,7 @@ module _ (port now n : ℕ) (b : Clock) (s u : Store) (t : Circuits) (h : Handle
               })
 
   -- a subscription that began, or a channel that was created
-  begins : (x : Store) (last : Circuits) (result : Step) (final : Circuits) → ((z : Server) → Reaches the-next.0.action (λ (g : Handle). false) z z) → AsksMemory the-next.0.m the-next.0.replies the-next.0.action → records_of u ≡ records_of s → is_wrote did ≡ false → ((last ≡ mid_table) × (x ≡ u)) ⊎ EndsIn mid_table h u why.OutOfMemory last x → Settles last h (length e.link.output) result final
+  begins : (x : Store) (last : Circuits) (result : CoreStep) (final : Circuits) → ((z : Server) → Reaches the-next.0.action (λ (g : Handle). false) z z) → AsksMemory the-next.0.m the-next.0.replies the-next.0.action → records_of u ≡ records_of s → is_wrote did ≡ false → ((last ≡ mid_table) × (x ≡ u)) ⊎ EndsIn mid_table h u why.OutOfMemory last x → Settles last h (length e.link.output) result final
       → MakesBy P y h (stepped result) (server_of port x now final b k)
   begins x last result final reach asks rs-same quiet f settled = by f
     where
@@ -432,7 +432,7 @@ module _ (port now n : ℕ) (b : Clock) (s u : Store) (t : Circuits) (h : Handle
                 itself = λ g wrote. none-wrote g wrote;
               })
 
-  pub handled-all : (x : Store) (last : Circuits) (result : Step) (final : Circuits) → Follows did h mid_table u last x → IsSound (records_of x) last → Settles last h (length e.link.output) result final → MakesBy P y h (stepped result) (server_of port x now final b k)
+  pub handled-all : (x : Store) (last : Circuits) (result : CoreStep) (final : Circuits) → Follows did h mid_table u last x → IsSound (records_of x) last → Settles last h (length e.link.output) result final → MakesBy P y h (stepped result) (server_of port x now final b k)
   handled-all x last result final f sound settled = by (kind-of d.0.m d.1.action did u d.1.tells)
     where
       by : Kind d.0.m d.1.action did u → MakesBy P y h (stepped result) (server_of port x now final b k)
@@ -459,7 +459,7 @@ module _ (port now n : ℕ) (b : Clock) (s u : Store) (t : Circuits) (h : Handle
 
 -- ---- the same along the view of the fields
 
-pub made-followed-by : (y : Server) (port now n k waited : ℕ) (b : Clock) (s u x : Store) (t after last final : Circuits) (h : Handle) (did : FollowUp) (q : Bool) (result : Step) → server_of port s now t b n ≡ y → q ≡ is_wrote did → k ≡ more_applied q n → waited ≡ length (output_of (under y.circuits h))
+pub made-followed-by : (y : Server) (port now n k waited : ℕ) (b : Clock) (s u x : Store) (t after last final : Circuits) (h : Handle) (did : FollowUp) (q : Bool) (result : CoreStep) → server_of port s now t b n ≡ y → q ≡ is_wrote did → k ≡ more_applied q n → waited ≡ length (output_of (under y.circuits h))
     → StepsIn port t h s (Some (step.Handled did)) after u → Follows did h after u last x → IsSound (records_of x) last → Settles last h waited result final → (P : Fields → Action → Type 0) → ((m : Fields) (a : Action) → Tells m a did u → P m a) → MakesBy P y h (stepped result) (server_of port x now final b k)
 made-followed-by y port now n k waited b s u x t after last final h did q result is wrote more long steps_in f sound settled P holds =
     subst (λ (z : Server). MakesBy P z h (stepped result) (server_of port x now final b k)) is
@@ -480,7 +480,7 @@ made-followed-by y port now n k waited b s u x t after last final h did q result
             handled-all port now n b s u t h e d.0 did there d.1 P (holds d.1.0.m d.1.1.action d.1.1.tells) x last result final (subst (λ (z : Circuits). Follows did h z u last x) at f) sound (subst (λ (m : ℕ). Settles last h m result final) output settled)
         by (Ended v left) new there d changed = not-some (step.Handled did) d.0
 
-pub made-followed : (y : Server) (port now n k waited : ℕ) (b : Clock) (s u x : Store) (t after last final : Circuits) (h : Handle) (did : FollowUp) (q : Bool) (result : Step) → server_of port s now t b n ≡ y → q ≡ is_wrote did → k ≡ more_applied q n → waited ≡ length (output_of (under y.circuits h))
+pub made-followed : (y : Server) (port now n k waited : ℕ) (b : Clock) (s u x : Store) (t after last final : Circuits) (h : Handle) (did : FollowUp) (q : Bool) (result : CoreStep) → server_of port s now t b n ≡ y → q ≡ is_wrote did → k ≡ more_applied q n → waited ≡ length (output_of (under y.circuits h))
     → StepsIn port t h s (Some (step.Handled did)) after u → Follows did h after u last x → IsSound (records_of x) last → Settles last h waited result final → Makes y h (stepped result) (server_of port x now final b k)
 made-followed y port now n k waited b s u x t after last final h did q result is wrote more long steps_in f sound settled =
     made-by (λ (m : Fields) (a : Action). Unit {0}) y h (stepped result) (server_of port x now final b k)
@@ -488,7 +488,7 @@ made-followed y port now n k waited b s u x t after last final h did q result is
 
 -- ---- what holds then
 
-pub settled-sound : (rs : List Record) (last final : Circuits) (h : Handle) (waited : ℕ) (result : Step) → Settles last h waited result final → IsSound rs last → IsSound rs final
+pub settled-sound : (rs : List Record) (last final : Circuits) (h : Handle) (waited : ℕ) (result : CoreStep) → Settles last h waited result final → IsSound rs last → IsSound rs final
 settled-sound rs last final h waited result settled sound = by (under last h) refl
   where
     is : (o : Option ServerCircuit) → under last h ≡ o → final ≡ cond (is_open o) last (with_freed h last)
@@ -501,14 +501,14 @@ settled-sound rs last final h waited result settled sound = by (under last h) re
         let clear = none-waits rs last h sound (λ z open_at. not-ended z w left (some_is (Open z) (Ended w left) (sym open_at ∙ at))) in
         subst (λ (z : Circuits). IsSound rs z) (sym (is (Some (Ended w left)) at)) (subst (λ (qs : List Record). IsSound qs (with_freed h last)) clear (sound-freed rs last h sound))
 
-pub settled-thins : (last final : Circuits) (h : Handle) (waited : ℕ) (result : Step) → Settles last h waited result final → Thins last final
+pub settled-thins : (last final : Circuits) (h : Handle) (waited : ℕ) (result : CoreStep) → Settles last h waited result final → Thins last final
 settled-thins last final h waited result settled = subst (λ (z : Circuits). Thins last z) (sym settled.1) (by (is_open (under last h)))
   where
     by : (b : Bool) → Thins last (cond b last (with_freed h last))
     by true = thins-same last
     by false = thins-freed last h
 
-pub broke-thins : (port : ℕ) (s u : Store) (t after last : Circuits) (h : Handle) (c : Cause) (did : Step) → StepsIn port t h s (Some (step.Breaks c)) after u → Reports after h did last → Thins t last
+pub broke-thins : (port : ℕ) (s u : Store) (t after last : Circuits) (h : Handle) (c : EndCause) (did : CoreStep) → StepsIn port t h s (Some (step.Breaks c)) after u → Reports after h did last → Thins t last
 broke-thins port s u t after last h c did (inr none) r = not-some (step.Breaks c) none.1
 broke-thins port s u t after last h c did (inl g) r = by g.0 g.1 g.2 g.3 g.4
   where
@@ -519,7 +519,7 @@ broke-thins port s u t after last h c did (inl g) r = by g.0 g.1 g.2 g.3 g.4
         (thins-both t after (with_freed h after) (subst (λ (z : Circuits). Thins t z) (sym at) (thins-ended t h (why_is c) e.link.output)) (thins-freed after h))
     by (Ended w left) new there broke changed = not-some (step.Breaks c) broke.0
 
-pub none-thins : (port : ℕ) (s u : Store) (t after last : Circuits) (h : Handle) (did : Step) → StepsIn port t h s None after u → Reports after h did last → Thins t last
+pub none-thins : (port : ℕ) (s u : Store) (t after last : Circuits) (h : Handle) (did : CoreStep) → StepsIn port t h s None after u → Reports after h did last → Thins t last
 none-thins port s u t after last h did (inr none) r =
     subst (λ (z : Circuits). Thins t z) (sym (r.1 ∙ ap (λ (z : Circuits). with_freed h z) none.2)) (thins-freed t h)
 none-thins port s u t after last h did (inl g) r = by g.0 g.1 g.2 g.3 g.4
@@ -530,7 +530,7 @@ none-thins port s u t after last h did (inl g) r = by g.0 g.1 g.2 g.3 g.4
         subst (λ (z : Circuits). Thins t z) (sym (r.1 ∙ ap (λ (z : Circuits). with_freed h z) (stayed t after h new (Ended w left) there changed was.1))) (thins-freed t h)
 
 -- what the statement says of it
-pub viewed-followed : (y : Server) (port now n k waited : ℕ) (b : Clock) (s u x : Store) (t after last final : Circuits) (h : Handle) (did : FollowUp) (q : Bool) (result : Step) → server_of port s now t b n ≡ y → q ≡ is_wrote did → k ≡ more_applied q n → waited ≡ length (output_of (under y.circuits h))
+pub viewed-followed : (y : Server) (port now n k waited : ℕ) (b : Clock) (s u x : Store) (t after last final : Circuits) (h : Handle) (did : FollowUp) (q : Bool) (result : CoreStep) → server_of port s now t b n ≡ y → q ≡ is_wrote did → k ≡ more_applied q n → waited ≡ length (output_of (under y.circuits h))
     → StepsIn port t h s (Some (step.Handled did)) after u → Follows did h after u last x → IsSound (records_of x) last → Settles last h waited result final → Steps y h (stepped result) (server_of port x now final b k)
 viewed-followed y port now n k waited b s u x t after last final h did q result is wrote more long steps_in f sound settled =
     (made-followed y port now n k waited b s u x t after last final h did q result is wrote more long steps_in f sound settled).0

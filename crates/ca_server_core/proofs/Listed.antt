@@ -15,7 +15,7 @@ use Rattle.ca_records.specs.Writes as writes
 use Rattle.ca_server_watchers.specs.Watching.{OthersStay, Watched, line_of}
 use Rattle.ca_model.specs.Ends.{Why}
 use Rattle.ca_model.specs.Server.{Ended, Open, ServerCircuit}
-use Rattle.ca_server_circuit.specs.declared.cause.Cause.{Cause}
+use Rattle.ca_server_circuit.specs.declared.cause.EndCause.{EndCause}
 use Rattle.ca_server_circuit.specs.declared.step.FollowUp.{FollowUp}
 use Rattle.ca_server_circuit.specs.declared.step.EndStep.TheVariants as step
 use Rattle.ca_server_circuit.specs.Ending.{EndsAt}
@@ -96,7 +96,7 @@ listed-step port s u t after h did w (inl g) listed = listed-kept (records_of s)
     by (Open e) new d = (recorded-keeps (records_of s) (records_of u) s.stamp h (after_first d.1.0) d.1.0.m d.1.1.action d.1.1.records).0
     by (Ended v left) new d = not-some (step.Handled did) d.0
 
-pub listed-broke : (port : ℕ) (s u : Store) (t after : Circuits) (h : Handle) (c : Cause) (w : Watched) → StepsIn port t h s (Some (step.Breaks c)) after u → AreListed (records_of s) w → AreListed (records_of u) w
+pub listed-broke : (port : ℕ) (s u : Store) (t after : Circuits) (h : Handle) (c : EndCause) (w : Watched) → StepsIn port t h s (Some (step.Breaks c)) after u → AreListed (records_of s) w → AreListed (records_of u) w
 listed-broke port s u t after h c w (inr none) listed = not-some (step.Breaks c) none.1
 listed-broke port s u t after h c w (inl g) listed = listed-kept (records_of s) (records_of u) w (by g.0 g.1 g.3) listed
   where

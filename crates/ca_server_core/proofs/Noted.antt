@@ -23,7 +23,7 @@ use Rattle.ca_model.specs.Server.{Ended, Open, Server, ServerCircuit, ServerEnd}
 use Rattle.ca_model.specs.ServerSteps.{Stepped}
 use Rattle.ca_model.specs.ServerSteps as steps
 use Rattle.ca_model.specs.Speech.{In}
-use Rattle.ca_server_circuit.specs.declared.cause.Cause.{Cause}
+use Rattle.ca_server_circuit.specs.declared.cause.EndCause.{EndCause}
 use Rattle.ca_server_circuit.specs.declared.step.FollowUp.{FollowUp}
 use Rattle.ca_server_circuit.specs.declared.step.FollowUp.TheVariants as effect
 use Rattle.ca_server_circuit.specs.declared.step.EndStep.TheVariants as step
@@ -38,10 +38,10 @@ use Rattle.ca_server_core.specs.Following.{Begins, Follows, IsSettled, Settles}
 use Rattle.ca_server_core.specs.Noting.{BusyBut, EndsPutAt, IsBusy, LeadsTo, Notes, NotesAt, HandlesAndFinishes, ServesAndPumps, Tries, TriesAt, busy_name, was_handled, wrote_busy}
 use Rattle.ca_server_core.specs.Finishing.{RepliesIn, effect_after}
 use Rattle.ca_server_core.specs.Serving.{IsReport, Reports, StepsIn, more_applied, stepped}
-use Rattle.ca_server_core.specs.declared.stepping.Step.{Step}
+use Rattle.ca_server_core.specs.declared.stepping.CoreStep.{CoreStep}
 use Rattle.ca_server_circuit.specs.declared.effect.Effect.{Effect}
 use Rattle.ca_server_circuit.specs.declared.effect.Effect.TheVariants as told
-use Rattle.ca_server_core.specs.declared.stepping.Step.TheVariants as own
+use Rattle.ca_server_core.specs.declared.stepping.CoreStep.TheVariants as own
 use Rattle.ca_server_core.proofs.Followed.{HandledBy}
 use Rattle.ca_server_core.proofs.Nexts.{viewed-finish}
 use Rattle.ca_server_core.proofs.Reached.{there-is}
@@ -252,7 +252,7 @@ never-closed : (w : Why) (left : List ℕ) → steps.Closed w left ≡ steps.Han
 never-closed w left is = cc
 
 -- an end that broke is reported
-pub broke-closes : (port : ℕ) (s u : Store) (t after last : Circuits) (h : Handle) (c : Cause) (did : Step) → StepsIn port t h s (Some (step.Breaks c)) after u → Reports after h did last → stepped did ≡ steps.Handled → ⊥
+pub broke-closes : (port : ℕ) (s u : Store) (t after last : Circuits) (h : Handle) (c : EndCause) (did : CoreStep) → StepsIn port t h s (Some (step.Breaks c)) after u → Reports after h did last → stepped did ≡ steps.Handled → ⊥
 broke-closes port s u t after last h c did (inr none) r handled = not-some (step.Breaks c) none.1
 broke-closes port s u t after last h c did (inl g) r handled = by g.0 g.1 g.2 g.3 g.4
   where
@@ -264,7 +264,7 @@ broke-closes port s u t after last h c did (inl g) r handled = by g.0 g.1 g.2 g.
     by (Ended w left) new there broke changed = not-some (step.Breaks c) broke.0
 
 -- and so is one that had ended, or none
-pub none-closes : (port : ℕ) (s u : Store) (t after last : Circuits) (h : Handle) (did : Step) → StepsIn port t h s None after u → Reports after h did last → stepped did ≡ steps.Handled → ⊥
+pub none-closes : (port : ℕ) (s u : Store) (t after last : Circuits) (h : Handle) (did : CoreStep) → StepsIn port t h s None after u → Reports after h did last → stepped did ≡ steps.Handled → ⊥
 none-closes port s u t after last h did (inr none) r handled =
     never-closed why.Cut [] (sym (subst (λ (o : Option ServerCircuit). IsReport o (stepped did)) (ap (λ (z : Circuits). under z h) none.2 ∙ none.0) r.0) ∙ handled)
 none-closes port s u t after last h did (inl g) r handled = by g.0 g.1 g.2 g.3 g.4

@@ -19,12 +19,12 @@ use Rattle.ca_model.specs.Ends as why
 use Rattle.ca_model.specs.Server.{Ended, Open, Server, ServerCircuit, ServerEnd}
 use Rattle.ca_model.specs.ServerSteps.{Acts, Handles, NeedsMemory, Next, Reaches, Records, Stepped, Steps, StepsAt, StepsOpen, after_post, closed, counted, is_write, knows, reached, stored_now, with_end, write_mask}
 use Rattle.ca_model.specs.ServerSteps as steps
-use Rattle.ca_server_circuit.specs.declared.cause.Cause.{Cause}
-use Rattle.ca_server_circuit.specs.declared.cause.Cause.TheVariants as cause
+use Rattle.ca_server_circuit.specs.declared.cause.EndCause.{EndCause}
+use Rattle.ca_server_circuit.specs.declared.cause.EndCause.TheVariants as cause
 use Rattle.ca_server_circuit.specs.declared.step.EndStep.TheVariants as step
-use Rattle.ca_server_core.specs.declared.stepping.Step.{Step}
+use Rattle.ca_server_core.specs.declared.stepping.CoreStep.{CoreStep}
 use Rattle.ca_server_circuit.specs.declared.effect.Effect.TheVariants as told
-use Rattle.ca_server_core.specs.declared.stepping.Step.TheVariants as own
+use Rattle.ca_server_core.specs.declared.stepping.CoreStep.TheVariants as own
 use Rattle.ca_server_circuit.specs.declared.step.FollowUp.{FollowUp}
 use Rattle.ca_server_circuit.specs.Circuits.{is_open}
 use Rattle.ca_server_circuit.specs.Ending.{KeepsPlaces, WithdrawsAll}
@@ -232,7 +232,7 @@ module _ (port now n : ℕ) (b : Clock) where
         itself = λ gone wrote. none-wrote gone wrote;
       }
 
-  breaks-steps : (s : Store) (t : Table ServerCircuit) (h : Handle) (e : ServerEnd) (c : Cause) (new : Server) → EndIsSound (records_of s) h e → BreaksBy port s e c → new ≡ closed h (server_of port s now t b n) → StepsOpen (server_of port s now t b n) h e (steps.Closed (why_is c) e.link.output) new × ClosesOpen (server_of port s now t b n) h e (steps.Closed (why_is c) e.link.output) new
+  breaks-steps : (s : Store) (t : Table ServerCircuit) (h : Handle) (e : ServerEnd) (c : EndCause) (new : Server) → EndIsSound (records_of s) h e → BreaksBy port s e c → new ≡ closed h (server_of port s now t b n) → StepsOpen (server_of port s now t b n) h e (steps.Closed (why_is c) e.link.output) new × ClosesOpen (server_of port s now t b n) h e (steps.Closed (why_is c) e.link.output) new
   breaks-steps s t h e cause.OutOfMemory new i did is = (let l = lacks s t h e new i did is in ((refl, l.lacks), l))
   breaks-steps s t h e cause.Misaligned new i did is = ((did.0, (refusal.Misaligned, did.1, refl), refl, is), tt)
   breaks-steps s t h e cause.TooLarge new i did is = ((did.0, (refusal.TooLarge, did.1, refl), refl, is), tt)
@@ -313,7 +313,7 @@ steps-full port now n b s u t after h (inl g) = by g.0 g.1 g.2 g.3 g.4
 report-at : (t : Table ServerCircuit) (h : Handle) (c : ServerCircuit) (did : Stepped) → under t h ≡ Some c → IsReport (under t h) did → IsReport (Some c) did
 report-at t h c did there is = subst (λ (o : Option ServerCircuit). IsReport o did) there is
 
-pub broke-sound : (port : ℕ) (s u : Store) (t after last : Table ServerCircuit) (h : Handle) (c : Cause) (did : Step) → StepsIn port t h s (Some (step.Breaks c)) after u → Reports after h did last → IsSound (records_of s) t → IsSound (records_of u) last
+pub broke-sound : (port : ℕ) (s u : Store) (t after last : Table ServerCircuit) (h : Handle) (c : EndCause) (did : CoreStep) → StepsIn port t h s (Some (step.Breaks c)) after u → Reports after h did last → IsSound (records_of s) t → IsSound (records_of u) last
 broke-sound port s u t after last h c did (inr none) r i = not-some (step.Breaks c) none.1
 broke-sound port s u t after last h c did (inl g) r i = by g.0 g.1 g.2 g.3 g.4
   where
@@ -323,7 +323,7 @@ broke-sound port s u t after last h c did (inl g) r i = by g.0 g.1 g.2 g.3 g.4
         subst (λ (z : Table ServerCircuit). IsSound (records_of u) z) (sym gone) (subst (λ (rs : List Record). IsSound rs (with_freed h t)) (sym broke.2.records) (sound-freed (records_of s) t h i))
     by (Ended w left) new there broke changed = not-some (step.Breaks c) broke.0
 
-pub steps-broke : (port now n : ℕ) (b : Clock) (s u : Store) (t after last : Table ServerCircuit) (h : Handle) (c : Cause) (did : Step) → StepsIn port t h s (Some (step.Breaks c)) after u → Reports after h did last → IsSound (records_of s) t → Makes (server_of port s now t b n) h (stepped did) (server_of port u now last b n)
+pub steps-broke : (port now n : ℕ) (b : Clock) (s u : Store) (t after last : Table ServerCircuit) (h : Handle) (c : EndCause) (did : CoreStep) → StepsIn port t h s (Some (step.Breaks c)) after u → Reports after h did last → IsSound (records_of s) t → Makes (server_of port s now t b n) h (stepped did) (server_of port u now last b n)
 steps-broke port now n b s u t after last h c did (inr none) r i = not-some (step.Breaks c) none.1
 steps-broke port now n b s u t after last h c did (inl g) r i = by g.0 g.1 g.2 g.3 g.4
   where
@@ -341,7 +341,7 @@ steps-broke port now n b s u t after last h c did (inl g) r i = by g.0 g.1 g.2 g
 
 -- ---- an end that had ended is reported
 
-pub none-sound : (port : ℕ) (s u : Store) (t after last : Table ServerCircuit) (h : Handle) (did : Step) → StepsIn port t h s None after u → Reports after h did last → IsSound (records_of s) t → IsSound (records_of u) last
+pub none-sound : (port : ℕ) (s u : Store) (t after last : Table ServerCircuit) (h : Handle) (did : CoreStep) → StepsIn port t h s None after u → Reports after h did last → IsSound (records_of s) t → IsSound (records_of u) last
 none-sound port s u t after last h did (inr none) r i =
     let gone : last ≡ t = r.1 ∙ ap (λ (z : Table ServerCircuit). with_freed h z) none.2 ∙ freed-nothing t h none.0 in
     still-sound s u t last (none.3, gone) i
@@ -355,7 +355,7 @@ none-sound port s u t after last h did (inl g) r i = by g.0 g.1 g.2 g.3 g.4
         subst (λ (z : Table ServerCircuit). IsSound (records_of u) z) (sym gone)
         (subst (λ (z : Store). IsSound (records_of z) (with_freed h t)) (sym was.2) (subst (λ (rs : List Record). IsSound rs (with_freed h t)) clear (sound-freed (records_of s) t h i)))
 
-pub steps-none : (port now n : ℕ) (b : Clock) (s u : Store) (t after last : Table ServerCircuit) (h : Handle) (did : Step) → StepsIn port t h s None after u → Reports after h did last → IsSound (records_of s) t → Makes (server_of port s now t b n) h (stepped did) (server_of port u now last b n)
+pub steps-none : (port now n : ℕ) (b : Clock) (s u : Store) (t after last : Table ServerCircuit) (h : Handle) (did : CoreStep) → StepsIn port t h s None after u → Reports after h did last → IsSound (records_of s) t → Makes (server_of port s now t b n) h (stepped did) (server_of port u now last b n)
 steps-none port now n b s u t after last h did (inr none) r i =
     let gone : last ≡ t = r.1 ∙ ap (λ (z : Table ServerCircuit). with_freed h z) none.2 ∙ freed-nothing t h none.0 in
     let report : stepped did ≡ steps.Closed why.Cut [] = subst (λ (o : Option ServerCircuit). IsReport o (stepped did)) (ap (λ (z : Table ServerCircuit). under z h) none.2 ∙ none.0) r.0 in
@@ -387,11 +387,11 @@ made-idle y port now n b s u t after h is did = subst (λ (x : Server). Makes x 
 pub made-full : (y : Server) (port now n : ℕ) (b : Clock) (s u : Store) (t after : Table ServerCircuit) (h : Handle) → server_of port s now t b n ≡ y → StepsIn port t h s (Some step.OutputFull) after u → Makes y h steps.OutputFull (server_of port u now after b n)
 made-full y port now n b s u t after h is did = subst (λ (x : Server). Makes x h steps.OutputFull (server_of port u now after b n)) is (steps-full port now n b s u t after h did)
 
-pub made-broke : (y : Server) (port now n : ℕ) (b : Clock) (s u : Store) (t after last : Table ServerCircuit) (h : Handle) (c : Cause) (did : Step) → server_of port s now t b n ≡ y → StepsIn port t h s (Some (step.Breaks c)) after u → Reports after h did last → IsSound (records_of s) t → Makes y h (stepped did) (server_of port u now last b n)
+pub made-broke : (y : Server) (port now n : ℕ) (b : Clock) (s u : Store) (t after last : Table ServerCircuit) (h : Handle) (c : EndCause) (did : CoreStep) → server_of port s now t b n ≡ y → StepsIn port t h s (Some (step.Breaks c)) after u → Reports after h did last → IsSound (records_of s) t → Makes y h (stepped did) (server_of port u now last b n)
 made-broke y port now n b s u t after last h c did is g r i =
     subst (λ (x : Server). Makes x h (stepped did) (server_of port u now last b n)) is (steps-broke port now n b s u t after last h c did g r i)
 
-pub made-none : (y : Server) (port now n : ℕ) (b : Clock) (s u : Store) (t after last : Table ServerCircuit) (h : Handle) (did : Step) → server_of port s now t b n ≡ y → StepsIn port t h s None after u → Reports after h did last → IsSound (records_of s) t → Makes y h (stepped did) (server_of port u now last b n)
+pub made-none : (y : Server) (port now n : ℕ) (b : Clock) (s u : Store) (t after last : Table ServerCircuit) (h : Handle) (did : CoreStep) → server_of port s now t b n ≡ y → StepsIn port t h s None after u → Reports after h did last → IsSound (records_of s) t → Makes y h (stepped did) (server_of port u now last b n)
 made-none y port now n b s u t after last h did is g r i =
     subst (λ (x : Server). Makes x h (stepped did) (server_of port u now last b n)) is (steps-none port now n b s u t after last h did g r i)
 
@@ -402,8 +402,8 @@ viewed-idle y port now n b s u t after h is did = (made-idle y port now n b s u 
 pub viewed-full : (y : Server) (port now n : ℕ) (b : Clock) (s u : Store) (t after : Table ServerCircuit) (h : Handle) → server_of port s now t b n ≡ y → StepsIn port t h s (Some step.OutputFull) after u → Steps y h steps.OutputFull (server_of port u now after b n)
 viewed-full y port now n b s u t after h is did = (made-full y port now n b s u t after h is did).0
 
-pub viewed-broke : (y : Server) (port now n : ℕ) (b : Clock) (s u : Store) (t after last : Table ServerCircuit) (h : Handle) (c : Cause) (did : Step) → server_of port s now t b n ≡ y → StepsIn port t h s (Some (step.Breaks c)) after u → Reports after h did last → IsSound (records_of s) t → Steps y h (stepped did) (server_of port u now last b n)
+pub viewed-broke : (y : Server) (port now n : ℕ) (b : Clock) (s u : Store) (t after last : Table ServerCircuit) (h : Handle) (c : EndCause) (did : CoreStep) → server_of port s now t b n ≡ y → StepsIn port t h s (Some (step.Breaks c)) after u → Reports after h did last → IsSound (records_of s) t → Steps y h (stepped did) (server_of port u now last b n)
 viewed-broke y port now n b s u t after last h c did is g r i = (made-broke y port now n b s u t after last h c did is g r i).0
 
-pub viewed-none : (y : Server) (port now n : ℕ) (b : Clock) (s u : Store) (t after last : Table ServerCircuit) (h : Handle) (did : Step) → server_of port s now t b n ≡ y → StepsIn port t h s None after u → Reports after h did last → IsSound (records_of s) t → Steps y h (stepped did) (server_of port u now last b n)
+pub viewed-none : (y : Server) (port now n : ℕ) (b : Clock) (s u : Store) (t after last : Table ServerCircuit) (h : Handle) (did : CoreStep) → server_of port s now t b n ≡ y → StepsIn port t h s None after u → Reports after h did last → IsSound (records_of s) t → Steps y h (stepped did) (server_of port u now last b n)
 viewed-none y port now n b s u t after last h did is g r i = (made-none y port now n b s u t after last h did is g r i).0

@@ -1,5 +1,6 @@
 -- Vocabulary: what a caller asks of a server between its calls.
-use Rattle.std.specs.Prelude.{ℕ, ◌≡◌, List, [], ◌∷◌, Option, Some, None, if◌then◌else◌, is_some, option_map}
+use Rattle.std.specs.Prelude.{ℕ, ◌≡◌, List, [], ◌∷◌, Option, Some, None, if◌then◌else◌, is_some}
+use Rattle.std.specs.Prelude.{option_map}
 use Rattle.ca_arena.specs.declared.handle.Handle.{Handle}
 use Rattle.ca_dbr.specs.Elements.{Elements}
 use Rattle.ca_records.specs.declared.puts.Put.{Put}
@@ -37,7 +38,9 @@ busy_circuit y name = circuit_busy (record_named y.records name)
 
 -- `watching`: each circuit that has a subscription on the record of this name is one of these
 abbrev pub AreAllAmong : Server → List ℕ → List Handle → Type 0
-AreAllAmong y name hs = (h : Handle) (e : ServerEnd) (s : Subscription) → HasEnd y h e → In e.subscriptions s → s.name ≡ name → IsAmong hs h
+AreAllAmong y name hs =
+    (h : Handle) (e : ServerEnd) (s : Subscription) → HasEnd y h e → In e.subscriptions s
+    → s.name ≡ name → IsAmong hs h
 
 -- the value of a record that a put makes busy
 abbrev pub value_busy : Option Record → Option Elements

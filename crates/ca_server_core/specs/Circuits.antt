@@ -13,20 +13,25 @@ AreLive t = (h : Handle) (c : ServerCircuit) → under t h ≡ Some c → IsLive
 
 -- a circuit is held under a handle that may be given; memory is asked for only if no index
 -- may have another handle
-abbrev pub OpensIn : Table ServerCircuit → ServerCircuit → Result Handle Refusal → Table ServerCircuit → Type 0
+abbrev pub OpensIn : Table ServerCircuit → ServerCircuit → Result Handle Refusal
+    → Table ServerCircuit → Type 0
 OpensIn t c (Ok h) after = MayGive t h × (after ≡ with_held h c t)
 OpensIn t c (Err refusal.ArenaFull) after = (is_full t ≡ true) × (after ≡ t)
-OpensIn t c (Err refusal.OutOfMemory) after = (is_full t ≡ false) × (after ≡ t) × (has_free t ≡ false)
+OpensIn t c (Err refusal.OutOfMemory) after =
+    (is_full t ≡ false) × (after ≡ t) × (has_free t ≡ false)
 OpensIn t c (Err _) after = ⊥
 
 -- these bytes came on the circuit of a handle
-abbrev pub GivesIn : Table ServerCircuit → Handle → (now : ℕ) → List ℕ → Result (Unit {0}) Refusal → Table ServerCircuit → Type 0
+abbrev pub GivesIn : Table ServerCircuit → Handle → (now : ℕ) → List ℕ → Result (Unit {0}) Refusal
+    → Table ServerCircuit → Type 0
 GivesIn t h now bytes result after =
-    ((c : ServerCircuit) × (new : ServerCircuit) × (under t h ≡ Some c) × GivesAt now bytes c result new × (after ≡ with_changed (λ (x : ServerCircuit). new) h t))
+    ((c : ServerCircuit) × (new : ServerCircuit) × (under t h ≡ Some c)
+    × GivesAt now bytes c result new × (after ≡ with_changed (λ (x : ServerCircuit). new) h t))
     ⊎ ((under t h ≡ None) × (result ≡ Err refusal.CircuitClosed) × (after ≡ t))
 
 -- the first n bytes that waited on the circuit of a handle were handed over
 abbrev pub SendsIn : Table ServerCircuit → Handle → ℕ → Table ServerCircuit → Type 0
 SendsIn t h n after =
-    ((c : ServerCircuit) × (new : ServerCircuit) × (under t h ≡ Some c) × SendsAt n c new × (after ≡ with_changed (λ (x : ServerCircuit). new) h t))
+    ((c : ServerCircuit) × (new : ServerCircuit) × (under t h ≡ Some c) × SendsAt n c new
+    × (after ≡ with_changed (λ (x : ServerCircuit). new) h t))
     ⊎ ((under t h ≡ None) × (after ≡ t))

@@ -7,4 +7,6 @@ use Rattle.ca_model.specs.ServerSteps.{Pumps, Update, output_of}
 
 -- updates leave the queues of an open end as by `pump`, and n bytes wait on it then
 abbrev pub PumpsCounting : Server → Handle → (waiting : ℕ) → Server → Type 0
-PumpsCounting old h waiting new = ((updates : List Update) × Pumps old h updates new) × (waiting ≡ length (output_of (under new.circuits h)))
+PumpsCounting old h waiting new =
+    ((updates : List Update) × Pumps old h updates new)
+    × (waiting ≡ length (output_of (under new.circuits h)))

@@ -13,7 +13,9 @@ use Rattle.ca_server_circuit.specs.Circuits.{watches}
 -- Each open end is among those that watch the record of each of its subscriptions. Others
 -- may be among them too.
 abbrev pub Covers : Watched → Table ServerCircuit → Type 0
-Covers w t = (h : Handle) (e : ServerEnd) (s : Subscription) → under t h ≡ Some (Open e) → In e.subscriptions s → IsAmong (watching w s.name) h
+Covers w t =
+    (h : Handle) (e : ServerEnd) (s : Subscription) → under t h ≡ Some (Open e)
+    → In e.subscriptions s → IsAmong (watching w s.name) h
 
 -- a name without a record has no line
 abbrev pub AreListed : List Record → Watched → Type 0
@@ -21,12 +23,16 @@ AreListed rs w = (name : List ℕ) → record_named rs name ≡ None → line_of
 
 -- the end has an open channel to the record of this name, which was not removed
 abbrev pub HasTo : ServerEnd → List ℕ → Type 0
-HasTo e name = (k : Handle) × (c : OpenChannel) × (under e.channels k ≡ Some c) × (c.retired ≡ false) × (c.name ≡ name)
+HasTo e name =
+    (k : Handle) × (c : OpenChannel) × (under e.channels k ≡ Some c) × (c.retired ≡ false)
+    × (c.name ≡ name)
 
 -- Each open end is among those that lead to each record to which it has a channel. Others
 -- may be among them too.
 abbrev pub Leads : Watched → Table ServerCircuit → Type 0
-Leads l t = (h : Handle) (e : ServerEnd) (name : List ℕ) → under t h ≡ Some (Open e) → HasTo e name → IsAmong (watching l name) h
+Leads l t =
+    (h : Handle) (e : ServerEnd) (name : List ℕ) → under t h ≡ Some (Open e) → HasTo e name
+    → IsAmong (watching l name) h
 
 -- the lists of those that lead to records are complete, and a name without a record has none
 pub record AreLed (rs : List Record) (l : Watched) (t : Table ServerCircuit) : Type 0 where

@@ -8,7 +8,9 @@ use Rattle.ca_model.specs.Server.{ServerCircuit}
 use Rattle.ca_server_circuit.specs.Ending.{EndsAt}
 
 -- the end of the circuit of a handle has ended, if it was open
-abbrev pub EndsIn : Table ServerCircuit → Handle → Store → Why → Table ServerCircuit → Store → Type 0
+abbrev pub EndsIn : Table ServerCircuit → Handle → Store → Why → Table ServerCircuit → Store
+    → Type 0
 EndsIn t h s w after u =
-    ((c : ServerCircuit) × (new : ServerCircuit) × (under t h ≡ Some c) × EndsAt h c s w new u × (after ≡ with_changed (λ (x : ServerCircuit). new) h t))
+    ((c : ServerCircuit) × (new : ServerCircuit) × (under t h ≡ Some c) × EndsAt h c s w new u
+    × (after ≡ with_changed (λ (x : ServerCircuit). new) h t))
     ⊎ ((under t h ≡ None) × (after ≡ t) × (u ≡ s))

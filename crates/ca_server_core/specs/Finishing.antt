@@ -15,7 +15,8 @@ use Rattle.ca_server_circuit.specs.Finishing.{RepliesAt}
 -- the reply of a put on its circuit, if that is there
 abbrev pub RepliesIn : Table ServerCircuit → Put → Store → Table ServerCircuit → Store → Type 0
 RepliesIn t p s after u =
-    ((c : ServerCircuit) × (new : ServerCircuit) × (under t p.circuit ≡ Some c) × RepliesAt p c s new u × (after ≡ with_changed (λ (x : ServerCircuit). new) p.circuit t))
+    ((c : ServerCircuit) × (new : ServerCircuit) × (under t p.circuit ≡ Some c)
+    × RepliesAt p c s new u × (after ≡ with_changed (λ (x : ServerCircuit). new) p.circuit t))
     ⊎ ((under t p.circuit ≡ None) × (after ≡ t) × (u ≡ s))
 
 -- what a put that was applied next leaves to do

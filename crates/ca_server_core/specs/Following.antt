@@ -13,7 +13,7 @@ use Rattle.ca_model.specs.ServerSteps as steps
 use Rattle.ca_model.specs.Speech.{In}
 use Rattle.ca_server_circuit.specs.declared.step.FollowUp.{FollowUp}
 use Rattle.ca_server_circuit.specs.declared.step.FollowUp.TheVariants as effect
-use Rattle.ca_server_core.specs.declared.stepping.Step.{Step}
+use Rattle.ca_server_core.specs.declared.stepping.CoreStep.{CoreStep}
 use Rattle.ca_server_core.specs.Covering.{AreLed, AreListed, Covers, HasTo}
 use Rattle.ca_server_core.specs.Ending.{EndsIn}
 use Rattle.ca_server_core.specs.Reaching.{ReachesFrom}
@@ -26,11 +26,14 @@ use Rattle.ca_server_circuit.specs.Circuits.{is_open}
 -- among those that watch
 abbrev pub CoversBut : Handle → List ℕ → Watched → Table ServerCircuit → Type 0
 CoversBut h name w t =
-    (g : Handle) (e : ServerEnd) (s : Subscription) → under t g ≡ Some (server.Open e) → In e.subscriptions s → (IsAmong (watching w s.name) g) ⊎ ((g ≡ h) × (s.name ≡ name))
+    (g : Handle) (e : ServerEnd) (s : Subscription) → under t g ≡ Some (server.Open e)
+    → In e.subscriptions s → (IsAmong (watching w s.name) g) ⊎ ((g ≡ h) × (s.name ≡ name))
 
 -- the same for the record at a place
 abbrev pub CoversAt : (place : ℕ) → Handle → Store → Watched → Table ServerCircuit → Type 0
-CoversAt place h s w t = (r : Record) × HasAt s place r × ((c : ServerCircuit) × (under t h ≡ Some c)) × CoversBut h r.state.name w t
+CoversAt place h s w t =
+    (r : Record) × HasAt s place r × ((c : ServerCircuit) × (under t h ≡ Some c))
+    × CoversBut h r.state.name w t
 
 -- who watches, as a message leaves it
 abbrev pub CoversFor : FollowUp → Handle → Store → Watched → Table ServerCircuit → Type 0
@@ -43,12 +46,14 @@ CoversFor (effect.Opened place sid) h s w t = Covers w t
 -- those that lead there
 abbrev pub LeadsBut : Handle → List ℕ → Watched → Table ServerCircuit → Type 0
 LeadsBut h name l t =
-    (g : Handle) (e : ServerEnd) (n : List ℕ) → under t g ≡ Some (server.Open e) → HasTo e n → (IsAmong (watching l n) g) ⊎ ((g ≡ h) × (n ≡ name))
+    (g : Handle) (e : ServerEnd) (n : List ℕ) → under t g ≡ Some (server.Open e) → HasTo e n
+    → (IsAmong (watching l n) g) ⊎ ((g ≡ h) × (n ≡ name))
 
 -- the same for the record at a place
 abbrev pub LedAt : (place : ℕ) → Handle → Store → Watched → Table ServerCircuit → Type 0
 LedAt place h s l t =
-    (r : Record) × HasAt s place r × ((c : ServerCircuit) × (under t h ≡ Some c)) × LeadsBut h r.state.name l t × AreListed (records_of s) l
+    (r : Record) × HasAt s place r × ((c : ServerCircuit) × (under t h ≡ Some c))
+    × LeadsBut h r.state.name l t × AreListed (records_of s) l
 
 -- who leads to records, as a message leaves it
 abbrev pub LedFor : FollowUp → Handle → Store → Watched → Table ServerCircuit → Type 0
@@ -62,7 +67,8 @@ abbrev pub Begins : Handle → Table ServerCircuit → Store → Table ServerCir
 Begins h t s after u = ((after ≡ t) × (u ≡ s)) ⊎ EndsIn t h s why.OutOfMemory after u
 
 -- what a message leaves to do was done
-abbrev pub Follows : FollowUp → Handle → Table ServerCircuit → Store → Table ServerCircuit → Store → Type 0
+abbrev pub Follows : FollowUp → Handle → Table ServerCircuit → Store → Table ServerCircuit → Store
+    → Type 0
 Follows (effect.Quiet did) h t s after u = (after ≡ t) × (u ≡ s)
 Follows (effect.Wrote place busies sid) h t s after u = ReachesFrom place write_mask t s after u
 Follows (effect.Began place sid sub) h t s after u = Begins h t s after u
@@ -71,11 +77,13 @@ Follows (effect.Opened place sid) h t s after u = Begins h t s after u
 -- ---- the answer of the step
 
 -- how a step is answered that handled a message, by what is under the handle now
-abbrev pub IsSettled : Option ServerCircuit → (waited : ℕ) → Step → Type 0
+abbrev pub IsSettled : Option ServerCircuit → (waited : ℕ) → CoreStep → Type 0
 IsSettled (Some (server.Open e)) waited did = stepped did ≡ steps.Handled
 IsSettled (Some (server.Ended w left)) waited did = stepped did ≡ steps.Closed w (take waited left)
 IsSettled None waited did = Unit {0}
 
 -- the same, and the circuit is taken out if its end has ended
-abbrev pub Settles : Table ServerCircuit → Handle → (waited : ℕ) → Step → Table ServerCircuit → Type 0
-Settles t h waited did after = IsSettled (under t h) waited did × (after ≡ (if is_open (under t h) then t else with_freed h t))
+abbrev pub Settles : Table ServerCircuit → Handle → (waited : ℕ) → CoreStep → Table ServerCircuit
+    → Type 0
+Settles t h waited did after =
+    IsSettled (under t h) waited did × (after ≡ (if is_open (under t h) then t else with_freed h t))

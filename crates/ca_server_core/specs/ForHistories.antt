@@ -1,5 +1,6 @@
 -- Vocabulary: what a recorder of histories asks of a server.
-use Rattle.std.specs.Prelude.{ℕ, ◌≡◌, ◌<◌, ◌≤◌, Bool, true, false, List, [], Option, Some, None, option_map, slice_get}
+use Rattle.std.specs.Prelude.{ℕ, ◌≡◌, ◌<◌, ◌≤◌, Bool, true, false, List, [], Option, Some, None}
+use Rattle.std.specs.Prelude.{option_map, slice_get}
 use Rattle.ca_arena.specs.declared.handle.Handle.{Handle}
 use Rattle.ca_dbr.specs.Elements.{Elements}
 use Rattle.ca_ids.specs.Table.{Table, under}
@@ -7,7 +8,8 @@ use Rattle.ca_queue.specs.Circuit.{AreInOne, HasAt}
 use Rattle.ca_records.specs.declared.puts.Put.{Put}
 use Rattle.ca_records.specs.Puts.{Record, WaitingPut}
 use Rattle.ca_text.specs.Place.{At}
-use Rattle.ca_model.specs.Server.{Ended, Open, Server, ServerCircuit, Subscription, concerns, key_of}
+use Rattle.ca_model.specs.Server.{Ended, Open, Server, ServerCircuit, Subscription, concerns}
+use Rattle.ca_model.specs.Server.{key_of}
 use Rattle.ca_model.specs.ServerSteps.{without_puts_of}
 use Rattle.ca_server_circuit.specs.Concerned.{channels_on}
 
@@ -29,10 +31,13 @@ EndsAt y n None = IsOverAt y.circuits n None
 
 -- A post to the record of this name, with this mask, concerns the subscription at this place of an
 -- open end, which the queue at that place has and no other; or it concerns none there.
-abbrev pub ConcernsUnder : (name : List ℕ) → (mask : ℕ) → (place : ℕ) → Option ServerCircuit → Option ℕ → Type 0
+abbrev pub ConcernsUnder : (name : List ℕ) → (mask : ℕ) → (place : ℕ) → Option ServerCircuit
+    → Option ℕ → Type 0
 ConcernsUnder name mask place (Some (Open e)) (Some queue) =
-    (s : Subscription) × At e.subscriptions place s × (concerns name mask s ≡ true) × HasAt e.queues queue (key_of s) × AreInOne e.queues
-ConcernsUnder name mask place (Some (Open e)) None = (s : Subscription) → At e.subscriptions place s → concerns name mask s ≡ false
+    (s : Subscription) × At e.subscriptions place s × (concerns name mask s ≡ true)
+    × HasAt e.queues queue (key_of s) × AreInOne e.queues
+ConcernsUnder name mask place (Some (Open e)) None =
+    (s : Subscription) → At e.subscriptions place s → concerns name mask s ≡ false
 ConcernsUnder name mask place (Some (Ended w left)) queue = queue ≡ None
 ConcernsUnder name mask place None queue = queue ≡ None
 
@@ -44,13 +49,15 @@ bytes_under None = []
 
 -- no two of these records have one name
 abbrev pub AreNamedApart : List Record → Type 0
-AreNamedApart records = (i j : ℕ) (r s : Record) → At records i r → At records j s → r.state.name ≡ s.state.name → i ≡ j
+AreNamedApart records =
+    (i j : ℕ) (r s : Record) → At records i r → At records j s → r.state.name ≡ s.state.name → i ≡ j
 
 -- Of these records, if no two have one name, that of the first name comes before that
 -- of the other, or not.
 abbrev pub ComesBefore : List Record → (name other : List ℕ) → Bool → Type 0
 ComesBefore records name other before =
-    AreNamedApart records → (i j : ℕ) (r s : Record) → At records i r → At records j s → r.state.name ≡ name → s.state.name ≡ other
+    AreNamedApart records → (i j : ℕ) (r s : Record) → At records i r → At records j s
+    → r.state.name ≡ name → s.state.name ≡ other
     → (before ≡ true → i < j) × (before ≡ false → j ≤ i)
 
 -- the SID and the CID of each channel to the record of this name at the open end under a

@@ -1,6 +1,7 @@
 -- Vocabulary: `serve_and_pump`, which is a step, then the finish of the put by which its message
 -- made a record busy (section "CA_PROTO_WRITE_NOTIFY"), and then a pump.
-use Rattle.std.specs.Prelude.{ℕ, ◌≡◌, ◌⊎◌, Bool, true, false, if◌then◌else◌, List, Option, None, Some, Result, Ok, is_some}
+use Rattle.std.specs.Prelude.{ℕ, ◌≡◌, ◌⊎◌, Bool, true, false, if◌then◌else◌, List, Option, None}
+use Rattle.std.specs.Prelude.{Some, Result, Ok, is_some}
 use Rattle.ca_arena.specs.declared.handle.Handle.{Handle}
 use Rattle.ca_ids.specs.Table.{Table, under}
 use Rattle.ca_records.specs.declared.puts.Finished.{Finished}
@@ -29,11 +30,14 @@ use Rattle.ca_server_core.specs.Serving.{Closes, more_applied}
 abbrev pub BusyBut : (old new : List Record) → Option (List ℕ) → Type 0
 BusyBut old new noted =
     (r : Record) → In new r → is_some r.busy ≡ true
-    → (noted ≡ Some r.state.name) ⊎ ((q : Record) × In old q × (q.state.name ≡ r.state.name) × (is_some q.busy ≡ true))
+    → (noted ≡ Some r.state.name)
+    ⊎ ((q : Record) × In old q × (q.state.name ≡ r.state.name) × (is_some q.busy ≡ true))
 
 -- the record whose name is noted is busy
 abbrev pub IsBusy : (new : List Record) → Option (List ℕ) → Type 0
-IsBusy new noted = (name : List ℕ) → noted ≡ Some name → (r : Record) × (record_named new name ≡ Some r) × (is_some r.busy ≡ true)
+IsBusy new noted =
+    (name : List ℕ) → noted ≡ Some name
+    → (r : Record) × (record_named new name ≡ Some r) × (is_some r.busy ≡ true)
 
 -- What is noted of a message that made the one of the other: the record that it made busy.
 pub record Notes (old new : List Record) (noted : Option (List ℕ)) : Type 0 where
@@ -58,14 +62,16 @@ wrote_busy action records = None
 -- the record to which a message wrote is noted if it is busy
 abbrev pub NotesAt : FollowUp → Store → Option (List ℕ) → Type 0
 NotesAt (effect.Wrote place busies sid) s noted =
-    (r : Record) × HasAt s place r × (record_named (records_of s) r.state.name ≡ Some r) × (noted ≡ busy_name (Some r))
+    (r : Record) × HasAt s place r × (record_named (records_of s) r.state.name ≡ Some r)
+    × (noted ≡ busy_name (Some r))
 NotesAt did s noted = noted ≡ None
 
 -- ---- the put of the record to which a message wrote, in the table of circuits
 
 -- The busy put of the record of a name ended: its reply went out, and what that leaves to do
 -- followed. This many writes were applied before, and this many then.
-pub record EndsPut (name : List ℕ) (n : ℕ) (t : Table ServerCircuit) (s : Store) (k : ℕ) (last : Table ServerCircuit) (x : Store) : Type 0 where
+pub record EndsPut (name : List ℕ) (n : ℕ) (t : Table ServerCircuit) (s : Store) (k : ℕ)
+    (last : Table ServerCircuit) (x : Store) : Type 0 where
   pub f : Finished
   pub left : Store
   pub finishes : writes.Finishes s name (Ok f) left
@@ -76,17 +82,24 @@ pub record EndsPut (name : List ℕ) (n : ℕ) (t : Table ServerCircuit) (s : St
   pub counts : k ≡ more_applied (is_wrote (effect_after f)) n
 
 -- nothing changed
-abbrev pub StaysAll : (n : ℕ) (t : Table ServerCircuit) (s : Store) (k : ℕ) (last : Table ServerCircuit) (x : Store) → Type 0
+abbrev pub StaysAll : (n : ℕ) (t : Table ServerCircuit) (s : Store) (k : ℕ)
+    (last : Table ServerCircuit) (x : Store)
+    → Type 0
 StaysAll n t s k last x = (k ≡ n) × (last ≡ t) × (x ≡ s)
 
 -- the busy put of the record at a place ended, or it is not busy
-abbrev pub EndsPutAt : (place n : ℕ) (t : Table ServerCircuit) (s : Store) (k : ℕ) (last : Table ServerCircuit) (x : Store) → Type 0
+abbrev pub EndsPutAt : (place n : ℕ) (t : Table ServerCircuit) (s : Store) (k : ℕ)
+    (last : Table ServerCircuit) (x : Store)
+    → Type 0
 EndsPutAt place n t s k last x =
     (r : Record) × HasAt s place r × (record_named (records_of s) r.state.name ≡ Some r)
-    × (((is_some r.busy ≡ true) × EndsPut r.state.name n t s k last x) ⊎ ((is_some r.busy ≡ false) × StaysAll n t s k last x))
+    × (((is_some r.busy ≡ true) × EndsPut r.state.name n t s k last x)
+    ⊎ ((is_some r.busy ≡ false) × StaysAll n t s k last x))
 
 -- the same of the record to which a message wrote
-abbrev pub TriesAt : FollowUp → (n : ℕ) (t : Table ServerCircuit) (s : Store) (k : ℕ) (last : Table ServerCircuit) (x : Store) → Type 0
+abbrev pub TriesAt : FollowUp
+    → (n : ℕ) (t : Table ServerCircuit) (s : Store) (k : ℕ) (last : Table ServerCircuit) (x : Store)
+    → Type 0
 TriesAt (effect.Wrote place busies sid) n t s k last x = EndsPutAt place n t s k last x
 TriesAt did n t s k last x = StaysAll n t s k last x
 
@@ -100,7 +113,8 @@ was_handled did = false
 -- the busy put of the record of this name was finished, if there is one
 abbrev pub Tries : Server → Option (List ℕ) → Server → Type 0
 Tries y None new = new ≡ y
-Tries y (Some name) new = (sent : List (Handle × Fields)) × (r : Result (Unit {0}) Refusal) × Finishes y name sent r new
+Tries y (Some name) new =
+    (sent : List (Handle × Fields)) × (r : Result (Unit {0}) Refusal) × Finishes y name sent r new
 
 -- A message was handled. The put of the record to which it wrote at once was finished, if that was
 -- busy then, and no other.
@@ -115,5 +129,6 @@ pub record HandlesAndFinishes (old : Server) (h : Handle) (new : Server) : Type 
 -- `serve_and_pump`: what was done with the next message. If it was handled, updates left the queues
 -- of an open end then, and n bytes wait on it.
 abbrev pub ServesAndPumps : Server → Handle → Stepped → (waiting : ℕ) → Server → Type 0
-ServesAndPumps old h Handled waiting new = (finished : Server) × HandlesAndFinishes old h finished × PumpsCounting finished h waiting new
+ServesAndPumps old h Handled waiting new =
+    (finished : Server) × HandlesAndFinishes old h finished × PumpsCounting finished h waiting new
 ServesAndPumps old h did waiting new = Steps old h did new × Closes old h did new

@@ -15,13 +15,16 @@ use Rattle.ca_server_core.specs.Serving.{StepsIn}
 -- updates leave the queues of the circuit of a handle
 abbrev pub PumpsIn : Table ServerCircuit → Handle → Store → Table ServerCircuit → Store → Type 0
 PumpsIn t h s after u =
-    ((c : ServerCircuit) × (new : ServerCircuit) × (under t h ≡ Some c) × PumpsAt h c s new u × (after ≡ with_changed (λ (x : ServerCircuit). new) h t))
+    ((c : ServerCircuit) × (new : ServerCircuit) × (under t h ≡ Some c) × PumpsAt h c s new u
+    × (after ≡ with_changed (λ (x : ServerCircuit). new) h t))
     ⊎ ((under t h ≡ None) × (after ≡ t) × (u ≡ s))
 
 -- the same after a step that leaves nothing to do
-abbrev pub StepsAndPumps : (port : ℕ) → Table ServerCircuit → Handle → Store → Table ServerCircuit → Store → Type 0
+abbrev pub StepsAndPumps : (port : ℕ) → Table ServerCircuit → Handle → Store → Table ServerCircuit
+    → Store → Type 0
 StepsAndPumps port t h s after u =
-    (mid : Table ServerCircuit) × (v : Store) × (did : Effect) × StepsIn port t h s (Some (step.Handled (effect.Quiet did))) mid v × PumpsIn mid h v after u
+    (mid : Table ServerCircuit) × (v : Store) × (did : Effect)
+    × StepsIn port t h s (Some (step.Handled (effect.Quiet did))) mid v × PumpsIn mid h v after u
 
 -- a pump of the circuit of a handle does nothing
 abbrev pub IsIdleIn : Table ServerCircuit → Handle → Type 0

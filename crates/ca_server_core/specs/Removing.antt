@@ -23,7 +23,8 @@ abbrev pub MayLoseIn : List Record → Handle → Table ServerCircuit → Type 0
 MayLoseIn rs h t = (c : ServerCircuit) → under t h ≡ Some c → MayLose rs h c
 
 -- the same for the one at a place of the list of those that lead to the record of this name
-abbrev pub MayLoseNext : List Record → (name : List ℕ) → (place : ℕ) → Watched → Table ServerCircuit → Type 0
+abbrev pub MayLoseNext : List Record → (name : List ℕ) → (place : ℕ) → Watched → Table ServerCircuit
+    → Type 0
 MayLoseNext rs name place l t = (h : Handle) → At (watching l name) place h → MayLoseIn rs h t
 
 -- each open end has room in its queues
@@ -31,25 +32,33 @@ abbrev pub HaveRoom : Table ServerCircuit → Type 0
 HaveRoom t = (h : Handle) (e : ServerEnd) → under t h ≡ Some (server.Open e) → HasRoom (events_of e)
 
 -- the circuit of a handle loses a record, if there is one
-abbrev pub LosesIn : Table ServerCircuit → Handle → (name : List ℕ) → Store → Table ServerCircuit → Store → Type 0
+abbrev pub LosesIn : Table ServerCircuit → Handle → (name : List ℕ) → Store → Table ServerCircuit
+    → Store → Type 0
 LosesIn t h name s after u =
-    ((c : ServerCircuit) × (new : ServerCircuit) × (under t h ≡ Some c) × LosesAt h name c s new u × (after ≡ with_changed (λ (x : ServerCircuit). new) h t))
+    ((c : ServerCircuit) × (new : ServerCircuit) × (under t h ≡ Some c) × LosesAt h name c s new u
+    × (after ≡ with_changed (λ (x : ServerCircuit). new) h t))
     ⊎ ((under t h ≡ None) × (after ≡ t) × (u ≡ s))
 
 -- the same for the one at a place of the list of those that lead to the record; there may be none
-abbrev pub LosesNext : (name : List ℕ) → (place : ℕ) → Watched → Table ServerCircuit → Store → Table ServerCircuit → Store → Type 0
+abbrev pub LosesNext : (name : List ℕ) → (place : ℕ) → Watched → Table ServerCircuit → Store
+    → Table ServerCircuit → Store → Type 0
 LosesNext name place l t s after u =
     ((h : Handle) × At (watching l name) place h × LosesIn t h name s after u)
     ⊎ ((slice_get (watching l name) place ≡ None) × (after ≡ t) × (u ≡ s))
 
 -- Each circuit has lost the record, but for those that ended, and left that many SERVER_DISCONNs.
-pub record IsLost (name : List ℕ) (gone : Handle → Bool) (left : Handle → ℕ) (t : Table ServerCircuit) (s : Store) (after : Table ServerCircuit) (u : Store) : Type 0 where
-  pub may : (h : Handle) → gone h ≡ true → (e : ServerEnd) × (under t h ≡ Some (server.Open e)) × (left h < length (channels_of name e))
+pub record IsLost (name : List ℕ) (gone : Handle → Bool) (left : Handle → ℕ)
+    (t : Table ServerCircuit) (s : Store) (after : Table ServerCircuit) (u : Store) : Type 0 where
+  pub may : (h : Handle) → gone h ≡ true
+      → (e : ServerEnd) × (under t h ≡ Some (server.Open e))
+      × (left h < length (channels_of name e))
   pub circuits : after ≡ with_each (circuit_without name gone left) t
   pub records : records_of u ≡ withdrawn (λ (p : Put). gone p.circuit) (records_of s)
   pub rules : u.rules ≡ s.rules
   pub stamp : u.stamp ≡ s.stamp
   pub rooms : HaveRoom after
 
-abbrev pub LosesAll : (name : List ℕ) → Table ServerCircuit → Store → Table ServerCircuit → Store → Type 0
-LosesAll name t s after u = (gone : Handle → Bool) × ((left : Handle → ℕ) × IsLost name gone left t s after u)
+abbrev pub LosesAll : (name : List ℕ) → Table ServerCircuit → Store → Table ServerCircuit → Store
+    → Type 0
+LosesAll name t s after u =
+    (gone : Handle → Bool) × ((left : Handle → ℕ) × IsLost name gone left t s after u)

@@ -9,7 +9,9 @@ use Rattle.ca_wire.specs.Messages.{search_reply, text_in}
 
 -- the message is a search for a record that is there
 abbrev pub wants_answer : Store → Fields → Bool
-wants_answer s m = m.command == command_number command.Search && is_some (record_named (records_of s) (text_in m.payload))
+wants_answer s m =
+    m.command == command_number command.Search
+    && is_some (record_named (records_of s) (text_in m.payload))
 
 -- the reply that is due for it: `search_answer` of the server round these records
 abbrev pub answer_of : (port : ℕ) → Store → Fields → List Fields

@@ -1,5 +1,6 @@
 -- Working: what a step makes of the table of circuits, and how it is reported.
-use Rattle.std.specs.Prelude.{ℕ, ◌≡◌, ◌+◌, ◌⊎◌, Bool, true, false, [], Option, Some, None, if◌then◌else◌, min}
+use Rattle.std.specs.Prelude.{ℕ, ◌≡◌, ◌+◌, ◌⊎◌, Bool, true, false, [], Option, Some, None}
+use Rattle.std.specs.Prelude.{if◌then◌else◌, min}
 use Rattle.ca_arena.specs.declared.handle.Handle.{Handle}
 use Rattle.ca_ids.specs.Table.{Table, under, with_changed, with_freed}
 use Rattle.ca_records.specs.Store.{Store}
@@ -13,14 +14,15 @@ use Rattle.ca_server_circuit.specs.declared.step.FollowUp.{FollowUp}
 use Rattle.ca_server_circuit.specs.declared.step.FollowUp.TheVariants as effect
 use Rattle.ca_server_circuit.specs.declared.step.EndStep.{EndStep}
 use Rattle.ca_server_circuit.specs.declared.step.EndStep.TheVariants as step
-use Rattle.ca_server_core.specs.declared.stepping.Step.{Step}
-use Rattle.ca_server_core.specs.declared.stepping.Step.TheVariants.{Closed, Handled, NeedBytes, OutputFull}
+use Rattle.ca_server_core.specs.declared.stepping.CoreStep.{CoreStep}
+use Rattle.ca_server_core.specs.declared.stepping.CoreStep.TheVariants.{Closed, Handled, NeedBytes}
+use Rattle.ca_server_core.specs.declared.stepping.CoreStep.TheVariants.{OutputFull}
 use Rattle.ca_server_circuit.specs.Handling.{AsksMemory}
 use Rattle.ca_server_circuit.specs.Serving.{CircuitSteps}
 use Rattle.ca_server_circuit.specs.Stepping.{why_is}
 
 -- what a step did, as the statement names it
-abbrev pub stepped : Step → Stepped
+abbrev pub stepped : CoreStep → Stepped
 stepped (Handled did) = steps.Handled
 stepped NeedBytes = steps.NeedBytes
 stepped OutputFull = steps.OutputFull
@@ -46,9 +48,11 @@ abbrev pub more_applied : (writes : Bool) → ℕ → ℕ
 more_applied writes n = if writes then min (n + 1) applied_limit else n
 
 -- One step of the circuit of a handle.
-abbrev pub StepsIn : (port : ℕ) → Table ServerCircuit → Handle → Store → Option EndStep → Table ServerCircuit → Store → Type 0
+abbrev pub StepsIn : (port : ℕ) → Table ServerCircuit → Handle → Store → Option EndStep
+    → Table ServerCircuit → Store → Type 0
 StepsIn port t h s did after u =
-    ((c : ServerCircuit) × (new : ServerCircuit) × (under t h ≡ Some c) × CircuitSteps port h c s did new u × (after ≡ with_changed (λ (x : ServerCircuit). new) h t))
+    ((c : ServerCircuit) × (new : ServerCircuit) × (under t h ≡ Some c)
+    × CircuitSteps port h c s did new u × (after ≡ with_changed (λ (x : ServerCircuit). new) h t))
     ⊎ ((under t h ≡ None) × (did ≡ None) × (after ≡ t) × (u ≡ s))
 
 -- how the end of a circuit that has ended is reported
@@ -58,7 +62,7 @@ IsReport (Some (server.Ended w left)) did = did ≡ steps.Closed w left
 IsReport (Some (server.Open e)) did = Unit {0}
 
 -- the circuit of a handle was taken out, and its end is reported
-abbrev pub Reports : Table ServerCircuit → Handle → Step → Table ServerCircuit → Type 0
+abbrev pub Reports : Table ServerCircuit → Handle → CoreStep → Table ServerCircuit → Type 0
 Reports t h did after = IsReport (under t h) (stepped did) × (after ≡ with_freed h t)
 
 -- ---- when a step closes an end

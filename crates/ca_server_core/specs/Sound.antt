@@ -10,4 +10,5 @@ use Rattle.ca_server_circuit.specs.Sound.{EndIsSound}
 -- each open end is sound, and each put that waits has one
 pub record IsSound (rs : List Record) (t : Table ServerCircuit) : Type 0 where
   pub ends : (h : Handle) (e : ServerEnd) → under t h ≡ Some (Open e) → EndIsSound rs h e
-  pub waits : (i : ℕ) (r : Record) (k : ℕ) (w : WaitingPut) → At rs i r → At r.waiting k w → (e : ServerEnd) × (under t w.put.circuit ≡ Some (Open e))
+  pub waits : (i : ℕ) (r : Record) (k : ℕ) (w : WaitingPut) → At rs i r → At r.waiting k w
+      → (e : ServerEnd) × (under t w.put.circuit ≡ Some (Open e))

@@ -9,7 +9,7 @@ use crate::server::ServerCore;
 use ca_arena::Handle;
 use ca_ids::HeldTable;
 use ca_records::ServedRecords;
-use ca_server_circuit::{Cause, Circuit};
+use ca_server_circuit::{Circuit, EndCause};
 
 impl ServerCore {
     /// Cuts a circuit: its end ends, if it is open, and its puts that wait are never applied. A
@@ -17,7 +17,12 @@ impl ServerCore {
     pub fn cut(&mut self, circuit: Handle)
         ensures { Cuts self.old circuit self.new }
     {
-        end_on(&mut self.circuits, &mut self.records, circuit, Cause::Cut);
+        end_on(
+            &mut self.circuits,
+            &mut self.records,
+            circuit,
+            EndCause::Cut,
+        );
     }
 }
 
@@ -26,7 +31,7 @@ pub(crate) fn end_on(
     circuits: &mut HeldTable<Circuit>,
     records: &mut ServedRecords,
     circuit: Handle,
-    cause: Cause,
+    cause: EndCause,
 )
     requires { IsSound (records_of records.old) circuits.old }
     ensures { EndsIn circuits.old circuit records.old (why_is cause) circuits.new records.new }

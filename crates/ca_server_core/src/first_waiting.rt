@@ -5,7 +5,8 @@ ghost use Rattle.ca_dbr.specs.Elements.{elements};
 ghost use Rattle.ca_ids.specs.Table.{under};
 ghost use Rattle.ca_records.specs.Store.{records_of};
 ghost use Rattle.ca_server_circuit.specs.Circuits.{is_open};
-ghost use Rattle.ca_server_core.specs.Asking.{busy_value, circuit_next, first_waiting, record_now, state_in, value_busy};
+ghost use Rattle.ca_server_core.specs.Asking.{busy_value, circuit_next, first_waiting, record_now};
+ghost use Rattle.ca_server_core.specs.Asking.{state_in, value_busy};
 ghost use Rattle.ca_records.specs.Puts.{record_named};
 
 use crate::server::ServerCore;

@@ -3,7 +3,8 @@
 ghost use Rattle.std.specs.Prelude.{◌≡◌, false};
 ghost use Rattle.ca_records.specs.Store.{records_of};
 ghost use Rattle.ca_server_core.specs.Covering.{AreLed, AreListed, Covers};
-ghost use Rattle.ca_server_core.specs.Following.{Begins, CoversAt, CoversFor, Follows, LedAt, LedFor};
+ghost use Rattle.ca_server_core.specs.Following.{Begins, CoversAt, CoversFor, Follows, LedAt};
+ghost use Rattle.ca_server_core.specs.Following.{LedFor};
 ghost use Rattle.ca_server_core.specs.Sound.{IsSound};
 
 use crate::cutting::end_on;
@@ -11,7 +12,7 @@ use crate::posting::post_to_all;
 use ca_arena::Handle;
 use ca_ids::HeldTable;
 use ca_records::ServedRecords;
-use ca_server_circuit::{Cause, Circuit, FollowUp};
+use ca_server_circuit::{Circuit, EndCause, FollowUp};
 use ca_server_watchers::Watchers;
 
 /// The mask of a write that was applied: VALUE and LOG.
@@ -73,7 +74,7 @@ fn watch(
 {
     match watchers.watch(records.at(place).state().name(), circuit) {
         Ok(()) => {}
-        Err(_) => end_on(circuits, records, circuit, Cause::OutOfMemory),
+        Err(_) => end_on(circuits, records, circuit, EndCause::OutOfMemory),
     }
 }
 
@@ -94,6 +95,6 @@ fn lead(
 {
     match leading.watch(records.at(place).state().name(), circuit) {
         Ok(()) => {}
-        Err(_) => end_on(circuits, records, circuit, Cause::OutOfMemory),
+        Err(_) => end_on(circuits, records, circuit, EndCause::OutOfMemory),
     }
 }

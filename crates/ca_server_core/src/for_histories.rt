@@ -5,7 +5,9 @@ ghost use Rattle.ca_ids.specs.Table.{same_handle, under};
 ghost use Rattle.ca_records.specs.Puts.{record_named, withdrawn};
 ghost use Rattle.ca_records.specs.Store.{records_of};
 ghost use Rattle.ca_server_circuit.specs.Circuits.{is_open};
-ghost use Rattle.ca_server_core.specs.ForHistories.{ComesBefore, ConcernsUnder, EndsAt, IsOverAt, bytes_under, channels_under, is_over, put_in, value_in};
+ghost use Rattle.ca_server_core.specs.ForHistories.{ComesBefore, ConcernsUnder, EndsAt, IsOverAt};
+ghost use Rattle.ca_server_core.specs.ForHistories.{bytes_under, channels_under, is_over, put_in};
+ghost use Rattle.ca_server_core.specs.ForHistories.{value_in};
 ghost use Rattle.ca_server_core.specs.Sound.{IsSound};
 
 use crate::server::ServerCore;

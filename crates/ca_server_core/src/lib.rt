@@ -26,7 +26,7 @@ mod serving;
 mod stepping;
 mod through;
 
-pub use ca_server_circuit::{Cause, Effect};
-pub use ca_server_watchers::Line;
+pub use ca_server_circuit::{Effect, EndCause};
+pub use ca_server_watchers::RecordWatchers;
 pub use server::ServerCore;
-pub use stepping::Step;
+pub use stepping::CoreStep;

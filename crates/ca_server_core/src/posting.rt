@@ -7,7 +7,8 @@ ghost use Rattle.ca_ids.specs.Table.{under};
 ghost use Rattle.ca_model.specs.ServerCalls.{Posts};
 ghost use Rattle.ca_records.specs.Store.{IsThere, records_of};
 ghost use Rattle.ca_server_core.specs.Covering.{AreListed, Covers};
-ghost use Rattle.ca_server_core.specs.Reaching.{IsListed, PostsIn, ReachesFrom, ReachesNext, WatchesIn};
+ghost use Rattle.ca_server_core.specs.Reaching.{IsListed, PostsIn, ReachesFrom, ReachesNext};
+ghost use Rattle.ca_server_core.specs.Reaching.{WatchesIn};
 ghost use Rattle.ca_server_core.specs.Sound.{IsSound};
 
 use crate::server::ServerCore;

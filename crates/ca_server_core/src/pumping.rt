@@ -8,6 +8,7 @@ ghost use Rattle.ca_server_core.specs.Sound.{IsSound};
 use crate::server::ServerCore;
 use ca_arena::Handle;
 use ca_ids::HeldTable;
+use ca_link::Spares;
 use ca_records::ServedRecords;
 use ca_server_circuit::Circuit;
 
@@ -20,17 +21,28 @@ impl ServerCore {
     pub fn pump(&mut self, circuit: Handle)
         ensures { (updates : List Update) × Pumps self.old circuit updates self.new }
     {
-        pump_on(&mut self.circuits, &mut self.records, circuit);
+        pump_on(
+            &mut self.circuits,
+            &mut self.spares,
+            &mut self.records,
+            circuit,
+        );
     }
 }
 
 /// Pumps the end of a circuit, if it is open.
-fn pump_on(circuits: &mut HeldTable<Circuit>, records: &mut ServedRecords, circuit: Handle)
+fn pump_on(
+    circuits: &mut HeldTable<Circuit>,
+    spares: &mut Spares,
+    records: &mut ServedRecords,
+    circuit: Handle,
+)
     requires { IsSound (records_of records.old) circuits.old }
     ensures { PumpsIn circuits.old circuit records.old circuits.new records.new }
 {
     let Some(found) = circuits.by_handle_mut(circuit) else {
         return;
     };
+    found.borrow_from(spares);
     found.pump(circuit, records);
 }

@@ -8,7 +8,7 @@ use crate::server::ServerCore;
 use ca_arena::Handle;
 use ca_records::ServedRecords;
 use ca_records::for_histories::busy_put;
-use ca_server_watchers::Line;
+use ca_server_watchers::RecordWatchers;
 
 // Which circuits a call of the server reaches, beside the one that it is of.
 impl ServerCore {
@@ -18,7 +18,7 @@ impl ServerCore {
     ///
     /// Others may be among them: right after such a call also those whose ends it ended, without
     /// memory for their updates.
-    pub fn watching(&self, name: &[u8]) -> Option<&Line>
+    pub fn watching(&self, name: &[u8]) -> Option<&RecordWatchers>
         ensures { AreAllAmong self.now name.now
             (unwrap_or (option_copied result) []) }
     {

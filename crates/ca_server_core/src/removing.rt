@@ -4,7 +4,8 @@ ghost use Rattle.ca_arena.specs.declared.handle.Handle.{Handle};
 ghost use Rattle.ca_model.specs.ServerCalls.{Removes};
 ghost use Rattle.ca_records.specs.Store.{records_of};
 ghost use Rattle.ca_server_core.specs.Covering.{Leads};
-ghost use Rattle.ca_server_core.specs.Removing.{HaveRoom, LosesAll, LosesIn, LosesNext, MayAllLose, MayLoseIn, MayLoseNext};
+ghost use Rattle.ca_server_core.specs.Removing.{HaveRoom, LosesAll, LosesIn, LosesNext, MayAllLose};
+ghost use Rattle.ca_server_core.specs.Removing.{MayLoseIn, MayLoseNext};
 
 use crate::server::ServerCore;
 use ca_arena::Handle;

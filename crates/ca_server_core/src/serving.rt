@@ -6,20 +6,21 @@ ghost use Rattle.ca_model.specs.ServerSteps.{output_of};
 ghost use Rattle.ca_records.specs.Store.{IsThere, records_of};
 ghost use Rattle.ca_server_core.specs.Covering.{AreLed, AreListed, Covers, IsServer};
 ghost use Rattle.ca_server_core.specs.Following.{CoversFor, LedFor};
-ghost use Rattle.ca_server_core.specs.Noting.{EndsPutAt, LeadsTo, ServesAndPumps, TriesAt, was_handled};
+ghost use Rattle.ca_server_core.specs.Noting.{EndsPutAt, LeadsTo, ServesAndPumps, TriesAt};
+ghost use Rattle.ca_server_core.specs.Noting.{was_handled};
 ghost use Rattle.ca_server_core.specs.Pumping.{IsIdleIn};
 ghost use Rattle.ca_server_core.specs.Serving.{stepped};
 ghost use Rattle.ca_server_core.specs.Sound.{IsSound};
 ghost use Rattle.ca_server_circuit.specs.declared.effect.Effect.{Effect};
 ghost use Rattle.ca_server_circuit.specs.declared.effect.Effect.TheVariants.{Quiet};
-ghost use Rattle.ca_server_core.specs.declared.stepping.Step.TheVariants.{Handled};
+ghost use Rattle.ca_server_core.specs.declared.stepping.CoreStep.TheVariants.{Handled};
 ghost use Rattle.ca_server_core.specs.Through.{FollowsAndEnds, FollowsAndPumps};
 
 use crate::counting::{pump_counting_on, step_counting_on};
 use crate::finishing::{left_by, reply_on};
 use crate::following::follow;
 use crate::server::ServerCore;
-use crate::stepping::{Step, is_open, is_quiet, more_applied, over, report};
+use crate::stepping::{CoreStep, is_open, is_quiet, more_applied, over, report};
 use crate::through::go_through;
 use ca_arena::Handle;
 use ca_ids::HeldTable;
@@ -36,7 +37,7 @@ impl ServerCore {
     /// A record that was busy before is finished too if the message wrote to it. The record is
     /// found by its place. If no message was handled nothing is pumped, and nothing is said of the
     /// bytes. Nothing is left to the caller, so no effect is reported.
-    pub fn serve_and_pump(&mut self, circuit: Handle, waiting: &mut usize) -> Step
+    pub fn serve_and_pump(&mut self, circuit: Handle, waiting: &mut usize) -> CoreStep
         ensures serves { ServesAndPumps self.old circuit (stepped result) waiting.new self.new }
         ensures quiet { (did : Effect) → result ≡ Handled did → did ≡ Quiet }
         ensures stays { was_handled (stepped result) ≡ false → waiting.new ≡ waiting.old }
@@ -54,8 +55,8 @@ impl ServerCore {
             &mut idle,
         ) {
             Some(EndStep::Handled(effect)) => effect,
-            Some(EndStep::NeedBytes) => return Step::NeedBytes,
-            Some(EndStep::OutputFull) => return Step::OutputFull,
+            Some(EndStep::NeedBytes) => return CoreStep::NeedBytes,
+            Some(EndStep::OutputFull) => return CoreStep::OutputFull,
             Some(EndStep::Breaks(_)) => return report(self.alloc, &mut self.circuits, circuit),
             None => return report(self.alloc, &mut self.circuits, circuit),
         };
@@ -73,7 +74,7 @@ impl ServerCore {
             )
         {
             *waiting = left;
-            return Step::Handled(Effect::Quiet);
+            return CoreStep::Handled(Effect::Quiet);
         }
         over(self.alloc, &mut self.circuits, circuit, waited)
     }

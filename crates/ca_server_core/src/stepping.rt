@@ -6,25 +6,26 @@ ghost use Rattle.ca_records.specs.Store.{records_of};
 ghost use Rattle.ca_server_core.specs.Following.{Settles};
 ghost use Rattle.ca_server_core.specs.Noting.{was_handled};
 ghost use Rattle.ca_server_circuit.specs.Circuits.{is_open};
-ghost use Rattle.ca_server_core.specs.Serving.{Closes, Reports, StepsIn, is_quiet, more_applied, stepped};
+ghost use Rattle.ca_server_core.specs.Serving.{Closes, Reports, StepsIn, is_quiet, more_applied};
+ghost use Rattle.ca_server_core.specs.Serving.{stepped};
 ghost use Rattle.ca_server_core.specs.Sound.{IsSound};
 ghost use Rattle.ca_server_core.specs.Effects.{TellsEffect};
 ghost use Rattle.ca_server_circuit.specs.declared.effect.Effect.{Effect};
-ghost use Rattle.ca_server_core.specs.declared.stepping.Step.TheVariants.{Handled};
+ghost use Rattle.ca_server_core.specs.declared.stepping.CoreStep.TheVariants.{Handled};
 
 use crate::following::follow;
 use crate::server::ServerCore;
 use ca_arena::Handle;
 use ca_ids::HeldTable;
 use ca_records::ServedRecords;
-use ca_server_circuit::{Cause, Circuit, Effect, EndStep, FollowUp};
+use ca_server_circuit::{Circuit, Effect, EndCause, EndStep, FollowUp};
 use ca_text::APPLIED_LIMIT;
 use ca_wire::Pipe;
 use std::alloc::Global;
 
 /// What a step of a server's end of a circuit did.
 #[derive(Debug, Drop)]
-pub enum Step {
+pub enum CoreStep {
     /// It handled a message, which did this.
     Handled(Effect),
     /// No complete message is there.
@@ -33,7 +34,7 @@ pub enum Step {
     OutputFull,
     /// The end has ended for this cause, and these bytes are left to be sent.
     /// Nothing of it is kept.
-    Closed(Cause, Pipe),
+    Closed(EndCause, Pipe),
 }
 
 impl ServerCore {
@@ -47,7 +48,7 @@ impl ServerCore {
     /// circuit that wait are never applied.
     /// The end of a circuit is reported once, whichever call ended it. From then on, and under a
     /// handle without a circuit, a step reports a cut.
-    pub fn step(&mut self, circuit: Handle) -> Step
+    pub fn step(&mut self, circuit: Handle) -> CoreStep
         ensures steps { Steps self.old circuit (stepped result) self.new }
         ensures closes { Closes self.old circuit (stepped result) self.new }
         ensures tells { TellsEffect self.old circuit result self.new }
@@ -62,7 +63,7 @@ impl ServerCore {
         ) {
             Some(EndStep::Handled(left)) => {
                 if is_quiet(left) {
-                    return Step::Handled(left.effect());
+                    return CoreStep::Handled(left.effect());
                 }
                 self.applied = more_applied(self.applied, left.is_write());
                 let may_have_ended = follow(
@@ -83,8 +84,8 @@ impl ServerCore {
                     may_have_ended,
                 )
             }
-            Some(EndStep::NeedBytes) => Step::NeedBytes,
-            Some(EndStep::OutputFull) => Step::OutputFull,
+            Some(EndStep::NeedBytes) => CoreStep::NeedBytes,
+            Some(EndStep::OutputFull) => CoreStep::OutputFull,
             Some(EndStep::Breaks(_)) => report(self.alloc, &mut self.circuits, circuit),
             None => report(self.alloc, &mut self.circuits, circuit),
         }
@@ -133,16 +134,16 @@ pub(crate) fn settle(
     waited: usize,
     effect: Effect,
     may_have_ended: bool,
-) -> Step
+) -> CoreStep
     requires { may_have_ended ≡ false → is_open (under circuits.old circuit) ≡ true }
     ensures settles { Settles circuits.old circuit waited result circuits.new }
     ensures tells { (did : Effect) → result ≡ Handled did → did ≡ effect }
 {
     if !may_have_ended {
-        return Step::Handled(effect);
+        return CoreStep::Handled(effect);
     }
     if is_open(circuits, circuit) {
-        return Step::Handled(effect);
+        return CoreStep::Handled(effect);
     }
     over(alloc, circuits, circuit, waited)
 }
@@ -156,13 +157,13 @@ pub(crate) fn over(
     circuits: &mut HeldTable<Circuit>,
     circuit: Handle,
     waited: usize,
-) -> Step
+) -> CoreStep
     requires { is_open (under circuits.old circuit) ≡ false }
     ensures settles { Settles circuits.old circuit waited result circuits.new }
     ensures closed { was_handled (stepped result) ≡ false }
 {
     match report(alloc, circuits, circuit) {
-        Step::Closed(cause, left) => Step::Closed(cause, first_of(left, waited)),
+        CoreStep::Closed(cause, left) => CoreStep::Closed(cause, first_of(left, waited)),
         other => other,
     }
 }
@@ -189,14 +190,14 @@ pub(crate) fn is_open(circuits: &HeldTable<Circuit>, circuit: Handle) -> bool
 /// Takes out a circuit whose end has ended, and reports that.
 #[cold]
 #[inline(never)]
-pub(crate) fn report(alloc: Global, circuits: &mut HeldTable<Circuit>, circuit: Handle) -> Step
+pub(crate) fn report(alloc: Global, circuits: &mut HeldTable<Circuit>, circuit: Handle) -> CoreStep
     ensures { Reports circuits.old circuit result circuits.new }
 {
     match circuits.free(circuit) {
-        None => Step::Closed(Cause::Cut, Pipe::new(alloc)),
+        None => CoreStep::Closed(EndCause::Cut, Pipe::new(alloc)),
         Some(found) => {
             let (cause, left) = found.into_left();
-            Step::Closed(cause, left)
+            CoreStep::Closed(cause, left)
         }
     }
 }

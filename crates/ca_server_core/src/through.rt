@@ -73,7 +73,8 @@ fn go_to_watching(
     requires counted { left.old ≡ length (output_of (under circuits.old circuit)) }
     ensures through { result ≡ true
         → (busies : Bool) (sid : ℕ)
-        → GoesThrough (Wrote place busies sid) circuit watchers.old circuits.old records.now circuits.new }
+        → GoesThrough
+        (Wrote place busies sid) circuit watchers.old circuits.old records.now circuits.new }
     ensures counts { result ≡ true → left.new ≡ length (output_of (under circuits.new circuit)) }
     ensures stays { result ≡ false → (circuits.new ≡ circuits.old) × (left.new ≡ left.old) }
     ensures watchers { watchers.new ≡ watchers.old }
@@ -86,7 +87,7 @@ fn go_to_watching(
     let Some(last) = watchers.last(served.state().name(), &mut before) else {
         return idle;
     };
-    if !is_sole(last, before, circuit) {
+    if !is_only(last, before, circuit) {
         return false;
     }
     show_on(circuits, records, circuit, place, left)
@@ -94,7 +95,7 @@ fn go_to_watching(
 
 /// Whether the last of those that watch, which has n before it, is this circuit alone.
 #[inline(always)]
-fn is_sole(last: Handle, before: usize, circuit: Handle) -> bool
+fn is_only(last: Handle, before: usize, circuit: Handle) -> bool
     ensures { result ≡ true → (before ≡ 0) × (last ≡ circuit) }
 {
     before == 0 && last.index == circuit.index && last.generation == circuit.generation

@@ -7,7 +7,8 @@ use Rattle.ca_server_subscriptions.specs.Subscribed.{Subscribed}
 
 -- no subscription, with events on or off
 abbrev pub none_switched : Bool → Subscribed
-none_switched on = record { subscriptions = []; queues = replicate circuit_queues (switched on no_queue) }
+none_switched on =
+    record { subscriptions = []; queues = replicate circuit_queues (switched on no_queue) }
 
 -- those that are kept, or none, with events on or off
 abbrev pub subscribed_of : Option Subscribed → Bool → Subscribed

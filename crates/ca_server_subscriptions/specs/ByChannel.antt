@@ -1,5 +1,6 @@
 -- Working: the subscriptions of an end by the SIDs of their channels.
-use Rattle.std.specs.Prelude.{ℕ, ◌≡◌, ◌==◌, nat_eq, not, List, [], ◌∷◌, ◌++◌, Option, filter, if◌then◌else◌, map, unwrap_or}
+use Rattle.std.specs.Prelude.{ℕ, ◌≡◌, ◌==◌, nat_eq, not, List, [], ◌∷◌, ◌++◌, Option, filter}
+use Rattle.std.specs.Prelude.{if◌then◌else◌, map, unwrap_or}
 use Rattle.std.specs.Map.{lookup}
 use Rattle.ca_queue.specs.declared.entry.SubKey.{SubKey}
 use Rattle.ca_server_subscriptions.specs.Subscribed.{Standings, is_of_sid, keys_in}
@@ -18,7 +19,8 @@ with_id key ids sid = if is_of_sid sid key then ids sid ++ key.sub ∷ [] else i
 
 -- without this one
 abbrev pub without_id : SubKey → Ids → Ids
-without_id key ids sid = if is_of_sid sid key then filter (λ (id : ℕ). not (key.sub == id)) (ids sid) else ids sid
+without_id key ids sid =
+    if is_of_sid sid key then filter (λ (id : ℕ). not (key.sub == id)) (ids sid) else ids sid
 
 -- ---- lines of them, each under the SID of its channel
 

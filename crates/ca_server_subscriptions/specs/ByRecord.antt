@@ -1,5 +1,6 @@
 -- Working: the subscriptions of an end by the names of their records, as far as a post needs them.
-use Rattle.std.specs.Prelude.{ℕ, ◌≡◌, Bool, false, true, not, List, [], ◌∷◌, ◌++◌, Option, Some, filter, map, unwrap_or}
+use Rattle.std.specs.Prelude.{ℕ, ◌≡◌, Bool, false, true, not, List, [], ◌∷◌, ◌++◌, Option, Some}
+use Rattle.std.specs.Prelude.{filter, map, unwrap_or}
 use Rattle.std.specs.Map.{lookup}
 use Rattle.std.specs.Str.{bytes_eq}
 use Rattle.ca_text.specs.Place.{At}
@@ -21,7 +22,8 @@ receiver_of e = record { key = e.0; mask = e.1.0.mask; queue = e.1.1 }
 
 -- those on the record of this name
 abbrev pub receivers_of : (name : List ℕ) → Standings → List Receiver
-receivers_of name es = map receiver_of (filter (λ (e : SubKey × (Subscription × ℕ)). is_on name e.1.0) es)
+receivers_of name es =
+    map receiver_of (filter (λ (e : SubKey × (Subscription × ℕ)). is_on name e.1.0) es)
 
 -- its mask shares a bit with this one
 abbrev pub is_masked : (mask : ℕ) → Receiver → Bool
@@ -63,12 +65,14 @@ lines_in bytes es = map (λ e. (bytes e.0, e.1)) es
 -- One came to the end of the line of this name. All other lines have whom they had.
 pub record Adds (name : List ℕ) (r : Receiver) (old new : Lines) : Type 0 where
   pub own : receivers_in new name ≡ receivers_in old name ++ r ∷ []
-  pub stay : (other : List ℕ) → bytes_eq other name ≡ false → receivers_in new other ≡ receivers_in old other
+  pub stay : (other : List ℕ) → bytes_eq other name ≡ false
+      → receivers_in new other ≡ receivers_in old other
 
 -- One is gone from the line of this name. All other lines have whom they had.
 pub record Drops (name : List ℕ) (key : SubKey) (old new : Lines) : Type 0 where
   pub own : receivers_in new name ≡ without key (receivers_in old name)
-  pub stay : (other : List ℕ) → bytes_eq other name ≡ false → receivers_in new other ≡ receivers_in old other
+  pub stay : (other : List ℕ) → bytes_eq other name ≡ false
+      → receivers_in new other ≡ receivers_in old other
 
 -- each line has just the subscriptions on the record of its name, in their order
 abbrev pub AreByRecord : Lines → Standings → Type 0
@@ -76,12 +80,17 @@ AreByRecord lines es = (name : List ℕ) → receivers_in lines name ≡ receive
 
 -- these are those on a record, of subscriptions that the queues have
 abbrev pub ArePlacedIn : List Receiver → List (Queue Stored) → Type 0
-ArePlacedIn rs qs = (es : Standings) × (name : List ℕ) × ArePlaced es qs × (rs ≡ receivers_of name es)
+ArePlacedIn rs qs =
+    (es : Standings) × (name : List ℕ) × ArePlaced es qs × (rs ≡ receivers_of name es)
 
 -- whoever is at this place is the only one on its record
 abbrev pub IsSole : Option ℕ → Standings → Type 0
-IsSole sole es = (place : ℕ) (e : SubKey × (Subscription × ℕ)) → sole ≡ Some place → At es place e → receivers_of e.1.0.name es ≡ receiver_of e ∷ []
+IsSole sole es =
+    (place : ℕ) (e : SubKey × (Subscription × ℕ)) → sole ≡ Some place → At es place e
+    → receivers_of e.1.0.name es ≡ receiver_of e ∷ []
 
 -- it is the only one on the record of this name, and is under its key
 abbrev pub IsAloneOn : (name : List ℕ) → Subscription × ℕ → Standings → Type 0
-IsAloneOn name of es = (key : SubKey) × (receivers_of name es ≡ receiver_of (key, of) ∷ []) × (lookup (same key) es ≡ Some of)
+IsAloneOn name of es =
+    (key : SubKey) × (receivers_of name es ≡ receiver_of (key, of) ∷ [])
+    × (lookup (same key) es ≡ Some of)

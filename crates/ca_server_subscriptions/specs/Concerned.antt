@@ -8,7 +8,10 @@ use Rattle.ca_model.specs.Speech.{Stored}
 
 -- A post concerns the subscription at this place, which the queue at that place has and no other;
 -- or it concerns none there.
-abbrev pub ConcernsAt : (name : List ℕ) → (mask : ℕ) → (place : ℕ) → List Subscription → List (Queue Stored) → Option ℕ → Type 0
+abbrev pub ConcernsAt : (name : List ℕ) → (mask : ℕ) → (place : ℕ) → List Subscription
+    → List (Queue Stored) → Option ℕ → Type 0
 ConcernsAt name mask place subscriptions queues (Some queue) =
-    (s : Subscription) × At subscriptions place s × (concerns name mask s ≡ true) × HasAt queues queue (key_of s) × AreInOne queues
-ConcernsAt name mask place subscriptions queues None = (s : Subscription) → At subscriptions place s → concerns name mask s ≡ false
+    (s : Subscription) × At subscriptions place s × (concerns name mask s ≡ true)
+    × HasAt queues queue (key_of s) × AreInOne queues
+ConcernsAt name mask place subscriptions queues None =
+    (s : Subscription) → At subscriptions place s → concerns name mask s ≡ false

@@ -1,5 +1,6 @@
 -- Working: updates that wait beside the queues of an end.
-use Rattle.std.specs.Prelude.{ℕ, ◌≡◌, ◌≤◌, Bool, true, List, [], ◌∷◌, Option, Some, None, Result, Ok, Err, length, map}
+use Rattle.std.specs.Prelude.{ℕ, ◌≡◌, ◌≤◌, Bool, true, List, [], ◌∷◌, Option, Some, None, Result}
+use Rattle.std.specs.Prelude.{Ok, Err, length, map}
 use Rattle.std.specs.List.{fold}
 use Rattle.ca_text.specs.Place.{At}
 use Rattle.ca_text.specs.declared.refusal.Refusal.{Refusal}
@@ -25,12 +26,14 @@ AreCopies n x xs = (length xs ≡ n) × ((i : ℕ) (y : _) → At xs i y → y �
 -- none is in a later queue than one after it
 abbrev pub AreInOrder : List Addressee → Type 0
 AreInOrder [] = Unit {0}
-AreInOrder (a ∷ owed) = ((i : ℕ) (b : Addressee) → At owed i b → a.queue ≤ b.queue) × AreInOrder owed
+AreInOrder (a ∷ owed) =
+    ((i : ℕ) (b : Addressee) → At owed i b → a.queue ≤ b.queue) × AreInOrder owed
 
 module _ {E : Type 0} where
   -- the queues, after an update for each of these
   abbrev pub with_owed : List Addressee → E → List (Queue E) → List (Queue E)
-  with_owed owed v qs = fold (λ (rs : List (Queue E)) (a : Addressee). map (queue_posted a.key v) rs) qs owed
+  with_owed owed v qs =
+      fold (λ (rs : List (Queue E)) (a : Addressee). map (queue_posted a.key v) rs) qs owed
 
   -- in all queues events are on, or in all they are off
   abbrev pub AreSwitched : Bool → List (Queue E) → Type 0

@@ -13,8 +13,10 @@ use Rattle.ca_server_subscriptions.specs.Subscribed.{Subscribed}
 abbrev pub GivesUpdate : Subscribed → Option (Wanted × Stored) → Subscribed → Type 0
 GivesUpdate old None new = RestBefore old.queues (length old.queues) × (new ≡ old)
 GivesUpdate old (Some (w, v)) new =
-    (place : ℕ) × (q : Queue Stored) × (s : Subscription) × At old.queues place q × RestBefore old.queues place × (taken q.events_on q.waiting ≡ Some (key_of s, v))
-    × In old.subscriptions s × (s.wanted ≡ w) × (new ≡ record old { queues = slice_set old.queues place (with_front_taken q) })
+    (place : ℕ) × (q : Queue Stored) × (s : Subscription) × At old.queues place q
+    × RestBefore old.queues place × (taken q.events_on q.waiting ≡ Some (key_of s, v))
+    × In old.subscriptions s × (s.wanted ≡ w)
+    × (new ≡ record old { queues = slice_set old.queues place (with_front_taken q) })
 
 -- an update may be taken next, for whoever asked so
 abbrev pub MayGive : Subscribed → Wanted → Stored → Type 0

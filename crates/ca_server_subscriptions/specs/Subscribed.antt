@@ -1,5 +1,7 @@
 -- Working: the subscriptions of an end, and the queues that have them.
-use Rattle.std.specs.Prelude.{ℕ, ◌≡◌, ◌<◌, ◌≤◌, ◌+◌, ◌*◌, ◌==◌, Bool, true, false, not, List, [], ◌∷◌, ◌++◌, Option, Some, None, filter, length, map, replicate, slice_set}
+use Rattle.std.specs.Prelude.{ℕ, ◌≡◌, ◌<◌, ◌≤◌, ◌+◌, ◌*◌, ◌==◌, Bool, true, false, not, List, []}
+use Rattle.std.specs.Prelude.{◌∷◌, ◌++◌, Option, Some, None, filter, length, map, replicate}
+use Rattle.std.specs.Prelude.{slice_set}
 use Rattle.std.specs.List.{fold}
 use Rattle.std.specs.Str.{bytes_eq}
 use Rattle.ca_text.specs.Limits.{circuit_queues, element_limit, queue_subscriptions}
@@ -46,7 +48,8 @@ pub record ArePlaced (es : Standings) (qs : List (Queue Stored)) : Type 0 where
   pub keyed : (i : ℕ) (e : SubKey × (Subscription × ℕ)) → At es i e → e.0 ≡ key_of e.1.0
   pub placed : (i : ℕ) (e : SubKey × (Subscription × ℕ)) → At es i e → HasAt qs e.1.1 e.0
   pub apart : AreApart (keys_in es)
-  pub known : (i : ℕ) (q : Queue Stored) (key : SubKey) → At qs i q → is_among key q.subscriptions ≡ true → is_among key (keys_in es) ≡ true
+  pub known : (i : ℕ) (q : Queue Stored) (key : SubKey) → At qs i q
+      → is_among key q.subscriptions ≡ true → is_among key (keys_in es) ≡ true
   pub sound : (i : ℕ) (q : Queue Stored) → At qs i q → IsSound q
   pub one : AreInOne qs
   pub many : total qs ≤ length es
@@ -73,7 +76,10 @@ has_key key s = is_among key (map key_of s.subscriptions)
 -- without the subscriptions that a test names
 abbrev pub without_those : (SubKey → Bool) → Subscribed → Subscribed
 without_those gone s =
-    record { subscriptions = filter (λ (x : Subscription). not (gone (key_of x))) s.subscriptions; queues = without_each gone s.queues }
+    record {
+      subscriptions = filter (λ (x : Subscription). not (gone (key_of x))) s.subscriptions;
+      queues = without_each gone s.queues;
+    }
 
 -- A new subscription went to the first queue with room, with its first entry.
 pub record Joins (s : Subscription) (v : Stored) (old new : Subscribed) : Type 0 where
@@ -81,15 +87,23 @@ pub record Joins (s : Subscription) (v : Stored) (old new : Subscribed) : Type 0
   pub q : Queue Stored
   pub first : IsFirstWithRoom old.queues place q
   pub leaves :
-      new ≡ record { subscriptions = old.subscriptions ++ s ∷ []; queues = slice_set old.queues place (posted (key_of s) v (added (key_of s) q)) }
+      new
+      ≡ record {
+        subscriptions = old.subscriptions ++ s ∷ [];
+        queues = slice_set old.queues place (posted (key_of s) v (added (key_of s) q));
+      }
 
 -- the keys that the queues have are those of the subscriptions
 abbrev pub AreKnown : Subscribed → Type 0
-AreKnown s = (i : ℕ) (q : Queue Stored) (key : SubKey) → At s.queues i q → is_among key q.subscriptions ≡ true → has_key key s ≡ true
+AreKnown s =
+    (i : ℕ) (q : Queue Stored) (key : SubKey) → At s.queues i q
+    → is_among key q.subscriptions ≡ true → has_key key s ≡ true
 
 -- a queue has room, unless there are as many subscriptions as there may be
 abbrev pub HasRoom : Subscribed → Type 0
-HasRoom s = length s.subscriptions < circuit_queues * queue_subscriptions → (place : ℕ) × (q : Queue Stored) × IsFirstWithRoom s.queues place q
+HasRoom s =
+    length s.subscriptions < circuit_queues * queue_subscriptions
+    → (place : ℕ) × (q : Queue Stored) × IsFirstWithRoom s.queues place q
 
 -- the key has this SID
 abbrev pub is_of_sid : ℕ → SubKey → Bool
@@ -98,11 +112,14 @@ is_of_sid sid key = key.sid == sid
 -- One with this SID has this key; or none has the SID.
 abbrev pub IsOneOf : (sid : ℕ) → Subscribed → Option SubKey → Type 0
 IsOneOf sid s (Some key) = (is_of_sid sid key ≡ true) × (has_key key s ≡ true)
-IsOneOf sid s None = (i : ℕ) (x : Subscription) → At s.subscriptions i x → is_of_sid sid (key_of x) ≡ false
+IsOneOf sid s None =
+    (i : ℕ) (x : Subscription) → At s.subscriptions i x → is_of_sid sid (key_of x) ≡ false
 
 -- after a post to the record of this name
 abbrev pub after_post : (name : List ℕ) → (mask : ℕ) → Stored → Subscribed → Subscribed
 after_post name mask v s = record s {
   queues =
-      fold (λ (qs : List (Queue Stored)) (x : Subscription). map (queue_posted (key_of x) v) qs) s.queues (filter (concerns name mask) s.subscriptions);
+      fold
+      (λ (qs : List (Queue Stored)) (x : Subscription). map (queue_posted (key_of x) v) qs) s.queues
+      (filter (concerns name mask) s.subscriptions);
 }

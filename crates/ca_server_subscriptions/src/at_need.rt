@@ -1,4 +1,5 @@
-ghost use Rattle.std.specs.Prelude.{None, Option, ◌≡◌, ◌<◌, ◌≤◌, ◌*◌, IfOk, IfSome, OnErr, OnOk, false, is_some, length, map, option_map, true};
+ghost use Rattle.std.specs.Prelude.{None, Option, ◌≡◌, ◌<◌, ◌≤◌, ◌*◌, IfOk, IfSome, OnErr, OnOk};
+ghost use Rattle.std.specs.Prelude.{false, is_some, length, map, option_map, true};
 ghost use Rattle.std.specs.List.{list_any};
 ghost use Rattle.ca_text.specs.Limits.{circuit_queues, element_limit, queue_subscriptions};
 ghost use Rattle.ca_dbr.specs.Elements.{count_of, elements};
@@ -12,7 +13,9 @@ ghost use Rattle.ca_server_subscriptions.specs.AtNeed.{subscribed_of};
 ghost use Rattle.ca_server_subscriptions.specs.Concerned.{ConcernsAt};
 ghost use Rattle.ca_server_subscriptions.specs.Passing.{PassesBy};
 ghost use Rattle.ca_server_subscriptions.specs.Pumping.{GivesUpdate, MayGive};
-ghost use Rattle.ca_server_subscriptions.specs.Subscribed.{AreKnown, HasRoom, IsAskable, Joins, after_post, has_key, is_of_sid, is_on, none_yet, without_those};
+ghost use Rattle.ca_server_subscriptions.specs.Subscribed.{AreKnown, HasRoom, IsAskable, Joins};
+ghost use Rattle.ca_server_subscriptions.specs.Subscribed.{after_post, has_key, is_of_sid, is_on};
+ghost use Rattle.ca_server_subscriptions.specs.Subscribed.{none_yet, without_those};
 
 use crate::subscriptions::Subscriptions;
 use crate::update::Update;
@@ -266,7 +269,7 @@ fn keep(
     if kept.is_some() {
         return Ok(());
     }
-    let mut subscriptions = Subscriptions::new(alloc);
+    let mut subscriptions = Subscriptions::new(alloc)?;
     subscriptions.switch(events_on);
     *kept = Some(Box::new(alloc, subscriptions)?);
     Ok(())

@@ -1,11 +1,12 @@
 ghost use Rattle.std.specs.Prelude.{◌≡◌, ◌-◌, [], None, OnErr, OnOk, length, slice_get};
 ghost use Rattle.ca_text.specs.Place.{At};
 ghost use Rattle.ca_queue.specs.Keys.{AreApart};
-ghost use Rattle.ca_server_subscriptions.specs.ByChannel.{AreByChannel, Ids, ids_in, ids_of, line_of, with_id, without_id};
+ghost use Rattle.ca_server_subscriptions.specs.ByChannel.{AreByChannel, Ids, ids_in, ids_of};
+ghost use Rattle.ca_server_subscriptions.specs.ByChannel.{line_of, with_id, without_id};
 ghost use Rattle.ca_server_subscriptions.specs.Subscribed.{keys_in};
 
 use crate::order::is_before;
-use crate::standing::Standing;
+use crate::queued_subscription::QueuedSubscription;
 use ca_queue::SubKey;
 use indexmap::IndexMap;
 use std::alloc::{AllocError, Global};
@@ -96,7 +97,7 @@ impl ByChannel {
     // so that SIDs which come and go fill no memory.
     pub(crate) fn take_out(
         &mut self,
-        standing: &IndexMap<SubKey, Standing>,
+        standing: &IndexMap<SubKey, QueuedSubscription>,
         place: usize,
         key: SubKey,
     )
@@ -111,7 +112,12 @@ impl ByChannel {
     }
 
     // This one, which is at this place of all of the end, is gone. The line may be left with none.
-    fn shorten(&mut self, standing: &IndexMap<SubKey, Standing>, place: usize, key: SubKey)
+    fn shorten(
+        &mut self,
+        standing: &IndexMap<SubKey, QueuedSubscription>,
+        place: usize,
+        key: SubKey,
+    )
         requires here { At (keys_in standing.now.entries) place key }
         requires apart { AreApart (keys_in standing.now.entries) }
         requires lines { AreByChannel self.old standing.now.entries }
@@ -151,7 +157,7 @@ impl ByChannel {
 // the order of EVENT_ADDs, so that those which are before it in the one come first in the other.
 fn place_in_channel(
     line: &[u32],
-    standing: &IndexMap<SubKey, Standing>,
+    standing: &IndexMap<SubKey, QueuedSubscription>,
     place: usize,
     key: SubKey,
 ) -> usize

@@ -1,12 +1,13 @@
 ghost use Rattle.std.specs.Prelude.{ℕ, ◌≡◌, List, [], None, IfSome, OnErr, OnOk};
 ghost use Rattle.ca_text.specs.Place.{At};
 ghost use Rattle.ca_queue.specs.declared.entry.SubKey.{SubKey};
-ghost use Rattle.ca_server_subscriptions.specs.ByRecord.{Adds, Drops, IsInLine, line_of, receivers_in};
+ghost use Rattle.ca_server_subscriptions.specs.ByRecord.{Adds, Drops, IsInLine, line_of};
+ghost use Rattle.ca_server_subscriptions.specs.ByRecord.{receivers_in};
 ghost use Rattle.ca_server_subscriptions.specs.Subscribed.{keys_in};
 
-use crate::line::Line;
+use crate::queued_subscription::QueuedSubscription;
 use crate::receiver::Receiver;
-use crate::standing::Standing;
+use crate::record_subscriptions::RecordSubscriptions;
 use ca_queue::SubKey;
 use ca_text::is_same_name;
 use indexmap::IndexMap;
@@ -16,7 +17,7 @@ use std::marker::Model;
 /// The subscriptions of an end by the names of their records, as far as a post needs them.
 #[derive(Drop)]
 pub(crate) struct ByRecord {
-    lines: IndexMap<Vec<u8>, Line>,
+    lines: IndexMap<Vec<u8>, RecordSubscriptions>,
 }
 
 impl Model for ByRecord {
@@ -52,7 +53,7 @@ impl ByRecord {
 
     // The line here, if it is of this name.
     #[inline(always)]
-    fn recent_line(&self, recent: usize, name: &[u8]) -> Option<&Line>
+    fn recent_line(&self, recent: usize, name: &[u8]) -> Option<&RecordSubscriptions>
         ensures { IfSome result (λ l. l.now ≡ receivers_in self.now name.now) }
     {
         let Some((key, line)) = self.lines.get_index(recent) else {
@@ -109,7 +110,7 @@ impl ByRecord {
         ensures err { OnErr result (self.new ≡ self.old) }
     {
         let alloc = *self.lines.allocator();
-        let line = Line::one(alloc, receiver)?;
+        let line = RecordSubscriptions::one(alloc, receiver)?;
         let name = Vec::from_slice(alloc, name)?;
         self.lines.insert(name, line)?;
         Ok(())
@@ -120,7 +121,7 @@ impl ByRecord {
     pub(crate) fn take_out(
         &mut self,
         name: &[u8],
-        standing: &IndexMap<SubKey, Standing>,
+        standing: &IndexMap<SubKey, QueuedSubscription>,
         place: usize,
     )
         requires { IsInLine standing.now.entries place (receivers_in self.old name.now) }
@@ -133,7 +134,12 @@ impl ByRecord {
     }
 
     // The subscription at this place is gone from its record. The line may be left with none.
-    fn shorten(&mut self, name: &[u8], standing: &IndexMap<SubKey, Standing>, place: usize)
+    fn shorten(
+        &mut self,
+        name: &[u8],
+        standing: &IndexMap<SubKey, QueuedSubscription>,
+        place: usize,
+    )
         requires { IsInLine standing.now.entries place (receivers_in self.old name.now) }
         ensures { (key : SubKey) → At (keys_in standing.now.entries) place key
             → Drops name.now key self.old self.new }

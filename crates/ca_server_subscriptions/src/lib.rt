@@ -7,10 +7,10 @@
 mod at_need;
 mod by_channel;
 mod by_record;
-mod line;
 mod order;
+mod queued_subscription;
 mod receiver;
-mod standing;
+mod record_subscriptions;
 mod subscriptions;
 mod update;
 mod waiting;

@@ -1,4 +1,5 @@
-ghost use Rattle.std.specs.Prelude.{Option, ◌≡◌, ◌∷◌, [], ◌<◌, ◌==◌, ◌≤◌, ◌*◌, IfOk, IfSome, OnErr, OnOk, Some, false, true, filter, map, length, option_map};
+ghost use Rattle.std.specs.Prelude.{Option, ◌≡◌, ◌∷◌, [], ◌<◌, ◌==◌, ◌≤◌, ◌*◌, IfOk, IfSome, OnErr};
+ghost use Rattle.std.specs.Prelude.{OnOk, Some, false, true, filter, map, length, option_map};
 ghost use Rattle.std.specs.List.{fold, list_any};
 ghost use Rattle.std.specs.Map.{lookup};
 ghost use Rattle.ca_text.specs.Limits.{circuit_queues, element_limit, queue_subscriptions};
@@ -14,12 +15,15 @@ ghost use Rattle.ca_server_subscriptions.specs.ByRecord.{IsAloneOn, IsSole, rece
 ghost use Rattle.ca_server_subscriptions.specs.Pumping.{GivesUpdate, MayGive};
 ghost use Rattle.ca_server_subscriptions.specs.Owing.{AreEmpty, AreOn};
 ghost use Rattle.ca_server_subscriptions.specs.Passing.{PassesBy};
-ghost use Rattle.ca_server_subscriptions.specs.Subscribed.{AreKnown, ArePlaced, HasRoom, IsAskable, IsOneOf, Joins, Standings, after_post, has_key, is_of_sid, is_on, none_yet, without_those};
+ghost use Rattle.ca_server_subscriptions.specs.Subscribed.{AreKnown, ArePlaced, HasRoom, IsAskable};
+ghost use Rattle.ca_server_subscriptions.specs.Subscribed.{IsOneOf, Joins, Standings, after_post};
+ghost use Rattle.ca_server_subscriptions.specs.Subscribed.{has_key, is_of_sid, is_on, none_yet};
+ghost use Rattle.ca_server_subscriptions.specs.Subscribed.{without_those};
 
 use crate::by_channel::ByChannel;
 use crate::by_record::ByRecord;
+use crate::queued_subscription::QueuedSubscription;
 use crate::receiver::Receiver;
-use crate::standing::Standing;
 use crate::update::Update;
 use crate::waiting::Waiting;
 use ca_dbr::{Meta, Value};
@@ -34,15 +38,15 @@ use std::slice;
 /// The subscriptions of an end, in the order of their EVENT_ADDs, and the queues of their updates.
 #[derive(Drop)]
 pub(crate) struct Subscriptions {
-    // The place in `standing` of a subscription that is the only one on its record, mostly the
-    // record that was posted to last: the next post to it then looks at no line. None if no such
-    // place is known, as after each `begin` and `cancel`.
+    // The place in `queued_subscription` of a subscription that is the only one on its record,
+    // mostly the record that was posted to last: the next post to it then looks at no line. None if
+    // no such place is known, as after each `begin` and `cancel`.
     sole: Option<usize>,
-    standing: IndexMap<SubKey, Standing>,
+    standing: IndexMap<SubKey, QueuedSubscription>,
     queues: Waiting,
-    // A guess of the place in `standing` of the subscription whose update is taken next: the first
-    // one that was last posted to, then the one after each that was taken. Whoever uses it compares
-    // the key there, and looks the key up if it is another.
+    // A guess of the place in `queued_subscription` of the subscription whose update is taken next:
+    // the first one that was last posted to, then the one after each that was taken. Whoever uses
+    // it compares the key there, and looks the key up if it is another.
     next: usize,
     by_record: ByRecord,
     // Where the line of a record was found last: mostly the same is asked for
@@ -58,7 +62,8 @@ impl Model for Subscriptions {
 
     ghost use Rattle.ca_server_subscriptions.specs.ByRecord.{AreByRecord, IsSole};
     ghost use Rattle.ca_server_subscriptions.specs.ByChannel.{AreByChannel};
-    ghost use Rattle.ca_server_subscriptions.specs.Subscribed.{AreAskable, ArePlaced, subscriptions_in};
+    ghost use Rattle.ca_server_subscriptions.specs.Subscribed.{AreAskable, ArePlaced};
+    ghost use Rattle.ca_server_subscriptions.specs.Subscribed.{subscriptions_in};
 
     ghost view = { λ s.
         record { subscriptions = subscriptions_in s.standing.entries; queues = s.queues } };
@@ -70,19 +75,19 @@ impl Model for Subscriptions {
 }
 
 impl Subscriptions {
-    /// None. It does not allocate yet.
-    pub fn new(alloc: Global) -> Subscriptions
-        ensures { result ≡ none_yet }
+    /// None, with the memory for their queues.
+    pub fn new(alloc: Global) -> Result<Subscriptions, AllocError>
+        ensures { IfOk result (λ subscriptions. subscriptions ≡ none_yet) }
     {
-        Subscriptions {
+        Ok(Subscriptions {
             sole: None,
             standing: IndexMap::new(alloc),
-            queues: Waiting::new(alloc),
+            queues: Waiting::new(alloc)?,
             next: 0,
             by_record: ByRecord::new(alloc),
             recent: 0,
             by_channel: ByChannel::new(alloc),
-        }
+        })
     }
 
     /// How many there are.
@@ -136,7 +141,7 @@ impl Subscriptions {
             self.by_channel.take_back(key);
             return Err(AllocError);
         }
-        let standing = Standing::new(wanted, name, mask, queue);
+        let standing = QueuedSubscription::new(wanted, name, mask, queue);
         match self.standing.insert(key, standing) {
             Ok(_) => Ok(()),
             Err(_) => unreachable!(),
@@ -218,7 +223,7 @@ impl Subscriptions {
             (list_any (concerns name.now mask) self.old.subscriptions ≡ true) }
         ensures stay { OnErr result (self.new.subscriptions ≡ self.old.subscriptions) }
     {
-        if let Some(receiver) = sole_on(self.sole, &self.standing, name) {
+        if let Some(receiver) = only_at(self.sole, &self.standing, name) {
             self.next = receiver.place();
             self.queues
                 .post(slice::from_ref(&receiver), mask, value, meta)?;
@@ -250,7 +255,7 @@ impl Subscriptions {
             return Ok(false);
         };
         self.next = place_of(first, &self.standing);
-        self.sole = sole_of(receivers, self.next, &self.standing, name);
+        self.sole = only_place(receivers, self.next, &self.standing, name);
         self.queues.post(receivers, mask, value, meta)?;
         self.by_record.note(self.recent, self.next);
         Ok(true)
@@ -296,15 +301,15 @@ impl Subscriptions {
         if !self.queues.is_idle() {
             return None;
         }
-        match alone_on(self.sole, &self.standing, name) {
+        match only_subscription_at(self.sole, &self.standing, name) {
             Some(standing) => standing.wanted_by(mask),
-            None => self.seek_sole(name, mask),
+            None => self.seek_only(name, mask),
         }
     }
 
     // What the only subscription on the record asked for, as `sole`, by the line of the record.
     #[inline(never)]
-    fn seek_sole(&mut self, name: &[u8], mask: u16) -> Option<Wanted>
+    fn seek_only(&mut self, name: &[u8], mask: u16) -> Option<Wanted>
         requires on { AreOn self.old.queues }
         requires empty { AreEmpty self.old.queues }
         ensures passes { IfSome result (λ w. PassesBy name.now mask w self.old) }
@@ -313,9 +318,9 @@ impl Subscriptions {
     {
         let receivers = self.by_record.receivers(&mut self.recent, name);
         let place = place_of(receivers.first()?, &self.standing);
-        self.sole = sole_of(receivers, place, &self.standing, name);
+        self.sole = only_place(receivers, place, &self.standing, name);
         self.by_record.note(self.recent, place);
-        let standing = alone_on(self.sole, &self.standing, name)?;
+        let standing = only_subscription_at(self.sole, &self.standing, name)?;
         standing.wanted_by(mask)
     }
 
@@ -367,10 +372,10 @@ impl Subscriptions {
 // The subscription of this key, which is looked for at this place first. The place after
 // it comes in its stead.
 fn find<'a>(
-    standing: &'a IndexMap<SubKey, Standing>,
+    standing: &'a IndexMap<SubKey, QueuedSubscription>,
     next: &mut usize,
     key: SubKey,
-) -> Option<&'a Standing>
+) -> Option<&'a QueuedSubscription>
     ensures { option_map (λ s. s.now) result ≡ lookup (same key) standing.now.entries }
 {
     let place = *next;
@@ -388,7 +393,11 @@ fn find<'a>(
 }
 
 // The subscription of this key, which is looked for at this place first.
-fn seek(standing: &IndexMap<SubKey, Standing>, place: usize, key: SubKey) -> Option<&Standing>
+fn seek(
+    standing: &IndexMap<SubKey, QueuedSubscription>,
+    place: usize,
+    key: SubKey,
+) -> Option<&QueuedSubscription>
     ensures { option_map (λ s. s.now) result ≡ lookup (same key) standing.now.entries }
 {
     match at_key(standing, place, key) {
@@ -398,7 +407,11 @@ fn seek(standing: &IndexMap<SubKey, Standing>, place: usize, key: SubKey) -> Opt
 }
 
 // The subscription at this place, if it has this key.
-fn at_key(standing: &IndexMap<SubKey, Standing>, place: usize, key: SubKey) -> Option<&Standing>
+fn at_key(
+    standing: &IndexMap<SubKey, QueuedSubscription>,
+    place: usize,
+    key: SubKey,
+) -> Option<&QueuedSubscription>
     ensures { IfSome result (λ s. lookup (same key) standing.now.entries ≡ Some s.now) }
 {
     let Some((other, found)) = standing.get_index(place) else {
@@ -418,9 +431,9 @@ fn after(place: usize, n: usize) -> usize {
 
 // The only one on the record of this name, if it is at this place.
 #[inline(always)]
-fn sole_on(
+fn only_at(
     sole: Option<usize>,
-    standing: &IndexMap<SubKey, Standing>,
+    standing: &IndexMap<SubKey, QueuedSubscription>,
     name: &[u8],
 ) -> Option<Receiver>
     requires { IsSole sole standing.now.entries }
@@ -438,11 +451,11 @@ fn sole_on(
 
 // The only one on the record of this name, if it is at this place, as it is there.
 #[inline(always)]
-fn alone_on<'a>(
+fn only_subscription_at<'a>(
     sole: Option<usize>,
-    standing: &'a IndexMap<SubKey, Standing>,
+    standing: &'a IndexMap<SubKey, QueuedSubscription>,
     name: &[u8],
-) -> Option<&'a Standing>
+) -> Option<&'a QueuedSubscription>
     requires { IsSole sole standing.now.entries }
     ensures { IfSome result (λ s. IsAloneOn name.now s.now standing.now.entries) }
 {
@@ -458,7 +471,7 @@ fn alone_on<'a>(
 
 // Where this one is: mostly where it was found last, unless others before it are gone since.
 #[inline(always)]
-fn place_of(receiver: &Receiver, standing: &IndexMap<SubKey, Standing>) -> usize {
+fn place_of(receiver: &Receiver, standing: &IndexMap<SubKey, QueuedSubscription>) -> usize {
     let place = receiver.place();
     match at_key(standing, place, receiver.key()) {
         Some(_) => place,
@@ -468,16 +481,16 @@ fn place_of(receiver: &Receiver, standing: &IndexMap<SubKey, Standing>) -> usize
 
 // Where this one is, by its key.
 #[inline(never)]
-fn moved_to(receiver: &Receiver, standing: &IndexMap<SubKey, Standing>) -> usize {
+fn moved_to(receiver: &Receiver, standing: &IndexMap<SubKey, QueuedSubscription>) -> usize {
     standing.get_index_of(&receiver.key()).unwrap_or(0)
 }
 
 // Where the only one of those on the record of this name is, if there is one
 // alone: here is the first.
-fn sole_of(
+fn only_place(
     receivers: &[Receiver],
     place: usize,
-    standing: &IndexMap<SubKey, Standing>,
+    standing: &IndexMap<SubKey, QueuedSubscription>,
     name: &[u8],
 ) -> Option<usize>
     requires { receivers.now ≡ receivers_of name.now standing.now.entries }

@@ -1,9 +1,11 @@
-ghost use Rattle.std.specs.Prelude.{ℕ, ◌≡◌, ◌≤◌, [], IfOk, IfSome, OnErr, OnOk, true, not, filter, if◌then◌else◌, length, map, replicate};
+ghost use Rattle.std.specs.Prelude.{ℕ, ◌≡◌, ◌≤◌, [], IfOk, IfSome, OnErr, OnOk, true, not, filter};
+ghost use Rattle.std.specs.Prelude.{if◌then◌else◌, length, map, replicate};
 ghost use Rattle.std.specs.List.{fold, list_any};
 ghost use Rattle.ca_text.specs.Limits.{circuit_queues, element_limit};
 ghost use Rattle.ca_text.specs.Place.{At};
 ghost use Rattle.ca_dbr.specs.Elements.{count_of, elements};
-ghost use Rattle.ca_queue.specs.Circuit.{HasAt, HasNone, RestBefore, Takes, queue_posted, without_each};
+ghost use Rattle.ca_queue.specs.Circuit.{HasAt, HasNone, RestBefore, Takes, queue_posted};
+ghost use Rattle.ca_queue.specs.Circuit.{without_each};
 ghost use Rattle.ca_queue.specs.Keys.{same};
 ghost use Rattle.ca_queue.specs.Queue.{no_queue, switched};
 ghost use Rattle.ca_queue.specs.declared.entry.SubKey.{SubKey};
@@ -11,12 +13,14 @@ ghost use Rattle.ca_model.specs.Speech.{Stored};
 ghost use Rattle.ca_server_subscriptions.specs.ByRecord.{ArePlacedIn, is_masked};
 ghost use Rattle.ca_server_subscriptions.specs.Subscribed.{ArePlaced, Standings};
 ghost use Rattle.ca_server_subscriptions.specs.declared.waiting.Addressee.{Addressee};
-ghost use Rattle.ca_server_subscriptions.specs.Owing.{AreCopies, AreEmpty, AreInOrder, AreOn, IsNext, LosesNext, MayBegin, addressee_of, with_owed};
+ghost use Rattle.ca_server_subscriptions.specs.Owing.{AreCopies, AreEmpty, AreInOrder, AreOn};
+ghost use Rattle.ca_server_subscriptions.specs.Owing.{IsNext, LosesNext, MayBegin, addressee_of};
+ghost use Rattle.ca_server_subscriptions.specs.Owing.{with_owed};
 
 use crate::receiver::Receiver;
 use crate::update::Update;
 use ca_dbr::{Meta, Value};
-use ca_queue::{EventQueue, QueuesAtNeed, SubKey};
+use ca_queue::{CircuitQueues, EventQueue, SubKey};
 use ca_text::Refusal;
 use std::alloc::{AllocError, Global};
 use std::collections::VecDeque;
@@ -30,7 +34,7 @@ use std::mem;
 #[derive(Drop)]
 pub(crate) struct Waiting {
     alloc: Global,
-    queues: QueuesAtNeed<Update, EventQueue<Update>>,
+    queues: CircuitQueues<Update, EventQueue<Update>>,
     // Whether events are on in the queues.
     events_on: bool,
     // If true, no update waits in the queues. It may be false while none waits: it becomes true
@@ -65,18 +69,18 @@ impl Model for Waiting {
 }
 
 impl Waiting {
-    // Eight queues with no subscription. It does not allocate yet.
-    pub(crate) fn new(alloc: Global) -> Waiting
-        ensures { result ≡ replicate circuit_queues no_queue }
+    // Eight queues with no subscription.
+    pub(crate) fn new(alloc: Global) -> Result<Waiting, AllocError>
+        ensures { IfOk result (λ waiting. waiting ≡ replicate circuit_queues no_queue) }
     {
-        Waiting {
+        Ok(Waiting {
             alloc,
-            queues: QueuesAtNeed::new(alloc),
+            queues: CircuitQueues::new(alloc)?,
             events_on: true,
             empty: true,
             owed: VecDeque::new(alloc),
             update: Update::empty(alloc),
-        }
+        })
     }
 
     // Adds a subscription with its first update, as the queues do. It may be without memory for
@@ -115,7 +119,7 @@ impl Waiting {
         if !are_in_order(receivers) {
             return self.post_behind(receivers, mask, value, meta);
         }
-        if !is_alone(self.events_on, self.empty, &self.owed) {
+        if !nothing_waits(self.events_on, self.empty, &self.owed) {
             return self.post_behind(receivers, mask, value, meta);
         }
         self.update.renew(self.alloc, value, *meta)?;
@@ -183,7 +187,7 @@ impl Waiting {
         ensures rests { result ≡ true → RestBefore self.now (length self.now) }
         ensures quiet { result ≡ true → AreOn self.now × AreEmpty self.now }
     {
-        is_alone(self.events_on, self.empty, &self.owed)
+        nothing_waits(self.events_on, self.empty, &self.owed)
     }
 
     // The next update that is taken, with its subscription, if it waits beside the queues:
@@ -260,7 +264,7 @@ impl Waiting {
 }
 
 // Whether events are on, and nothing waits in the queues or beside them.
-fn is_alone(events_on: bool, empty: bool, owed: &VecDeque<Addressee, Global>) -> bool
+fn nothing_waits(events_on: bool, empty: bool, owed: &VecDeque<Addressee, Global>) -> bool
     ensures { result ≡ true → (events_on ≡ true) × (empty ≡ true) × (owed.now.items ≡ []) }
 {
     events_on && empty && owed.is_empty()
@@ -331,7 +335,7 @@ fn forget(owed: &mut VecDeque<Addressee, Global>, key: SubKey)
 #[inline(always)]
 fn settle(
     alloc: Global,
-    queues: &mut QueuesAtNeed<Update, EventQueue<Update>>,
+    queues: &mut CircuitQueues<Update, EventQueue<Update>>,
     owed: &mut VecDeque<Addressee, Global>,
     update: &Update,
 ) -> Result<(), AllocError>
@@ -364,7 +368,7 @@ fn copies_of(alloc: Global, update: &Update, n: usize) -> Result<Vec<Update>, Al
 // Puts these copies of an update into the queues of the subscriptions that it is for, one for each.
 #[inline(never)]
 fn put_all(
-    queues: &mut QueuesAtNeed<Update, EventQueue<Update>>,
+    queues: &mut CircuitQueues<Update, EventQueue<Update>>,
     owed: &mut VecDeque<Addressee, Global>,
     mut copies: Vec<Update>,
 )

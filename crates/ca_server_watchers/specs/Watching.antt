@@ -1,5 +1,6 @@
 -- Working: the circuits that watch records, each by its handle.
-use Rattle.std.specs.Prelude.{ℕ, ◌≡◌, ◌<◌, ◌⊎◌, false, List, [], Option, None, map, slice_get, unwrap_or}
+use Rattle.std.specs.Prelude.{ℕ, ◌≡◌, ◌<◌, ◌⊎◌, false, List, [], Option, None, map, slice_get}
+use Rattle.std.specs.Prelude.{unwrap_or}
 use Rattle.std.specs.Map.{lookup}
 use Rattle.std.specs.Str.{bytes_eq}
 use Rattle.ca_arena.specs.declared.handle.Handle.{Handle}
@@ -53,7 +54,8 @@ pub record Leaves (k : ℕ) (old new : List Handle) : Type 0 where
 
 -- all other records have the lines that they had
 abbrev pub OthersStay : List ℕ → Watched → Watched → Type 0
-OthersStay name old new = (other : List ℕ) → bytes_eq other name ≡ false → line_of new other ≡ line_of old other
+OthersStay name old new =
+    (other : List ℕ) → bytes_eq other name ≡ false → line_of new other ≡ line_of old other
 
 -- This circuit watches the record of this name.
 pub record Watches (name : List ℕ) (h : Handle) (old new : Watched) : Type 0 where

@@ -9,8 +9,8 @@
 //! index of a handle, so it is never longer than the server's table of circuits.
 #![tactic(auto)]
 
-mod line;
+mod record_watchers;
 mod watchers;
 
-pub use line::Line;
+pub use record_watchers::RecordWatchers;
 pub use watchers::Watchers;

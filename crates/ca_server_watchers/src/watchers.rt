@@ -1,7 +1,8 @@
-ghost use Rattle.std.specs.Prelude.{◌≡◌, ◌-◌, ◌↔◌, true, IfSome, OnErr, OnOk, [], length, option_copied, slice_get, unwrap_or};
+ghost use Rattle.std.specs.Prelude.{◌≡◌, ◌-◌, ◌↔◌, true, IfSome, OnErr, OnOk, [], length};
+ghost use Rattle.std.specs.Prelude.{option_copied, slice_get, unwrap_or};
 ghost use Rattle.ca_server_watchers.specs.Watching.{AreApart, Clears, LeavesAt, Watches, watching};
 
-use crate::line::Line;
+use crate::record_watchers::RecordWatchers;
 use ca_arena::Handle;
 use ca_text::is_same_name;
 use indexmap::IndexMap;
@@ -12,7 +13,7 @@ use std::marker::Model;
 /// subscriptions, and one for its channels.
 #[derive(Drop)]
 pub struct Watchers {
-    lines: IndexMap<Vec<u8>, Line>,
+    lines: IndexMap<Vec<u8>, RecordWatchers>,
     // Where a line was found last: mostly the same is asked for again. The name decides.
     recent: usize,
 }
@@ -107,7 +108,7 @@ impl Watchers {
 
     // The line of this name, if it was found last.
     #[inline(always)]
-    fn recent_line(&self, name: &[u8]) -> Option<&Line>
+    fn recent_line(&self, name: &[u8]) -> Option<&RecordWatchers>
         ensures { IfSome result (λ l. l.now ≡ watching self.now name.now) }
     {
         let Some((key, line)) = self.lines.get_index(self.recent) else {
@@ -120,7 +121,7 @@ impl Watchers {
     }
 
     /// The circuits that watch the record of this name. None if it has no list: then nobody does.
-    pub fn line(&self, name: &[u8]) -> Option<&Line>
+    pub fn line(&self, name: &[u8]) -> Option<&RecordWatchers>
         ensures { unwrap_or (option_copied result) [] ≡ watching self.now name.now }
     {
         match self.recent_line(name) {
@@ -159,7 +160,7 @@ impl Watchers {
         ensures err { OnErr result (self.new ≡ self.old) }
     {
         let alloc = *self.lines.allocator();
-        let mut line = Line::new(alloc);
+        let mut line = RecordWatchers::new(alloc);
         line.add(circuit)?;
         let name = Vec::from_slice(alloc, name)?;
         self.lines.insert(name, line)?;

@@ -1,3 +1,5 @@
+//! Worlds after scripts, and after events that seeds draw: which ends are open, counted from the
+//! events alone, and how many bytes an ended one left.
 use ca_events::Event;
 use ca_replay::{config_of, draw_events};
 use ca_text::Refusal;

@@ -1,3 +1,4 @@
+//! `answer` over streams that fail at each of their calls in turn, and over one that never ends.
 use ca::answer_run;
 use ca_link::{Fused, Reader, Writer};
 use std::alloc::Global;
@@ -6,7 +7,8 @@ use std::test::Fail;
 
 /// CREATE_CHAN of TEMP, and a read of it.
 const REQUESTS: &[u8] =
-    b"\0\x12\0\x08\0\0\0\0\0\x01\0\0\0\0\0\x0dTEMP\0\0\0\0\0\x0f\0\0\0\x05\0\x01\0\x01\0\0\0\x01\0\0";
+    b"\0\x12\0\x08\0\0\0\0\0\x01\0\0\0\0\0\x0dTEMP\0\0\0\0\0\x0f\0\0\0\x05\0\x01\0\x01\0\0\0\x01\
+        \0\0";
 
 /// The answer to the first.
 const CREATED: &[u8] =
@@ -14,13 +16,13 @@ const CREATED: &[u8] =
 
 /// Bytes that come in pieces of at most n, until this many reads were made.
 #[derive(Drop)]
-struct Pieces<'a> {
+struct PiecewiseSource<'a> {
     bytes: &'a [u8],
     size: usize,
     reads: u64,
 }
 
-impl<'a> Read for Pieces<'a> {
+impl<'a> Read for PiecewiseSource<'a> {
     fn read(&mut self, buffer: &mut [u8]) -> io::Result<usize> {
         if self.reads == 0 {
             return Err(io::Error::from(io::ErrorKind::TimedOut));
@@ -38,7 +40,7 @@ impl<'a> Read for Pieces<'a> {
 fn failing_output_is_refused(rt: HostRuntime) -> Result<(), Fail> {
     for (passes, output) in [(0, b"".as_slice()), (1, CREATED)] {
         // The first read returns the first request alone.
-        let mut source = Reader::new(Pieces {
+        let mut source = Reader::new(PiecewiseSource {
             bytes: REQUESTS,
             size: 24,
             reads: u64::MAX,
@@ -55,11 +57,14 @@ fn failing_output_is_refused(rt: HostRuntime) -> Result<(), Fail> {
 
 /// VERSION, CREATE_CHAN of TEMP, a read of it, and CLEAR_CHANNEL.
 const STORED: &[u8] =
-    b"\0\0\0\0\0\0\0\x0d\0\0\0\0\0\0\0\0\0\x12\0\x08\0\0\0\0\0\x01\0\0\0\0\0\x0dTEMP\0\0\0\0\0\x0f\0\0\0\x05\0\x01\0\x01\0\0\0\x01\0\0\0\x0c\0\0\0\0\0\0\0\x01\0\0\0\x01\0\0";
+    b"\0\0\0\0\0\0\0\x0d\0\0\0\0\0\0\0\0\0\x12\0\x08\0\0\0\0\0\x01\0\0\0\0\0\x0dTEMP\0\0\0\0\0\
+        \x0f\0\0\0\x05\0\x01\0\x01\0\0\0\x01\0\0\0\x0c\0\0\0\0\0\0\0\x01\0\0\0\x01\0\0";
 
 /// What is answered to them.
 const ANSWERS: &[u8] =
-    b"\0\0\0\0\0\0\0\x0d\0\0\0\0\0\0\0\0\0\x16\0\0\0\0\0\0\0\x01\0\0\0\0\0\x03\0\x12\0\0\0\x05\0\x01\0\x01\0\0\0\x01\0\0\0\x0f\0\x08\0\x05\0\x01\0\0\0\x01\0\x01\0\0\0\0\0\x15\0\0\0\0\0\x0c\0\0\0\0\0\0\0\x01\0\0\0\x01\0\0";
+    b"\0\0\0\0\0\0\0\x0d\0\0\0\0\0\0\0\0\0\x16\0\0\0\0\0\0\0\x01\0\0\0\0\0\x03\0\x12\0\0\0\x05\0\
+        \x01\0\x01\0\0\0\x01\0\0\0\x0f\0\x08\0\x05\0\x01\0\0\0\x01\0\x01\0\0\0\0\0\x15\0\0\0\0\0\
+        \x0c\0\0\0\0\0\0\0\x01\0\0\0\x01\0\0";
 
 /// The status and what was written and told, if the reads after the first n fail, those of the
 /// reader or of the source over it, or the writes after the first n.
@@ -69,7 +74,7 @@ fn fused(
     reads: [u64; 2],
     writes: u64,
 ) -> Result<(u8, Vec<u8>, Vec<u8>), Fail> {
-    let pieces = Pieces {
+    let pieces = PiecewiseSource {
         bytes: STORED,
         size,
         reads: reads[0],

@@ -1,3 +1,4 @@
+//! An arena drops each value once, and of 64 inserts only the first needs memory.
 use ca_arena::{Arena, Handle};
 use ca_text::Refusal;
 use std::rc::Rc;

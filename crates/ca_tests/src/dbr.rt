@@ -1,3 +1,5 @@
+//! Values: images of the greatest count of elements, in each type and form; and which of several
+//! faults a conversion reports.
 use ca_dbr::{BaseType, DataType, Form, Meta, Value, convert, image_size, read_value, write_value};
 use ca_text::Refusal;
 use std::alloc::Global;
@@ -74,55 +76,53 @@ fn has_images(
     Ok(plain && status && time)
 }
 
+// An element of each type but STRING, and what its images with status and with time begin with.
 // The images of few elements are lines of tools/calls/by-hand.
+const IMAGES: [(BaseType, &[u8], &[u8], &[u8]); 6] = [
+    (
+        BaseType::Int,
+        b"\xff\xfe",
+        b"\0\x03\0\x01\xff\xfe",
+        b"\0\x03\0\x01\x01\x02\x03\x04\x0a\x0b\x0c\x0d\0\0\xff\xfe",
+    ),
+    (
+        BaseType::Float,
+        b"\x3f\x80\0\0",
+        b"\0\x03\0\x01\x3f\x80\0\0",
+        b"\0\x03\0\x01\x01\x02\x03\x04\x0a\x0b\x0c\x0d\x3f\x80\0\0",
+    ),
+    (
+        BaseType::Enum,
+        b"\x01\x02",
+        b"\0\x03\0\x01\x01\x02",
+        b"\0\x03\0\x01\x01\x02\x03\x04\x0a\x0b\x0c\x0d\0\0\x01\x02",
+    ),
+    (
+        BaseType::Char,
+        b"\xc8",
+        b"\0\x03\0\x01\0\xc8",
+        b"\0\x03\0\x01\x01\x02\x03\x04\x0a\x0b\x0c\x0d\0\0\0\xc8",
+    ),
+    (
+        BaseType::Long,
+        b"\xff\xff\xff\xfe",
+        b"\0\x03\0\x01\xff\xff\xff\xfe",
+        b"\0\x03\0\x01\x01\x02\x03\x04\x0a\x0b\x0c\x0d\xff\xff\xff\xfe",
+    ),
+    (
+        BaseType::Double,
+        b"\x3f\xf0\0\0\0\0\0\0",
+        b"\0\x03\0\x01\0\0\0\0\x3f\xf0\0\0\0\0\0\0",
+        b"\0\x03\0\x01\x01\x02\x03\x04\x0a\x0b\x0c\x0d\0\0\0\0\x3f\xf0\0\0\0\0\0\0",
+    ),
+];
+
 #[test]
 fn greatest_counts_have_images(rt: HostRuntime) -> Result<(), Fail> {
-    let ok = text(b"OK");
-    let rows: [(BaseType, &[u8], &[u8], &[u8]); 7] = [
-        (
-            BaseType::String,
-            &ok,
-            b"\0\x03\0\x01OK\0",
-            b"\0\x03\0\x01\x01\x02\x03\x04\x0a\x0b\x0c\x0dOK\0",
-        ),
-        (
-            BaseType::Int,
-            b"\xff\xfe",
-            b"\0\x03\0\x01\xff\xfe",
-            b"\0\x03\0\x01\x01\x02\x03\x04\x0a\x0b\x0c\x0d\0\0\xff\xfe",
-        ),
-        (
-            BaseType::Float,
-            b"\x3f\x80\0\0",
-            b"\0\x03\0\x01\x3f\x80\0\0",
-            b"\0\x03\0\x01\x01\x02\x03\x04\x0a\x0b\x0c\x0d\x3f\x80\0\0",
-        ),
-        (
-            BaseType::Enum,
-            b"\x01\x02",
-            b"\0\x03\0\x01\x01\x02",
-            b"\0\x03\0\x01\x01\x02\x03\x04\x0a\x0b\x0c\x0d\0\0\x01\x02",
-        ),
-        (
-            BaseType::Char,
-            b"\xc8",
-            b"\0\x03\0\x01\0\xc8",
-            b"\0\x03\0\x01\x01\x02\x03\x04\x0a\x0b\x0c\x0d\0\0\0\xc8",
-        ),
-        (
-            BaseType::Long,
-            b"\xff\xff\xff\xfe",
-            b"\0\x03\0\x01\xff\xff\xff\xfe",
-            b"\0\x03\0\x01\x01\x02\x03\x04\x0a\x0b\x0c\x0d\xff\xff\xff\xfe",
-        ),
-        (
-            BaseType::Double,
-            b"\x3f\xf0\0\0\0\0\0\0",
-            b"\0\x03\0\x01\0\0\0\0\x3f\xf0\0\0\0\0\0\0",
-            b"\0\x03\0\x01\x01\x02\x03\x04\x0a\x0b\x0c\x0d\0\0\0\0\x3f\xf0\0\0\0\0\0\0",
-        ),
-    ];
-    for (base, element, status, time) in rows {
+    let status = b"\0\x03\0\x01OK\0";
+    let time = b"\0\x03\0\x01\x01\x02\x03\x04\x0a\x0b\x0c\x0dOK\0";
+    assert!(rt; has_images(rt.alloc(), BaseType::String, &text(b"OK"), status, time)?);
+    for (base, element, status, time) in IMAGES {
         assert!(rt; has_images(rt.alloc(), base, element, status, time)?);
     }
     Ok(())

@@ -1,3 +1,5 @@
+//! Datagrams: the messages that are always the same, byte by byte, and a search that is cut after
+//! each byte.
 use ca_dbr::Value;
 use ca_dgram::{Datagram, beacon, confirm, register};
 use ca_records::Records;
@@ -11,7 +13,8 @@ const SEARCH: &[u8] =
 
 /// What a server on port 5064 answers.
 const REPLY: &[u8] =
-    b"\0\0\0\0\0\0\0\x0d\0\0\0\0\0\0\0\0\0\x06\0\x08\x13\xc8\0\0\xff\xff\xff\xff\0\x01\0\0\0\x0d\0\0\0\0\0\0";
+    b"\0\0\0\0\0\0\0\x0d\0\0\0\0\0\0\0\0\0\x06\0\x08\x13\xc8\0\0\xff\xff\xff\xff\0\x01\0\0\0\x0d\
+        \0\0\0\0\0\0";
 
 #[test]
 fn fixed_messages_are_written(rt: HostRuntime) {

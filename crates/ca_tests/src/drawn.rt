@@ -1,3 +1,5 @@
+//! The queue with a ring, which servers have, returns at drawn calls what the simple one of lists
+//! returns.
 ghost use Rattle.std.specs.Prelude.{◌≡◌, ◌<◌, ◌≤◌, true, OnOk};
 ghost use Rattle.ca_queue.specs.Keys.{is_among};
 ghost use Rattle.ca_tests.specs.Drawn.{HasBelow};

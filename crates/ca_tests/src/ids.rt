@@ -1,3 +1,4 @@
+//! A wire id comes again once its index was used 65,536 times, under another handle.
 use ca_arena::Handle;
 use ca_ids::IdTable;
 use std::test::Fail;

@@ -1,23 +1,24 @@
-use ca::{AnswerLine, Line, RepeaterLine, ReplayLine, read_line};
+//! Lines without threads that are understood, and what each asks for.
+use ca::{AnswerLine, CommandLine, RepeaterLine, ReplayLine, read_line};
 use std::test::Fail;
 
-const fn answer(records: Option<&'static str>) -> Line<'static> {
-    Line::Answer(AnswerLine { records })
+const fn answer(records: Option<&'static str>) -> CommandLine<'static> {
+    CommandLine::Answer(AnswerLine { records })
 }
 
-const fn replay(file: &'static str, seed: Option<u64>) -> Line<'static> {
-    Line::Replay(ReplayLine { file, seed })
+const fn replay(file: &'static str, seed: Option<u64>) -> CommandLine<'static> {
+    CommandLine::Replay(ReplayLine { file, seed })
 }
 
-const fn repeater(port: u16, datagrams: Option<u64>) -> Line<'static> {
-    Line::Repeater(RepeaterLine { port, datagrams })
+const fn repeater(port: u16, datagrams: Option<u64>) -> CommandLine<'static> {
+    CommandLine::Repeater(RepeaterLine { port, datagrams })
 }
 
 // Lines that are not understood are cases of the program.
 #[test]
 fn lines_are_read(rt: HostRuntime) -> Result<(), Fail> {
     let both = repeater(40_000, Some(7));
-    let rows: [(&[&str], Line<'static>); 13] = [
+    let rows: [(&[&str], CommandLine<'static>); 13] = [
         (&["answer"], answer(None)),
         (&["answer", "--records", "file"], answer(Some("file"))),
         (&["answer", "--records=a file"], answer(Some("a file"))),

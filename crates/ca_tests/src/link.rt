@@ -1,3 +1,5 @@
+//! Streams over readers and writers, with a fuse: pieces, failures, and the counts of calls and
+//! faults.
 use ca_link::{Fault, Fused, Reader, Sink, Source, Writer};
 use std::io::Write;
 

@@ -1,4 +1,5 @@
-use ca_repeat::{Address, Outgoing, RepeaterCore};
+//! The repeater's core: to whom beacons go, and that it has 64 members at most.
+use ca_repeat::{Outgoing, RepeaterCore, UdpAddress};
 use ca_text::Refusal;
 use std::test::Fail;
 
@@ -11,8 +12,8 @@ const REGISTER: &[u8] = b"\x00\x18\x00\x00\x00\x00\x00\x00\0\0\0\0\x7f\0\0\x01";
 
 const CONFIRM: &[u8] = b"\x00\x11\x00\x00\x00\x00\x00\x00\0\0\0\0\x7f\0\0\x01";
 
-const fn local(port: u16) -> Address {
-    Address {
+const fn local(port: u16) -> UdpAddress {
+    UdpAddress {
         ip: 0x7f00_0001,
         port,
     }

@@ -1,6 +1,8 @@
-use ca::{Datagrams, Socket, repeat, repeater_run};
+//! The repeater over sockets of this host, and over datagrams in memory, where one member takes
+//! none.
+use ca::{Datagrams, RepeaterSocket, repeat, repeater_run};
 use ca_link::Fault;
-use ca_repeat::Address;
+use ca_repeat::UdpAddress;
 use ca_text::Refusal;
 use std::alloc::Global;
 use std::io;
@@ -53,7 +55,7 @@ fn pass_on<R: AllocGlobal + Net + Abort>(
     let mut told = Vec::new(rt.alloc());
     let status = repeater_run(
         rt.alloc(),
-        &mut Socket::new(rt, repeater),
+        &mut RepeaterSocket::new(rt, repeater),
         Some(2),
         &mut told,
     );
@@ -77,7 +79,12 @@ fn a_failing_receive_is_refused(rt: HostRuntime) -> Result<(), Fail> {
     let repeater = bound(&rt)?;
     repeater.set_nonblocking(true)?;
     let mut told = Vec::new(rt.alloc());
-    let status = repeater_run(rt.alloc(), &mut Socket::new(&rt, repeater), None, &mut told);
+    let status = repeater_run(
+        rt.alloc(),
+        &mut RepeaterSocket::new(&rt, repeater),
+        None,
+        &mut told,
+    );
     assert_eq!(rt; status, 1);
     assert!(rt; told.as_slice() == "refused: 23 Device\n".as_bytes());
     Ok(())
@@ -86,14 +93,14 @@ fn a_failing_receive_is_refused(rt: HostRuntime) -> Result<(), Fail> {
 /// Datagrams in memory: those that come, and whither one was tried to be sent.
 /// One address takes none.
 #[derive(Drop)]
-struct Script<'a> {
-    coming: &'a [(Address, &'a [u8])],
+struct ScriptedDatagrams<'a> {
+    coming: &'a [(UdpAddress, &'a [u8])],
     taken: usize,
-    deaf: Address,
-    tried: Vec<Address>,
+    deaf: UdpAddress,
+    tried: Vec<UdpAddress>,
 }
 
-impl<'a> Datagrams for Script<'a> {
+impl<'a> Datagrams for ScriptedDatagrams<'a> {
     ghost use Rattle.std.specs.Prelude.{⊤};
 
     ghost came = { λ _ _ _ _. ⊤ };
@@ -104,11 +111,11 @@ impl<'a> Datagrams for Script<'a> {
 
     ghost fails = { λ _ _. ⊤ };
 
-    fn address(&self) -> Result<Address, Fault> {
+    fn address(&self) -> Result<UdpAddress, Fault> {
         Err(Fault)
     }
 
-    fn receive(&mut self, buffer: &mut [u8]) -> Result<(usize, Address), Fault> {
+    fn receive(&mut self, buffer: &mut [u8]) -> Result<(usize, UdpAddress), Fault> {
         let Some((from, bytes)) = self.coming.get(self.taken) else {
             return Err(Fault);
         };
@@ -118,7 +125,7 @@ impl<'a> Datagrams for Script<'a> {
         Ok((size, *from))
     }
 
-    fn send(&mut self, to: Address, _bytes: &[u8]) -> Result<(), Fault> {
+    fn send(&mut self, to: UdpAddress, _bytes: &[u8]) -> Result<(), Fault> {
         match self.tried.push(to) {
             Ok(()) if to != self.deaf => Ok(()),
             _ => Err(Fault),
@@ -126,37 +133,37 @@ impl<'a> Datagrams for Script<'a> {
     }
 }
 
-const MEMBER: Address = Address {
+const MEMBER: UdpAddress = UdpAddress {
     ip: 0x7f00_0001,
     port: 40_000,
 };
 
-const DEAF: Address = Address {
+const DEAF: UdpAddress = UdpAddress {
     ip: 0x7f00_0001,
     port: 40_001,
 };
 
-const SERVER: Address = Address {
+const SERVER: UdpAddress = UdpAddress {
     ip: 0x0a00_0001,
     port: 5_064,
 };
 
 /// Whether the member that takes nothing is dropped: of three datagrams the third
 /// comes to the other alone.
-fn is_dropped(alloc: Global, script: &mut Script<'_>) -> bool {
+fn is_dropped(alloc: Global, script: &mut ScriptedDatagrams<'_>) -> bool {
     repeat(alloc, script, 3) == Ok(())
         && script.tried.as_slice() == [MEMBER, DEAF, MEMBER].as_slice()
 }
 
 #[test]
 fn a_member_that_takes_nothing_is_dropped(rt: HostRuntime) -> Result<(), Fail> {
-    let coming: [(Address, &[u8]); 4] = [
+    let coming: [(UdpAddress, &[u8]); 4] = [
         (MEMBER, b""),
         (DEAF, b""),
         (SERVER, BLANK),
         (SERVER, BLANK),
     ];
-    let mut script = Script {
+    let mut script = ScriptedDatagrams {
         coming: coming.as_slice(),
         taken: 0,
         deaf: DEAF,

@@ -1,3 +1,4 @@
+//! A `replay` whose report cannot be written.
 use ca::replay_run;
 use ca_link::{Fused, Writer};
 use std::test::Fail;

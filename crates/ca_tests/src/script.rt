@@ -1,3 +1,4 @@
+//! Lines of a report with outcomes that no case of `vectors` has.
 use ca_dbr::Outcome;
 use ca_script::{put, put_count, put_outcome, write_end};
 use ca_text::{Refusal, Status};

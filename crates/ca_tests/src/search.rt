@@ -1,3 +1,4 @@
+//! A searcher: a channel that was found is not searched, and keeps its place for when it is lost.
 use ca_search::{Search, Searcher};
 use ca_text::{ChannelName, Refusal};
 use std::alloc::Global;

@@ -1,3 +1,4 @@
+//! A server keeps a new record at the place of one that was removed, if there is one.
 use ca_dbr::Value;
 use ca_records::ServedRecords;
 use ca_text::Refusal;

@@ -8,7 +8,7 @@ pub(crate) mod large;
 
 use crate::client::setting;
 use crate::moments::{began, is_within};
-use crate::peer::{Message, Peer, heard, tell_message, tell_value};
+use crate::peer::{Peer, PeerMessage, next_message, tell_message, tell_value};
 use crate::say_yes;
 use ca_arena::Handle;
 use ca_client::Caller;
@@ -31,7 +31,7 @@ const WRITE: u16 = 4;
 const READ_NOTIFY: u16 = 15;
 
 /// An ECHO, to which a client does nothing.
-const NOTHING: Message = Message {
+const NOTHING: PeerMessage = PeerMessage {
     command: 23,
     data_type: 0,
     count: 0,
@@ -74,7 +74,7 @@ pub(crate) fn long() -> Duration {
 
 /// A client, and a server by hand.
 #[derive(Drop)]
-pub(crate) struct Both {
+pub(crate) struct ClientAndServer {
     pub(crate) alloc: Global,
     pub(crate) context: Arc<Context<Nobody>>,
     caller: Caller,
@@ -109,11 +109,11 @@ fn begun<
         + Drop
         + Send
         + 'static,
->(rt: R, alloc: Global) -> Result<(Both, JoinHandle<()>), Refusal> {
+>(rt: R, alloc: Global) -> Result<(ClientAndServer, JoinHandle<()>), Refusal> {
     let peer = Peer::new(&rt)?;
     let (context, engine) = Context::<Nobody>::new(rt, alloc, setting(alloc, peer.port)?)?;
     let thread = start(rt, engine)?;
-    let both = Both {
+    let both = ClientAndServer {
         alloc,
         caller: context.caller(&rt)?,
         context: Arc::new(alloc, context)?,
@@ -123,7 +123,7 @@ fn begun<
     Ok((both, thread))
 }
 
-impl Both {
+impl ClientAndServer {
     fn end<R: Threads + Wait>(&self, rt: &R, thread: JoinHandle<()>) {
         self.context.end(rt);
         thread.join(rt);
@@ -209,7 +209,7 @@ impl Both {
     ) -> Result<bool, Refusal> {
         let value = Value::Longs(vec![in self.alloc; 24]?);
         self.context.put(rt, channel, &value)?;
-        Ok(heard(stream)?.command == WRITE)
+        Ok(next_message(stream)?.command == WRITE)
     }
 
     /// A read that goes out as soon as it is looked for, and brings what is there
@@ -222,7 +222,7 @@ impl Both {
     ) -> Result<bool, Refusal> {
         let ticket = self.context.get(rt, channel, 5, 1)?;
         let none = self.context.collect(&mut self.caller, ticket);
-        let request = heard(stream)?;
+        let request = next_message(stream)?;
         tell_value(stream, request, 21)?;
         let outcome = self.context.wait_for(rt, &mut self.caller, ticket, long());
         Ok(none.is_none() && request.command == READ_NOTIFY && is_21(&outcome))
@@ -242,9 +242,9 @@ impl Both {
             Ok(subscription) => subscription,
             Err((_, refusal)) => return Err(refusal),
         };
-        let is_added = heard(stream)?.command == EVENT_ADD;
+        let is_added = next_message(stream)?.command == EVENT_ADD;
         self.context.unsubscribe(rt, subscription)?;
-        Ok(is_added && heard(stream)?.command == EVENT_CANCEL)
+        Ok(is_added && next_message(stream)?.command == EVENT_CANCEL)
     }
 }
 

@@ -5,7 +5,7 @@ use crate::at_once::LEFT;
 use crate::at_once::channels::name_of;
 use crate::client::setting;
 use crate::moments::{began, is_within};
-use crate::peer::{Message, Peer, heard, tell_value};
+use crate::peer::{Peer, PeerMessage, next_message, tell_value};
 use crate::say_yes;
 use ca_client_context::{Context, Listener, start};
 use ca_dbr::Outcome;
@@ -44,11 +44,11 @@ const WAITED_IN: u64 = 2;
 
 /// A listener that waits in a gate, and with it the thread of input and output.
 #[derive(Drop)]
-struct Waiting {
+struct GatedListener {
     gate: Arc<AtomicU64>,
 }
 
-impl Listener for Waiting {
+impl Listener for GatedListener {
     fn heard(&mut self, _outcome: &Outcome) {
         if self.gate.load(Ordering::SeqCst) != CLOSED {
             return;
@@ -65,8 +65,8 @@ impl Listener for Waiting {
 
 /// A client with a subscription, and a server by hand.
 #[derive(Drop)]
-struct Both {
-    context: Context<Waiting>,
+struct SubscribedClient {
+    context: Context<GatedListener>,
     peer: Peer,
     gate: Arc<AtomicU64>,
     // How many names channels had, beside TEMP.
@@ -85,9 +85,9 @@ pub(crate) fn show<
     W: Write,
 >(rt: R, alloc: Global, out: &mut W) -> Result<(), Refusal> {
     let peer = Peer::new(&rt)?;
-    let (context, engine) = Context::<Waiting>::new(rt, alloc, setting(alloc, peer.port)?)?;
+    let (context, engine) = Context::<GatedListener>::new(rt, alloc, setting(alloc, peer.port)?)?;
     let thread = start(rt, engine)?;
-    let mut both = Both {
+    let mut both = SubscribedClient {
         context,
         peer,
         gate: Arc::new(alloc, AtomicU64::new(OPEN))?,
@@ -100,7 +100,7 @@ pub(crate) fn show<
     shown
 }
 
-impl Both {
+impl SubscribedClient {
     fn show_rows<R: Wait + Clock, W: Write>(&mut self, rt: &R, out: &mut W) -> Result<(), Refusal> {
         let channel = self.context.open(rt, b"TEMP", 0)?;
         let (stream, _) = self.peer.live(rt, 1)?;
@@ -109,13 +109,13 @@ impl Both {
         let Some(mask) = Mask::new(1) else {
             return Err(Refusal::BadEvent);
         };
-        let listener = Waiting {
+        let listener = GatedListener {
             gate: Arc::try_clone(&self.gate)?,
         };
         if let Err((_, refusal)) = self.context.monitor(rt, channel, 5, 1, mask, listener) {
             return Err(refusal);
         }
-        let added = heard(&stream)?;
+        let added = next_message(&stream)?;
         let mut is_soon = false;
         for _ in 0..ROWS {
             let began = began(rt)?;
@@ -134,7 +134,7 @@ impl Both {
         &mut self,
         rt: &R,
         stream: &TcpStream,
-        added: Message,
+        added: PeerMessage,
     ) -> Result<u64, Refusal> {
         let mut right = 0u64;
         for _ in 0..BURSTS {
@@ -150,7 +150,7 @@ impl Both {
         &mut self,
         rt: &R,
         stream: &TcpStream,
-        added: Message,
+        added: PeerMessage,
     ) -> Result<bool, Refusal> {
         self.names = self.names.saturating_add(1);
         let name = name_of(self.names);
@@ -164,7 +164,7 @@ impl Both {
         }
         self.peer.answer(cid, to)?;
         self.gate.store(OPEN, Ordering::SeqCst);
-        let asked = heard(stream)?;
+        let asked = next_message(stream)?;
         Ok(is_kept && asked.command == CREATE && asked.p1 == cid)
     }
 

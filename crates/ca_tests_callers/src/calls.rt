@@ -9,7 +9,7 @@ use crate::server::{bound, start_server};
 use crate::{say_yes, tell};
 use ca_arena::Handle;
 use ca_board::Ticket;
-use ca_client::{Caller, Request};
+use ca_client::{Caller, RequestCall};
 use ca_client_context::{Context, Listener, Waited, Work, start};
 use ca_client_core::ChannelState;
 use ca_dbr::{Outcome, Value};
@@ -176,7 +176,7 @@ fn show_requests<R: Wait + Clock, W: Write>(
 ) -> Result<(), Refusal> {
     let mut requests = Vec::new(alloc);
     for _ in 0..100 {
-        requests.push(Request::Read(channel, 5, 1))?;
+        requests.push(RequestCall::Read(channel, 5, 1))?;
     }
     let mut rooms = Vec::new(alloc);
     let mut tickets = Vec::new(alloc);

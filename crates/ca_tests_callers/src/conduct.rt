@@ -4,11 +4,13 @@
 
 use crate::client::setting;
 use crate::moments::is_within;
-use crate::peer::{Message, Peer, header_of, heard, tell_message, tell_updates, tell_value};
+use crate::peer::{
+    Peer, PeerMessage, header_of, next_message, tell_message, tell_updates, tell_value,
+};
 use crate::{moments, say_yes};
 use ca_arena::Handle;
 use ca_board::Ticket;
-use ca_client::{Caller, Request};
+use ca_client::{Caller, RequestCall};
 use ca_client_context::{Context, Listener, Waited, Work, start};
 use ca_client_core::ChannelState;
 use ca_dbr::{Outcome, Value};
@@ -106,15 +108,15 @@ impl Log {
 
 /// A caller that waits for a read, for longer than a server by hand waits for it to come.
 #[derive(Drop)]
-struct Waiter {
+struct PatientCaller {
     context: Arc<Context<Keeping>>,
     caller: Caller,
     channel: Handle,
 }
 
-impl Work for Waiter {
+impl Work for PatientCaller {
     fn run<R: Wait + Clock>(self, rt: &R) {
-        let Waiter {
+        let PatientCaller {
             context,
             mut caller,
             channel,
@@ -127,7 +129,7 @@ impl Work for Waiter {
 
 /// A client, a server by hand, and what both use.
 #[derive(Drop)]
-struct Both {
+struct ClientUnderTest {
     alloc: Global,
     context: Arc<Context<Keeping>>,
     caller: Caller,
@@ -154,7 +156,7 @@ pub(crate) fn show<
         gate: AtomicU64::new(OPEN),
     };
     let thread = start(rt, engine)?;
-    let mut both = Both {
+    let mut both = ClientUnderTest {
         alloc,
         caller: context.caller(&rt)?,
         context: Arc::new(alloc, context)?,
@@ -169,7 +171,7 @@ pub(crate) fn show<
     both.show_ended(&rt, ticket, out)
 }
 
-impl Both {
+impl ClientUnderTest {
     fn show_all<R: Threads + Wait + Clock + Copy + Send + 'static, W: Write>(
         &mut self,
         rt: &R,
@@ -224,13 +226,13 @@ impl Both {
         let turns = self.context.wait(rt, &mut self.caller, ticket, 20);
         let is_late = !is_within(rt, &began, 200) && is_within(rt, &began, 1_500);
         say_yes(out, "and one of twenty turns:", turns.is_none() && is_late)?;
-        let request = heard(stream)?;
+        let request = next_message(stream)?;
         tell_value(stream, request, 21)?;
         let then = self.context.wait_for(rt, &mut self.caller, ticket, long());
         let is_read = request.command == READ_NOTIFY && has(&then, 21);
         say_yes(out, "its outcome comes later all the same:", is_read)?;
         let given = self.context.get(rt, channel, 5, 1)?;
-        let other = heard(stream)?;
+        let other = next_message(stream)?;
         let none = self.context.give_up(&mut self.caller, given);
         tell_value(stream, other, 22)?;
         let next = self.read(rt, channel, stream, 23)?;
@@ -248,7 +250,7 @@ impl Both {
         value: u8,
     ) -> Result<bool, Refusal> {
         let ticket = self.context.get(rt, channel, 5, 1)?;
-        let request = heard(stream)?;
+        let request = next_message(stream)?;
         tell_value(stream, request, value)?;
         let outcome = self.context.wait_for(rt, &mut self.caller, ticket, long());
         Ok(request.command == READ_NOTIFY && has(&outcome, value))
@@ -274,9 +276,9 @@ impl Both {
         rt: &R,
         channel: Handle,
         stream: &TcpStream,
-    ) -> Result<(Message, Handle), Refusal> {
+    ) -> Result<(PeerMessage, Handle), Refusal> {
         let subscription = self.added(rt, channel)?;
-        Ok((heard(stream)?, subscription))
+        Ok((next_message(stream)?, subscription))
     }
 
     /// Subscriptions that are cancelled at once, and whether their listeners are dropped.
@@ -292,16 +294,16 @@ impl Both {
             self.context.unsubscribe(rt, subscription)?;
         }
         for _ in 0..AT_ONCE {
-            let is_added = heard(stream)?.command == EVENT_ADD;
-            let is_cancelled = heard(stream)?.command == EVENT_CANCEL;
+            let is_added = next_message(stream)?.command == EVENT_ADD;
+            let is_cancelled = next_message(stream)?.command == EVENT_CANCEL;
             cancelled = cancelled.wrapping_add(u64::from(is_added && is_cancelled));
         }
-        Ok(cancelled == AT_ONCE && self.is_alone(rt))
+        Ok(cancelled == AT_ONCE && self.has_no_other_owner(rt))
     }
 
     /// Whether all listeners that there were are dropped, within some seconds: none
     /// but this has their log.
-    fn is_alone<R: Wait + Clock>(&self, rt: &R) -> bool {
+    fn has_no_other_owner<R: Wait + Clock>(&self, rt: &R) -> bool {
         for _ in 0..1_000 {
             if Arc::strong_count(&self.log) == 1 {
                 return true;
@@ -320,7 +322,7 @@ impl Both {
         out: &mut W,
     ) -> Result<(), Refusal> {
         let (added, subscription) = self.subscribe(rt, channel, stream)?;
-        let error = Message {
+        let error = PeerMessage {
             command: ERROR,
             data_type: 0,
             count: 0,
@@ -334,7 +336,7 @@ impl Both {
         say_yes(
             out,
             "a subscription that is refused ends with its status:",
-            is_ended && self.is_alone(rt),
+            is_ended && self.has_no_other_owner(rt),
         )
     }
 
@@ -361,7 +363,7 @@ impl Both {
         thread.join(rt);
         say_yes(out, "and while their callers do:", is_kept && is_sent)?;
         // It goes out once what was read before it was told.
-        let is_cancelled = heard(stream)?.command == EVENT_CANCEL;
+        let is_cancelled = next_message(stream)?.command == EVENT_CANCEL;
         let is_quiet = self.log.values.swap(0, Ordering::SeqCst) == 1;
         let what = "what was read before a cancel is not heard after it:";
         say_yes(out, what, is_cancelled && is_quiet)
@@ -380,7 +382,7 @@ impl Both {
         let sent = u64::from(self.is_sent(stream)?);
         let mut rooms = Vec::new(self.alloc);
         let mut tickets = Vec::new(self.alloc);
-        let requests = [Request::Read(channel, 5, 1)];
+        let requests = [RequestCall::Read(channel, 5, 1)];
         self.context
             .request_all(rt, &requests, &mut rooms, &mut tickets)?;
         if let Some(joint) = tickets.pop() {
@@ -397,13 +399,13 @@ impl Both {
         channel: Handle,
         stream: &TcpStream,
     ) -> Result<(JoinHandle<()>, bool), Refusal> {
-        let waiter = Waiter {
+        let waiter = PatientCaller {
             context: Arc::try_clone(&self.context)?,
             caller: self.context.caller(&rt)?,
             channel,
         };
         let thread = start(rt, waiter)?;
-        let request = heard(stream)?;
+        let request = next_message(stream)?;
         tell_value(stream, request, 24)?;
         Ok((
             thread,
@@ -413,7 +415,7 @@ impl Both {
 
     /// Whether a read comes while a listener waits.
     fn is_sent(&self, stream: &TcpStream) -> Result<bool, Refusal> {
-        let request = heard(stream)?;
+        let request = next_message(stream)?;
         Ok(request.command == READ_NOTIFY && self.log.is_waited_in())
     }
 
@@ -430,7 +432,7 @@ impl Both {
         tell_value(stream, added, 1)?;
         let is_heard = reaches(rt, &self.log.values, 1);
         self.context.unsubscribe(rt, subscription)?;
-        let cancelled = heard(stream)?;
+        let cancelled = next_message(stream)?;
         for value in 0..LATE {
             tell_value(stream, added, value)?;
         }
@@ -457,12 +459,12 @@ impl Both {
         out: &mut W,
     ) -> Result<(), Refusal> {
         let ticket = self.context.get(rt, channel, 5, 1)?;
-        let request = heard(stream)?;
+        let request = next_message(stream)?;
         self.context.clear(rt, channel)?;
         let began = moments::began(rt)?;
         let outcome = self.context.wait_for(rt, &mut self.caller, ticket, long());
         let is_told = is_disconnected(&outcome) && is_within(rt, &began, 5_000);
-        let cleared = heard(stream)?;
+        let cleared = next_message(stream)?;
         let is_sent = request.command == READ_NOTIFY && cleared.command == CLEAR;
         let is_stale = self.context.channel_state(rt, channel) == Err(Refusal::StaleHandle);
         say_yes(
@@ -483,7 +485,7 @@ impl Both {
         let (stream, _) = self.peer.live(rt, 1)?;
         let _ = self.context.wait_live_for(rt, channel, long())?;
         let ticket = self.context.get(rt, channel, 5, 1)?;
-        let _ = heard(&stream)?;
+        let _ = next_message(&stream)?;
         drop(stream);
         let outcome = self.context.wait_for(rt, &mut self.caller, ticket, long());
         say_yes(
@@ -505,7 +507,7 @@ impl Both {
 }
 
 /// What an ERROR says after its header: the header of the request, and no text.
-fn quoted(request: Message) -> [u8; 24] {
+fn quoted(request: PeerMessage) -> [u8; 24] {
     let mut payload = [0u8; 24];
     payload[0..16].copy_from_slice(&header_of(request, 16));
     payload

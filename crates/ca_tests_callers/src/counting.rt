@@ -1,12 +1,11 @@
 //! A server whose numbers a program sees while it runs, and clients of it, which speak the protocol
 //! by hand.
 
-use crate::server::bound;
+use crate::server::{IdleDevice, bound};
 use crate::wire::{connected, greet, is_done, opened, put, read, send, take};
 use crate::{say_yes, tell};
-use ca_dbr::Value;
 use ca_script::{RecordFile, read_records};
-use ca_serve::{Device, Meter, Options, Places, Stats, serve};
+use ca_serve::{Meter, Options, Places, Stats, serve};
 use ca_text::Refusal;
 use std::alloc::Global;
 use std::io::Write;
@@ -23,14 +22,6 @@ const RECORDS: &[u8] = b"record SLOA LONG 1 quick 3\nrecord SLOB LONG 1 quick 3\
 
 /// Bytes of the reply to a read of all of C.
 const ARRAY: usize = 24 + 80_000;
-
-/// A device that has nothing to do.
-#[derive(Clone, Copy, Drop)]
-struct Prompt;
-
-impl Device for Prompt {
-    fn process(&self, _record: &[u8], _value: &Value) {}
-}
 
 pub(crate) fn show<
     R: Threads
@@ -80,7 +71,7 @@ fn start_server<
     let file = read_records(alloc, RECORDS)?;
     let spawned = thread::spawn(&rt, move || {
         let RecordFile { records, rules } = file;
-        serve(rt, alloc, places, &records, rules, Prompt, options)
+        serve(rt, alloc, places, &records, rules, IdleDevice, options)
     });
     match spawned {
         Ok(server) => Ok(server),
@@ -155,7 +146,8 @@ fn talk<R: Net<Stream = TcpStream, Listener = TcpListener> + Clock, W: Write>(
 fn say_all<W: Write>(out: &mut W, when: &str, stats: &Stats) -> Result<(), Refusal> {
     let said = writeln!(
         out,
-        "{when}: {} circuits, {} channels, {} searches, {} reads, {} writes, {} updates, {} refused",
+        "{when}: {} circuits, {} channels, {} searches, {} reads, {} writes, {} updates, {} \
+            refused",
         stats.circuits,
         stats.channels,
         stats.searches,
@@ -252,7 +244,8 @@ fn clear(stream: &TcpStream, sid: u32) -> Result<(), Refusal> {
 }
 
 const SEARCHES: &[u8] =
-    b"\0\x06\0\x08\0\x05\0\x0D\0\0\0\x07\0\0\0\x07SLOA\0\0\0\0\0\x06\0\x08\0\x05\0\x0D\0\0\0\x08\0\0\0\x08NONE\0\0\0\0";
+    b"\0\x06\0\x08\0\x05\0\x0D\0\0\0\x07\0\0\0\x07SLOA\0\0\0\0\0\x06\0\x08\0\x05\0\x0D\0\0\0\x08\
+        \0\0\0\x08NONE\0\0\0\0";
 
 /// Two searches on a circuit, for a name that is there and for one that is not, which has no reply.
 fn search(stream: &TcpStream) -> Result<(), Refusal> {

@@ -124,7 +124,7 @@ fn show_ended<
     let (places, address) = bound(&rt)?;
     let text = b"record SLOA LONG 1 slow 3\nrecord SLOB LONG 1 slow 3\nrecord SLOC LONG 1 slow 3\n";
     let server = start_server(rt, alloc, places, &signs, text, 1)?;
-    let ended = end_beside(&rt, &signs, address, out);
+    let ended = end_by_another(&rt, &signs, address, out);
     signs.opened.store(1, Ordering::SeqCst);
     let served = server.join(&rt);
     ended?;
@@ -135,7 +135,7 @@ fn show_ended<
 
 /// Puts on three records, the first of them twice; and then another circuit is closed, and so
 /// the server is to end.
-fn end_beside<R: Net<Stream = TcpStream, Listener = TcpListener>, W: Write>(
+fn end_by_another<R: Net<Stream = TcpStream, Listener = TcpListener>, W: Write>(
     rt: &R,
     signs: &Signs,
     address: SocketAddr,

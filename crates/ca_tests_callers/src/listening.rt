@@ -26,16 +26,16 @@ const TURNS: u64 = 2_000;
 
 /// A listener that waits for a read, in the thread that would read its reply.
 #[derive(Drop)]
-struct Waiting<R: Wait + Clock + Drop> {
+struct ReadingListener<R: Wait + Clock + Drop> {
     rt: R,
-    context: Arc<Context<Waiting<R>>>,
+    context: Arc<Context<ReadingListener<R>>>,
     channel: Handle,
     caller: Caller,
     // 1 if the wait ended with nothing, and 2 if with something.
     ended: Arc<AtomicU64>,
 }
 
-impl<R: Wait + Clock + Drop> Listener for Waiting<R> {
+impl<R: Wait + Clock + Drop> Listener for ReadingListener<R> {
     fn heard(&mut self, _outcome: &Outcome) {
         let Ok(ticket) = self.context.get(&self.rt, self.channel, 5, 1) else {
             return;
@@ -98,7 +98,7 @@ fn show_waiting<
         + 'static,
     W: Write,
 >(rt: R, alloc: Global, port: u16, out: &mut W) -> Result<(), Refusal> {
-    let (context, engine) = Context::<Waiting<R>>::new(rt, alloc, setting(alloc, port)?)?;
+    let (context, engine) = Context::<ReadingListener<R>>::new(rt, alloc, setting(alloc, port)?)?;
     let context = Arc::new(alloc, context)?;
     let thread = start(rt, engine)?;
     let shown = wait_in_listener(rt, alloc, &context, out);
@@ -121,14 +121,14 @@ fn show_sleeping<
 >(rt: R, alloc: Global, port: u16, out: &mut W) -> Result<(), Refusal> {
     let (context, engine) = Context::<Sleeping<R>>::new(rt, alloc, setting(alloc, port)?)?;
     let thread = start(rt, engine)?;
-    let shown = call_beside_listener(rt, alloc, &context, out);
+    let shown = call_during_listener(rt, alloc, &context, out);
     context.end(&rt);
     thread.join(&rt);
     shown
 }
 
 /// Calls that wait for nobody, while a listener takes its time.
-fn call_beside_listener<R: Wait + Clock + Copy + Drop, W: Write>(
+fn call_during_listener<R: Wait + Clock + Copy + Drop, W: Write>(
     rt: R,
     alloc: Global,
     context: &Context<Sleeping<R>>,
@@ -174,7 +174,7 @@ fn call_beside_listener<R: Wait + Clock + Copy + Drop, W: Write>(
 fn wait_in_listener<R: Wait + Clock + Copy + Drop, W: Write>(
     rt: R,
     alloc: Global,
-    context: &Arc<Context<Waiting<R>>>,
+    context: &Arc<Context<ReadingListener<R>>>,
     out: &mut W,
 ) -> Result<(), Refusal> {
     let channel = context.open(&rt, b"TEMP", 0)?;
@@ -182,7 +182,7 @@ fn wait_in_listener<R: Wait + Clock + Copy + Drop, W: Write>(
         return Err(Refusal::NotLive);
     }
     let ended = Arc::new(alloc, AtomicU64::new(0))?;
-    let listener = Waiting {
+    let listener = ReadingListener {
         rt,
         context: Arc::try_clone(context)?,
         channel,

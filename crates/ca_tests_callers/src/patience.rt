@@ -1,11 +1,10 @@
 //! Servers with and without patience, and clients that take nothing, or take it slowly.
 
-use crate::server::bound;
+use crate::server::{IdleDevice, bound};
 use crate::wire::{connected, greet, opened, read, send, take};
 use crate::{say, say_yes};
-use ca_dbr::Value;
 use ca_script::{RecordFile, read_records};
-use ca_serve::{Device, Meter, Options, Places, serve};
+use ca_serve::{Meter, Options, Places, serve};
 use ca_text::Refusal;
 use std::alloc::Global;
 use std::io::{Read, Write};
@@ -32,14 +31,6 @@ const PATIENCE: u64 = 1_500;
 const PAUSE: u64 = 100;
 
 const PAUSES: u64 = 30;
-
-/// A device that has nothing to do.
-#[derive(Clone, Copy, Drop)]
-struct Prompt;
-
-impl Device for Prompt {
-    fn process(&self, _record: &[u8], _value: &Value) {}
-}
 
 pub(crate) fn show<
     R: Threads
@@ -101,7 +92,7 @@ fn start_server<
     let file = read_records(alloc, RECORDS)?;
     let spawned = thread::spawn(&rt, move || {
         let RecordFile { records, rules } = file;
-        serve(rt, alloc, places, &records, rules, Prompt, options)
+        serve(rt, alloc, places, &records, rules, IdleDevice, options)
     });
     match spawned {
         Ok(server) => Ok(server),

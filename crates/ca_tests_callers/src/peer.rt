@@ -29,7 +29,7 @@ pub(crate) struct Peer {
 
 /// What the header of a message says.
 #[derive(Clone, Copy, Debug, PartialEq, Eq)]
-pub(crate) struct Message {
+pub(crate) struct PeerMessage {
     pub(crate) command: u16,
     pub(crate) data_type: u16,
     pub(crate) count: u16,
@@ -126,13 +126,13 @@ impl Peer {
         &self,
         rt: &R,
         count: u16,
-    ) -> Result<(TcpStream, Message), Refusal> {
+    ) -> Result<(TcpStream, PeerMessage), Refusal> {
         let (cid, to) = self.searched(TEMP)?;
         self.answer(cid, to)?;
         let stream = self.accept(rt)?;
-        let greeting = heard(&stream)?;
+        let greeting = next_message(&stream)?;
         for _ in 0..3 {
-            let message = heard(&stream)?;
+            let message = next_message(&stream)?;
             if message.command == CREATE {
                 create(&stream, message.p1, count)?;
                 return Ok((stream, greeting));
@@ -157,7 +157,7 @@ fn cid_of(datagram: &[u8], name: [u8; 8]) -> Option<u32> {
 
 /// A channel to n LONGs that may be read and written. Its SID is its CID.
 pub(crate) fn create(stream: &TcpStream, cid: u32, count: u16) -> Result<(), Refusal> {
-    let rights = Message {
+    let rights = PeerMessage {
         command: 22,
         data_type: 0,
         count: 0,
@@ -165,7 +165,7 @@ pub(crate) fn create(stream: &TcpStream, cid: u32, count: u16) -> Result<(), Ref
         p2: 3,
     };
     tell_message(stream, rights, &[])?;
-    let created = Message {
+    let created = PeerMessage {
         command: CREATE,
         data_type: 5,
         count,
@@ -176,7 +176,7 @@ pub(crate) fn create(stream: &TcpStream, cid: u32, count: u16) -> Result<(), Ref
 }
 
 /// The next message of a circuit, whose payload is short.
-pub(crate) fn heard(stream: &TcpStream) -> Result<Message, Refusal> {
+pub(crate) fn next_message(stream: &TcpStream) -> Result<PeerMessage, Refusal> {
     let mut header = [0u8; 16];
     take(stream, &mut header)?;
     let size = usize::from(u16::from_be_bytes([header[2], header[3]]));
@@ -185,7 +185,7 @@ pub(crate) fn heard(stream: &TcpStream) -> Result<Message, Refusal> {
         return Err(Refusal::TooLarge);
     };
     take(stream, payload)?;
-    Ok(Message {
+    Ok(PeerMessage {
         command: u16::from_be_bytes([header[0], header[1]]),
         data_type: u16::from_be_bytes([header[4], header[5]]),
         count: u16::from_be_bytes([header[6], header[7]]),
@@ -198,7 +198,7 @@ pub(crate) fn heard(stream: &TcpStream) -> Result<Message, Refusal> {
 /// is there as a whole.
 pub(crate) fn tell_message(
     stream: &TcpStream,
-    message: Message,
+    message: PeerMessage,
     payload: &[u8],
 ) -> Result<(), Refusal> {
     let mut bytes = [0u8; 64];
@@ -212,7 +212,7 @@ pub(crate) fn tell_message(
 }
 
 /// The header of a message with n bytes of payload.
-pub(crate) fn header_of(message: Message, size: usize) -> [u8; 16] {
+pub(crate) fn header_of(message: PeerMessage, size: usize) -> [u8; 16] {
     let mut header = [0u8; 16];
     header[0..2].copy_from_slice(&message.command.to_be_bytes());
     header[2..4].copy_from_slice(&u16::try_from(size).unwrap_or(0).to_be_bytes());
@@ -224,19 +224,23 @@ pub(crate) fn header_of(message: Message, size: usize) -> [u8; 16] {
 }
 
 /// Answers a request, or a subscription, by a value of one LONG.
-pub(crate) fn tell_value(stream: &TcpStream, request: Message, value: u8) -> Result<(), Refusal> {
-    let reply = Message { p1: 1, ..request };
+pub(crate) fn tell_value(
+    stream: &TcpStream,
+    request: PeerMessage,
+    value: u8,
+) -> Result<(), Refusal> {
+    let reply = PeerMessage { p1: 1, ..request };
     tell_message(stream, reply, &[0, 0, 0, value, 0, 0, 0, 0])
 }
 
 /// Answers a subscription by three updates of one LONG, in one write: so they are read together.
 pub(crate) fn tell_updates(
     stream: &TcpStream,
-    request: Message,
+    request: PeerMessage,
     values: [u8; 3],
 ) -> Result<(), Refusal> {
     let mut bytes = [0u8; 72];
-    let header = header_of(Message { p1: 1, ..request }, 8);
+    let header = header_of(PeerMessage { p1: 1, ..request }, 8);
     for (update, value) in bytes.chunks_mut(24).zip(&values) {
         update[0..16].copy_from_slice(&header);
         update[19] = *value;

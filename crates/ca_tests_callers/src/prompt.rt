@@ -52,14 +52,14 @@ pub(crate) fn show<
     let file = read_records(alloc, b"record TEMP LONG 1 quick 21\n")?;
     let (places, address) = bound(&rt)?;
     let server = start_server(rt, alloc, places, file, 1)?;
-    let shown = show_beside(rt, alloc, address.port(), out);
+    let shown = show_with_engine(rt, alloc, address.port(), out);
     let served = server.join(&rt);
     shown?;
     served?;
     Ok(())
 }
 
-fn show_beside<
+fn show_with_engine<
     R: Threads
         + Wait
         + Clock
@@ -166,7 +166,7 @@ fn is_crowd_soon<R: Threads + Wait + Clock + Copy + Send + 'static>(
         let began = began(&rt)?;
         let mut threads: Vec<JoinHandle<()>> = Vec::new(alloc);
         for _ in 0..CALLERS {
-            let reader = Reader {
+            let reader = ReadingCaller {
                 context: Arc::try_clone(context)?,
                 channel,
                 right: Arc::try_clone(&right)?,
@@ -188,14 +188,14 @@ fn is_crowd_soon<R: Threads + Wait + Clock + Copy + Send + 'static>(
 
 /// A caller in a thread of its own, with a row of reads.
 #[derive(Drop)]
-struct Reader {
+struct ReadingCaller {
     context: Arc<Context<Nobody>>,
     channel: Handle,
     // How many reads brought the value.
     right: Arc<AtomicU64>,
 }
 
-impl Work for Reader {
+impl Work for ReadingCaller {
     fn run<R: Wait + Clock>(self, rt: &R) {
         let Ok(mut caller) = self.context.caller(rt) else {
             return;

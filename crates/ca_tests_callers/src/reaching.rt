@@ -5,7 +5,7 @@
 use crate::at_once::{LEFT, long};
 use crate::client::setting;
 use crate::moments::{began, is_within};
-use crate::peer::{Message, Peer, create, heard, tell_message, tell_value};
+use crate::peer::{Peer, PeerMessage, create, next_message, tell_message, tell_value};
 use crate::say_yes;
 use ca_arena::Handle;
 use ca_client::Caller;
@@ -58,7 +58,7 @@ impl Work for Waiter {
 
 /// A client that searches on a circuit to a name server by hand, and what that one has heard.
 #[derive(Drop)]
-struct Both {
+struct SearchingClient {
     alloc: Global,
     context: Arc<Context<Nobody>>,
     names: TcpStream,
@@ -85,7 +85,7 @@ pub(crate) fn show<
     })?;
     let (context, engine) = Context::<Nobody>::new(rt, alloc, setting)?;
     let thread = start(rt, engine)?;
-    let mut both = Both {
+    let mut both = SearchingClient {
         alloc,
         context: Arc::new(alloc, context)?,
         names: names.accept(&rt)?,
@@ -97,7 +97,7 @@ pub(crate) fn show<
     shown
 }
 
-impl Both {
+impl SearchingClient {
     fn show_all<
         R: Threads
             + Wait
@@ -111,7 +111,7 @@ impl Both {
     >(&mut self, rt: R, out: &mut W) -> Result<(), Refusal> {
         let peer = Peer::new(&rt)?;
         let (channel, stream) = self.reached(&rt, &peer, 0)?;
-        let asked = heard_of(&stream, CREATE)?;
+        let asked = message_of(&stream, CREATE)?;
         create(&stream, asked.p1, 1)?;
         let _ = self.context.wait_live_for(&rt, channel, long())?;
         let waiter = Waiter {
@@ -120,7 +120,7 @@ impl Both {
             channel,
         };
         let thread = start(rt, waiter)?;
-        let request = heard_of(&stream, READ_NOTIFY)?;
+        let request = message_of(&stream, READ_NOTIFY)?;
         let is_soon = self.is_row_soon(&rt)?;
         tell_value(&stream, request, 21)?;
         thread.join(&rt);
@@ -157,7 +157,7 @@ impl Both {
     ) -> Result<(Handle, TcpStream), Refusal> {
         let channel = self.context.open(rt, b"TEMP", priority)?;
         let cid = self.searched()?;
-        let found = Message {
+        let found = PeerMessage {
             command: SEARCH,
             data_type: peer.port,
             count: 0,
@@ -171,7 +171,7 @@ impl Both {
     /// The CID of the next search that was not answered: one may come again before its answer does.
     fn searched(&mut self) -> Result<u32, Refusal> {
         for _ in 0..LOOKED_THROUGH {
-            let cid = heard_of(&self.names, SEARCH)?.p1;
+            let cid = message_of(&self.names, SEARCH)?.p1;
             if !self.cids.iter().any(|other| *other == cid) {
                 self.cids.push(cid)?;
                 return Ok(cid);
@@ -182,9 +182,9 @@ impl Both {
 }
 
 /// The next message of this command.
-fn heard_of(stream: &TcpStream, command: u16) -> Result<Message, Refusal> {
+fn message_of(stream: &TcpStream, command: u16) -> Result<PeerMessage, Refusal> {
     for _ in 0..LOOKED_THROUGH {
-        let message = heard(stream)?;
+        let message = next_message(stream)?;
         if message.command == command {
             return Ok(message);
         }

@@ -13,9 +13,9 @@ use std::time::Clock;
 
 /// A device that has nothing to do.
 #[derive(Clone, Copy, Drop)]
-struct Prompt;
+pub(crate) struct IdleDevice;
 
-impl Device for Prompt {
+impl Device for IdleDevice {
     fn process(&self, _record: &[u8], _value: &Value) {}
 }
 
@@ -64,7 +64,7 @@ pub(crate) fn start_server<
     let spawned = thread::spawn(&rt, move || {
         let RecordFile { records, rules } = file;
         let options = Options::new(Some(circuits));
-        serve(rt, alloc, places, &records, rules, Prompt, options)
+        serve(rt, alloc, places, &records, rules, IdleDevice, options)
     });
     match spawned {
         Ok(server) => Ok(server),

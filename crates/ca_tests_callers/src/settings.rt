@@ -48,9 +48,9 @@ pub(crate) fn show<
         + 'static,
     W: Write,
 >(rt: R, alloc: Global, out: &mut W) -> Result<(), Refusal> {
-    let late = beside(rt, move || at_late_name_server(rt, alloc))?;
-    let closing = beside(rt, move || at_closing_name_server(rt, alloc))?;
-    let repeated = beside(rt, move || beside_a_repeater(rt, alloc))?;
+    let late = in_thread(rt, move || at_late_name_server(rt, alloc))?;
+    let closing = in_thread(rt, move || at_closing_name_server(rt, alloc))?;
+    let repeated = in_thread(rt, move || with_a_repeater(rt, alloc))?;
     let named = at_name_server(rt, alloc)?;
     say_yes(out, "a name server alone finds the channel:", named)?;
     let late = late.join(&rt)?;
@@ -95,7 +95,7 @@ pub(crate) fn show_name_server<
     say_yes(out, "a name server alone finds the channel:", read)
 }
 
-fn beside<R: Threads + Drop, F: FnOnce() -> Result<bool, Refusal> + Send + Drop + 'static>(
+fn in_thread<R: Threads + Drop, F: FnOnce() -> Result<bool, Refusal> + Send + Drop + 'static>(
     rt: R,
     work: F,
 ) -> Result<JoinHandle<Result<bool, Refusal>>, Refusal> {
@@ -215,7 +215,7 @@ fn at_late_name_server<
     } = places;
     drop(listener);
     let setting = named(alloc, address.port())?;
-    let client = beside(rt, move || is_read(rt, alloc, setting))?;
+    let client = in_thread(rt, move || is_read(rt, alloc, setting))?;
     thread::sleep(&rt, Duration::from_millis(LATE));
     let Ok(listener) = TcpListener::bind(&rt, address) else {
         return Err(Refusal::Device);
@@ -267,7 +267,7 @@ fn at_closing_name_server<
 
 /// The client registers, and a beacon of a server that it had not heard of brings its next search
 /// at once, which was due after two seconds.
-fn beside_a_repeater<
+fn with_a_repeater<
     R: Threads
         + Wait
         + Clock

@@ -32,7 +32,7 @@ const MOST: u64 = 28_800;
 
 /// How many listeners heard the first value, and how many heard one that was put.
 #[derive(Drop)]
-struct Heard {
+struct ListenerCounts {
     first: AtomicU64,
     put: AtomicU64,
 }
@@ -40,7 +40,7 @@ struct Heard {
 /// Hears one subscription, and counts each of the two values once.
 #[derive(Drop)]
 struct Hearer {
-    heard: Arc<Heard>,
+    heard: Arc<ListenerCounts>,
     has_first: bool,
     has_put: bool,
 }
@@ -126,7 +126,7 @@ fn show_values<R: Wait + Clock, W: Write>(
     let channels = opened(rt, alloc, context)?;
     let heard = Arc::new(
         alloc,
-        Heard {
+        ListenerCounts {
             first: AtomicU64::new(0),
             put: AtomicU64::new(0),
         },
@@ -170,7 +170,7 @@ fn watch<R: Wait + Clock>(
     rt: &R,
     context: &Context<Hearer>,
     channel: Handle,
-    heard: &Arc<Heard>,
+    heard: &Arc<ListenerCounts>,
 ) -> Result<(), Refusal> {
     let hearer = Hearer {
         heard: Arc::try_clone(heard)?,

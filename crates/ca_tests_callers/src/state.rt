@@ -11,7 +11,7 @@ mod silence;
 
 use crate::state::circuit::{live, memory, turn};
 use crate::state::faults::{lost, lost_at};
-use crate::state::requests::{Requests, accepted, answered, make_requests, refused_as};
+use crate::state::requests::{MadeRequests, accepted, answered, make_requests, refused_as};
 use crate::state::silence::silenced;
 use crate::tell;
 use ca_board::Ticket;
@@ -50,7 +50,7 @@ fn show_cells<W: Write>(
     alloc: Global,
     state: &mut ClientState,
     caller: &mut Caller,
-    requests: &Requests,
+    requests: &MadeRequests,
     out: &mut W,
 ) -> Result<(), Refusal> {
     let mut tape = memory(alloc)?;
@@ -68,7 +68,7 @@ fn show_cells<W: Write>(
 fn all_cells<W: Write>(
     alloc: Global,
     state: &mut ClientState,
-    requests: &Requests,
+    requests: &MadeRequests,
     out: &mut W,
 ) -> Result<Vec<Ticket>, Refusal> {
     let tickets = accepted(alloc, state, &requests.read)?;
@@ -84,7 +84,7 @@ fn show_faults<W: Write>(
     alloc: Global,
     state: &mut ClientState,
     caller: &mut Caller,
-    requests: &Requests,
+    requests: &MadeRequests,
     out: &mut W,
 ) -> Result<(), Refusal> {
     for (versions, most) in [(0, 8u64), (8 * 256, 10)] {

@@ -4,8 +4,8 @@
 //! system's sockets carry.
 #![tactic(auto)]
 
-mod ear;
 mod line;
+mod monitor_listener;
 mod printing;
 mod program;
 mod serving;
@@ -13,9 +13,9 @@ mod tool;
 mod tool_line;
 mod turns;
 
-pub use ear::{Ear, Heard, new_ear};
 pub use line::{ServeLine, read_serve};
+pub use monitor_listener::{MonitorListener, MonitorUpdates, new_monitor_listener};
 pub use program::{run, takes};
 pub use serving::serve_run;
 pub use tool::tool_run;
-pub use tool_line::{Task, ToolLine, Verb, read_tool, verb_of};
+pub use tool_line::{Task, ToolLine, ToolVerb, read_tool, verb_of};

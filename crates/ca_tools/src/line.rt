@@ -1,3 +1,4 @@
+//! What the words after `serve` ask for, and how a word is an address, for the other lines too.
 use ca_script::{Words, decimal, read_server};
 use ca_text::Refusal;
 use clap::error::ErrorKind;

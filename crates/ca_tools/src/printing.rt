@@ -1,3 +1,4 @@
+//! How a value is printed: a line of the name and the elements.
 use ca_dbr::Value;
 use ca_link::Sink;
 use ca_text::Refusal;

@@ -1,10 +1,12 @@
+//! `run`: the first word leads to a line with threads. For `serve` the file and the sockets are
+//! opened here; the runs themselves are in `serving.rt` and `tool.rt`.
 ghost use Rattle.std.specs.Prelude.{◌<◌, ◌^◌};
 
-use crate::ear::new_ear;
 use crate::line::{ServeLine, read_serve};
+use crate::monitor_listener::new_monitor_listener;
 use crate::serving::serve_run;
 use crate::tool::tool_run;
-use crate::tool_line::{ToolLine, Verb, read_tool, verb_of};
+use crate::tool_line::{ToolLine, ToolVerb, read_tool, verb_of};
 use ca_link::{Sink, not_understood, report};
 use ca_script::{RecordFile, read_records};
 use ca_text::Refusal;
@@ -161,7 +163,7 @@ fn run_tool<
         + 'static,
     K: Sink,
     W: Write,
->(rt: R, alloc: Global, verb: Verb, words: &[String], sink: &mut K, err: &mut W) -> u8 {
+>(rt: R, alloc: Global, verb: ToolVerb, words: &[String], sink: &mut K, err: &mut W) -> u8 {
     match read_tool(alloc, verb, words) {
         Ok(Some(line)) => use_tool(rt, alloc, line, sink, err),
         Ok(None) => not_understood(err),
@@ -181,8 +183,8 @@ fn use_tool<
     K: Sink,
     W: Write,
 >(rt: R, alloc: Global, line: ToolLine<'_>, sink: &mut K, err: &mut W) -> u8 {
-    match new_ear(alloc) {
-        Ok(ear) => tool_run(rt, alloc, line, ear, sink, err),
+    match new_monitor_listener(alloc) {
+        Ok(listener) => tool_run(rt, alloc, line, listener, sink, err),
         Err(refusal) => report(Err(refusal), err),
     }
 }

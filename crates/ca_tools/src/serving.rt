@@ -1,3 +1,5 @@
+//! The run of `serve`, over `ca_serve`: a device that has nothing to do, and beacons to this host's
+//! repeater.
 ghost use Rattle.std.specs.Prelude.{◌<◌, ◌^◌};
 
 use ca_dbr::Value;
@@ -17,9 +19,9 @@ const BEACONS: u16 = 5065;
 
 // A device that has nothing to do.
 #[derive(Clone, Copy, Drop)]
-struct Prompt;
+struct NoDevice;
 
-impl Device for Prompt {
+impl Device for NoDevice {
     fn process(&self, _record: &[u8], _value: &Value) {}
 }
 
@@ -82,7 +84,7 @@ fn served<
     let RecordFile { records, rules } = file;
     tell(alloc, &places.listener, sink)?;
     let options = Options::new(circuits);
-    serve(rt, alloc, places, &records, rules, Prompt, options)?;
+    serve(rt, alloc, places, &records, rules, NoDevice, options)?;
     Ok(())
 }
 

@@ -1,4 +1,7 @@
-use crate::ear::{Ear, Heard, new_ear};
+//! The runs of `get`, `put` and `monitor`: a client with one channel, over `ca_client_context`.
+//! Begin at `done`, which waits until the channel is live, and is then one `match` on what is
+//! asked.
+use crate::monitor_listener::{MonitorListener, MonitorUpdates, new_monitor_listener};
 use crate::printing::{print_done, print_value};
 use crate::tool_line::{Task, ToolLine};
 use crate::turns::{TURN, Turns};
@@ -23,8 +26,8 @@ const VALUES: u16 = 1;
 /// Reads, puts or monitors a channel: tells on the sink what came, and a refusal on `err`, and
 /// returns the exit status.
 ///
-/// A monitor's updates are heard by this ear, and printed as they come out of what belongs to it;
-/// and if one was left out by a further pair, as `new_ear` makes it.
+/// A monitor's updates are heard by this listener, and printed as they come out of what belongs to
+/// it; and if one was left out by a further pair, as `new_monitor_listener` makes it.
 pub fn tool_run<
     R: Threads
         + Wait
@@ -36,8 +39,15 @@ pub fn tool_run<
         + 'static,
     K: Sink,
     W: Write,
->(rt: R, alloc: Global, line: ToolLine<'_>, ear: (Ear, Heard), sink: &mut K, err: &mut W) -> u8 {
-    let outcome = used(rt, alloc, line, ear, sink);
+>(
+    rt: R,
+    alloc: Global,
+    line: ToolLine<'_>,
+    listener: (MonitorListener, MonitorUpdates),
+    sink: &mut K,
+    err: &mut W,
+) -> u8 {
+    let outcome = used(rt, alloc, line, listener, sink);
     report(outcome, err)
 }
 
@@ -56,16 +66,16 @@ fn used<
     rt: R,
     alloc: Global,
     line: ToolLine<'_>,
-    ear: (Ear, Heard),
+    listener: (MonitorListener, MonitorUpdates),
     sink: &mut K,
 ) -> Result<(), Refusal> {
     ChannelName::read(line.name.as_bytes())?;
     let setting = setting_of(alloc, line.server)?;
     let (context, engine) = Context::new(rt, alloc, setting)?;
-    run_beside(rt, alloc, &context, engine, line, ear, sink)
+    run_with_engine(rt, alloc, &context, engine, line, listener, sink)
 }
 
-fn run_beside<
+fn run_with_engine<
     R: Threads
         + Wait
         + Clock
@@ -78,14 +88,14 @@ fn run_beside<
 >(
     rt: R,
     alloc: Global,
-    context: &Context<Ear>,
-    engine: Engine<R, Ear>,
+    context: &Context<MonitorListener>,
+    engine: Engine<R, MonitorListener>,
     line: ToolLine<'_>,
-    ear: (Ear, Heard),
+    listener: (MonitorListener, MonitorUpdates),
     sink: &mut K,
 ) -> Result<(), Refusal> {
     let thread = start(rt, engine)?;
-    let outcome = done(&rt, alloc, context, line, ear, sink);
+    let outcome = done(&rt, alloc, context, line, listener, sink);
     context.end(&rt);
     thread.join(&rt);
     outcome
@@ -113,9 +123,9 @@ fn address_of(server: SocketAddrV4) -> Address {
 fn done<R: Wait + Clock, K: Sink>(
     rt: &R,
     alloc: Global,
-    context: &Context<Ear>,
+    context: &Context<MonitorListener>,
     line: ToolLine<'_>,
-    ear: (Ear, Heard),
+    listener: (MonitorListener, MonitorUpdates),
     sink: &mut K,
 ) -> Result<(), Refusal> {
     let turns = Turns::new(rt, line.turns)?;
@@ -125,7 +135,7 @@ fn done<R: Wait + Clock, K: Sink>(
         Task::Get => get(rt, alloc, context, channel, shape, line.name, &turns, sink),
         Task::Put(text) => put(rt, alloc, context, channel, text, line.name, &turns, sink),
         Task::Monitor(updates) => monitor(
-            rt, alloc, context, channel, shape, updates, line.name, ear, &turns, sink,
+            rt, alloc, context, channel, shape, updates, line.name, listener, &turns, sink,
         ),
     }
 }
@@ -133,7 +143,7 @@ fn done<R: Wait + Clock, K: Sink>(
 // Waits until a channel is live, and reports its type and its greatest count.
 fn live_at<R: Wait + Clock>(
     rt: &R,
-    context: &Context<Ear>,
+    context: &Context<MonitorListener>,
     channel: Handle,
     turns: &Turns,
 ) -> Result<(u16, u32), Refusal> {
@@ -146,7 +156,7 @@ fn live_at<R: Wait + Clock>(
 fn get<R: Wait + Clock, K: Sink>(
     rt: &R,
     alloc: Global,
-    context: &Context<Ear>,
+    context: &Context<MonitorListener>,
     channel: Handle,
     shape: (u16, u32),
     name: &str,
@@ -162,7 +172,7 @@ fn get<R: Wait + Clock, K: Sink>(
 fn put<R: Wait + Clock, K: Sink>(
     rt: &R,
     alloc: Global,
-    context: &Context<Ear>,
+    context: &Context<MonitorListener>,
     channel: Handle,
     text: &str,
     name: &str,
@@ -178,7 +188,7 @@ fn put<R: Wait + Clock, K: Sink>(
 // Waits for the outcome of a ticket: none if the turns are used up.
 fn outcome_of<R: Wait + Clock>(
     rt: &R,
-    context: &Context<Ear>,
+    context: &Context<MonitorListener>,
     ticket: Ticket,
     turns: &Turns,
 ) -> Result<Option<Outcome>, Refusal> {
@@ -194,26 +204,26 @@ fn outcome_of<R: Wait + Clock>(
 fn monitor<R: Wait + Clock, K: Sink>(
     rt: &R,
     alloc: Global,
-    context: &Context<Ear>,
+    context: &Context<MonitorListener>,
     channel: Handle,
     shape: (u16, u32),
     updates: u64,
     name: &str,
-    ear: (Ear, Heard),
+    listener: (MonitorListener, MonitorUpdates),
     turns: &Turns,
     sink: &mut K,
 ) -> Result<(), Refusal> {
     let mut left = updates;
-    let mut pair = ear;
+    let mut pair = listener;
     for _ in 0..u64::MAX {
-        let (ear, mut heard) = pair;
-        let subscription = subscribe(rt, context, channel, shape, ear)?;
+        let (listener, mut heard) = pair;
+        let subscription = subscribe(rt, context, channel, shape, listener)?;
         left = print_updates(rt, alloc, &mut heard, left, name, turns, sink)?;
         if left == 0 {
             break;
         }
         context.unsubscribe(rt, subscription)?;
-        pair = new_ear(alloc)?;
+        pair = new_monitor_listener(alloc)?;
     }
     Ok(())
 }
@@ -221,17 +231,17 @@ fn monitor<R: Wait + Clock, K: Sink>(
 // Has the listener hear changes of the value.
 fn subscribe<R: Wait>(
     rt: &R,
-    context: &Context<Ear>,
+    context: &Context<MonitorListener>,
     channel: Handle,
     shape: (u16, u32),
-    ear: Ear,
+    listener: MonitorListener,
 ) -> Result<Handle, Refusal> {
     let (data_type, count) = shape;
     // It is none only without an event.
     let Some(mask) = Mask::new(VALUES) else {
         return Err(Refusal::BadEvent);
     };
-    match context.monitor(rt, channel, data_type, count, mask, ear) {
+    match context.monitor(rt, channel, data_type, count, mask, listener) {
         Ok(subscription) => Ok(subscription),
         Err((_, refusal)) => Err(refusal),
     }
@@ -241,7 +251,7 @@ fn subscribe<R: Wait>(
 fn print_updates<R: Clock, K: Sink>(
     rt: &R,
     alloc: Global,
-    heard: &mut Heard,
+    heard: &mut MonitorUpdates,
     updates: u64,
     name: &str,
     turns: &Turns,
@@ -260,7 +270,7 @@ fn print_updates<R: Clock, K: Sink>(
 // the turns are used up.
 fn next_update<R: Clock>(
     rt: &R,
-    heard: &mut Heard,
+    heard: &mut MonitorUpdates,
     turns: &Turns,
 ) -> Result<Option<Outcome>, Refusal> {
     for _ in 0..u64::MAX {

@@ -1,3 +1,4 @@
+//! What the words after `get`, `put` and `monitor` ask for: three lines that differ in one option.
 ghost use Rattle.std.specs.Prelude.{◌≡◌, MatchOption, codes};
 ghost use Rattle.ca_tools.specs.Tools.{name_of};
 
@@ -38,27 +39,27 @@ pub struct ToolLine<'a> {
 
 /// Which of the tools the first word names, with the option that is its own.
 #[derive(Clone, Copy, Debug, PartialEq, Eq)]
-pub enum Verb {
+pub enum ToolVerb {
     Get,
     Put,
     Monitor,
 }
 
 /// The tool of this name, if it is one's.
-pub fn verb_of(word: &str) -> Option<Verb>
+pub fn verb_of(word: &str) -> Option<ToolVerb>
     ensures { MatchOption result ((word.now ≡ codes "get" → ⊥)
         × (word.now ≡ codes "put" → ⊥)
         × (word.now ≡ codes "monitor" → ⊥))
         (λ verb. word.now ≡ name_of verb) }
 {
     if word == "get" {
-        return Some(Verb::Get);
+        return Some(ToolVerb::Get);
     }
     if word == "put" {
-        return Some(Verb::Put);
+        return Some(ToolVerb::Put);
     }
     if word == "monitor" {
-        return Some(Verb::Monitor);
+        return Some(ToolVerb::Monitor);
     }
     None
 }
@@ -66,7 +67,7 @@ pub fn verb_of(word: &str) -> Option<Verb>
 /// Reads the words after the name of a tool: none if they are not understood.
 pub fn read_tool<'a>(
     alloc: Global,
-    verb: Verb,
+    verb: ToolVerb,
     words: &'a [String],
 ) -> Result<Option<ToolLine<'a>>, Refusal> {
     // At this word clap would end the options.
@@ -83,7 +84,7 @@ pub fn read_tool<'a>(
     }
 }
 
-fn grammar<'a>(alloc: Global, verb: Verb) -> Result<Command<'a>, AllocError> {
+fn grammar<'a>(alloc: Global, verb: ToolVerb) -> Result<Command<'a>, AllocError> {
     let command = Command::new(alloc, "tool")
         .no_binary_name(true)
         .disable_help_flag(true)
@@ -91,14 +92,14 @@ fn grammar<'a>(alloc: Global, verb: Verb) -> Result<Command<'a>, AllocError> {
         .arg(Arg::new(alloc, "server").long("server"))?
         .arg(Arg::new(alloc, "turns").long("turns"))?;
     match verb {
-        Verb::Get => Ok(command),
-        Verb::Put => command.arg(Arg::new(alloc, "value").long("value")),
-        Verb::Monitor => command.arg(Arg::new(alloc, "count").long("count")),
+        ToolVerb::Get => Ok(command),
+        ToolVerb::Put => command.arg(Arg::new(alloc, "value").long("value")),
+        ToolVerb::Monitor => command.arg(Arg::new(alloc, "count").long("count")),
     }
 }
 
 /// What the words mean: nothing if one is missing, is no address, no number, or too long.
-fn meant<'a>(verb: Verb, matches: &ArgMatches<'a>) -> Option<ToolLine<'a>> {
+fn meant<'a>(verb: ToolVerb, matches: &ArgMatches<'a>) -> Option<ToolLine<'a>> {
     let name = matches.get_str("name")?;
     let server = socket_address(matches.get_str("server")?)?;
     let turns = match matches.get_str("turns") {
@@ -113,11 +114,11 @@ fn meant<'a>(verb: Verb, matches: &ArgMatches<'a>) -> Option<ToolLine<'a>> {
     })
 }
 
-fn task_of<'a>(verb: Verb, matches: &ArgMatches<'a>) -> Option<Task<'a>> {
+fn task_of<'a>(verb: ToolVerb, matches: &ArgMatches<'a>) -> Option<Task<'a>> {
     match verb {
-        Verb::Get => Some(Task::Get),
-        Verb::Put => Some(Task::Put(value_of(matches.get_str("value")?)?)),
-        Verb::Monitor => Some(Task::Monitor(decimal(matches.get_str("count")?.as_bytes())?)),
+        ToolVerb::Get => Some(Task::Get),
+        ToolVerb::Put => Some(Task::Put(value_of(matches.get_str("value")?)?)),
+        ToolVerb::Monitor => Some(Task::Monitor(decimal(matches.get_str("count")?.as_bytes())?)),
     }
 }
 

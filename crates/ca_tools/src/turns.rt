@@ -1,3 +1,4 @@
+//! The time that a tool has for all of its waits together (`--turns`), in turns of 10 ms.
 use ca_text::Refusal;
 use std::time::{Clock, Duration, Instant};
 

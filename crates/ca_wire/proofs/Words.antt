@@ -5,7 +5,7 @@ use Rattle.std.specs.Int.{to_be_bytes, w16, w32, w64}
 use Rattle.ca_text.specs.Command.{command_number}
 use Rattle.ca_text.specs.declared.command.Command.TheVariants as command
 use Rattle.ca_text.specs.Status.{normal}
-use Rattle.ca_wire.specs.declared.alone.Alone.{Alone}
+use Rattle.ca_wire.specs.declared.scalar_message.ScalarMessage.{ScalarMessage}
 use Rattle.ca_wire.specs.declared.done.Done.{Done}
 use Rattle.ca_wire.specs.Header.{header_spelling, number16, number32, short_header}
 use Rattle.ca_wire.specs.Message.{header_of, spelling}
@@ -51,7 +51,7 @@ regrouped : (a b c d e f p : List ℕ) → (a ++ (b ++ (c ++ d))) ++ ((e ++ f) +
 regrouped a b c d e f p = simp append_assoc
 
 -- the three one after another
-pub three-words : (a : Alone) (x y : List ℕ) → x ≡ number16 (command_number a.command) ++ (number16 8 ++ (number16 a.data_type ++ number16 1)) → y ≡ number32 normal ++ number32 a.id → x ++ (y ++ to_be_bytes w64 a.payload) ≡ spelling (alone a)
+pub three-words : (a : ScalarMessage) (x y : List ℕ) → x ≡ number16 (command_number a.command) ++ (number16 8 ++ (number16 a.data_type ++ number16 1)) → y ≡ number32 normal ++ number32 a.id → x ++ (y ++ to_be_bytes w64 a.payload) ≡ spelling (alone a)
 unfolding spelling short_header
 three-words a x y is at =
     let h = header_of (alone a) in

@@ -14,18 +14,26 @@ number32 n = to_be_bytes w32 n
 -- sixteen bytes: command, payload size, data type and data count of 16 bits each, and two
 -- parameters of 32 bits
 unfoldable pub short_header : Header → List ℕ
-short_header h = number16 h.command ++ (number16 h.size ++ (number16 h.data_type ++ (number16 h.count ++ (number32 h.p1 ++ number32 h.p2))))
+short_header h =
+    number16 h.command
+    ++ (number16 h.size
+    ++ (number16 h.data_type ++ (number16 h.count ++ (number32 h.p1 ++ number32 h.p2))))
 
 -- 24 bytes: the same with 0xFFFF in place of the size and some count of 16 bits, then size and
 -- count of 32 bits each
 unfoldable pub extended_header : ℕ → Header → List ℕ
 extended_header count16 h =
-    number16 h.command ++ (number16 65535 ++ (number16 h.data_type ++ (number16 count16 ++ (number32 h.p1 ++ (number32 h.p2 ++ (number32 h.size ++ number32 h.count))))))
+    number16 h.command
+    ++ (number16 65535
+    ++ (number16 h.data_type
+    ++ (number16 count16
+    ++ (number32 h.p1 ++ (number32 h.p2 ++ (number32 h.size ++ number32 h.count))))))
 
 -- A header as it is written: short if size and count are both below 65,535, else
 -- extended with a count of 0.
 unfoldable pub header_spelling : Header → List ℕ
-header_spelling h = if nat_lt h.size 65535 && nat_lt h.count 65535 then short_header h else extended_header 0 h
+header_spelling h =
+    if nat_lt h.size 65535 && nat_lt h.count 65535 then short_header h else extended_header 0 h
 
 -- Each field has its width.
 pub record HeaderFits (h : Header) : Type 0 where

@@ -23,12 +23,15 @@ Makes made old (Err e) new = (made ≡ Err e) × Extends old new
 
 -- A message with such a payload was to be put after the old bytes, with this answer, and left
 -- new. It takes memory.
-abbrev pub PutsMade : Fields → Result (List ℕ) Refusal → List ℕ → Result (Unit {0}) Refusal → List ℕ → Type 0
-PutsMade m made old (Ok _) new = (bytes : List ℕ) × (made ≡ Ok bytes) × (new ≡ old ++ spelling (with_payload bytes m))
+abbrev pub PutsMade : Fields → Result (List ℕ) Refusal → List ℕ → Result (Unit {0}) Refusal → List ℕ
+    → Type 0
+PutsMade m made old (Ok _) new =
+    (bytes : List ℕ) × (made ≡ Ok bytes) × (new ≡ old ++ spelling (with_payload bytes m))
 PutsMade m made old (Err OutOfMemory) new = new ≡ old
 PutsMade m made old (Err e) new = (made ≡ Err e) × (new ≡ old)
 
 -- The same, but a refusal may leave a beginning of it.
-abbrev pub WritesMade : Fields → Result (List ℕ) Refusal → List ℕ → Result (Unit {0}) Refusal → List ℕ → Type 0
+abbrev pub WritesMade : Fields → Result (List ℕ) Refusal → List ℕ → Result (Unit {0}) Refusal
+    → List ℕ → Type 0
 WritesMade m made old (Ok _) new = PutsMade m made old (Ok tt) new
 WritesMade m made old (Err e) new = PutsMade m made old (Err e) old × Extends old new

@@ -9,7 +9,15 @@ use Rattle.ca_wire.specs.Header.{HeaderFits, HeaderSpells, header_spelling}
 use Rattle.ca_wire.specs.Fields.{Fields, IsPayload, padded}
 
 abbrev pub header_of : Fields → Header
-header_of m = record { command = m.command; data_type = m.data_type; size = length m.payload; count = m.count; p1 = m.p1; p2 = m.p2 }
+header_of m =
+    record {
+      command = m.command;
+      data_type = m.data_type;
+      size = length m.payload;
+      count = m.count;
+      p1 = m.p1;
+      p2 = m.p2;
+    }
 
 -- A message: each field has its width, and the payload is one.
 pub record IsMessage (m : Fields) : Type 0 where

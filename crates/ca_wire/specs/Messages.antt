@@ -1,6 +1,7 @@
 -- Vocabulary: the messages by name (section "CA Protocol Messages"). Fields that a message
 -- does not name are 0.
-use Rattle.std.specs.Prelude.{ℕ, ◌^◌, ◌-◌, ◌*◌, ◌+◌, ◌==◌, List, [], ◌∷◌, ◌++◌, replicate, slice_index_or}
+use Rattle.std.specs.Prelude.{ℕ, ◌^◌, ◌-◌, ◌*◌, ◌+◌, ◌==◌, List, [], ◌∷◌, ◌++◌, replicate}
+use Rattle.std.specs.Prelude.{slice_index_or}
 use Rattle.std.specs.Int.{to_be_bytes, w64}
 use Rattle.std.specs.List.{before_first}
 use Rattle.ca_text.specs.Command.{command_number}
@@ -14,7 +15,7 @@ use Rattle.ca_wire.specs.Message.{header_of}
 -- What a request on a channel names: the SID, the IOID or subscription id, and the type and count
 -- that are wanted (Wanted). The ids of a channel (ChannelIds). What a search found (Found), a
 -- channel as it was created (Created), and what an answer or an update is about (Answered).
-use Rattle.ca_wire.specs.declared.alone.Alone.{Alone}
+use Rattle.ca_wire.specs.declared.scalar_message.ScalarMessage.{ScalarMessage}
 use Rattle.ca_wire.specs.declared.done.Done.{Done}
 use Rattle.ca_wire.specs.declared.requests.Wanted.{Wanted}
 use Rattle.ca_wire.specs.declared.requests.ChannelIds.{ChannelIds}
@@ -24,11 +25,20 @@ use Rattle.ca_wire.specs.declared.replies.Answered.{Answered}
 -- a command alone: ECHO, EVENTS_OFF, EVENTS_ON ("CA_PROTO_ECHO", "CA_PROTO_EVENTS_OFF",
 -- "CA_PROTO_EVENTS_ON")
 abbrev pub bare : Command → Fields
-bare c = record { command = command_number c; data_type = 0; count = 0; p1 = 0; p2 = 0; payload = [] }
+bare c =
+    record { command = command_number c; data_type = 0; count = 0; p1 = 0; p2 = 0; payload = [] }
 
 -- a request on a channel, with this payload
 abbrev pub on_channel : Command → Wanted → List ℕ → Fields
-on_channel c w payload = record { command = command_number c; data_type = w.data_type; count = w.count; p1 = w.sid; p2 = w.id; payload = payload }
+on_channel c w payload =
+    record {
+      command = command_number c;
+      data_type = w.data_type;
+      count = w.count;
+      p1 = w.sid;
+      p2 = w.id;
+      payload = payload;
+    }
 
 -- ---- texts
 
@@ -44,7 +54,8 @@ text_in payload = before_first (λ b. b == 0) payload
 
 -- VERSION: the circuit's priority is its type, the minor version its count ("CA_PROTO_VERSION")
 abbrev pub version_request : ℕ → Fields
-version_request priority = record (bare command.Version) { data_type = priority; count = minor_version }
+version_request priority =
+    record (bare command.Version) { data_type = priority; count = minor_version }
 
 -- CLIENT_NAME and HOST_NAME ("CA_PROTO_CLIENT_NAME", "CA_PROTO_HOST_NAME")
 abbrev pub name_request : Command → List ℕ → Fields
@@ -52,11 +63,23 @@ name_request c text = record (bare c) { payload = text_payload text }
 
 -- SEARCH: the CID twice; the type 5 asks that an unknown name gets no answer ("CA_PROTO_SEARCH")
 abbrev pub search_request : ℕ → List ℕ → Fields
-search_request cid name = record (bare command.Search) { data_type = 5; count = minor_version; p1 = cid; p2 = cid; payload = text_payload name }
+search_request cid name =
+    record (bare command.Search) {
+      data_type = 5;
+      count = minor_version;
+      p1 = cid;
+      p2 = cid;
+      payload = text_payload name;
+    }
 
 -- CREATE_CHAN ("CA_PROTO_CREATE_CHAN")
 abbrev pub create_request : ℕ → List ℕ → Fields
-create_request cid name = record (bare command.CreateChannel) { p1 = cid; p2 = minor_version; payload = text_payload name }
+create_request cid name =
+    record (bare command.CreateChannel) {
+      p1 = cid;
+      p2 = minor_version;
+      payload = text_payload name;
+    }
 
 -- CLEAR_CHANNEL: the SID and the CID; its reply is the same ("CA_PROTO_CLEAR_CHANNEL")
 abbrev pub clear_request : ℕ → ℕ → Fields
@@ -91,11 +114,23 @@ version_reply = record (bare command.Version) { count = minor_version }
 -- SEARCH, answered: the TCP port, in place of an address 0xFFFFFFFF, the CID, and the minor
 -- version ("CA_PROTO_SEARCH")
 abbrev pub search_reply : ℕ → Fields → Fields
-search_reply port m = record (bare command.Search) { data_type = port; p1 = 2 ^ 32 - 1; p2 = m.p2; payload = number16 minor_version ++ replicate 6 0 }
+search_reply port m =
+    record (bare command.Search) {
+      data_type = port;
+      p1 = 2 ^ 32 - 1;
+      p2 = m.p2;
+      payload = number16 minor_version ++ replicate 6 0;
+    }
 
 -- NOT_FOUND: the type and the CID of the search ("CA_PROTO_NOT_FOUND")
 abbrev pub not_found_reply : Fields → Fields
-not_found_reply m = record (bare command.NotFound) { data_type = m.data_type; count = minor_version; p1 = m.p2; p2 = m.p2 }
+not_found_reply m =
+    record (bare command.NotFound) {
+      data_type = m.data_type;
+      count = minor_version;
+      p1 = m.p2;
+      p2 = m.p2;
+    }
 
 -- ACCESS_RIGHTS: the CID, and the bits 1 to read and 2 to write ("CA_PROTO_ACCESS_RIGHTS")
 abbrev pub rights_reply : Fields → ℕ → Fields
@@ -104,7 +139,13 @@ rights_reply m bits = record (bare command.AccessRights) { p1 = m.p1; p2 = bits 
 -- CREATE_CHAN: the record's native type and greatest count, the CID and the SID
 -- ("CA_PROTO_CREATE_CHAN")
 abbrev pub created_reply : Fields → (data_type count sid : ℕ) → Fields
-created_reply m data_type count sid = record (bare command.CreateChannel) { data_type = data_type; count = count; p1 = m.p1; p2 = sid }
+created_reply m data_type count sid =
+    record (bare command.CreateChannel) {
+      data_type = data_type;
+      count = count;
+      p1 = m.p1;
+      p2 = sid;
+    }
 
 -- CREATE_CH_FAIL: the CID ("CA_PROTO_CREATE_CH_FAIL")
 abbrev pub failed_reply : Fields → Fields
@@ -130,12 +171,28 @@ abbrev pub cancel_reply : Fields → Fields
 cancel_reply m = record m { command = command_number command.EventAdd; payload = [] }
 
 -- an answer or an update with one element, whose payload is eight bytes
-abbrev pub alone : Alone → Fields
-alone a = record { command = command_number a.command; data_type = a.data_type; count = 1; p1 = normal; p2 = a.id; payload = to_be_bytes w64 a.payload }
+abbrev pub alone : ScalarMessage → Fields
+alone a =
+    record {
+      command = command_number a.command;
+      data_type = a.data_type;
+      count = 1;
+      p1 = normal;
+      p2 = a.id;
+      payload = to_be_bytes w64 a.payload;
+    }
 
 -- the reply to a WRITE_NOTIFY of one element that was done ("CA_PROTO_WRITE_NOTIFY")
 abbrev pub done : Done → Fields
-done d = record { command = command_number command.WriteNotify; data_type = d.data_type; count = 1; p1 = normal; p2 = d.id; payload = [] }
+done d =
+    record {
+      command = command_number command.WriteNotify;
+      data_type = d.data_type;
+      count = 1;
+      p1 = normal;
+      p2 = d.id;
+      payload = [];
+    }
 
 -- what is in place of a CID if the SID is unknown ("CA_PROTO_ERROR")
 abbrev pub no_cid : ℕ
@@ -144,13 +201,25 @@ no_cid = 2 ^ 32 - 1
 -- ERROR: the CID, the status, and the request's header in its written form with an empty
 -- text ("CA_PROTO_ERROR")
 abbrev pub error_reply : ℕ → ℕ → Fields → Fields
-error_reply cid status m = record (bare command.Error) { p1 = cid; p2 = status; payload = header_spelling (header_of m) ++ replicate 8 0 }
+error_reply cid status m =
+    record (bare command.Error) {
+      p1 = cid;
+      p2 = status;
+      payload = header_spelling (header_of m) ++ replicate 8 0;
+    }
 
 -- An update: the type, how many elements, the status, the subscription id and the image
 -- ("CA_PROTO_EVENT_ADD")
 abbrev pub update : (data_type count status id : ℕ) → List ℕ → Fields
 update data_type count status id image =
-    record { command = command_number command.EventAdd; data_type = data_type; count = count; p1 = status; p2 = id; payload = padded image }
+    record {
+      command = command_number command.EventAdd;
+      data_type = data_type;
+      count = count;
+      p1 = status;
+      p2 = id;
+      payload = padded image;
+    }
 
 -- SERVER_DISCONN: the CID ("CA_PROTO_SERVER_DISCONN")
 abbrev pub disconnect : ℕ → Fields
@@ -177,4 +246,10 @@ created_in m = record { cid = m.p1; sid = m.p2; data_type = m.data_type; count =
 -- what a READ_NOTIFY or WRITE_NOTIFY that is a reply, or an update, answers
 -- ("CA_PROTO_READ_NOTIFY", "CA_PROTO_EVENT_ADD")
 abbrev pub answer_in : Fields → Answered
-answer_in m = record { id = m.p2; status = record { number = m.p1 }; data_type = m.data_type; count = m.count }
+answer_in m =
+    record {
+      id = m.p2;
+      status = record { number = m.p1 };
+      data_type = m.data_type;
+      count = m.count;
+    }

@@ -1,8 +1,10 @@
 -- What reading returns.
-use Rattle.std.specs.Prelude.{ℕ, ◌≡◌, ◌≢◌, ◌+◌, ◌%◌, ◌≤◌, ◌++◌, List, [], drop, length, take, true, false, Option, Some, None, Result, Ok, Err}
+use Rattle.std.specs.Prelude.{ℕ, ◌≡◌, ◌≢◌, ◌+◌, ◌%◌, ◌≤◌, ◌++◌, List, [], drop, length, take, true}
+use Rattle.std.specs.Prelude.{false, Option, Some, None, Result, Ok, Err}
 use Rattle.ca_text.specs.Limits.{payload_limit}
 use Rattle.ca_text.specs.declared.refusal.Refusal.{Refusal}
-use Rattle.ca_text.specs.declared.refusal.Refusal.TheVariants.{OutOfMemory, Misaligned, TooLarge, CircuitClosed}
+use Rattle.ca_text.specs.declared.refusal.Refusal.TheVariants.{OutOfMemory, Misaligned, TooLarge}
+use Rattle.ca_text.specs.declared.refusal.Refusal.TheVariants.{CircuitClosed}
 use Rattle.ca_wire.specs.declared.header.Header.{Header}
 use Rattle.ca_wire.specs.declared.reading.Head.{Head}
 use Rattle.ca_wire.specs.declared.reading.One.{One}
@@ -18,7 +20,8 @@ use Rattle.ca_wire.specs.Stream.{Held, NoneBegins, BadAt, NotBad}
 
 -- no complete header begins these bytes
 abbrev pub NoHeader : List ℕ → Type 0
-NoHeader bytes = (h : Header) (front back : List ℕ) → HeaderSpells front h → bytes ≡ front ++ back → ⊥
+NoHeader bytes =
+    (h : Header) (front back : List ℕ) → HeaderSpells front h → bytes ≡ front ++ back → ⊥
 
 -- a complete header begins these bytes
 pub record BeginsHeader (bytes : List ℕ) (head : Head) : Type 0 where
@@ -28,7 +31,8 @@ pub record BeginsHeader (bytes : List ℕ) (head : Head) : Type 0 where
 -- A message of this command, which names this and has no payload, begins these
 -- bytes, in 16 of them.
 abbrev pub BeginsBare : List ℕ → Command → Wanted → Type 0
-BeginsBare bytes c w = BeginsHeader bytes (record { header = header_of (on_channel c w []); start = 16 })
+BeginsBare bytes c w =
+    BeginsHeader bytes (record { header = header_of (on_channel c w []); start = 16 })
 
 -- No message of this command without payload begins these bytes, in 16 of them.
 abbrev pub NoBare : List ℕ → Command → Type 0
@@ -36,7 +40,15 @@ NoBare bytes c = (w : Wanted) → BeginsBare bytes c w → ⊥
 
 -- the header of a message of this command, which names this, with a payload of eight bytes
 abbrev pub short_of : Command → Wanted → Header
-short_of c w = record { command = command_number c; data_type = w.data_type; size = 8; count = w.count; p1 = w.sid; p2 = w.id }
+short_of c w =
+    record {
+      command = command_number c;
+      data_type = w.data_type;
+      size = 8;
+      count = w.count;
+      p1 = w.sid;
+      p2 = w.id;
+    }
 
 -- A message of this command, which names this, with a payload of eight bytes, begins these bytes:
 -- its header in 16 of them.
@@ -68,7 +80,8 @@ IsOne bytes (one.Bad e) = BadAt bytes e
 
 -- From old, these bytes were given, with this answer, and left new. No bytes need no memory.
 abbrev pub Gives : Held → List ℕ → Result (Unit {0}) Refusal → Held → Type 0
-Gives old bytes (Ok _) new = (old.closed ≡ false) × (new ≡ record { bytes = old.bytes ++ bytes; closed = false })
+Gives old bytes (Ok _) new =
+    (old.closed ≡ false) × (new ≡ record { bytes = old.bytes ++ bytes; closed = false })
 Gives old bytes (Err CircuitClosed) new = (old.closed ≡ true) × (new ≡ old)
 Gives old bytes (Err OutOfMemory) new = (old.closed ≡ false) × (new ≡ old) × (bytes ≢ [])
 Gives old bytes (Err _) new = ⊥
@@ -100,7 +113,8 @@ pub record Closes (old : Held) (e : Refusal) (new : Held) : Type 0 where
 -- payload takes memory.
 abbrev pub Nexts : Held → Result (Option Fields) Refusal → Held → Type 0
 Nexts old (Ok (Some m)) new = Takes old m new
-Nexts old (Ok None) new = (old.closed ≡ false) × NoneBegins old.bytes × NotBad old.bytes × (new ≡ old)
+Nexts old (Ok None) new =
+    (old.closed ≡ false) × NoneBegins old.bytes × NotBad old.bytes × (new ≡ old)
 Nexts old (Err CircuitClosed) new = (old.closed ≡ true) × (new ≡ old)
 Nexts old (Err Misaligned) new = Closes old Misaligned new
 Nexts old (Err TooLarge) new = Closes old TooLarge new

@@ -14,7 +14,9 @@ NoneBegins bytes = (m : Fields) (front back : List ℕ) → Spells front m → b
 
 -- A header earns refusal 2 if its size is no multiple of 8, else 3 if its size is over the limit.
 abbrev pub Faults : Header → Refusal → Type 0
-Faults h e = ((e ≡ Misaligned) × (h.size % 8 ≢ 0)) ⊎ ((e ≡ TooLarge) × (h.size % 8 ≡ 0) × (payload_limit < h.size))
+Faults h e =
+    ((e ≡ Misaligned) × (h.size % 8 ≢ 0))
+    ⊎ ((e ≡ TooLarge) × (h.size % 8 ≡ 0) × (payload_limit < h.size))
 
 -- A complete header begins these bytes, and earns this refusal.
 pub record BadAt (bytes : List ℕ) (e : Refusal) : Type 0 where
@@ -31,7 +33,9 @@ NotBad bytes = (e : Refusal) → BadAt bytes e → ⊥
 -- the bytes are readings of these messages in order, and then the rest
 abbrev pub Begins : List ℕ → List Fields → List ℕ → Type 0
 Begins bytes [] rest = bytes ≡ rest
-Begins bytes (m ∷ ms) rest = (front : List ℕ) × (back : List ℕ) × Spells front m × (bytes ≡ front ++ back) × Begins back ms rest
+Begins bytes (m ∷ ms) rest =
+    (front : List ℕ) × (back : List ℕ) × Spells front m × (bytes ≡ front ++ back)
+    × Begins back ms rest
 
 -- The stream of these bytes: messages in order, then a rest that no complete message begins.
 pub record IsStream (bytes : List ℕ) (ms : List Fields) (rest : List ℕ) : Type 0 where

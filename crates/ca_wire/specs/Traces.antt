@@ -11,7 +11,8 @@ pub data Call : Type 0 where
 -- these calls in a row lead from old to new
 abbrev pub Trace : Held → List Call → Held → Type 0
 Trace old [] new = new ≡ old
-Trace old (Gave bytes ∷ calls) new = (mid : Held) × Gives old bytes (Ok tt) mid × Trace mid calls new
+Trace old (Gave bytes ∷ calls) new =
+    (mid : Held) × Gives old bytes (Ok tt) mid × Trace mid calls new
 Trace old (Took m ∷ calls) new = (mid : Held) × Nexts old (Ok (Some m)) mid × Trace mid calls new
 
 -- all bytes that came

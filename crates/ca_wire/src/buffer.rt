@@ -1,13 +1,14 @@
-ghost use Rattle.std.specs.Prelude.{ℕ, List, ◌≡◌, ◌≢◌, ◌≤◌, ◌++◌, [], drop, length, take, IfOk, OnErr, OnOk, vec_capacity, vec_len};
+ghost use Rattle.std.specs.Prelude.{ℕ, List, ◌≡◌, ◌≢◌, ◌≤◌, ◌++◌, [], drop, length, take, IfOk};
+ghost use Rattle.std.specs.Prelude.{OnErr, OnOk, vec_capacity, vec_len};
 ghost use Rattle.ca_text.specs.Limits.{payload_limit};
 ghost use Rattle.ca_wire.specs.Made.{PutsMade};
 ghost use Rattle.ca_wire.specs.Message.{spelling};
 ghost use Rattle.ca_wire.specs.Messages.{alone, done};
 
-use crate::alone::{Alone, spell_alone};
 use crate::done::{Done, spell_done};
 use crate::made::{Payload, spell_made};
 use crate::message::{Message, spell};
+use crate::scalar_message::{ScalarMessage, spell_scalar};
 use ca_text::Refusal;
 use std::alloc::{AllocError, Global};
 use std::marker::Model;
@@ -96,12 +97,12 @@ impl Buffer {
 
     /// Puts the one spelling of this after the others. A refusal changes nothing.
     #[inline(always)]
-    pub fn put_alone(&mut self, said: Alone) -> Result<(), AllocError>
+    pub fn put_scalar(&mut self, said: ScalarMessage) -> Result<(), AllocError>
         ensures ok { OnOk result (self.new ≡ self.old ++ spelling (alone said)) }
         ensures err { OnErr result (self.new ≡ self.old) }
     {
         self.let_go();
-        spell_alone(said, &mut self.bytes)
+        spell_scalar(said, &mut self.bytes)
     }
 
     /// Puts the one spelling of this after the others. A refusal changes nothing.

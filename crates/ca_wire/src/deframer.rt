@@ -3,7 +3,7 @@ ghost use Rattle.ca_wire.specs.Reading.{FirstShort, Gives, Nexts, NextsBare};
 
 use crate::buffer::Buffer;
 use crate::message::Message;
-use crate::reading::{One, bare_at, read_one, short_at};
+use crate::reading::{One, of_eight_bytes_at, read_one, without_payload_at};
 use crate::requests::Wanted;
 use ca_text::{Command, Refusal};
 use std::alloc::{AllocError, Global};
@@ -78,11 +78,11 @@ impl Deframer {
         self.buffer.give_back(spare);
     }
 
+    // In line: a message that is handed back in memory is stored field by field, and a load of 16
+    // bytes of it right after has to wait.
     /// Takes the message at the front, if a complete one is there.
     ///
     /// After 2 or 3 every call answers 17. After 1 the message is still there.
-    // In line: a message that is handed back in memory is stored field by field, and a load of 16
-    // bytes of it right after has to wait.
     #[inline(always)]
     pub fn next_message(&mut self) -> Result<Option<Message>, Refusal>
         ensures { Nexts self.old result self.new }
@@ -110,13 +110,13 @@ impl Deframer {
     /// and its header, in 16 bytes, is all of it. Such a message needs no memory. None
     /// leaves all as it was.
     #[inline(always)]
-    pub fn next_bare(&mut self, command: Command) -> Option<Wanted>
+    pub fn next_without_payload(&mut self, command: Command) -> Option<Wanted>
         ensures { NextsBare command self.old result self.new }
     {
         if self.closed {
             return None;
         }
-        match bare_at(self.buffer.bytes(), command) {
+        match without_payload_at(self.buffer.bytes(), command) {
             Some(wanted) => {
                 self.buffer.drop_front(16);
                 Some(wanted)
@@ -128,13 +128,13 @@ impl Deframer {
     /// What the message at the front names, if it is of this command, and is a header in 16 bytes
     /// and a payload of eight. It stays there.
     #[inline(always)]
-    pub fn first_short(&self, command: Command) -> Option<Wanted>
+    pub fn first_of_eight_bytes(&self, command: Command) -> Option<Wanted>
         ensures { FirstShort command self.now result }
     {
         if self.closed {
             return None;
         }
-        short_at(self.buffer.bytes(), command)
+        of_eight_bytes_at(self.buffer.bytes(), command)
     }
 
     /// Takes the first n bytes: a message that was handled where it came.

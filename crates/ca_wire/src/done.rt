@@ -6,8 +6,8 @@ ghost use Rattle.ca_wire.specs.Header.{number16};
 ghost use Rattle.ca_wire.specs.Message.{spelling};
 ghost use Rattle.ca_wire.specs.Messages.{done};
 
-use crate::alone::second_half;
 use crate::ids::Ioid;
+use crate::scalar_message::second_half;
 use ca_text::Command;
 use std::alloc::AllocError;
 
@@ -32,7 +32,8 @@ pub(crate) fn spell_done(said: Done, out: &mut Vec<u8>) -> Result<(), AllocError
 #[inline(always)]
 fn done_half(data_type: u16) -> u64
     ensures { to_be_bytes w64 result
-        ≡ number16 (command_number command.WriteNotify) ++ (number16 0 ++ (number16 data_type ++ number16 1)) }
+        ≡ number16 (command_number command.WriteNotify)
+        ++ (number16 0 ++ (number16 data_type ++ number16 1)) }
 {
     u64::from(Command::WriteNotify.number()) * 0x1_0000_0000_0000
         + u64::from(data_type) * 0x1_0000

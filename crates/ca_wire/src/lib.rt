@@ -2,7 +2,6 @@
 //! reading of a stream of messages that comes in any pieces.
 #![tactic(auto)]
 
-mod alone;
 mod buffer;
 mod deframer;
 mod done;
@@ -15,8 +14,8 @@ mod pipe;
 mod reading;
 mod replies;
 mod requests;
+mod scalar_message;
 
-pub use alone::Alone;
 pub use buffer::Buffer;
 pub use deframer::Deframer;
 pub use done::Done;
@@ -37,3 +36,4 @@ pub use requests::{
     event_cancel_request, name_request, put_head, put_request, read_request, search_header,
     search_request, version_request,
 };
+pub use scalar_message::ScalarMessage;

@@ -1,4 +1,5 @@
-ghost use Rattle.std.specs.Prelude.{ℕ, List, Result, ◌≡◌, ◌-◌, ◌%◌, ◌≤◌, ◌++◌, IfOk, OnErr, OnOk, length, replicate};
+ghost use Rattle.std.specs.Prelude.{ℕ, List, Result, ◌≡◌, ◌-◌, ◌%◌, ◌≤◌, ◌++◌, IfOk, OnErr, OnOk};
+ghost use Rattle.std.specs.Prelude.{length, replicate};
 ghost use Rattle.ca_text.specs.declared.refusal.Refusal.{Refusal};
 ghost use Rattle.ca_text.specs.Limits.{payload_limit};
 ghost use Rattle.ca_wire.specs.Made.{Makes, PutsMade, WritesMade};

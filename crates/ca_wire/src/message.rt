@@ -1,4 +1,5 @@
-ghost use Rattle.std.specs.Prelude.{ℕ, List, ◌≡◌, ◌≢◌, ◌+◌, ◌%◌, ◌<◌, ◌≤◌, ◌++◌, [], length, IfOk, MatchResult, OnErr, OnOk, vec_capacity, vec_len};
+ghost use Rattle.std.specs.Prelude.{ℕ, List, ◌≡◌, ◌≢◌, ◌+◌, ◌%◌, ◌<◌, ◌≤◌, ◌++◌, [], length, IfOk};
+ghost use Rattle.std.specs.Prelude.{MatchResult, OnErr, OnOk, vec_capacity, vec_len};
 ghost use Rattle.ca_text.specs.Command.{command_number};
 ghost use Rattle.ca_text.specs.Limits.{payload_limit};
 ghost use Rattle.ca_wire.specs.Fields.{Fields, IsPayload, padded};

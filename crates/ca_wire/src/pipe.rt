@@ -1,17 +1,19 @@
-ghost use Rattle.std.specs.Prelude.{ℕ, List, ◌≡◌, ◌≤◌, ◌++◌, [], drop, length, take, IfOk, OnErr, OnOk};
+ghost use Rattle.std.specs.Prelude.{ℕ, List, ◌≡◌, ◌≢◌, ◌≤◌, ◌++◌, [], drop, length, take, IfOk};
+ghost use Rattle.std.specs.Prelude.{OnErr, OnOk};
 ghost use Rattle.ca_text.specs.Limits.{payload_limit};
 ghost use Rattle.ca_wire.specs.Made.{PutsMade};
 ghost use Rattle.ca_wire.specs.Message.{spelling};
 ghost use Rattle.ca_wire.specs.Messages.{alone, done};
 
-use crate::alone::Alone;
 use crate::buffer::Buffer;
 use crate::done::Done;
 use crate::made::Payload;
 use crate::message::Message;
+use crate::scalar_message::ScalarMessage;
 use ca_text::Refusal;
 use std::alloc::{AllocError, Global};
 use std::marker::Model;
+use std::mem;
 
 /// Bytes that wait to be sent.
 #[derive(Debug, Drop)]
@@ -80,11 +82,11 @@ impl Pipe {
 
     /// Puts the one spelling of this after what waits. A refusal changes nothing.
     #[inline(always)]
-    pub fn put_alone(&mut self, said: Alone) -> Result<(), AllocError>
+    pub fn put_scalar(&mut self, said: ScalarMessage) -> Result<(), AllocError>
         ensures ok { OnOk result (self.new ≡ self.old ++ spelling (alone said)) }
         ensures err { OnErr result (self.new ≡ self.old) }
     {
-        self.buffer.put_alone(said)
+        self.buffer.put_scalar(said)
     }
 
     /// Puts the one spelling of this after what waits. A refusal changes nothing.
@@ -109,6 +111,24 @@ impl Pipe {
         ensures { self.new ≡ drop n self.old }
     {
         self.buffer.drop_front(n);
+    }
+
+    /// All bytes that wait go over to this one, in place of those that it has, whose memory stays
+    /// here for more. Nothing is copied, and it does not allocate.
+    pub fn hand_over(&mut self, to: &mut Pipe)
+        ensures handed { to.new ≡ self.old }
+        ensures nothing { self.new ≡ [] }
+    {
+        to.buffer.truncate(0);
+        mem::swap(&mut self.buffer, &mut to.buffer);
+    }
+
+    /// Puts these bytes after what waits. A refusal changes nothing, and no bytes need no memory.
+    pub fn push(&mut self, bytes: &[u8]) -> Result<(), AllocError>
+        ensures ok { OnOk result (self.new ≡ self.old ++ bytes.now) }
+        ensures err { OnErr result ((self.new ≡ self.old) × (bytes.now ≢ [])) }
+    {
+        self.buffer.push(bytes)
     }
 
     /// Takes the memory of a spare row, if it has none.

@@ -1,6 +1,7 @@
 ghost use Rattle.std.specs.Prelude.{◌≡◌, ◌+◌, ◌≤◌, ◌++◌, length, MatchOption};
 ghost use Rattle.ca_wire.specs.Header.{number16, number32};
-ghost use Rattle.ca_wire.specs.Reading.{BeginsBare, BeginsHeader, BeginsShort, IsOne, NoBare, NoHeader, NoShort};
+ghost use Rattle.ca_wire.specs.Reading.{BeginsBare, BeginsHeader, BeginsShort, IsOne, NoBare};
+ghost use Rattle.ca_wire.specs.Reading.{NoHeader, NoShort};
 
 use crate::header::Header;
 use crate::ids::{Ioid, Sid};
@@ -92,7 +93,7 @@ pub(crate) fn head_at(bytes: &[u8]) -> Option<Head>
 /// What the message at the front names, if it is of this command and its header, in 16
 /// bytes, is all of it.
 #[inline(always)]
-pub(crate) fn bare_at(bytes: &[u8], command: Command) -> Option<Wanted>
+pub(crate) fn without_payload_at(bytes: &[u8], command: Command) -> Option<Wanted>
     ensures { MatchOption result (NoBare bytes.now command) (BeginsBare bytes.now command) }
 {
     if bytes.len() < 16 {
@@ -121,7 +122,7 @@ pub(crate) fn bare_at(bytes: &[u8], command: Command) -> Option<Wanted>
 /// What the message at the front names, if it is of this command, and is a header in 16 bytes
 /// and a payload of eight.
 #[inline(always)]
-pub(crate) fn short_at(bytes: &[u8], command: Command) -> Option<Wanted>
+pub(crate) fn of_eight_bytes_at(bytes: &[u8], command: Command) -> Option<Wanted>
     ensures { MatchOption result (NoShort bytes.now command) (BeginsShort bytes.now command) }
 {
     if bytes.len() < 24 {

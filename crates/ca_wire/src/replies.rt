@@ -5,7 +5,11 @@ ghost use Rattle.ca_text.specs.declared.command.Command.TheVariants as command;
 ghost use Rattle.ca_text.specs.Limits.{minor_version};
 ghost use Rattle.ca_wire.specs.Header.{number16};
 ghost use Rattle.ca_wire.specs.Message.{header_of};
-ghost use Rattle.ca_wire.specs.Messages.{answer_in, cancel_reply, cleared_reply, created_in, created_reply, disconnect, failed_reply, no_cid, not_found_reply, on_channel, read_request, rights_reply, search_reply, status_reply, update, value_reply, version_reply};
+ghost use Rattle.ca_wire.specs.Messages.{answer_in, cancel_reply, cleared_reply, created_in};
+ghost use Rattle.ca_wire.specs.Messages.{created_reply, disconnect, failed_reply, no_cid};
+ghost use Rattle.ca_wire.specs.Messages.{not_found_reply, on_channel, read_request, rights_reply};
+ghost use Rattle.ca_wire.specs.Messages.{search_reply, status_reply, update, value_reply};
+ghost use Rattle.ca_wire.specs.Messages.{version_reply};
 ghost use Rattle.ca_wire.specs.Reading.{BeginsHeader, NoHeader};
 
 use crate::header::Header;

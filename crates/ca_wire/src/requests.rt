@@ -1,9 +1,13 @@
 //! The messages of a client, by name: how each is made, and what it says (section "CA
 //! Protocol Messages").
-ghost use Rattle.std.specs.Prelude.{◌≡◌, ◌≢◌, ◌==◌, ◌+◌, ◌%◌, ◌<◌, ◌≤◌, ◌++◌, ◌∷◌, [], IfOk, OnErr, length, position};
+ghost use Rattle.std.specs.Prelude.{◌≡◌, ◌≢◌, ◌==◌, ◌+◌, ◌%◌, ◌<◌, ◌≤◌, ◌++◌, ◌∷◌, [], IfOk, OnErr};
+ghost use Rattle.std.specs.Prelude.{length, position};
 ghost use Rattle.ca_text.specs.Limits.{payload_limit};
 ghost use Rattle.ca_wire.specs.Message.{header_of};
-ghost use Rattle.ca_wire.specs.Messages.{bare, clear_request, create_request, event_add_request, event_cancel_request, ids_in, mask_payload, name_request, on_channel, put_request, read_request, search_request, text_in, version_request, wanted_in};
+ghost use Rattle.ca_wire.specs.Messages.{bare, clear_request, create_request, event_add_request};
+ghost use Rattle.ca_wire.specs.Messages.{event_cancel_request, ids_in, mask_payload, name_request};
+ghost use Rattle.ca_wire.specs.Messages.{on_channel, put_request, read_request, search_request};
+ghost use Rattle.ca_wire.specs.Messages.{text_in, version_request, wanted_in};
 
 use crate::header::Header;
 use crate::ids::{Cid, Ioid, Priority, Sid};

@@ -18,7 +18,7 @@ use Rattle.ca_model.specs.Events.{Clear}
 use Rattle.ca_model.specs.World.{ClientSide, Joined, Names, grown}
 use Rattle.ca_model.specs.World as model
 use Rattle.ca_world_data.specs.declared.history.Line.{Line as Written}
-use Rattle.ca_world_data.specs.declared.way.Way.{Way}
+use Rattle.ca_world_data.specs.declared.way.ChannelRoute.{ChannelRoute}
 use Rattle.ca_world_data.specs.Clears.{ClearsAs, ClearsOn, IsClearWay, clear_lines}
 use Rattle.ca_world_data.specs.Does.{Does}
 use Rattle.ca_world_data.specs.Found.{AreNumbered}
@@ -35,7 +35,7 @@ pub room-fewer : (m n life : ℕ) (logs : List (Vec Written Global)) → n ≤ m
 room-fewer m n life logs le room log at = (let r = room log at in omega (arith, le, r))
 
 -- the CLEAR_CHANNEL went on its circuit, if one is sent
-clear-goes : (i : ℕ) (n : Names) (c : ℕ) (h : Handle) (ks ks' : List Joined) (numbers : List ℕ) (w : Way) (s : Standing) → AreNumbered numbers ks i → channel_number n h ≡ c → ClearsAs ks i w (Some s)
+clear-goes : (i : ℕ) (n : Names) (c : ℕ) (h : Handle) (ks ks' : List Joined) (numbers : List ℕ) (w : ChannelRoute) (s : Standing) → AreNumbered numbers ks i → channel_number n h ≡ c → ClearsAs ks i w (Some s)
     → GoesUp w.circuit (record { message = clear_request w.sid (wire_of h); intent = history.On c history.Clear }) ks ks' → ks' ≡ map (sent_up i n (clearing_sent h s)) ks
 clear-goes i n c h ks ks' numbers w (On g (Live m r)) numbered number goes up =
     let e : Sending = clear_sent g m.sid h in
@@ -56,7 +56,7 @@ clear-goes i n c h ks ks' numbers w (On g Doomed) numbered number goes up =
     subst (λ (z : Option ℕ). GoesUp z (record { message = clear_request w.sid (wire_of h); intent = history.On c history.Clear }) ks ks') goes up ∙ sym (none-up i n ks)
 
 -- the clear of this channel, as the world's parts have it: done
-pub clears-done : (i c : ℕ) (x x' : ClientSide) (logs logs' : List (List Line)) (ks ks' : List Joined) (h : Handle) (way : Way) (numbers : List ℕ) (notices : List Notice) (sent : List Sending) (u : Unit {0})
+pub clears-done : (i c : ℕ) (x x' : ClientSide) (logs logs' : List (List Line)) (ks ks' : List Joined) (h : Handle) (way : ChannelRoute) (numbers : List ℕ) (notices : List Notice) (sent : List Sending) (u : Unit {0})
     → At x.names.channels c h → AreOnce x.names → IsClearWay x.core ks i h way → AreNumbered numbers ks i → ClientClears x.core h (Ok notices) sent x'.core
     → x' ≡ record x { core = x'.core }
     → logs' ≡ grown x.life (clear_lines c x notices) logs

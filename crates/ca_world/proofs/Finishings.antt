@@ -51,9 +51,9 @@ use Rattle.ca_world.proofs.Additions.{others-apart}
 use Rattle.ca_world.proofs.Postings.{each-under, ending-keeps, posted-keeps, served-posted}
 use Rattle.ca_world.proofs.Unstamped.{run-unstamped}
 use Rattle.ca_world_data.specs.declared.client.ClientSide.{ClientSide}
-use Rattle.ca_world_data.specs.declared.history.Entry.{Entry}
+use Rattle.ca_world_data.specs.declared.history.LogEntry.{LogEntry}
 use Rattle.ca_world_data.specs.declared.joined.Joined.{Joined}
-use Rattle.ca_world_data.specs.declared.joined.Standing.{Standing}
+use Rattle.ca_world_data.specs.declared.joined.AddedSubscription.{AddedSubscription}
 use Rattle.ca_world_data.specs.declared.server.PutPlace.{PutPlace as Came}
 use Rattle.ca_world_data.specs.declared.server.RecordSide.{RecordSide as Held}
 use Rattle.ca_world_data.specs.declared.server.ServerSide.{ServerSide}
@@ -385,7 +385,7 @@ set-aside waits i core name p sent ks bare after last j c told at bare_is after_
 -- one more post may be counted still, if the subscriptions of a circuit are as they were
 pub counts-set : (ks : List Joined) (k : ℕ) (j new : Joined) → At ks k j → new.standing ≡ j.standing → AllMayCount ks → AllMayCount (slice_set ks k new)
 counts-set ks k j new at same all n c there = elim (At-set ks k new n c there) [
-  | inl here ↦ subst (λ (z : Vec Standing Global). MayCount z.items) (sym (ap (λ (z : Joined). z.standing) here.1 ∙ same)) (all k j at)
+  | inl here ↦ subst (λ (z : Vec AddedSubscription Global). MayCount z.items) (sym (ap (λ (z : Joined). z.standing) here.1 ∙ same)) (all k j at)
   | inr other ↦ all n c other.0
 ]
 
@@ -405,7 +405,7 @@ on-ok-then (Ok v) P Q f p = f p
 on-ok-then (Err e) P Q f p = tt
 
 -- room for as many entries is room for fewer
-pub entries-fewer : (n m life : ℕ) (logs : List (Vec Entry Global)) → m ≤ n → HasRoomFor n life logs → HasRoomFor m life logs
+pub entries-fewer : (n m life : ℕ) (logs : List (Vec LogEntry Global)) → m ≤ n → HasRoomFor n life logs → HasRoomFor m life logs
 entries-fewer n m life logs few room log at = (let had = room log at in omega (arith, had, few))
 
 -- the circuits, of which one has its messages down held aside

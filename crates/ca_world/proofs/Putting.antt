@@ -23,7 +23,7 @@ use Rattle.ca_model.specs.World as model
 use Rattle.ca_laws_parts.proofs.CircuitCalls.{meant-own}
 use Rattle.ca_laws_parts.specs.Circuit.{AreGiven}
 use Rattle.ca_laws_parts.proofs.RunsSending.{new-name}
-use Rattle.ca_world_data.specs.declared.way.Way.{Way}
+use Rattle.ca_world_data.specs.declared.way.ChannelRoute.{ChannelRoute}
 use Rattle.ca_world_data.specs.Found.{AreNumbered}
 use Rattle.ca_world_data.specs.Indexed.{AreIndexed}
 use Rattle.ca_world_data.specs.Logs.{Notes}
@@ -34,7 +34,7 @@ use Rattle.ca_world_data.proofs.Sendings.{sent-by}
 use Rattle.ca_world.proofs.Speeches.{call-noted, calls-keep, calls-ok, no-channel, spoken-same, spoken_in}
 
 -- the put to this channel, as the world's parts have it: done
-pub puts-done : (i c : ℕ) (a : Elements) (x x' : ClientSide) (logs logs' : List (List Line)) (ks ks' : List Joined) (h q : Handle) (way : Way) (numbers : List ℕ) (sent : List Sending) (u : Unit {0})
+pub puts-done : (i c : ℕ) (a : Elements) (x x' : ClientSide) (logs logs' : List (List Line)) (ks ks' : List Joined) (h q : Handle) (way : ChannelRoute) (numbers : List ℕ) (sent : List Sending) (u : Unit {0})
     → At x.names.channels c h → AreGiven x.names.requests x.core.requests → IsWay x.core ks i h way → AreNumbered numbers ks i → ClientPuts x.core h a (Ok q) sent x'.core
     → x' ≡ record x { core = x'.core; names = put_names c x q }
     → logs' ≡ grown x.life (Called (put_meant c x) (Some a) ∷ []) logs

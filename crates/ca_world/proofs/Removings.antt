@@ -39,7 +39,7 @@ use Rattle.ca_laws_runs.proofs.StepWhole.{run-serves}
 use Rattle.ca_server_circuit.specs.Concerned.{ids_of}
 use Rattle.ca_server_core.specs.ForHistories.{bytes_under, channels_under}
 use Rattle.ca_world_data.specs.declared.client.ClientSide.{ClientSide}
-use Rattle.ca_world_data.specs.declared.history.Entry.{Entry as Kept}
+use Rattle.ca_world_data.specs.declared.history.LogEntry.{LogEntry as LogEntry}
 use Rattle.ca_world_data.specs.declared.joined.Joined.{Joined}
 use Rattle.ca_world_data.specs.declared.server.RecordSide.{RecordSide}
 use Rattle.ca_world_data.specs.declared.server.ServerSide.{ServerSide}
@@ -292,7 +292,7 @@ waits-fewer p (r ∷ rs) = go (p r) (waits-fewer p rs)
     go false le = omega (arith, le)
 
 -- there is room for what waits at the records that are left
-pub room-left : (life : ℕ) (logs : List (Vec Kept Global)) (p : model.RecordSide → Bool) (rs rest : List RecordSide) → map record_of rest ≡ filter p (map record_of rs) → HasRoomFor (waits rs) life logs → HasRoomFor (waits rest) life logs
+pub room-left : (life : ℕ) (logs : List (Vec LogEntry Global)) (p : model.RecordSide → Bool) (rs rest : List RecordSide) → map record_of rest ≡ filter p (map record_of rs) → HasRoomFor (waits rs) life logs → HasRoomFor (waits rest) life logs
 room-left life logs p rs rest is room log at =
     let had = room log at in
     let all = waits-seen rs in

@@ -25,14 +25,14 @@ use Rattle.ca_laws_parts.proofs.ServerEnds.{next-own, reaches-stays}
 use Rattle.ca_server_circuit.specs.Effects.{effect_due}
 use Rattle.ca_server_circuit.specs.declared.effect.Effect.{Effect}
 use Rattle.ca_server_core.specs.Effects.{TellsEffect, action_at, message_at}
-use Rattle.ca_server_core.specs.declared.stepping.Step.TheVariants as step
+use Rattle.ca_server_core.specs.declared.stepping.CoreStep.TheVariants as step
 use Rattle.ca_server_core.proofs.Servers.{freed-changed}
 use Rattle.ca_world.proofs.EndsClosed.{ends-closed}
 use Rattle.ca_world.proofs.ServerSteppings.{clears-same, closed-same}
 use Rattle.ca_world.proofs.StepFacts.{alike-wrote}
 use Rattle.ca_world.proofs.StepNumbers.{gone-agree, quits-here, writes-agree}
 use Rattle.ca_world.specs.ServerStepping.{BreaksAt, LacksAs, LacksAt, Quits, RestsAt, StepsAt, circuits_acted, logs_acted, records_acted}
-use Rattle.ca_world.specs.declared.server_step.Turn.{Turn}
+use Rattle.ca_world.specs.declared.server_step.SteppingEnd.{SteppingEnd}
 use Rattle.ca_world.specs.StepParts.{ClosesWith, IsHandled, MayStep}
 use Rattle.ca_world_data.specs.declared.server.ServerSide.{ServerSide as Side}
 use Rattle.ca_world_data.specs.Numbering.{AllAlike, IsAlike}
@@ -203,7 +203,7 @@ module _ (k i : ℕ) (j : Joined) (mine : j.server ≡ i) (before : Server) (e :
 
 -- ---- an end that lacks memory
 
-module _ (before core : Server) (j : Joined) (ks : List Joined) (rs : List RecordSide) (a : Ahead) (t : Turn) (m : MayStep t before j ks rs a) (l : LacksMemory before j.at_server m.e core) where
+module _ (before core : Server) (j : Joined) (ks : List Joined) (rs : List RecordSide) (a : Ahead) (t : SteppingEnd) (m : MayStep t before j ks rs a) (l : LacksMemory before j.at_server m.e core) where
   -- what is known of its message
   lacks-done : WasDone before j.at_server rs a l.next.m l.next.action
   lacks-done = record {
@@ -244,7 +244,7 @@ handled-step y h e did new has tells =
     subst (λ (o : Option ServerCircuit). (d : stepped.StepsAt y h o stepped.Handled new) × (did ≡ effect_due (message_at y h new o d) (action_at y h new o d))) has tells in
     record { next = s.0.0; gone = s.0.1; stays = s.0.2; reaches = s.0.3; tells = s.1 }
 
-module _ (before core : Server) (j : Joined) (ks : List Joined) (rs : List RecordSide) (a : Ahead) (t : Turn) (m : MayStep t before j ks rs a) where
+module _ (before core : Server) (j : Joined) (ks : List Joined) (rs : List RecordSide) (a : Ahead) (t : SteppingEnd) (m : MayStep t before j ks rs a) where
   -- a server as it was, but for an end that closed, did not write
   unwritten : core ≡ closed j.at_server before → wrote_in core t.applied a.command a.write ≡ None
   unwritten is =
@@ -266,7 +266,7 @@ module _ (before core : Server) (j : Joined) (ks : List Joined) (rs : List Recor
 
 -- ---- an end that closed, by what is told of it
 
-module _ (t : Turn) (before : Server) (j : Joined) (y : Side) (ks : List Joined) (at : At ks t.circuit j) (a : Ahead) (m : MayStep t before j ks (map record_of y.records.items) a) (wrote : Option Bool) (left : List ℕ) (logs : List (List Entry)) (y' : Side) (ks' : List Joined) (logs' : List (List Entry))
+module _ (t : SteppingEnd) (before : Server) (j : Joined) (y : Side) (ks : List Joined) (at : At ks t.circuit j) (a : Ahead) (m : MayStep t before j ks (map record_of y.records.items) a) (wrote : Option Bool) (left : List ℕ) (logs : List (List Entry)) (y' : Side) (ks' : List Joined) (logs' : List (List Entry))
     (closes : ClosesWith t.circuit t.server t.at (length j.lists.handled) wrote a.write left y ks logs y' ks' logs') where
   abbrev begun : ServerSide
   begun = record (server_of y) { core = before }
@@ -327,7 +327,7 @@ rests-at k before j y ks logs e has full steps = inr (inr (inr (go full steps)))
 
 -- ---- a message that was handled, for which there was no memory then
 
-module _ (before core : Server) (j : Joined) (ks : List Joined) (rs : List RecordSide) (a : Ahead) (t : Turn) (did : Effect) (m : MayStep t before j ks rs a) (d : IsHandled before core j.at_server m.e did) where
+module _ (before core : Server) (j : Joined) (ks : List Joined) (rs : List RecordSide) (a : Ahead) (t : SteppingEnd) (did : Effect) (m : MayStep t before j ks rs a) (d : IsHandled before core j.at_server m.e did) where
   -- its end is open still
   pub handled-open : (f : ServerEnd) × HasEnd core t.at f
   handled-open =

@@ -20,7 +20,7 @@ use Rattle.ca_world_data.specs.Seen.{joined_of, server_of, step_of}
 use Rattle.ca_world_data.proofs.Worlds.{found}
 use Rattle.ca_world_servers.specs.declared.ahead.Ahead.{Ahead}
 use Rattle.ca_world_servers.specs.Effects.{IsAhead}
-use Rattle.ca_world.specs.declared.server_step.Turn.{Turn}
+use Rattle.ca_world.specs.declared.server_step.SteppingEnd.{SteppingEnd}
 use Rattle.ca_world.specs.ServerStepping.{StepsAt}
 use Rattle.ca_world.specs.StepParts.{IsAheadOf, MayBegin, MayStep, StepsServer}
 use Rattle.ca_world.proofs.Downward.{at-set}
@@ -57,7 +57,7 @@ read-one xs k old new x d there is =
     let put = at-set xs k old new there in
     At-one (slice_set xs k new) k x new (found (slice_set xs k new) k x d (At-within (slice_set xs k new) k new put) is) put
 
-may-one : (t : Turn) (core : Server) (j : model.Joined) (ks : List model.Joined) (rs : List model.RecordSide) (a : Ahead) → MayBegin t.server core j ks rs → IsAheadOf core j rs a → t.at ≡ j.at_server → t.waited ≡ length (output_of (under core.circuits t.at)) → t.applied ≡ core.applied → t.applied < applied_limit → MayStep t core j ks rs a
+may-one : (t : SteppingEnd) (core : Server) (j : model.Joined) (ks : List model.Joined) (rs : List model.RecordSide) (a : Ahead) → MayBegin t.server core j ks rs → IsAheadOf core j rs a → t.at ≡ j.at_server → t.waited ≡ length (output_of (under core.circuits t.at)) → t.applied ≡ core.applied → t.applied < applied_limit → MayStep t core j ks rs a
 may-one t core j ks rs a m known here waited applied few = record {
   mine = m.mine;
   opened = m.opened;
@@ -81,7 +81,7 @@ may-one t core j ks rs a m known here waited applied few = record {
 }
 
 -- what holds before anything is looked at, and what was looked at
-pub may-step : (t : Turn) (core : Server) (ks ms : List model.Joined) (rs ns : List model.RecordSide) (x : model.Joined) (a : Ahead) → ms ≡ ks → ns ≡ rs → At ms t.circuit x → ((j : model.Joined) → At ks t.circuit j → MayBegin t.server core j ks rs) → IsAheadOf core x rs a → t.at ≡ x.at_server → t.waited ≡ length (output_of (under core.circuits t.at)) → t.applied ≡ core.applied → t.applied < applied_limit → (j : model.Joined) → At ms t.circuit j → MayStep t core j ms ns a
+pub may-step : (t : SteppingEnd) (core : Server) (ks ms : List model.Joined) (rs ns : List model.RecordSide) (x : model.Joined) (a : Ahead) → ms ≡ ks → ns ≡ rs → At ms t.circuit x → ((j : model.Joined) → At ks t.circuit j → MayBegin t.server core j ks rs) → IsAheadOf core x rs a → t.at ≡ x.at_server → t.waited ≡ length (output_of (under core.circuits t.at)) → t.applied ≡ core.applied → t.applied < applied_limit → (j : model.Joined) → At ms t.circuit j → MayStep t core j ms ns a
 may-step t core ks ms rs ns x a is same there gives known here waited applied few j at =
     let old : At ks t.circuit x = subst (λ (z : List model.Joined). At z t.circuit x) is there in
     let may : MayStep t core x ks rs a = may-one t core x ks rs a (gives x old) known here waited applied few in

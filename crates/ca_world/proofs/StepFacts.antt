@@ -25,7 +25,7 @@ use Rattle.ca_model.specs.ServerEvents.{numbers_after}
 use Rattle.ca_model.specs.World as model
 use Rattle.ca_model.specs.World.{Joined, RecordSide}
 use Rattle.ca_server_circuit.specs.declared.effect.Effect.{Effect}
-use Rattle.ca_world.specs.declared.server_step.Turn.{Turn}
+use Rattle.ca_world.specs.declared.server_step.SteppingEnd.{SteppingEnd}
 use Rattle.ca_world.specs.ServerStepping.{with_lists}
 use Rattle.ca_world.specs.Reported.{HasReported, IsReportedTable}
 use Rattle.ca_world.specs.StepParts.{IsHandled, MayStep}
@@ -196,7 +196,7 @@ quiet-reaches (Switches on) gone y new none is = is.1
 
 -- ---- a message that was handled
 
-module _ (before core : Server) (j : Joined) (ks : List Joined) (rs : List RecordSide) (a : Ahead) (t : Turn) (did : Effect) (m : MayStep t before j ks rs a) (d : IsHandled before core j.at_server m.e did) where
+module _ (before core : Server) (j : Joined) (ks : List Joined) (rs : List RecordSide) (a : Ahead) (t : SteppingEnd) (did : Effect) (m : MayStep t before j ks rs a) (d : IsHandled before core j.at_server m.e did) where
   -- what it did
   pub was-done : WasDone before j.at_server rs a d.next.m d.next.action
   was-done = record {

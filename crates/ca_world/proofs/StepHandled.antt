@@ -15,7 +15,7 @@ use Rattle.ca_model.specs.ServerEvents.{about, ending, ends_at, ends_by, handled
 use Rattle.ca_model.specs.World.{Joined, PutPlace, RecordSide, ServerSide as Side, grown, log_length}
 use Rattle.ca_server_circuit.specs.declared.effect.Effect.{Effect}
 use Rattle.ca_world.specs.declared.server_step.Prepared.{Prepared}
-use Rattle.ca_world.specs.declared.server_step.Turn.{Turn}
+use Rattle.ca_world.specs.declared.server_step.SteppingEnd.{SteppingEnd}
 use Rattle.ca_world.specs.ServerStepping.{HandlesAt, StepsAt, put_place, with_lists}
 use Rattle.ca_world.specs.StepParts.{AreAside, IsHandled, IsPrepared, MayStep, NotesAt}
 use Rattle.ca_world_data.specs.declared.server.ServerSide.{ServerSide}
@@ -196,7 +196,7 @@ handled-at k j before y y' ks noted ks' logs logs' e did d a r new has at was pr
     }
 
 -- The same of the circuit at that place, whatever it is called.
-pub step-handled : (t : Turn) (x : Joined) (before : Server) (y y' : ServerSide) (ks noted ks' : List Joined) (logs logs' : List (List history.Entry)) (a : Ahead) (did : Effect) (r : Prepared) (new : Joined)
+pub step-handled : (t : SteppingEnd) (x : Joined) (before : Server) (y y' : ServerSide) (ks noted ks' : List Joined) (logs logs' : List (List history.Entry)) (a : Ahead) (did : Effect) (r : Prepared) (new : Joined)
     → At ks t.circuit x → ((m : MayStep t before x ks (map record_of y.records.items) a) (d : IsHandled before y.core x.at_server m.e did) → IsPrepared before m.e x d.next r new) → AreAside x r → noted ≡ slice_set ks t.circuit new
     → NotesAt t.circuit t.server did a r y noted logs y' ks' logs'
     → (j : Joined) → At ks t.circuit j → (m : MayStep t before j ks (map record_of y.records.items) a) → IsHandled before y.core j.at_server m.e did

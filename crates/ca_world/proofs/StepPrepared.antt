@@ -16,7 +16,7 @@ use Rattle.ca_model.specs.World.{Joined, RecordSide}
 use Rattle.ca_laws_parts.proofs.ServerEnds.{next-own, reaches-stays}
 use Rattle.ca_server_circuit.specs.Effects.{effect_due}
 use Rattle.ca_server_circuit.specs.declared.effect.Effect.{Effect}
-use Rattle.ca_world.specs.declared.server_step.Turn.{Turn}
+use Rattle.ca_world.specs.declared.server_step.SteppingEnd.{SteppingEnd}
 use Rattle.ca_world.specs.ServerStepping.{with_lists}
 use Rattle.ca_world.specs.StepParts.{IsHandled, MayStep, StandBehind}
 use Rattle.ca_world_data.specs.declared.history.Told.{Told}
@@ -135,7 +135,7 @@ numbers-aside m (Switches on) place j = refl
 
 -- ---- the core after the step
 
-module _ (before core : Server) (j : Joined) (ks : List Joined) (rs : List RecordSide) (a : Ahead) (t : Turn) (did : Effect) (m : MayStep t before j ks rs a) (d : IsHandled before core j.at_server m.e did) where
+module _ (before core : Server) (j : Joined) (ks : List Joined) (rs : List RecordSide) (a : Ahead) (t : SteppingEnd) (did : Effect) (m : MayStep t before j ks rs a) (d : IsHandled before core j.at_server m.e did) where
   -- the replies are after what waited
   pub handled-behind : StandBehind t.waited (output_of (under core.circuits t.at)) d.next.replies
   handled-behind =

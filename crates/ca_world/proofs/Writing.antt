@@ -17,7 +17,7 @@ use Rattle.ca_model.specs.History as history
 use Rattle.ca_model.specs.Events.{Write}
 use Rattle.ca_model.specs.World.{ClientSide, Joined, Names, grown}
 use Rattle.ca_model.specs.World as model
-use Rattle.ca_world_data.specs.declared.way.Way.{Way}
+use Rattle.ca_world_data.specs.declared.way.ChannelRoute.{ChannelRoute}
 use Rattle.ca_world_data.specs.Found.{AreNumbered}
 use Rattle.ca_world_data.specs.Indexed.{AreIndexed}
 use Rattle.ca_world_data.specs.Logs.{Notes}
@@ -28,7 +28,7 @@ use Rattle.ca_world_data.proofs.Sendings.{sent-by}
 use Rattle.ca_world.proofs.Speeches.{call-noted, calls-keep, calls-ok, no-channel, spoken-same, spoken_in}
 
 -- the write to this channel, as the world's parts have it: done
-pub writes-done : (i c : ℕ) (a : Elements) (x x' : ClientSide) (logs logs' : List (List Line)) (ks ks' : List Joined) (h : Handle) (way : Way) (numbers : List ℕ) (sent : List Sending) (u : Unit {0})
+pub writes-done : (i c : ℕ) (a : Elements) (x x' : ClientSide) (logs logs' : List (List Line)) (ks ks' : List Joined) (h : Handle) (way : ChannelRoute) (numbers : List ℕ) (sent : List Sending) (u : Unit {0})
     → At x.names.channels c h → AreOnce x.names → IsWay x.core ks i h way → AreNumbered numbers ks i → ClientWrites x.core h a (Ok tt) sent x'.core
     → x' ≡ record x { core = x'.core; names = write_names x }
     → logs' ≡ grown x.life (Called (write_meant c x) (Some a) ∷ []) logs

@@ -18,7 +18,7 @@ use Rattle.ca_server_circuit.specs.declared.effect.Effect.{Effect}
 use Rattle.ca_world.specs.Reported.{HasReported}
 use Rattle.ca_world.specs.ServerStepping.{StepsAt, with_lists}
 use Rattle.ca_world.specs.declared.server_step.Prepared.{Prepared}
-use Rattle.ca_world.specs.declared.server_step.Turn.{Turn}
+use Rattle.ca_world.specs.declared.server_step.SteppingEnd.{SteppingEnd}
 use Rattle.ca_world_data.specs.declared.server.ServerSide.{ServerSide}
 use Rattle.ca_world_data.specs.Numbering.{AllAlike, AreAlike}
 use Rattle.ca_world_data.specs.Reporting.{Reports}
@@ -42,14 +42,15 @@ IsAheadOf core j rs a =
 
 -- The step is of the end under this handle: how much waited there, and how much was
 -- applied, as the core was.
-pub record IsTurn (core : Server) (h : Handle) (e : ServerEnd) (t : Turn) : Type 0 where
+pub record IsTurn (core : Server) (h : Handle) (e : ServerEnd) (t : SteppingEnd) : Type 0 where
   pub here : t.at ≡ h
   pub waited : t.waited ≡ length e.link.output
   pub applied : t.applied ≡ core.applied
   pub few : core.applied < applied_limit
 
 -- What holds of the end of a circuit whose step it is, before that.
-pub record MayStep (t : Turn) (core : Server) (j : Joined) (ks : List Joined) (rs : List RecordSide)
+pub record MayStep (t : SteppingEnd) (core : Server) (j : Joined) (ks : List Joined)
+    (rs : List RecordSide)
     (a : Ahead) : Type 0 where
   pub mine : j.server ≡ t.server
   pub opened : j.lists.server_open ≡ true

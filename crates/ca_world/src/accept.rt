@@ -1,3 +1,5 @@
+//! A circuit that a client wants is connected: both cores get an end of it. The work is `accept_on`
+//! of `ca_world_data`.
 ghost use Rattle.ca_model.specs.Events as event;
 ghost use Rattle.ca_world_data.specs.Does.{Does};
 

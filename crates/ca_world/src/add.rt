@@ -1,3 +1,5 @@
+//! A record is added to those of a server while it runs: to the core, to the world's own list,
+//! which has the same order, and to the log.
 ghost use Rattle.std.specs.Prelude.{ℕ, ◌≡◌, ◌<◌, ◌≤◌, IfOk, None, [], insert, length, map};
 ghost use Rattle.std.specs.Prelude.{vec_capacity, vec_len};
 ghost use Rattle.ca_dbr.specs.Elements.{elements};
@@ -15,7 +17,7 @@ use ca_server_core::ServerCore;
 use ca_server_core::for_histories::comes_before;
 use ca_text::Refusal;
 use ca_world_data::entries::{push_entry, reserve_entries};
-use ca_world_data::history::{Entry, Recorded};
+use ca_world_data::history::{LogEntry, Recorded};
 use ca_world_data::payloads::value_again;
 use ca_world_data::server::{RecordSide, ServerSide};
 use std::alloc::{AllocError, Global};
@@ -63,7 +65,7 @@ impl World {
 fn add_at(
     alloc: Global,
     side: &mut ServerSide,
-    logs: &mut Vec<Vec<Entry>>,
+    logs: &mut Vec<Vec<LogEntry>>,
     name: &[u8],
     count: u64,
     slow: bool,
@@ -92,7 +94,7 @@ fn add_at(
 fn add_counted(
     alloc: Global,
     side: &mut ServerSide,
-    logs: &mut Vec<Vec<Entry>>,
+    logs: &mut Vec<Vec<LogEntry>>,
     name: &[u8],
     count: u32,
     slow: bool,
@@ -133,7 +135,7 @@ fn add_counted(
             let behind = count_before(&side.core, &side.records, name);
             put_in(&mut side.records, behind, begun);
             side.added = added;
-            push_entry(logs, side.life, Entry::Added(number, told));
+            push_entry(logs, side.life, LogEntry::Added(number, told));
             Ok(())
         }
         Err(refusal) => settle(refusal),

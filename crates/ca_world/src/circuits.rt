@@ -1,3 +1,5 @@
+//! How many circuits a world has, how many bytes wait on one each way, and which of its ends are
+//! open. `ca_replay` draws events by the first two.
 ghost use Rattle.std.specs.Prelude.{◌≡◌, ◌↔◌, IsTrue, length};
 ghost use Rattle.ca_model.specs.ClientEvents.{waiting_down, waiting_up};
 ghost use Rattle.ca_world.specs.Waiting.{AreWaiting, Receives, joined_alone};

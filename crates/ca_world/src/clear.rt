@@ -1,3 +1,5 @@
+//! A client clears a channel: as `read.rt`, with a CLEAR_CHANNEL, and with what the call itself
+//! reports in the log.
 ghost use Rattle.std.specs.Prelude.{◌≡◌, map};
 ghost use Rattle.ca_model.specs.Events as event;
 ghost use Rattle.ca_world_data.specs.Clears.{ClearsOn, TellFew};

@@ -1,3 +1,5 @@
+//! A datagram comes to a client. A search reply may make it send CREATE_CHAN at once, on a circuit
+//! that is connected.
 ghost use Rattle.ca_model.specs.Events as event;
 ghost use Rattle.ca_world_data.specs.Does.{Does};
 

@@ -1,3 +1,5 @@
+//! A client restarts: it has a new core, a new log and no names, and its ends have ended, each with
+//! the bytes that waited there left on its circuit.
 ghost use Rattle.std.specs.Prelude.{◌≡◌, []};
 ghost use Rattle.ca_model.specs.Events as event;
 ghost use Rattle.ca_model.specs.World.{no_names};

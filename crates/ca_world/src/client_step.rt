@@ -1,3 +1,5 @@
+//! A client's end of a circuit handles its next message. What that leaves on circuits and in the
+//! log is in `stepping.rt` of `ca_world_data`.
 ghost use Rattle.ca_model.specs.Events as event;
 ghost use Rattle.ca_world_data.specs.Does.{Does};
 

@@ -1,3 +1,5 @@
+//! A caller collects the outcome of a request. No core is called: cores hand outcomes over by
+//! notices, and the log has which were collected.
 ghost use Rattle.ca_model.specs.History.{Collected};
 ghost use Rattle.ca_model.specs.Events as event;
 ghost use Rattle.ca_world_data.specs.Does.{Does};

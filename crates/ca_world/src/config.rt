@@ -1,3 +1,5 @@
+//! With which clients and servers a world begins. It has no two servers of one address, so that
+//! each address leads to one.
 ghost use Rattle.std.specs.Prelude.{◌≡◌, ◌++◌, ◌∷◌, [], OnErr, OnOk};
 ghost use Rattle.ca_world_data.specs.Settings.{AddsServer};
 
@@ -20,7 +22,8 @@ impl Model for Config {
 
     ghost view = { λ c. record { clients = c.clients.items; servers = c.servers.items } };
 
-    ghost invariant = { λ c. IsSetting (record { clients = c.clients.items; servers = c.servers.items }) };
+    ghost invariant = { λ c.
+        IsSetting (record { clients = c.clients.items; servers = c.servers.items }) };
 }
 
 impl Config {

@@ -1,3 +1,5 @@
+//! A circuit is cut at its client. What that reports goes into the log, and the bytes that waited
+//! there are left on the circuit.
 ghost use Rattle.std.specs.Prelude.{◌≡◌, ◌+◌, ◌≤◌, length};
 ghost use Rattle.ca_model.specs.Client.{farewell};
 ghost use Rattle.ca_model.specs.Events as event;

@@ -1,3 +1,5 @@
+//! A circuit is cut at its server: its puts that wait are withdrawn. A step and a pump for which
+//! there is not enough memory cut their end by `cut_end`, too.
 ghost use Rattle.std.specs.Prelude.{◌≡◌};
 ghost use Rattle.ca_ids.specs.Table.{under};
 ghost use Rattle.ca_model.specs.ServerSteps.{output_of};
@@ -9,13 +11,13 @@ ghost use Rattle.ca_world_data.specs.ServerCuts.{CutsServer, IsServing, cut_core
 
 use crate::world::World;
 use ca_arena::Handle;
-use ca_server_core::{ServerCore, Step};
+use ca_server_core::{CoreStep, ServerCore};
 use ca_text::Refusal;
 use ca_wire::Pipe;
 use ca_world_data::closing::close_server;
 use ca_world_data::ends::ends_at;
 use ca_world_data::entries::{push_entries, reserve_entries};
-use ca_world_data::history::Entry;
+use ca_world_data::history::LogEntry;
 use ca_world_data::joined::Joined;
 use ca_world_data::server::ServerSide;
 use ca_world_data::withdrawing::{withdraw, withdrawals};
@@ -54,7 +56,7 @@ fn cut_at(
     circuit: usize,
     side: &mut ServerSide,
     joined: &mut Joined,
-    logs: &mut Vec<Vec<Entry>>,
+    logs: &mut Vec<Vec<LogEntry>>,
 ) -> Result<(), Refusal>
     requires { IsServing side.old.core joined.old.at_server }
     ensures { CutsServer
@@ -88,13 +90,13 @@ pub(crate) fn cut_end(alloc: Global, core: &mut ServerCore, circuit: Handle) -> 
 }
 
 // What an end left that a step reports.
-pub(crate) fn left_by(alloc: Global, did: Step) -> Pipe
+pub(crate) fn left_by(alloc: Global, did: CoreStep) -> Pipe
     ensures { result ≡ left_in (stepped did) }
 {
     match did {
-        Step::Closed(_, left) => left,
-        Step::Handled(_) => Pipe::new(alloc),
-        Step::NeedBytes => Pipe::new(alloc),
-        Step::OutputFull => Pipe::new(alloc),
+        CoreStep::Closed(_, left) => left,
+        CoreStep::Handled(_) => Pipe::new(alloc),
+        CoreStep::NeedBytes => Pipe::new(alloc),
+        CoreStep::OutputFull => Pipe::new(alloc),
     }
 }

@@ -1,3 +1,5 @@
+//! Bytes go down a circuit, from the server or from what its end left. The client handles none of
+//! them yet, but may send EVENTS_OFF or EVENTS_ON, by whether more wait.
 ghost use Rattle.std.specs.Prelude.{◌≡◌, ◌++◌, ◌+◌, ◌≤◌, map, vec_capacity, vec_len};
 ghost use Rattle.ca_model.specs.Events as event;
 ghost use Rattle.ca_world_data.specs.Does.{Does};

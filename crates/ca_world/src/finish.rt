@@ -1,3 +1,5 @@
+//! A busy put is finished, as once its device is done: its reply goes down, and the put that waits
+//! first is applied.
 ghost use Rattle.std.specs.Prelude.{ℕ, ◌≡◌, ◌+◌, ◌<◌, ◌++◌, [], ◌∷◌, List, Ok, OnOk, map};
 ghost use Rattle.std.specs.Prelude.{option_map, vec_capacity, vec_len};
 ghost use Rattle.ca_dbr.specs.Elements.{elements};
@@ -30,7 +32,7 @@ use ca_server_core::for_histories::bytes_of;
 use ca_text::Refusal;
 use ca_wire::message_at;
 use ca_world_data::entries::push_entry;
-use ca_world_data::history::{Cause, Entry, Stored, Told};
+use ca_world_data::history::{Cause, LogEntry, Stored, Told};
 use ca_world_data::joined::Joined;
 use ca_world_data::numbering::{check_counts, post_numbers};
 use ca_world_data::reporting::{report_ends, reserve_reports};
@@ -69,7 +71,7 @@ fn finish_at(
     server: usize,
     side: &mut ServerSide,
     circuits: &mut Vec<Joined>,
-    logs: &mut Vec<Vec<Entry>>,
+    logs: &mut Vec<Vec<LogEntry>>,
     name: &[u8],
 ) -> Result<(), Refusal>
     requires served { AreServed
@@ -122,7 +124,7 @@ fn reserve_finish(
     records: &[RecordSide],
     life: usize,
     circuits: &mut Vec<Joined>,
-    logs: &mut Vec<Vec<Entry>>,
+    logs: &mut Vec<Vec<LogEntry>>,
 ) -> Result<(), AllocError>
     requires { circuit < vec_len circuits.old }
     ensures same { map joined_of circuits.new.items ≡ map joined_of circuits.old.items }
@@ -153,7 +155,7 @@ fn tell_finish(
     server: usize,
     side: &mut ServerSide,
     circuits: &mut Vec<Joined>,
-    logs: &mut Vec<Vec<Entry>>,
+    logs: &mut Vec<Vec<LogEntry>>,
     name: &[u8],
     put: PutPlace,
     number: usize,
@@ -204,7 +206,7 @@ fn tell_finish(
 
 // The log has the finish of a put, and the next as applied, if one waits.
 fn tell_entries(
-    logs: &mut Vec<Vec<Entry>>,
+    logs: &mut Vec<Vec<LogEntry>>,
     life: usize,
     put: PutPlace,
     number: usize,
@@ -221,7 +223,7 @@ fn tell_entries(
     ensures room { (n : ℕ)
         → HasRoomFor (n + 2) life logs.old.items → HasRoomFor n life logs.new.items }
 {
-    push_entry(logs, life, Entry::Finished(put.circuit, put.place));
+    push_entry(logs, life, LogEntry::Finished(put.circuit, put.place));
     let Some(first) = next else {
         return;
     };
@@ -235,7 +237,7 @@ fn tell_entries(
     push_entry(
         logs,
         life,
-        Entry::Applied(first.circuit, first.place, number, stored, true),
+        LogEntry::Applied(first.circuit, first.place, number, stored, true),
     );
 }
 

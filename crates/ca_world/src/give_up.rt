@@ -1,3 +1,4 @@
+//! A caller gives a request up. As in `collect.rt` no core is called, and the log has it.
 ghost use Rattle.ca_model.specs.History.{GaveUp};
 ghost use Rattle.ca_model.specs.Events as event;
 ghost use Rattle.ca_world_data.specs.Does.{Does};

@@ -9,7 +9,7 @@ ghost use Rattle.ca_world_data.specs.Opening.{entries_in};
 ghost use Rattle.ca_world_data.specs.Seen.{entry_of, place_of, record_of};
 
 use ca_dbr::Value;
-use ca_world_data::history::Entry;
+use ca_world_data::history::LogEntry;
 use ca_world_data::payloads::value_again;
 use ca_world_data::server::{PutPlace, RecordSide};
 use std::alloc::{AllocError, Global};
@@ -49,7 +49,7 @@ fn next_busy(side: &mut RecordSide)
 /// The value of the first of these puts, which wait, by the log of a life. None if none waits.
 pub(crate) fn next_value(
     alloc: Global,
-    logs: &[Vec<Entry>],
+    logs: &[Vec<LogEntry>],
     life: usize,
     waiting: &[PutPlace],
 ) -> Result<Option<Value>, AllocError>
@@ -80,7 +80,7 @@ pub(crate) fn first_put(waiting: &[PutPlace]) -> Option<PutPlace>
 }
 
 // The value with which the put of this place came to wait.
-fn value_waiting<'a>(log: &'a [Entry], put: PutPlace) -> Option<&'a Value>
+fn value_waiting<'a>(log: &'a [LogEntry], put: PutPlace) -> Option<&'a Value>
     ensures { WaitsIn
         (map entry_of log.now)
         (place_of put)
@@ -95,14 +95,14 @@ fn value_waiting<'a>(log: &'a [Entry], put: PutPlace) -> Option<&'a Value>
 }
 
 // The value with which the put of this place came to wait, if this entry tells of it.
-fn value_in<'a>(entry: &'a Entry, put: PutPlace) -> Option<&'a Value>
+fn value_in<'a>(entry: &'a LogEntry, put: PutPlace) -> Option<&'a Value>
     ensures { WaitIn
         (entry_of entry.now)
         (place_of put)
         (option_map (λ v. elements v.now) result) }
 {
     match entry {
-        Entry::Waits(circuit, place, _, stored) => {
+        LogEntry::Waits(circuit, place, _, stored) => {
             if *circuit == put.circuit && *place == put.place {
                 Some(&stored.value)
             } else {

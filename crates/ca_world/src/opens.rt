@@ -1,3 +1,5 @@
+//! A client opens a channel. No circuit changes by that: the channel is searched with the moments
+//! that follow.
 ghost use Rattle.std.specs.Prelude.{◌≡◌};
 ghost use Rattle.ca_model.specs.Events as event;
 ghost use Rattle.ca_world_data.specs.Does.{Does};

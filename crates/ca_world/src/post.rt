@@ -1,3 +1,5 @@
+//! A server posts a value to a record: the log has it, and its number waits in the queue of each
+//! subscription that it concerns.
 ghost use Rattle.std.specs.Prelude.{◌+◌, map};
 ghost use Rattle.ca_dbr.specs.Elements.{elements};
 ghost use Rattle.ca_records.specs.Record.{unset};
@@ -14,7 +16,7 @@ use crate::world::World;
 use ca_dbr::{Meta, Value};
 use ca_text::{Mask, Refusal};
 use ca_world_data::entries::push_entry;
-use ca_world_data::history::{Entry, Stored};
+use ca_world_data::history::{LogEntry, Stored};
 use ca_world_data::joined::Joined;
 use ca_world_data::numbering::{check_counts, number_of, post_numbers};
 use ca_world_data::payloads::value_again;
@@ -61,7 +63,7 @@ fn post_at(
     server: usize,
     side: &mut ServerSide,
     circuits: &mut Vec<Joined>,
-    logs: &mut Vec<Vec<Entry>>,
+    logs: &mut Vec<Vec<LogEntry>>,
     name: &[u8],
     value: Value,
     mask: u16,
@@ -107,7 +109,7 @@ fn tell_post(
     server: usize,
     side: &mut ServerSide,
     circuits: &mut Vec<Joined>,
-    logs: &mut Vec<Vec<Entry>>,
+    logs: &mut Vec<Vec<LogEntry>>,
     name: &[u8],
     told: Stored,
     mask: u16,
@@ -132,7 +134,7 @@ fn tell_post(
         (entries_in logs.new.items) }
 {
     let number = number_of(name, &side.records);
-    push_entry(logs, side.life, Entry::Posted(number, mask, told));
+    push_entry(logs, side.life, LogEntry::Posted(number, mask, told));
     post_numbers(server, &side.core, circuits, name, mask);
     report_ends(alloc, server, side, circuits, logs);
 }

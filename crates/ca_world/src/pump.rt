@@ -1,3 +1,5 @@
+//! Updates leave the queues of a server's end. Which they were is read back from the bytes that
+//! came to its output; if there is no memory to note one, the end ends before it.
 ghost use Rattle.std.specs.Prelude.{◌≡◌, ◌≤◌, drop, length, take};
 ghost use Rattle.ca_model.specs.Events as event;
 ghost use Rattle.ca_world.specs.ServerPumps.{PumpsServer, PumpsUntil, TellsBehind, UpdatesFit};
@@ -17,7 +19,7 @@ use ca_wire::Pipe;
 use ca_world_data::closing::close_server;
 use ca_world_data::ends::ends_at;
 use ca_world_data::entries::{push_entries, reserve_entries};
-use ca_world_data::history::Entry;
+use ca_world_data::history::LogEntry;
 use ca_world_data::joined::Joined;
 use ca_world_data::server::ServerSide;
 use ca_world_data::updates::tell_updates;
@@ -58,7 +60,7 @@ fn pump_at(
     circuit: usize,
     side: &mut ServerSide,
     joined: &mut Joined,
-    logs: &mut Vec<Vec<Entry>>,
+    logs: &mut Vec<Vec<LogEntry>>,
 ) -> Result<(), Refusal>
     requires serves { IsServing side.old.core joined.old.at_server }
     requires fits { UpdatesFit side.old.core joined.old.at_server }

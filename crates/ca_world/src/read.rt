@@ -1,3 +1,6 @@
+//! A client reads: the pattern of all its calls. Room is made first, since a call cannot be taken
+//! back; then the core is called, and the circuit gets the message with its intent, and the log the
+//! call.
 ghost use Rattle.std.specs.Prelude.{◌≡◌, map};
 ghost use Rattle.ca_model.specs.Events as event;
 ghost use Rattle.ca_laws_parts.specs.Circuit.{AreGiven};

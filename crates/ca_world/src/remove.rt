@@ -1,3 +1,5 @@
+//! A record of a server is removed: the puts that wait for it are withdrawn, and each circuit loses
+//! its channels to it.
 ghost use Rattle.std.specs.Prelude.{◌+◌, length, map};
 ghost use Rattle.ca_model.specs.Events as event;
 ghost use Rattle.ca_model.specs.World as model;
@@ -12,7 +14,7 @@ ghost use Rattle.ca_world_servers.specs.Removing.{AllSeated, Becomes, RemovesAt,
 use crate::world::World;
 use ca_text::Refusal;
 use ca_world_data::entries::push_some;
-use ca_world_data::history::Entry;
+use ca_world_data::history::LogEntry;
 use ca_world_data::joined::Joined;
 use ca_world_data::reporting::{report_ends, reserve_reports};
 use ca_world_data::server::ServerSide;
@@ -44,7 +46,7 @@ fn remove_at(
     server: usize,
     side: &mut ServerSide,
     circuits: &mut Vec<Joined>,
-    logs: &mut Vec<Vec<Entry>>,
+    logs: &mut Vec<Vec<LogEntry>>,
     name: &[u8],
 ) -> Result<(), Refusal>
     requires served { AreServed
@@ -82,9 +84,9 @@ fn tell_removal(
     server: usize,
     side: &mut ServerSide,
     circuits: &mut Vec<Joined>,
-    logs: &mut Vec<Vec<Entry>>,
+    logs: &mut Vec<Vec<LogEntry>>,
     name: &[u8],
-    told: Vec<Entry>,
+    told: Vec<LogEntry>,
     leading: &[Leading],
 )
     requires becomes { Becomes

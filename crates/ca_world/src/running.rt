@@ -1,3 +1,5 @@
+//! Runs of events in order, up to the last or to the first that cannot be done. The contract of
+//! `run` says what is promised of any world where one ends.
 ghost use Rattle.std.specs.Prelude.{◌≡◌, IfOk, map};
 ghost use Rattle.ca_events.specs.Events.{event_of};
 ghost use Rattle.ca_laws_parts.specs.Worlds.{AllStream};

@@ -1,3 +1,5 @@
+//! A datagram comes to a server. Its answers go nowhere here: what comes to a client is an event of
+//! its own, whoever sent it.
 ghost use Rattle.ca_model.specs.Events as event;
 ghost use Rattle.ca_world_data.specs.Does.{Does};
 

@@ -1,3 +1,5 @@
+//! A server restarts: it has a new core with the records that it was given, and a new log that
+//! begins with them. The bytes that waited at its ends are left on the circuits.
 ghost use Rattle.ca_model.specs.Events as event;
 ghost use Rattle.ca_world_data.specs.Does.{Does};
 ghost use Rattle.ca_world_data.specs.Restarts.{RestartsServer};
@@ -5,7 +7,7 @@ ghost use Rattle.ca_world_data.specs.Restarts.{RestartsServer};
 use crate::world::World;
 use ca_text::Refusal;
 use ca_world_data::closing::end_servers;
-use ca_world_data::history::Entry;
+use ca_world_data::history::LogEntry;
 use ca_world_data::joined::Joined;
 use ca_world_data::lefts::server_lefts;
 use ca_world_data::opening::{begin_again, begin_parts};
@@ -38,7 +40,7 @@ fn restart_server(
     server: usize,
     side: &mut ServerSide,
     circuits: &mut Vec<Joined>,
-    logs: &mut Vec<Vec<Entry>>,
+    logs: &mut Vec<Vec<LogEntry>>,
 ) -> Result<(), Refusal>
     ensures { RestartsServer
         moment

@@ -1,3 +1,6 @@
+//! A server's end of a circuit handles its next message, which may concern each other circuit of
+//! that server. Begin at `step_at`: what needs memory is made before the step; if the rest finds
+//! none after it, the end closes.
 ghost use Rattle.std.specs.Prelude.{ℕ, ◌≡◌, ◌+◌, ◌<◌, ◌≤◌, [], Bool, IfOk, List, None, OnErr, OnOk};
 ghost use Rattle.std.specs.Prelude.{Some, length, map, take, vec_capacity, vec_len};
 ghost use Rattle.ca_ids.specs.Table.{under};
@@ -32,11 +35,11 @@ ghost use Rattle.ca_world_servers.specs.Handling.{HasRoomToNote, with_handled};
 use crate::cut_server::cut_end;
 use crate::world::World;
 use ca_arena::Handle;
-use ca_server_core::{Effect, ServerCore, Step as Did};
+use ca_server_core::{CoreStep as Did, Effect, ServerCore};
 use ca_text::{APPLIED_LIMIT, Refusal};
 use ca_wire::Pipe;
 use ca_world_data::ends::ends_at;
-use ca_world_data::history::{Entry, Step, Told};
+use ca_world_data::history::{LogEntry, Step, Told};
 use ca_world_data::joined::Joined;
 use ca_world_data::numbering::check_counts;
 use ca_world_data::replies::replies_in;
@@ -53,7 +56,7 @@ use std::alloc::{AllocError, Global};
 // The end whose step it is: the numbers of its circuit and its server, and the handle by which that
 // has it. How many bytes waited there before the step, and how many writes were applied.
 #[derive(Clone, Copy)]
-struct Turn {
+struct SteppingEnd {
     alloc: Global,
     circuit: usize,
     server: usize,
@@ -107,7 +110,7 @@ fn step_at(
     server: usize,
     side: &mut ServerSide,
     circuits: &mut Vec<Joined>,
-    logs: &mut Vec<Vec<Entry>>,
+    logs: &mut Vec<Vec<LogEntry>>,
 ) -> Result<(), Refusal>
     requires within { circuit < vec_len circuits.old }
     requires served { AreServed
@@ -138,7 +141,7 @@ fn step_at(
         return Err(Refusal::OutOfMemory);
     }
     let at = circuits[circuit].at_server;
-    let turn = Turn {
+    let turn = SteppingEnd {
         alloc,
         circuit,
         server,
@@ -192,10 +195,10 @@ fn next_ahead(
 
 // The step itself, and what it leaves.
 fn step_end(
-    turn: &Turn,
+    turn: &SteppingEnd,
     side: &mut ServerSide,
     circuits: &mut Vec<Joined>,
-    logs: &mut Vec<Vec<Entry>>,
+    logs: &mut Vec<Vec<LogEntry>>,
     ahead: Ahead,
 )
     requires within { turn.now.circuit < vec_len circuits.old }
@@ -239,10 +242,10 @@ fn step_end(
 // A message was handled, with this effect. If there is no memory for what it
 // leaves, its end closes.
 fn tell_step(
-    turn: &Turn,
+    turn: &SteppingEnd,
     side: &mut ServerSide,
     circuits: &mut Vec<Joined>,
-    logs: &mut Vec<Vec<Entry>>,
+    logs: &mut Vec<Vec<LogEntry>>,
     ahead: Ahead,
     effect: Effect,
 )
@@ -297,7 +300,7 @@ fn tell_step(
 // The replies to a message that was handled with this effect, which is begun on its circuit.
 // Without memory the circuit is as it was: its message needs some.
 fn prepare(
-    turn: &Turn,
+    turn: &SteppingEnd,
     core: &ServerCore,
     joined: &mut Joined,
     effect: Effect,
@@ -328,7 +331,11 @@ fn prepare(
 
 // The replies after the bytes that waited on a circuit, as those to the message at this place.
 // Without replies no memory is needed.
-fn replies_behind(turn: &Turn, core: &ServerCore, place: usize) -> Result<Vec<Told>, AllocError>
+fn replies_behind(
+    turn: &SteppingEnd,
+    core: &ServerCore,
+    place: usize,
+) -> Result<Vec<Told>, AllocError>
     requires { (ms : List Fields)
         × StandBehind turn.now.waited (output_of (under core.now.circuits turn.now.at)) ms }
     ensures all { IfOk result (λ all. (ms : List Fields)
@@ -422,10 +429,10 @@ fn give_lists(joined: &mut Joined, down: Vec<Told>, handled: Vec<Step>)
 // What the message did is told, ends that ended by its write are reported, and it is
 // noted on its circuit.
 fn note(
-    turn: &Turn,
+    turn: &SteppingEnd,
     side: &mut ServerSide,
     circuits: &mut Vec<Joined>,
-    logs: &mut Vec<Vec<Entry>>,
+    logs: &mut Vec<Vec<LogEntry>>,
     ahead: Ahead,
     effect: Effect,
     prepared: Prepared,
@@ -492,11 +499,11 @@ fn note(
 
 // Ends that ended by a write are reported. By another message none ended.
 fn report_written(
-    turn: &Turn,
+    turn: &SteppingEnd,
     effect: Effect,
     side: &mut ServerSide,
     circuits: &mut Vec<Joined>,
-    logs: &mut Vec<Vec<Entry>>,
+    logs: &mut Vec<Vec<LogEntry>>,
 )
     requires reported { wrote_by effect ≡ None → HasReported side.old.core }
     requires room { HasRoomFor (waits side.old.records.items) side.old.life logs.old.items }
@@ -535,7 +542,7 @@ fn note_on(joined: &mut Joined, down: Vec<Told>, handled: Vec<Step>, step: Step,
 }
 
 // How long the log of a life is.
-fn logged_of(logs: &[Vec<Entry>], life: usize) -> usize
+fn logged_of(logs: &[Vec<LogEntry>], life: usize) -> usize
     ensures { result ≡ log_length life (entries_in logs.now) }
 {
     if life < logs.len() {
@@ -547,10 +554,10 @@ fn logged_of(logs: &[Vec<Entry>], life: usize) -> usize
 // The end has closed, with these bytes left. Its message's write is told, if it wrote, and all ends
 // that ended are reported.
 fn close_stepped(
-    turn: &Turn,
+    turn: &SteppingEnd,
     side: &mut ServerSide,
     circuits: &mut Vec<Joined>,
-    logs: &mut Vec<Vec<Entry>>,
+    logs: &mut Vec<Vec<LogEntry>>,
     wrote: Option<bool>,
     write: Option<Coming>,
     left: Pipe,
@@ -598,7 +605,7 @@ fn close_stepped(
 }
 
 // Cuts the end, of which only the bytes that waited count as left.
-fn cut_short(turn: &Turn, core: &mut ServerCore) -> Pipe
+fn cut_short(turn: &SteppingEnd, core: &mut ServerCore) -> Pipe
     requires { IsServing core.old turn.now.at }
     ensures left { result
         ≡ take turn.now.waited (output_of (under core.old.circuits turn.now.at)) }

@@ -1,3 +1,5 @@
+//! Each event by its method: one `match` in `happen`. A moment is apart, because it may stop
+//! half-way, between two clients.
 ghost use Rattle.std.specs.Prelude.{◌≡◌, ◌↔◌, ℕ, IfOk, IsTrue, None};
 ghost use Rattle.ca_dbr.specs.Elements.{elements};
 ghost use Rattle.ca_events.specs.Events.{event_of, moment_of};

@@ -1,3 +1,5 @@
+//! A world that can be looked at, and in which nothing happens any more. It has a type of its own,
+//! because a run may end when only some of the clients had a moment.
 ghost use Rattle.std.specs.Prelude.{◌≡◌, length, map};
 ghost use Rattle.ca_laws_parts.specs.Worlds.{AllStream};
 ghost use Rattle.ca_model.specs.Worlds.{IsLegalWorld, IsSafeWorld};
@@ -7,7 +9,7 @@ ghost use Rattle.ca_world_data.specs.Seen.{client_of, server_of};
 
 use crate::world::World;
 use ca_world_data::client::ClientSide;
-use ca_world_data::history::{Entry, Line};
+use ca_world_data::history::{Line, LogEntry};
 use ca_world_data::joined::Joined;
 use ca_world_data::server::ServerSide;
 use std::marker::Model;
@@ -21,7 +23,7 @@ pub struct Stopped {
     pub(crate) servers: Vec<ServerSide>,
     pub(crate) circuits: Vec<Joined>,
     pub(crate) client_logs: Vec<Vec<Line>>,
-    pub(crate) server_logs: Vec<Vec<Entry>>,
+    pub(crate) server_logs: Vec<Vec<LogEntry>>,
     pub(crate) moment: u64,
 }
 

@@ -1,3 +1,4 @@
+//! A client subscribes: as `read.rt`, with an EVENT_ADD, whose payload has the mask.
 ghost use Rattle.std.specs.Prelude.{◌≡◌, map};
 ghost use Rattle.ca_model.specs.Events as event;
 ghost use Rattle.ca_laws_parts.specs.Circuit.{AreGiven};

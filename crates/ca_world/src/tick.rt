@@ -1,3 +1,5 @@
+//! A moment goes to all clients, one after another. The call takes the world itself, because it is
+//! no `World` any more if there is no memory for one client and those before it had the moment.
 ghost use Rattle.std.specs.Prelude.{◌≡◌, List, ℕ, map};
 ghost use Rattle.ca_world.specs.Ticking.{AllNumbered, AllTellFew, Ticks, TicksSome};
 ghost use Rattle.ca_world_data.specs.Indexed.{AreIndexed, client_numbers};

@@ -1,3 +1,4 @@
+//! A client cancels a subscription: as `read.rt`, with an EVENT_CANCEL.
 ghost use Rattle.std.specs.Prelude.{◌≡◌, map};
 ghost use Rattle.ca_model.specs.Events as event;
 ghost use Rattle.ca_world_data.specs.Does.{Does};

@@ -1,3 +1,5 @@
+//! Bytes go up a circuit, from the client or from what its end left. The server handles none of
+//! them: that takes its own step.
 ghost use Rattle.ca_model.specs.Events as event;
 ghost use Rattle.ca_world_data.specs.Does.{Does};
 ghost use Rattle.ca_world_data.specs.ServerCuts.{IsServing};

@@ -1,10 +1,12 @@
+//! `World`: the cores, and beside them the histories and logs that no core keeps. Its invariant
+//! says that it is safe and legal, whatever has happened (`know`).
 ghost use Rattle.std.specs.Prelude.{◌≡◌, IfOk};
 ghost use Rattle.ca_model.specs.Worlds.{IsLegalWorld, IsSafeWorld};
 ghost use Rattle.ca_model.specs.World.{IsSetting, opening};
 
 use crate::config::Config;
 use ca_world_data::client::ClientSide;
-use ca_world_data::history::{Entry, Line};
+use ca_world_data::history::{Line, LogEntry};
 use ca_world_data::joined::Joined;
 use ca_world_data::opening::{addresses_of, begin_clients, begin_servers};
 use ca_world_data::server::ServerSide;
@@ -20,7 +22,7 @@ pub struct World {
     pub(crate) servers: Vec<ServerSide>,
     pub(crate) circuits: Vec<Joined>,
     pub(crate) client_logs: Vec<Vec<Line>>,
-    pub(crate) server_logs: Vec<Vec<Entry>>,
+    pub(crate) server_logs: Vec<Vec<LogEntry>>,
     pub(crate) moment: u64,
 }
 

@@ -1,3 +1,5 @@
+//! A client writes without a reply: as `read.rt`, with a WRITE, and with the value in the log. The
+//! core gives no handle for it, so the world counts these writes.
 ghost use Rattle.std.specs.Prelude.{◌≡◌, map};
 ghost use Rattle.ca_dbr.specs.Elements.{elements};
 ghost use Rattle.ca_model.specs.Events as event;

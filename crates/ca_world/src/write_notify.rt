@@ -1,3 +1,5 @@
+//! A client puts with notification: as `read.rt`, with a WRITE_NOTIFY, and with the value in the
+//! log.
 ghost use Rattle.std.specs.Prelude.{◌≡◌, map};
 ghost use Rattle.ca_dbr.specs.Elements.{elements};
 ghost use Rattle.ca_model.specs.Events as event;

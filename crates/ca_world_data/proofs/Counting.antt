@@ -18,7 +18,7 @@ use Rattle.ca_server_core.specs.ForHistories.{ConcernsUnder}
 use Rattle.ca_world_data.specs.declared.history.Cause.{Cause}
 use Rattle.ca_world_data.specs.declared.history.Cause.TheVariants as cause
 use Rattle.ca_world_data.specs.declared.joined.Joined.{Joined as Opened}
-use Rattle.ca_world_data.specs.declared.joined.Standing.{Standing as Kept}
+use Rattle.ca_world_data.specs.declared.joined.AddedSubscription.{AddedSubscription as AddedSubscription}
 use Rattle.ca_world_data.specs.Numbering.{AreAlike, HasKeyAt, IsAlike, IsPlaced, keys_at, keys_within, post_limit, with_counted}
 use Rattle.ca_world_data.specs.Seen.{cause_of, joined_of, queue_of, standing_of}
 use Rattle.ca_world_data.proofs.Gone.{from-here, map_from}
@@ -104,7 +104,7 @@ module _ (name : List ℕ) (mask p n : ℕ) (e : ServerEnd) (j : Joined) (alike 
       ap (λ (z : Option Subscription). map key_of (filter (concerns name mask) (option_to_list z))) d.1 ∙ ap (λ (b : Bool). map key_of (if b then s ∷ [] else [])) d.2 in
       number-one j p n h.s h.q alike.apart in-one h.at h.in_it h.among ∙ ap (with_number j) key ∙ sym (ap (fold with_number j) keys)
 
-pub placed-there : (name : List ℕ) (mask p n : ℕ) (c : Option ServerCircuit) (j : Opened) → IsAlike c (joined_of j) → ConcernsUnder name mask p c (Some n) → ((s : Kept) → At j.standing.items p s → s.posts < post_limit) → IsPlaced p n (joined_of j)
+pub placed-there : (name : List ℕ) (mask p n : ℕ) (c : Option ServerCircuit) (j : Opened) → IsAlike c (joined_of j) → ConcernsUnder name mask p c (Some n) → ((s : AddedSubscription) → At j.standing.items p s → s.posts < post_limit) → IsPlaced p n (joined_of j)
 placed-there name mask p n (Some (Open e)) j alike d few = placed-open name mask p n e (joined_of j) alike d (λ st at. (let m = At-mapped standing_of j.standing.items p st at in subst (λ (z : Standing). z.posts < post_limit) (sym m.2) (few m.0 m.1)))
 placed-there name mask p n (Some (Ended w left)) j alike d few = absurd cc
 placed-there name mask p n None j alike d few = absurd cc
@@ -115,7 +115,7 @@ counted-there name mask p n (Some (Ended w left)) j new alike d h is = absurd cc
 counted-there name mask p n None j new alike d h is = absurd cc
 
 -- one more is counted
-pub counts-so : (j new : Opened) (p n : ℕ) (s next : Kept) (h : IsPlaced p n (joined_of j)) → At j.standing.items p s → next ≡ record s { posts = s.posts + 1 }
+pub counts-so : (j new : Opened) (p n : ℕ) (s next : AddedSubscription) (h : IsPlaced p n (joined_of j)) → At j.standing.items p s → next ≡ record s { posts = s.posts + 1 }
     → joined_of new ≡ record (joined_of j) { standing = map standing_of (slice_set j.standing.items p next); queues = slice_set (joined_of j).queues n (posted s.key (s.place, history.Update s.posts) h.q) }
     → joined_of new ≡ with_counted h
 counts-so j new p n s next h at is so =
@@ -126,7 +126,7 @@ counts-so j new p n s next h at is so =
     })
 
 -- the others stay
-pub others-stay : (ss : List Kept) (p : ℕ) (next : Kept) (i : ℕ) (s : Kept) → p < i → At (slice_set ss p next) i s → At ss i s
+pub others-stay : (ss : List AddedSubscription) (p : ℕ) (next : AddedSubscription) (i : ℕ) (s : AddedSubscription) → p < i → At (slice_set ss p next) i s → At ss i s
 others-stay ss p next i s lt at = elim (At-set ss p next i s at) [
   | inl here ↦ (let e = here.0 in absurd (omega (arith, lt, e)))
   | inr old ↦ old.0
@@ -140,7 +140,7 @@ each-next f i ks j new at is =
 
 -- ---- what is at a place
 
-pub kept-there : (p n : ℕ) (j : Opened) (s : Kept) → IsPlaced p n (joined_of j) → At j.standing.items p s → s.posts < post_limit
+pub kept-there : (p n : ℕ) (j : Opened) (s : AddedSubscription) → IsPlaced p n (joined_of j) → At j.standing.items p s → s.posts < post_limit
 kept-there p n j s h at =
     let same : h.s ≡ standing_of s = At-one (map standing_of j.standing.items) p h.s (standing_of s) h.at (At-map standing_of j.standing.items p s at) in
     subst (λ (z : Standing). z.posts < post_limit) same h.few
@@ -148,7 +148,7 @@ kept-there p n j s h at =
 pub place-within : (p n : ℕ) (j : Opened) → IsPlaced p n (joined_of j) → p < length j.standing.items
 place-within p n j h = (let m = At-mapped standing_of j.standing.items p h.s h.at in At-within j.standing.items p m.0 m.1)
 
-pub key-there : (p n : ℕ) (j : Opened) (s : Kept) → IsPlaced p n (joined_of j) → At j.standing.items p s → HasKeyAt j.queues.items n s.key
+pub key-there : (p n : ℕ) (j : Opened) (s : AddedSubscription) → IsPlaced p n (joined_of j) → At j.standing.items p s → HasKeyAt j.queues.items n s.key
 key-there p n j s h at =
     let same : h.s ≡ standing_of s = At-one (map standing_of j.standing.items) p h.s (standing_of s) h.at (At-map standing_of j.standing.items p s at) in
     subst (λ (z : Standing). HasKeyAt j.queues.items n z.key) same (key-kept j.queues.items n h.s.key h.q h.in_it h.among)

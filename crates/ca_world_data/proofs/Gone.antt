@@ -10,7 +10,7 @@ use Rattle.ca_model.specs.History as history
 use Rattle.ca_model.specs.ServerEvents.{withdrawals, without_puts}
 use Rattle.ca_model.specs.World.{grown}
 use Rattle.ca_model.specs.World as model
-use Rattle.ca_world_data.specs.declared.history.Entry.{Entry as Written}
+use Rattle.ca_world_data.specs.declared.history.LogEntry.{LogEntry as Written}
 use Rattle.ca_world_data.specs.declared.server.PutPlace.{PutPlace}
 use Rattle.ca_world_data.specs.declared.server.RecordSide.{RecordSide}
 use Rattle.ca_world_data.specs.Opening.{entries_in}

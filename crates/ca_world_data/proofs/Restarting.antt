@@ -21,7 +21,7 @@ use Rattle.ca_model.specs.ServerEvents.{ending, ends_untold, server_closed}
 use Rattle.ca_model.specs.World.{addresses, client_begun, server_begun}
 use Rattle.ca_model.specs.World as model
 use Rattle.ca_world_data.specs.declared.client.ClientSide.{ClientSide}
-use Rattle.ca_world_data.specs.declared.history.Entry as real
+use Rattle.ca_world_data.specs.declared.history.LogEntry as real
 use Rattle.ca_world_data.specs.declared.history.Line as spoken
 use Rattle.ca_world_data.specs.declared.joined.Joined.{Joined}
 use Rattle.ca_world_data.specs.declared.server.ServerSide.{ServerSide}
@@ -43,9 +43,9 @@ lines-more logs mid new log same is none =
     ap lines_in (is ∙ ap (λ (l : List (Vec spoken.Line Global)). l ++ log ∷ []) same) ∙ map-append (λ (l : Vec spoken.Line Global). map line_of l.items) logs (log ∷ [])
     ∙ ap (λ (l : List spoken.Line). lines_in logs ++ map line_of l ∷ []) none
 
-pub entries-more : (logs mid new : List (Vec real.Entry Global)) (log : Vec real.Entry Global) (begun : List Entry) → mid ≡ logs → new ≡ mid ++ log ∷ [] → map entry_of log.items ≡ begun → entries_in new ≡ entries_in logs ++ begun ∷ []
+pub entries-more : (logs mid new : List (Vec real.LogEntry Global)) (log : Vec real.LogEntry Global) (begun : List Entry) → mid ≡ logs → new ≡ mid ++ log ∷ [] → map entry_of log.items ≡ begun → entries_in new ≡ entries_in logs ++ begun ∷ []
 entries-more logs mid new log begun same is so =
-    ap entries_in (is ∙ ap (λ (l : List (Vec real.Entry Global)). l ++ log ∷ []) same) ∙ map-append (λ (l : Vec real.Entry Global). map entry_of l.items) logs (log ∷ [])
+    ap entries_in (is ∙ ap (λ (l : List (Vec real.LogEntry Global)). l ++ log ∷ []) same) ∙ map-append (λ (l : Vec real.LogEntry Global). map entry_of l.items) logs (log ∷ [])
     ∙ ap (λ (l : List Entry). entries_in logs ++ l ∷ []) so
 
 -- ---- circuits
@@ -149,7 +149,7 @@ addresses-there : (ss : List ServerSide) → map address_of ss ≡ addresses (ma
 addresses-there [] = refl
 addresses-there (y ∷ ss) = ap (λ (t : List Address). y.setting.address ∷ t) (addresses-there ss)
 
-module _ (cs : List ClientSide) (ss : List ServerSide) (ks : List Joined) (cl : List (Vec spoken.Line Global)) (sl : List (Vec real.Entry Global)) (m : ℕ) where
+module _ (cs : List ClientSide) (ss : List ServerSide) (ks : List Joined) (cl : List (Vec spoken.Line Global)) (sl : List (Vec real.LogEntry Global)) (m : ℕ) where
   pub client-restarts : (i : ℕ) (x x' : ClientSide) (servers : List Address) (cl' : List (Vec spoken.Line Global)) (ks' : List Joined) (r : Result (Unit {0}) Refusal) → At cs i x → servers ≡ map address_of ss → RestartsClient servers m i x cl ks r x' cl' ks'
       → Does (world_of cs ss ks (lines_in cl) (entries_in sl) m) (ClientRestart i) r (world_of (slice_set cs i x') ss ks' (lines_in cl') (entries_in sl) m)
   client-restarts i x x' servers cl' ks' (Ok u) at known d =
@@ -169,11 +169,11 @@ module _ (cs : List ClientSide) (ss : List ServerSide) (ks : List Joined) (cl : 
       (record { x = client_of x; at = At-map client_of cs i x at }, (λ t. world_of (slice_set cs i (d.0 t)) ss (d.2 t) (d.1 t) (entries_in sl) m) ∙ (λ t. world_of (set-same cs i x at t) ss ks (lines_in cl) (entries_in sl) m))
   client-restarts i x x' servers cl' ks' (Err _) at known d = absurd d
 
-  pub server-restarts : (i : ℕ) (y y' : ServerSide) (sl' : List (Vec real.Entry Global)) (ks' : List Joined) (r : Result (Unit {0}) Refusal) → At ss i y → RestartsServer m i y sl ks r y' sl' ks'
+  pub server-restarts : (i : ℕ) (y y' : ServerSide) (sl' : List (Vec real.LogEntry Global)) (ks' : List Joined) (r : Result (Unit {0}) Refusal) → At ss i y → RestartsServer m i y sl ks r y' sl' ks'
       → Does (world_of cs ss ks (lines_in cl) (entries_in sl) m) (ServerRestart i) r (world_of cs (slice_set ss i y') ks' (lines_in cl) (entries_in sl') m)
   server-restarts i y y' sl' ks' (Ok u) at d =
       let begun : server_of y' ≡ server_begun m (length (entries_in sl)) y.setting =
-      d.0 ∙ (λ t. server_begun m (sym (length-map sl (λ (log : Vec real.Entry Global). map entry_of log.items)) t) y.setting) in (
+      d.0 ∙ (λ t. server_begun m (sym (length-map sl (λ (log : Vec real.LogEntry Global). map entry_of log.items)) t) y.setting) in (
         record { y = server_of y; at = At-map server_of ss i y at },
         (λ t. record {
           clients = map client_of cs;
@@ -206,7 +206,7 @@ client-indexed cs ss ks ks' cl cl' servers m i x x' (Err OutOfMemory) at d h =
     h
 client-indexed cs ss ks ks' cl cl' servers m i x x' (Err _) at d h = absurd d
 
-pub server-indexed : (cs : List (List ℕ)) (ss : List ServerSide) (ks ks' : List Joined) (sl sl' : List (Vec real.Entry Global)) (m i : ℕ) (y y' : ServerSide) (r : Result (Unit {0}) Refusal) → At ss i y → RestartsServer m i y sl ks r y' sl' ks' → AreIndexed cs (server_numbers ss) (map joined_of ks)
+pub server-indexed : (cs : List (List ℕ)) (ss : List ServerSide) (ks ks' : List Joined) (sl sl' : List (Vec real.LogEntry Global)) (m i : ℕ) (y y' : ServerSide) (r : Result (Unit {0}) Refusal) → At ss i y → RestartsServer m i y sl ks r y' sl' ks' → AreIndexed cs (server_numbers ss) (map joined_of ks)
     → AreIndexed cs (server_numbers (slice_set ss i y')) (map joined_of ks')
 server-indexed cs ss ks ks' sl sl' m i y y' (Ok u) at d h =
     indexed-same cs cs (slice_set (server_numbers ss) i []) (server_numbers (slice_set ss i y')) (map (ending (ends_untold i y.core)) (map joined_of ks)) (map joined_of ks')

@@ -10,7 +10,7 @@ use Rattle.ca_model.specs.World as model
 use Rattle.ca_world_data.specs.declared.client.ClientSide.{ClientSide}
 use Rattle.ca_world_data.specs.declared.history.Line.{Line}
 use Rattle.ca_world_data.specs.declared.joined.Joined.{Joined}
-use Rattle.ca_world_data.specs.declared.way.Way.{Way}
+use Rattle.ca_world_data.specs.declared.way.ChannelRoute.{ChannelRoute}
 use Rattle.ca_world_data.specs.Found.{AreNumbered}
 use Rattle.ca_world_data.specs.Logs.{HasRoom}
 use Rattle.ca_world_data.specs.Seen.{client_of, joined_of}
@@ -34,7 +34,7 @@ goes-up ks k j new s at is i there =
     set-map joined_of ks k new ∙ ap (slice_set (map joined_of ks) k) (is ∙ ap (with_up s) (sym same))
 
 -- a client that is the same, with room for what a call leaves
-pub ready : (i c : ℕ) (x x' : ClientSide) (ks ks' : List Joined) (logs : List (Vec Line Global)) (h : Handle) (way : Way) → client_of x' ≡ client_of x → x'.circuits.items ≡ x.circuits.items → map joined_of ks' ≡ map joined_of ks
+pub ready : (i c : ℕ) (x x' : ClientSide) (ks ks' : List Joined) (logs : List (Vec Line Global)) (h : Handle) (way : ChannelRoute) → client_of x' ≡ client_of x → x'.circuits.items ≡ x.circuits.items → map joined_of ks' ≡ map joined_of ks
     → At x.names.channels.items c h → IsWay x.core (map joined_of ks) i h way → AreNumbered x.circuits.items (map joined_of ks) i → HasRoom 1 x'.life logs → HasRoomUp 1 way.circuit ks'
     → vec_len x'.names.requests + 1 ≤ vec_capacity x'.names.requests → vec_len x'.names.subscriptions + 1 ≤ vec_capacity x'.names.subscriptions → IsReady i c x' ks' logs (h, way)
 ready i c x x' ks ks' logs h way side numbers circuits named is_way numbered lines messages requests subscriptions = record {

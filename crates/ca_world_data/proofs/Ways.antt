@@ -7,7 +7,7 @@ use Rattle.ca_model.specs.Client.{Clearing, Client, Connecting, Creating, Doomed
 use Rattle.ca_model.specs.ClientCalls.{IsLive, LiveChannel, StandsAs}
 use Rattle.ca_model.specs.World.{Joined}
 use Rattle.ca_world_data.specs.declared.cancelling.Cancelling.{Cancelling}
-use Rattle.ca_world_data.specs.declared.way.Way.{Way}
+use Rattle.ca_world_data.specs.declared.way.ChannelRoute.{ChannelRoute}
 use Rattle.ca_world_data.specs.Clears.{ClearsAs, IsClearWay}
 use Rattle.ca_world_data.specs.Speaking.{GoesBy}
 use Rattle.ca_world_data.specs.Unsubscribes.{GoesAs, IsCancelWay}
@@ -32,7 +32,7 @@ dead-way x h ks i w d stands dead none e also =
     no-way x e.channel w.handle e ks i w (subst (λ (z : Subscription). (l : LiveChannel) → IsLive x z.channel l → ⊥) is dead) none
 
 -- no CLEAR_CHANNEL goes for a channel that is not live
-pub clear-dead : (x : Client) (h : Handle) (ks : List Joined) (i : ℕ) (w : Way) → ((l : LiveChannel) → IsLive x h l → ⊥) → w.circuit ≡ None → IsClearWay x ks i h w
+pub clear-dead : (x : Client) (h : Handle) (ks : List Joined) (i : ℕ) (w : ChannelRoute) → ((l : LiveChannel) → IsLive x h l → ⊥) → w.circuit ≡ None → IsClearWay x ks i h w
 clear-dead x h ks i w dead none = go (standing_at x h) refl
   where
     go : (o : Option Standing) → standing_at x h ≡ o → ClearsAs ks i w o
@@ -46,5 +46,5 @@ clear-dead x h ks i w dead none = go (standing_at x h) refl
     go (Some (On c Doomed)) is = none
 
 -- that of a live one goes on its circuit
-pub clear-live : (x : Client) (h : Handle) (ks : List Joined) (i : ℕ) (w : Way) (l : LiveChannel) → IsLive x h l → w.sid ≡ l.native.sid → GoesBy w.circuit ks i l.circuit → IsClearWay x ks i h w
+pub clear-live : (x : Client) (h : Handle) (ks : List Joined) (i : ℕ) (w : ChannelRoute) (l : LiveChannel) → IsLive x h l → w.sid ≡ l.native.sid → GoesBy w.circuit ks i l.circuit → IsClearWay x ks i h w
 clear-live x h ks i w l is sid goes = subst (λ (o : Option Standing). ClearsAs ks i w o) (sym is) (goes, sid)

@@ -14,7 +14,7 @@ use Rattle.ca_model.specs.World.{ClientSide, Joined}
 use Rattle.ca_world_data.specs.declared.client.ClientSide as real
 use Rattle.ca_world_data.specs.declared.history.Line.{Line as Written}
 use Rattle.ca_world_data.specs.declared.joined.Joined.{Joined as Opened}
-use Rattle.ca_world_data.specs.declared.way.Way.{Way}
+use Rattle.ca_world_data.specs.declared.way.ChannelRoute.{ChannelRoute}
 use Rattle.ca_world_data.specs.Found.{AreNumbered}
 use Rattle.ca_world_data.specs.Logs.{HasRoom}
 use Rattle.ca_world_data.specs.Seen.{joined_of}
@@ -23,17 +23,17 @@ use Rattle.ca_world_data.specs.Telling.{call_lines}
 
 -- where the CLEAR_CHANNEL of a channel that stands so goes, and under which SID; none
 -- goes if it is not live
-abbrev pub ClearsAs : List Joined → (i : ℕ) → Way → Option Standing → Type 0
+abbrev pub ClearsAs : List Joined → (i : ℕ) → ChannelRoute → Option Standing → Type 0
 ClearsAs ks i w (Some (On c (Live n rights))) = GoesBy w.circuit ks i c × (w.sid ≡ n.sid)
 ClearsAs ks i w there = w.circuit ≡ None
 
-abbrev pub IsClearWay : Client → List Joined → (i : ℕ) → Handle → Way → Type 0
+abbrev pub IsClearWay : Client → List Joined → (i : ℕ) → Handle → ChannelRoute → Type 0
 IsClearWay x ks i h w = ClearsAs ks i w (standing_at x h)
 
 -- the channel of this number has this handle, and there is room for what its end leaves, if it
 -- reports each request at most once
 pub record IsReadyToClear (i c : ℕ) (x : real.ClientSide) (ks : List Opened)
-    (logs : List (Vec Written Global)) (p : Handle × Way) : Type 0 where
+    (logs : List (Vec Written Global)) (p : Handle × ChannelRoute) : Type 0 where
   pub named : At x.names.channels.items c p.0
   pub way : IsClearWay x.core (map joined_of ks) i p.0 p.1
   pub numbered : AreNumbered x.circuits.items (map joined_of ks) i

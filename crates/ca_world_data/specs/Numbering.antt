@@ -11,7 +11,10 @@ use Rattle.ca_model.specs.Server.{Open, Server, ServerCircuit, ServerEnd, concer
 use Rattle.ca_model.specs.World.{Joined, Standing}
 use Rattle.ca_world_data.specs.declared.history.Cause.{Cause as Written}
 use Rattle.ca_world_data.specs.declared.joined.Joined.{Joined as Opened}
-use Rattle.ca_world_data.specs.declared.joined.Standing.{Standing as Kept}
+use Rattle.ca_world_data.specs.declared.joined.AddedSubscription.{
+  AddedSubscription as
+      AddedSubscription,
+}
 
 -- ---- an end beside its circuit
 
@@ -46,8 +49,8 @@ AllAlike i core ks =
 abbrev pub post_limit : ℕ
 post_limit = 18446744073709551615
 
-abbrev pub MayCount : List Kept → Type 0
-MayCount ss = (p : ℕ) (s : Kept) → At ss p s → s.posts < post_limit
+abbrev pub MayCount : List AddedSubscription → Type 0
+MayCount ss = (p : ℕ) (s : AddedSubscription) → At ss p s → s.posts < post_limit
 
 abbrev pub AllMayCount : List Opened → Type 0
 AllMayCount ks = (k : ℕ) (j : Opened) → At ks k j → MayCount j.standing.items

@@ -6,15 +6,15 @@ use Rattle.ca_model.specs.History as history
 use Rattle.ca_model.specs.World.{ClientSetting, ServerSetting, client_begun, log_begun, numbered}
 use Rattle.ca_model.specs.World.{server_begun}
 use Rattle.ca_world_data.specs.declared.client.ClientSide.{ClientSide}
-use Rattle.ca_world_data.specs.declared.history.Entry.{Entry}
+use Rattle.ca_world_data.specs.declared.history.LogEntry.{LogEntry}
 use Rattle.ca_world_data.specs.declared.history.Line.{Line}
 use Rattle.ca_world_data.specs.declared.server.ServerSide.{ServerSide}
 use Rattle.ca_world_data.specs.Logs.{lines_in}
 use Rattle.ca_world_data.specs.Seen.{client_of, entry_of, server_of}
 
 -- the logs of servers as lists
-abbrev pub entries_in : List (Vec Entry Global) → List (List history.Entry)
-entries_in logs = map (λ (log : Vec Entry Global). map entry_of log.items) logs
+abbrev pub entries_in : List (Vec LogEntry Global) → List (List history.Entry)
+entries_in logs = map (λ (log : Vec LogEntry Global). map entry_of log.items) logs
 
 -- one client more, with its log
 abbrev pub HasClients : List Address → ClientSetting → List ClientSide → List (Vec Line Global)
@@ -24,8 +24,9 @@ HasClients servers s cs logs cs' logs' =
     × (lines_in logs' ≡ lines_in logs ++ [] ∷ [])
 
 -- one server more, with its log
-abbrev pub HasServers : ServerSetting → List ServerSide → List (Vec Entry Global) → List ServerSide
-    → List (Vec Entry Global) → Type 0
+abbrev pub HasServers : ServerSetting → List ServerSide → List (Vec LogEntry Global)
+    → List ServerSide
+    → List (Vec LogEntry Global) → Type 0
 HasServers s ss logs ss' logs' =
     (map server_of ss' ≡ map server_of ss ++ server_begun 0 (length ss) s ∷ [])
     × (entries_in logs' ≡ entries_in logs ++ log_begun s ∷ [])
@@ -38,7 +39,7 @@ BeginClients servers settings cs logs =
     × (lines_in logs ≡ map (λ (s : ClientSetting). []) settings)
 
 -- all servers, with their logs
-abbrev pub BeginServers : List ServerSetting → List ServerSide → List (Vec Entry Global) → Type 0
+abbrev pub BeginServers : List ServerSetting → List ServerSide → List (Vec LogEntry Global) → Type 0
 BeginServers settings ss logs =
     (map server_of ss ≡ numbered 0 (server_begun 0) settings)
     × (entries_in logs ≡ map log_begun settings)

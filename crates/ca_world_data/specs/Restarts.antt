@@ -9,7 +9,7 @@ use Rattle.ca_model.specs.Server.{Server, new_server}
 use Rattle.ca_model.specs.World.{RecordSide, ServerSetting, client_begun, log_begun, numbered}
 use Rattle.ca_model.specs.World.{record_begun, server_begun}
 use Rattle.ca_world_data.specs.declared.client.ClientSide.{ClientSide}
-use Rattle.ca_world_data.specs.declared.history.Entry.{Entry}
+use Rattle.ca_world_data.specs.declared.history.LogEntry.{LogEntry}
 use Rattle.ca_world_data.specs.declared.history.Line.{Line}
 use Rattle.ca_world_data.specs.declared.joined.Joined.{Joined}
 use Rattle.ca_world_data.specs.declared.server.ServerSide.{ServerSide}
@@ -44,8 +44,8 @@ BeginsServer moment s core records log =
     × (records ≡ numbered 0 record_begun s.records) × (log ≡ log_begun s)
 
 -- Server i begins a new life.
-abbrev pub RestartsServer : (moment i : ℕ) → ServerSide → List (Vec Entry Global) → List Joined
-    → Result (Unit {0}) Refusal → ServerSide → List (Vec Entry Global) → List Joined → Type 0
+abbrev pub RestartsServer : (moment i : ℕ) → ServerSide → List (Vec LogEntry Global) → List Joined
+    → Result (Unit {0}) Refusal → ServerSide → List (Vec LogEntry Global) → List Joined → Type 0
 RestartsServer moment i y logs ks (Ok _) y' logs' ks' =
     (server_of y' ≡ server_begun moment (length logs) y.setting) × (y'.circuits.items ≡ [])
     × (entries_in logs' ≡ entries_in logs ++ log_begun y.setting ∷ [])

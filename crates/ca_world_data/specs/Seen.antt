@@ -14,8 +14,8 @@ use Rattle.ca_world_data.specs.declared.history.Ask.{Ask}
 use Rattle.ca_world_data.specs.declared.history.Ask.TheVariants as ask
 use Rattle.ca_world_data.specs.declared.history.Cause.{Cause}
 use Rattle.ca_world_data.specs.declared.history.Cause.TheVariants as cause
-use Rattle.ca_world_data.specs.declared.history.Entry.{Entry}
-use Rattle.ca_world_data.specs.declared.history.Entry.TheVariants as entry
+use Rattle.ca_world_data.specs.declared.history.LogEntry.{LogEntry}
+use Rattle.ca_world_data.specs.declared.history.LogEntry.TheVariants as entry
 use Rattle.ca_world_data.specs.declared.history.Intent.{Intent}
 use Rattle.ca_world_data.specs.declared.history.Intent.TheVariants as intent
 use Rattle.ca_world_data.specs.declared.history.Kind.{Kind}
@@ -27,10 +27,10 @@ use Rattle.ca_world_data.specs.declared.history.Sent.{Sent}
 use Rattle.ca_world_data.specs.declared.history.Step.{Step}
 use Rattle.ca_world_data.specs.declared.history.Stored.{Stored}
 use Rattle.ca_world_data.specs.declared.history.Told.{Told}
-use Rattle.ca_world_data.specs.declared.joined.Circuit.{Circuit}
-use Rattle.ca_world_data.specs.declared.joined.Creation.{Creation}
+use Rattle.ca_world_data.specs.declared.joined.CircuitHistory.{CircuitHistory}
+use Rattle.ca_world_data.specs.declared.joined.CreatedChannel.{CreatedChannel}
 use Rattle.ca_world_data.specs.declared.joined.Joined.{Joined}
-use Rattle.ca_world_data.specs.declared.joined.Standing.{Standing}
+use Rattle.ca_world_data.specs.declared.joined.AddedSubscription.{AddedSubscription}
 use Rattle.ca_world_data.specs.declared.server.PutPlace.{PutPlace}
 use Rattle.ca_world_data.specs.declared.server.RecordSide.{RecordSide}
 use Rattle.ca_world_data.specs.declared.server.ServerSide.{ServerSide}
@@ -89,7 +89,7 @@ line_of (line.Refused refusal) = history.Refused refusal
 line_of (line.Collected request place) = history.Collected request place
 line_of (line.GaveUp request place) = history.GaveUp request place
 
-abbrev pub entry_of : Entry → history.Entry
+abbrev pub entry_of : LogEntry → history.Entry
 entry_of (entry.Added number r) = history.Added number (recorded_of r)
 entry_of (entry.Removed number) = history.Removed number
 entry_of (entry.Posted number mask v) = history.Posted number mask (stored_of v)
@@ -101,7 +101,7 @@ entry_of (entry.Withdrawn circuit place) = history.Withdrawn circuit place
 
 -- ---- circuits
 
-abbrev pub lists_of : Circuit → history.Circuit
+abbrev pub lists_of : CircuitHistory → history.Circuit
 lists_of c = record {
   client = c.client;
   server = c.server;
@@ -114,10 +114,10 @@ lists_of c = record {
   server_open = c.server_open;
 }
 
-abbrev pub creation_of : Creation → model.Creation
+abbrev pub creation_of : CreatedChannel → model.Creation
 creation_of c = record { sid = c.sid; place = c.place }
 
-abbrev pub standing_of : Standing → model.Standing
+abbrev pub standing_of : AddedSubscription → model.Standing
 standing_of s = record { key = s.key; place = s.place; posts = s.posts }
 
 -- a number that waits, with its cause

@@ -14,16 +14,16 @@ use Rattle.ca_model.specs.ServerSteps.{HasEnd, Stepped, closed, ended, output_of
 use Rattle.ca_model.specs.ServerSteps as steps
 use Rattle.ca_model.specs.ServerEvents.{server_closed, without_puts}
 use Rattle.ca_model.specs.World.{grown}
-use Rattle.ca_world_data.specs.declared.history.Entry.{Entry}
+use Rattle.ca_world_data.specs.declared.history.LogEntry.{LogEntry}
 use Rattle.ca_world_data.specs.declared.joined.Joined.{Joined}
 use Rattle.ca_world_data.specs.declared.server.ServerSide.{ServerSide}
 use Rattle.ca_world_data.specs.Seen.{joined_of, record_of, server_of}
 use Rattle.ca_world_data.specs.Withdrawing.{all_withdrawn}
 
 -- there is room for n entries in the log of a life, if it has one
-abbrev pub HasRoomFor : (entries life : ℕ) → List (Vec Entry Global) → Type 0
+abbrev pub HasRoomFor : (entries life : ℕ) → List (Vec LogEntry Global) → Type 0
 HasRoomFor entries life logs =
-    (log : Vec Entry Global) → At logs life log → vec_len log + entries ≤ vec_capacity log
+    (log : Vec LogEntry Global) → At logs life log → vec_len log + entries ≤ vec_capacity log
 
 -- what an end left that a step reports
 abbrev pub left_in : Stepped → List ℕ

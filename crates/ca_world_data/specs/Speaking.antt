@@ -15,7 +15,7 @@ use Rattle.ca_model.specs.World.{ClientSide, Joined, Names, grown}
 use Rattle.ca_world_data.specs.declared.client.ClientSide as real
 use Rattle.ca_world_data.specs.declared.history.Line.{Line}
 use Rattle.ca_world_data.specs.declared.joined.Joined.{Joined as Opened}
-use Rattle.ca_world_data.specs.declared.way.Way.{Way}
+use Rattle.ca_world_data.specs.declared.way.ChannelRoute.{ChannelRoute}
 use Rattle.ca_world_data.specs.Found.{AreNumbered, IsAt, IsNowhere}
 use Rattle.ca_world_data.specs.Logs.{HasRoom}
 use Rattle.ca_world_data.specs.Seen.{joined_of}
@@ -52,7 +52,7 @@ GoesBy (Some k) ks i c = IsAt ks i c k
 
 -- where messages on this channel go, if it is live: on which circuit, under which SID, and with how
 -- many elements at most
-abbrev pub IsWay : Client → List Joined → (i : ℕ) → Handle → Way → Type 0
+abbrev pub IsWay : Client → List Joined → (i : ℕ) → Handle → ChannelRoute → Type 0
 IsWay x ks i h w =
     (l : LiveChannel) → IsLive x h l → (w.sid ≡ l.native.sid) × (w.count ≡ l.native.count)
     × GoesBy w.circuit ks i l.circuit
@@ -61,7 +61,7 @@ IsWay x ks i h w =
 
 -- the channel of this number has this handle, and there is room for what a call leaves
 pub record IsReady (i c : ℕ) (x : real.ClientSide) (ks : List Opened)
-    (logs : List (Vec Line Global)) (p : Handle × Way) : Type 0 where
+    (logs : List (Vec Line Global)) (p : Handle × ChannelRoute) : Type 0 where
   pub named : At x.names.channels.items c p.0
   pub way : IsWay x.core (map joined_of ks) i p.0 p.1
   pub numbered : AreNumbered x.circuits.items (map joined_of ks) i

@@ -24,4 +24,5 @@ TicksClient i moment x logs ks (Err _) x' logs' ks' =
 -- This moment makes the client tell no more than its requests and channels have names.
 abbrev pub TellsFew : (moment : ℕ) → ClientSide → Type 0
 TellsFew moment x =
-    length (circuits_ticked moment x.core).notices ≤ length x.names.requests + length x.names.channels
+    length (circuits_ticked moment x.core).notices
+    ≤ length x.names.requests + length x.names.channels

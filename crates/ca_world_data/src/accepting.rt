@@ -36,7 +36,7 @@ ghost use Rattle.ca_world_data.specs.Speaking.{stamped};
 use crate::client::{ClientSide, Names};
 use crate::closing::close_client;
 use crate::history::{Cause, Intent, Line, Sent};
-use crate::joined::{Circuit, Joined};
+use crate::joined::{CircuitHistory, Joined};
 use crate::logs::reserve_lines;
 use crate::room::reserve_list;
 use crate::sending::intent_for;
@@ -277,7 +277,7 @@ fn begin_circuit(
         server,
         at_client,
         at_server,
-        lists: Circuit {
+        lists: CircuitHistory {
             client_open: true,
             server_open: true,
             up: Vec::new(alloc),

@@ -11,23 +11,23 @@ use crate::found::circuit_of;
 use crate::history::Line;
 use crate::joined::Joined;
 use crate::logs::reserve_lines;
-use crate::way::{Way, reserve_sent};
+use crate::way::{ChannelRoute, reserve_sent};
 use ca_arena::Handle;
 use ca_client_core::for_histories::live_on;
 use ca_text::Refusal;
 
 // Where the CLEAR_CHANNEL of this channel goes. None does if it is not live.
-fn clear_way(client: usize, side: &ClientSide, circuits: &[Joined], channel: Handle) -> Way
+fn clear_way(client: usize, side: &ClientSide, circuits: &[Joined], channel: Handle) -> ChannelRoute
     requires { AreNumbered side.now.circuits.items (map joined_of circuits.now) client }
     ensures { IsClearWay side.now.core (map joined_of circuits.now) client channel result }
 {
     match live_on(&side.core, channel) {
-        Some(live) => Way {
+        Some(live) => ChannelRoute {
             circuit: circuit_of(&side.circuits, circuits, client, live.circuit),
             sid: live.sid,
             count: live.count,
         },
-        None => Way {
+        None => ChannelRoute {
             circuit: None,
             sid: 0,
             count: 0,
@@ -44,7 +44,7 @@ pub fn prepare_clear(
     circuits: &mut Vec<Joined>,
     logs: &mut Vec<Vec<Line>>,
     channel: usize,
-) -> Result<(Handle, Way), Refusal>
+) -> Result<(Handle, ChannelRoute), Refusal>
     requires { AreNumbered side.now.circuits.items (map joined_of circuits.old.items) client }
     ensures circuits { map joined_of circuits.new.items ≡ map joined_of circuits.old.items }
     ensures logs { lines_in logs.new.items ≡ lines_in logs.old.items }

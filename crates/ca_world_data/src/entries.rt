@@ -6,12 +6,12 @@ ghost use Rattle.ca_world_data.specs.Opening.{entries_in};
 ghost use Rattle.ca_world_data.specs.Seen.{entry_of};
 ghost use Rattle.ca_world_data.specs.ServerCuts.{HasRoomFor};
 
-use crate::history::Entry;
+use crate::history::LogEntry;
 use std::alloc::AllocError;
 
 /// Makes room for n more entries in the log of a life.
 pub fn reserve_entries(
-    logs: &mut Vec<Vec<Entry>>,
+    logs: &mut Vec<Vec<LogEntry>>,
     life: usize,
     entries: usize,
 ) -> Result<(), AllocError>
@@ -25,7 +25,7 @@ pub fn reserve_entries(
 }
 
 /// Puts entries after those of a life's log, in which there is room.
-pub fn push_entries(logs: &mut Vec<Vec<Entry>>, life: usize, entries: Vec<Entry>)
+pub fn push_entries(logs: &mut Vec<Vec<LogEntry>>, life: usize, entries: Vec<LogEntry>)
     requires { HasRoomFor (length entries.items) life logs.old.items }
     ensures { entries_in logs.new.items
         ≡ grown life (map entry_of entries.items) (entries_in logs.old.items) }
@@ -36,7 +36,7 @@ pub fn push_entries(logs: &mut Vec<Vec<Entry>>, life: usize, entries: Vec<Entry>
 }
 
 /// Puts entries after those of a life's log. The room that there was for more is still there.
-pub fn push_some(logs: &mut Vec<Vec<Entry>>, life: usize, entries: Vec<Entry>)
+pub fn push_some(logs: &mut Vec<Vec<LogEntry>>, life: usize, entries: Vec<LogEntry>)
     requires { HasRoomFor (length entries.items) life logs.old.items }
     ensures logged { entries_in logs.new.items
         ≡ grown life (map entry_of entries.items) (entries_in logs.old.items) }
@@ -49,7 +49,7 @@ pub fn push_some(logs: &mut Vec<Vec<Entry>>, life: usize, entries: Vec<Entry>)
 }
 
 // Puts entries after others. There is room for them.
-fn push_all(log: &mut Vec<Entry>, entries: Vec<Entry>)
+fn push_all(log: &mut Vec<LogEntry>, entries: Vec<LogEntry>)
     requires { vec_len log.old + length entries.items ≤ vec_capacity log.old }
     ensures items { log.new.items ≡ log.old.items ++ entries.items }
     ensures len { vec_len log.new ≡ vec_len log.old + length entries.items }
@@ -61,7 +61,7 @@ fn push_all(log: &mut Vec<Entry>, entries: Vec<Entry>)
 }
 
 /// Puts an entry after those of a life's log, in which there is room.
-pub fn push_entry(logs: &mut Vec<Vec<Entry>>, life: usize, entry: Entry)
+pub fn push_entry(logs: &mut Vec<Vec<LogEntry>>, life: usize, entry: LogEntry)
     requires { HasRoomFor 1 life logs.old.items }
     ensures logged { entries_in logs.new.items
         ≡ grown life (entry_of entry ∷ []) (entries_in logs.old.items) }

@@ -52,7 +52,7 @@ fn outcome_in(log: &[Line], request: usize, meant: Intent) -> Option<usize>
     if is_over(log, request) {
         return None;
     }
-    told_in(log, meant)
+    outcome_line(log, meant)
 }
 
 // Whether what became of the request was handed out, or given up.
@@ -81,7 +81,7 @@ fn is_handed(line: &Line, request: usize) -> bool
 }
 
 // The place of the first line that says what became of what was meant so.
-fn told_in(log: &[Line], meant: Intent) -> Option<usize>
+fn outcome_line(log: &[Line], meant: Intent) -> Option<usize>
     ensures { ToldAt log.now meant result }
 {
     for place in 0..log.len() {

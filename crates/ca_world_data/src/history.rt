@@ -106,7 +106,7 @@ pub enum Line {
 
 /// An entry of the log of a server's life. Records have numbers.
 #[derive(Debug, Drop)]
-pub enum Entry {
+pub enum LogEntry {
     Added(usize, Recorded),
     Removed(usize),
     /// A record was posted, with a mask.

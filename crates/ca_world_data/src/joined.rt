@@ -6,7 +6,7 @@ use ca_wire::Pipe;
 /// A circuit as what happened on it: the lives that it joins, what each end sent, the steps of
 /// each, and which ends are open.
 #[derive(Drop)]
-pub struct Circuit {
+pub struct CircuitHistory {
     pub client_open: bool,
     pub server_open: bool,
     pub up: Vec<Sent>,
@@ -22,7 +22,7 @@ pub struct Circuit {
 /// Where a channel that is open at a server's end was created: its SID, and the
 /// place of its CREATE_CHAN.
 #[derive(Clone, Copy)]
-pub struct Creation {
+pub struct CreatedChannel {
     pub sid: u32,
     pub place: usize,
 }
@@ -30,7 +30,7 @@ pub struct Creation {
 /// A subscription that is at a server's end: its key, the place of its EVENT_ADD, and how many
 /// posts matched so far.
 #[derive(Clone, Copy)]
-pub struct Standing {
+pub struct AddedSubscription {
     pub key: SubKey,
     pub place: usize,
     pub posts: usize,
@@ -45,10 +45,10 @@ pub struct Joined {
     pub server: usize,
     pub at_client: Handle,
     pub at_server: Handle,
-    pub lists: Circuit,
+    pub lists: CircuitHistory,
     pub left_up: Pipe,
     pub left_down: Pipe,
-    pub creations: Vec<Creation>,
-    pub standing: Vec<Standing>,
+    pub creations: Vec<CreatedChannel>,
+    pub standing: Vec<AddedSubscription>,
     pub queues: Vec<ListQueue<(usize, Cause)>>,
 }

@@ -101,7 +101,7 @@ fn number_in(meant: Intent) -> usize {
 }
 
 /// `line_for`, which looks first at the name that the message was about.
-pub fn line_heard(names: &Names, about: Intent, notice: Notice) -> Line
+pub fn line_about(names: &Names, about: Intent, notice: Notice) -> Line
     requires { IsMeant (names_of names.now) }
     ensures { line_of result
         ≡ world.line_of (intent_of about) (names_of names.now) (notice_of notice) }

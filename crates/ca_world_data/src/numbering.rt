@@ -8,13 +8,13 @@ ghost use Rattle.ca_text.specs.Place.{At};
 ghost use Rattle.ca_model.specs.History as history;
 ghost use Rattle.ca_model.specs.ServerEvents.{keys_concerned, numbers_posted, with_number};
 ghost use Rattle.ca_model.specs.ServerEvents as world;
-ghost use Rattle.ca_world_data.specs.declared.joined.Standing as kept;
+ghost use Rattle.ca_world_data.specs.declared.joined.AddedSubscription as kept;
 ghost use Rattle.ca_world_data.specs.Numbering.{AllAlike, AllMayCount, HasKeyAt, IsAlike, IsPlaced};
 ghost use Rattle.ca_world_data.specs.Numbering.{MayCount, keys_at, post_limit, with_counted};
 ghost use Rattle.ca_world_data.specs.Seen.{joined_of, queue_of, record_of};
 
 use crate::history::Cause;
-use crate::joined::{Joined, Standing};
+use crate::joined::{AddedSubscription, Joined};
 use crate::server::RecordSide;
 use ca_queue::{ListQueue, Queues, SubKey};
 use ca_server_core::ServerCore;
@@ -32,7 +32,7 @@ pub fn check_counts(circuits: &[Joined]) -> Result<(), AllocError>
 }
 
 // Whether one more post can be counted for each of these.
-fn check_standing(standing: &[Standing]) -> Result<(), AllocError>
+fn check_standing(standing: &[AddedSubscription]) -> Result<(), AllocError>
     ensures { OnOk result (MayCount standing.now) }
 {
     for one in standing {
@@ -94,14 +94,14 @@ fn number_all(core: &ServerCore, joined: &mut Joined, name: &[u8], mask: u16)
 // A post to the record of this name reached the subscription at this place.
 fn number_next(core: &ServerCore, joined: &mut Joined, place: usize, name: &[u8], mask: u16)
     requires alike { IsAlike (under core.now.circuits joined.old.at_server) (joined_of joined.old) }
-    requires counts { (s : kept.Standing) → At joined.old.standing.items place s
+    requires counts { (s : kept.AddedSubscription) → At joined.old.standing.items place s
         → s.posts < post_limit }
     ensures numbers { joined_of joined.new
         ≡ fold
         with_number
         (joined_of joined.old)
         (keys_at name.now mask place (under core.now.circuits joined.old.at_server)) }
-    ensures others { (i : ℕ) (s : kept.Standing)
+    ensures others { (i : ℕ) (s : kept.AddedSubscription)
         → place < i → At joined.new.standing.items i s → At joined.old.standing.items i s }
 {
     let Some(queue) = concerned_at(core, joined.at_server, place, name, mask) else {
@@ -116,15 +116,15 @@ fn number_at(joined: &mut Joined, place: usize, queue: usize)
     requires { IsPlaced place queue (joined_of joined.old) }
     ensures numbers { (h : IsPlaced place queue (joined_of joined.old))
         → joined_of joined.new ≡ with_counted h }
-    ensures others { (i : ℕ) (s : kept.Standing)
+    ensures others { (i : ℕ) (s : kept.AddedSubscription)
         → place < i → At joined.new.standing.items i s → At joined.old.standing.items i s }
 {
-    let Standing {
+    let AddedSubscription {
         key,
         place: added,
         posts,
     } = joined.standing[place];
-    joined.standing[place] = Standing {
+    joined.standing[place] = AddedSubscription {
         key,
         place: added,
         posts: posts + 1,

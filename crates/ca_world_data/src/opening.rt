@@ -11,7 +11,7 @@ ghost use Rattle.ca_world_data.specs.Seen.{server_of};
 ghost use Rattle.ca_world_data.specs.Settings.{rule_of};
 
 use crate::client::{ClientSide, Names};
-use crate::history::{Entry, Line, Recorded};
+use crate::history::{Line, LogEntry, Recorded};
 use crate::server::{RecordSide, ServerSide};
 use crate::settings::{ClientSetting, RuleSetting, ServerSetting};
 use ca_client_core::{Address, ClientCore};
@@ -40,7 +40,7 @@ pub fn begin_clients(
 pub fn begin_servers(
     alloc: Global,
     settings: Vec<ServerSetting>,
-) -> Result<(Vec<ServerSide>, Vec<Vec<Entry>>), AllocError>
+) -> Result<(Vec<ServerSide>, Vec<Vec<LogEntry>>), AllocError>
     ensures { IfOk result (λ all. BeginServers settings.items all.0.items all.1.items) }
 {
     let mut servers = Vec::new(alloc);
@@ -146,7 +146,7 @@ pub fn no_names(alloc: Global) -> Names
 fn put_server(
     alloc: Global,
     servers: &mut Vec<ServerSide>,
-    logs: &mut Vec<Vec<Entry>>,
+    logs: &mut Vec<Vec<LogEntry>>,
     setting: ServerSetting,
 ) -> Result<(), AllocError>
     ensures { OnOk result (HasServers
@@ -165,13 +165,13 @@ fn put_server(
 }
 
 /// The log with which a server's life begins: the records that it was given.
-pub fn begin_log(alloc: Global, records: &Records) -> Result<Vec<Entry>, AllocError>
+pub fn begin_log(alloc: Global, records: &Records) -> Result<Vec<LogEntry>, AllocError>
     ensures { IfOk result (λ log. map entry_of log.items ≡ numbered 0 Added records.now) }
 {
     let mut log = Vec::new(alloc);
     for number in 0..records.len() {
         let added = record_again(alloc, records.at(number))?;
-        log.push(Entry::Added(number, added))?;
+        log.push(LogEntry::Added(number, added))?;
     }
     Ok(log)
 }
@@ -299,7 +299,7 @@ pub fn begin_parts(
     alloc: Global,
     setting: &ServerSetting,
     moment: u64,
-) -> Result<(ServerCore, Vec<RecordSide>, Vec<Entry>), AllocError>
+) -> Result<(ServerCore, Vec<RecordSide>, Vec<LogEntry>), AllocError>
     ensures { IfOk result (λ b. BeginsServer
         moment
         setting.now

@@ -13,19 +13,19 @@ ghost use Rattle.ca_world_data.specs.ServerCuts.{HasRoomFor};
 
 use crate::closing::close_server;
 use crate::entries::reserve_entries;
-use crate::history::Entry;
+use crate::history::LogEntry;
 use crate::joined::Joined;
 use crate::server::{PutPlace, RecordSide, ServerSide};
 use ca_arena::Handle;
 use ca_server_core::for_histories::{ended_at, has_ended, places};
-use ca_server_core::{ServerCore, Step};
+use ca_server_core::{CoreStep, ServerCore};
 use ca_wire::Pipe;
 use std::alloc::{AllocError, Global};
 
 /// Makes room in the log of a life for the withdrawal of all puts that wait for these records,
 /// and for n more entries.
 pub fn reserve_reports(
-    logs: &mut Vec<Vec<Entry>>,
+    logs: &mut Vec<Vec<LogEntry>>,
     life: usize,
     records: &[RecordSide],
     more: usize,
@@ -62,7 +62,7 @@ pub fn report_ends(
     server: usize,
     side: &mut ServerSide,
     circuits: &mut Vec<Joined>,
-    logs: &mut Vec<Vec<Entry>>,
+    logs: &mut Vec<Vec<LogEntry>>,
 )
     requires room { HasRoomFor (waits side.old.records.items) side.old.life logs.old.items }
     requires served { AreServed side.old.circuits.items (map joined_of circuits.old.items) server }
@@ -103,7 +103,7 @@ fn tell_gone(
     core: &ServerCore,
     circuits: &[Joined],
     records: &[RecordSide],
-    logs: &mut Vec<Vec<Entry>>,
+    logs: &mut Vec<Vec<LogEntry>>,
     life: usize,
 )
     requires { HasRoomFor (waits records.now) life logs.old.items }
@@ -125,7 +125,7 @@ fn tell_in(
     core: &ServerCore,
     circuits: &[Joined],
     records: &[RecordSide],
-    log: &mut Vec<Entry>,
+    log: &mut Vec<LogEntry>,
 )
     requires { vec_len log.old + waits records.now ≤ vec_capacity log.old }
     ensures { map entry_of log.new.items
@@ -143,7 +143,7 @@ fn tell_of(
     core: &ServerCore,
     circuits: &[Joined],
     waiting: &[PutPlace],
-    log: &mut Vec<Entry>,
+    log: &mut Vec<LogEntry>,
 )
     requires { vec_len log.old + length waiting.now ≤ vec_capacity log.old }
     ensures told { map entry_of log.new.items
@@ -154,7 +154,7 @@ fn tell_of(
 {
     for put in waiting {
         if is_gone(server, core, circuits, put.circuit) {
-            log.push_reserved(Entry::Withdrawn(put.circuit, put.place));
+            log.push_reserved(LogEntry::Withdrawn(put.circuit, put.place));
         }
     }
 }
@@ -236,10 +236,10 @@ fn left_of(alloc: Global, core: &mut ServerCore, circuit: Handle) -> Pipe
         ≡ record core.old { circuits = with_freed circuit core.old.circuits } }
 {
     match core.step(circuit) {
-        Step::Closed(_, left) => left,
-        Step::Handled(_) => Pipe::new(alloc),
-        Step::NeedBytes => Pipe::new(alloc),
-        Step::OutputFull => Pipe::new(alloc),
+        CoreStep::Closed(_, left) => left,
+        CoreStep::Handled(_) => Pipe::new(alloc),
+        CoreStep::NeedBytes => Pipe::new(alloc),
+        CoreStep::OutputFull => Pipe::new(alloc),
     }
 }
 

@@ -63,9 +63,12 @@ impl Model for ServerSetting {
     ghost use Rattle.std.specs.Prelude.{map};
     ghost use Rattle.ca_world_data.specs.Settings.{IsServer, rule_of};
 
-    ghost view = { λ s. record { address = s.address; rules = map rule_of s.rules.items; records = s.records } };
+    ghost view = { λ s.
+        record { address = s.address; rules = map rule_of s.rules.items; records = s.records } };
 
-    ghost invariant = { λ s. IsServer (record { address = s.address; rules = map rule_of s.rules.items; records = s.records }) };
+    ghost invariant = { λ s.
+        IsServer
+        (record { address = s.address; rules = map rule_of s.rules.items; records = s.records }) };
 }
 
 impl ClientSetting {

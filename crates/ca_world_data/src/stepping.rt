@@ -19,7 +19,7 @@ use crate::joined::Joined;
 use crate::logs::reserve_lines;
 use crate::room::reserve_list;
 use crate::sending::{push_sendings, reserve_sendings};
-use crate::telling::{tell_all, tell_heard};
+use crate::telling::{tell_about, tell_all};
 use ca_client_core::for_histories::{Sending, sent_by_step};
 use ca_client_core::{Closing, Notices, Stepped};
 use ca_text::Refusal;
@@ -124,9 +124,9 @@ fn hear(
 {
     let about = about_next(&circuits[circuit]);
     let logged = lines_logged(logs, side.life);
-    tell_heard(logs, side.life, about, &side.names, notices);
+    tell_about(logs, side.life, about, &side.names, notices);
     let after = lines_logged(logs, side.life);
-    note_heard(circuits, circuit, logged, after);
+    note_client_step(circuits, circuit, logged, after);
     push_sendings(client, &side.circuits, &side.names, circuits, sent);
 }
 
@@ -188,23 +188,23 @@ fn prepare_step(
     let sent = sent_by_step(&side.core, circuits[circuit].at_client)?;
     reserve_lines(logs, side.life, lines)?;
     reserve_sendings(client, &side.circuits, circuits, &sent)?;
-    reserve_heard(circuits, circuit)?;
+    reserve_client_step(circuits, circuit)?;
     Ok(sent)
 }
 
 // Makes room for one more step of the client's end of this circuit. The client has as much
 // room for its messages.
-fn reserve_heard(circuits: &mut Vec<Joined>, circuit: usize) -> Result<(), AllocError>
+fn reserve_client_step(circuits: &mut Vec<Joined>, circuit: usize) -> Result<(), AllocError>
     requires { circuit < length circuits.old.items }
     ensures same { map joined_of circuits.new.items ≡ map joined_of circuits.old.items }
     ensures room { OnOk result (HasRoomHeard circuit circuits.new.items) }
     ensures keeps { KeepsRoom circuits.old.items circuits.new.items }
 {
-    reserve_heard_in(&mut circuits[circuit])
+    reserve_client_step_in(&mut circuits[circuit])
 }
 
 // Makes room for one more step of the client's end.
-fn reserve_heard_in(joined: &mut Joined) -> Result<(), AllocError>
+fn reserve_client_step_in(joined: &mut Joined) -> Result<(), AllocError>
     ensures same { joined_of joined.new ≡ joined_of joined.old }
     ensures room { OnOk result (vec_len joined.new.lists.heard + 1
         ≤ vec_capacity joined.new.lists.heard) }
@@ -215,7 +215,7 @@ fn reserve_heard_in(joined: &mut Joined) -> Result<(), AllocError>
 
 // The client's end of this circuit made this step. There is room for it; the client has as much
 // room for its messages.
-fn note_heard(circuits: &mut Vec<Joined>, circuit: usize, logged: usize, after: usize)
+fn note_client_step(circuits: &mut Vec<Joined>, circuit: usize, logged: usize, after: usize)
     requires there { circuit < length circuits.old.items }
     requires room { HasRoomHeard circuit circuits.old.items }
     ensures heard { IsHeard
@@ -226,11 +226,11 @@ fn note_heard(circuits: &mut Vec<Joined>, circuit: usize, logged: usize, after: 
         (map joined_of circuits.new.items) }
     ensures keeps { KeepsRoom circuits.old.items circuits.new.items }
 {
-    note_heard_in(&mut circuits[circuit], logged, after);
+    note_client_step_in(&mut circuits[circuit], logged, after);
 }
 
 // The client's end made this step. There is room for it.
-fn note_heard_in(joined: &mut Joined, logged: usize, after: usize)
+fn note_client_step_in(joined: &mut Joined, logged: usize, after: usize)
     requires { vec_len joined.old.lists.heard + 1 ≤ vec_capacity joined.old.lists.heard }
     ensures heard { joined_of joined.new
         ≡ heard_in

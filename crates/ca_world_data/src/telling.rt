@@ -9,7 +9,7 @@ ghost use Rattle.ca_world_data.specs.Telling.{call_lines};
 
 use crate::client::Names;
 use crate::history::{Intent, Line};
-use crate::naming::{line_for, line_heard};
+use crate::naming::{line_about, line_for};
 use ca_client_core::Notices;
 
 /// Puts these notices into the log, if the message that the client read was about
@@ -37,7 +37,7 @@ pub fn tell_all(
 
 /// Puts these notices into the log of a client whose handles mean what is beside them: what the
 /// message was about is looked at first.
-pub fn tell_heard(
+pub fn tell_about(
     logs: &mut Vec<Vec<Line>>,
     life: usize,
     about: Intent,
@@ -67,7 +67,7 @@ fn heard_in(log: &mut Vec<Line>, about: Intent, names: &Names, notices: Notices)
 {
     let mut notices = notices;
     while let Some(notice) = notices.next() {
-        log.push_reserved(line_heard(names, about, notice));
+        log.push_reserved(line_about(names, about, notice));
     }
 }
 

@@ -51,11 +51,11 @@ pub fn tick_client(
 {
     let Foretold { sent, ends } = foretell(&mut side.core, moment)?;
     reserve_sent(client, &side.circuits, circuits, &sent)?;
-    reserve_told(side, logs, ends)?;
+    reserve_end_lines(side, logs, ends)?;
     match side.core.tick(moment) {
         Ok(ticked) => {
             push_sendings(client, &side.circuits, &side.names, circuits, sent);
-            end_told(client, side, circuits, logs, ends, ticked.closings);
+            note_ends(client, side, circuits, logs, ends, ticked.closings);
             Ok(())
         }
         Err(_) => Err(AllocError),
@@ -81,7 +81,11 @@ fn reserve_sent(
 }
 
 // Makes room for what ends of the client tell, if any ends.
-fn reserve_told(side: &ClientSide, logs: &mut Vec<Vec<Line>>, ends: bool) -> Result<(), AllocError>
+fn reserve_end_lines(
+    side: &ClientSide,
+    logs: &mut Vec<Vec<Line>>,
+    ends: bool,
+) -> Result<(), AllocError>
     ensures same { lines_in logs.new.items ≡ lines_in logs.old.items }
     ensures room { OnOk result (ends ≡ true
         → HasRoom
@@ -98,7 +102,7 @@ fn reserve_told(side: &ClientSide, logs: &mut Vec<Vec<Line>>, ends: bool) -> Res
 }
 
 // These ends of a client have ended, if any has.
-fn end_told(
+fn note_ends(
     client: usize,
     side: &ClientSide,
     circuits: &mut Vec<Joined>,

@@ -23,24 +23,29 @@ use std::alloc::AllocError;
 /// Where messages on a channel go: on which circuit of the world, under which SID, and with how
 /// many elements at most.
 #[derive(Clone, Copy)]
-pub struct Way {
+pub struct ChannelRoute {
     pub circuit: Option<usize>,
     pub sid: u32,
     pub count: u32,
 }
 
 /// Where messages on this channel go, if it is live.
-pub fn way_of(client: usize, side: &ClientSide, circuits: &[Joined], channel: Handle) -> Way
+pub fn way_of(
+    client: usize,
+    side: &ClientSide,
+    circuits: &[Joined],
+    channel: Handle,
+) -> ChannelRoute
     requires { AreNumbered side.now.circuits.items (map joined_of circuits.now) client }
     ensures { IsWay side.now.core (map joined_of circuits.now) client channel result }
 {
     match live_on(&side.core, channel) {
-        Some(live) => Way {
+        Some(live) => ChannelRoute {
             circuit: circuit_of(&side.circuits, circuits, client, live.circuit),
             sid: live.sid,
             count: live.count,
         },
-        None => Way {
+        None => ChannelRoute {
             circuit: None,
             sid: 0,
             count: 0,
@@ -122,7 +127,7 @@ pub fn prepare(
     circuits: &mut Vec<Joined>,
     logs: &mut Vec<Vec<Line>>,
     channel: usize,
-) -> Result<(Handle, Way), Refusal>
+) -> Result<(Handle, ChannelRoute), Refusal>
     requires { AreNumbered side.old.circuits.items (map joined_of circuits.old.items) client }
     ensures side { client_of side.new ≡ client_of side.old }
     ensures numbers { side.new.circuits.items ≡ side.old.circuits.items }

@@ -4,7 +4,7 @@ ghost use Rattle.ca_model.specs.ServerEvents.{without_puts};
 ghost use Rattle.ca_world_data.specs.Seen.{entry_of, record_of};
 ghost use Rattle.ca_world_data.specs.Withdrawing.{all_withdrawn, withdrawn_of};
 
-use crate::history::Entry;
+use crate::history::LogEntry;
 use crate::server::{PutPlace, RecordSide};
 use std::alloc::{AllocError, Global};
 
@@ -13,7 +13,7 @@ pub fn withdrawals(
     alloc: Global,
     circuit: usize,
     records: &[RecordSide],
-) -> Result<Vec<Entry>, AllocError>
+) -> Result<Vec<LogEntry>, AllocError>
     ensures { IfOk result (λ all. map entry_of all.items ≡ all_withdrawn circuit records.now) }
 {
     let mut all = Vec::new(alloc);
@@ -25,7 +25,7 @@ pub fn withdrawals(
 
 // Tells of those among these puts that came on the circuit.
 fn tell_withdrawn(
-    all: &mut Vec<Entry>,
+    all: &mut Vec<LogEntry>,
     circuit: usize,
     waiting: &[PutPlace],
 ) -> Result<(), AllocError>
@@ -34,7 +34,7 @@ fn tell_withdrawn(
 {
     for put in waiting {
         if put.circuit == circuit {
-            all.push(Entry::Withdrawn(put.circuit, put.place))?;
+            all.push(LogEntry::Withdrawn(put.circuit, put.place))?;
         }
     }
     Ok(())

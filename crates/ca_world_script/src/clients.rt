@@ -1,3 +1,4 @@
+//! The line of a client, and words that are addresses.
 ghost use Rattle.std.specs.Prelude.{◌≡◌, IfErr, IfOk};
 ghost use Rattle.ca_text.specs.declared.refusal.Refusal.TheVariants.{BadText};
 ghost use Rattle.ca_model.specs.Ends as ends;

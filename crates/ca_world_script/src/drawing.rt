@@ -1,3 +1,4 @@
+//! The numbers that a seed draws: those of the generator PCG32, which are the same everywhere.
 ghost use Rattle.std.specs.Prelude.{◌≡◌};
 ghost use Rattle.rand_core.specs.Stream.{next_u32};
 ghost use Rattle.ca_world_script.specs.Drawn.{numbers, seeded};

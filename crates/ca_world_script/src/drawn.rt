@@ -1,3 +1,5 @@
+//! What a drawn number is: an event on a circuit. Half of the numbers move up to 64 bytes, most
+//! others are steps and pumps, and one in 512 cuts the circuit at its client.
 ghost use Rattle.std.specs.Prelude.{◌≡◌};
 ghost use Rattle.ca_events.specs.Events.{event_of};
 ghost use Rattle.ca_world_script.specs.Drawn.{bytes_drawn, circuit_drawn, event_drawn};

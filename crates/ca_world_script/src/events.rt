@@ -1,3 +1,4 @@
+//! The lines of events by their verbs, but for `post` and `add`: one `match` in `read_event`.
 ghost use Rattle.std.specs.Prelude.{◌≡◌, ◌<◌, ℕ, List, IfErr, IfOk, length};
 ghost use Rattle.ca_text.specs.declared.refusal.Refusal.TheVariants.{BadText};
 ghost use Rattle.ca_dbr.specs.Elements.{Elements, elements};

@@ -1,3 +1,5 @@
+//! Which lives each client had. Lives are numbered for all clients together: the first of each,
+//! then one for each restart, in order.
 ghost use Rattle.std.specs.Prelude.{◌≡◌, ◌++◌, ◌==◌, if◌then◌else◌, [], ◌∷◌, IfOk, OnOk, map};
 ghost use Rattle.ca_events.specs.Events.{event_of};
 ghost use Rattle.ca_world_script.specs.Whole.{lives_of, restarted, restarts};

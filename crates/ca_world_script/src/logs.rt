@@ -1,3 +1,5 @@
+//! The lines of a report: one for each entry of a client's log, but for its calls that were
+//! accepted.
 ghost use Rattle.std.specs.Prelude.{◌≡◌, ◌≢◌, ◌<◌, ◌++◌, IfErr, OnErr, OnOk, Some, length, map};
 ghost use Rattle.ca_text.specs.declared.refusal.Refusal.TheVariants.{OutOfMemory};
 ghost use Rattle.ca_text.specs.Place.{At};
@@ -163,13 +165,13 @@ fn put_found(log: &[Line], place: Option<usize>, text: &mut Vec<u8>) -> Result<(
         None => put(b" nothing", text),
         Some(place) => match log.get(place) {
             None => put(b" nothing", text),
-            Some(line) => put_told(line, text),
+            Some(line) => put_line_outcome(line, text),
         },
     }
 }
 
 // Puts the outcome that a line says.
-fn put_told(line: &Line, text: &mut Vec<u8>) -> Result<(), Refusal>
+fn put_line_outcome(line: &Line, text: &mut Vec<u8>) -> Result<(), Refusal>
     ensures ok { OnOk result (text.new.items
         ≡ text.old.items ++ told_text (Some (line_of line.now))) }
     ensures err { IfErr result (λ e. e ≡ OutOfMemory) }

@@ -1,3 +1,5 @@
+//! The report of a run: the lines of each client through all of its lives, and last the number of
+//! events.
 ghost use Rattle.std.specs.Prelude.{◌≡◌, ◌++◌, IfErr, OnOk, map};
 ghost use Rattle.ca_text.specs.declared.refusal.Refusal.TheVariants.{OutOfMemory};
 ghost use Rattle.ca_events.specs.Events.{event_of};

@@ -1,3 +1,4 @@
+//! The lines `record` and `rule`, which belong to the server above them.
 ghost use Rattle.std.specs.Prelude.{◌∷◌, IfErr, IfOk, codes};
 ghost use Rattle.ca_script.specs.Grammar.{Refuses, parted};
 ghost use Rattle.ca_script.specs.Lines.{SaysRule};

@@ -1,3 +1,4 @@
+//! The types of the records that `add` lines name, which the posts below them need.
 ghost use Rattle.std.specs.Prelude.{◌≡◌, OnOk};
 ghost use Rattle.ca_world_script.specs.Index.{added_of};
 ghost use Rattle.ca_world_script.specs.Types.{Adds, none_added};

@@ -1,3 +1,5 @@
+//! The words with which lines of events begin, but for `post` and `add`: these also need, or
+//! change, what is known of the types of records.
 ghost use Rattle.std.specs.Prelude.{◌≡◌, MatchOption};
 ghost use Rattle.ca_world_script.specs.Events.{verb_word};
 ghost use Rattle.ca_world_script.specs.declared.verb.Verb.{Verb};

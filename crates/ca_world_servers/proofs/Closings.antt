@@ -16,7 +16,7 @@ use Rattle.ca_model.specs.Server.{Server}
 use Rattle.ca_model.specs.ServerEvents.{ending, ends_at, ends_by, left_by, reported, server_closed, withdrawals, without_puts}
 use Rattle.ca_model.specs.World.{Joined, grown}
 use Rattle.ca_model.specs.World as model
-use Rattle.ca_world_data.specs.declared.history.Entry.{Entry as Written}
+use Rattle.ca_world_data.specs.declared.history.LogEntry.{LogEntry as Written}
 use Rattle.ca_world_data.specs.declared.server.PutPlace.{PutPlace}
 use Rattle.ca_world_data.specs.declared.server.RecordSide.{RecordSide}
 use Rattle.ca_world_data.specs.declared.server.ServerSide.{ServerSide}

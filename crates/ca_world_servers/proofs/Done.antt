@@ -22,7 +22,7 @@ use Rattle.ca_model.specs.ServerEvents.{is_of_channel, logged_by, number_of, num
 use Rattle.ca_model.specs.World.{Joined, PutPlace, RecordSide, grown}
 use Rattle.ca_server_circuit.specs.Effects.{effect_due}
 use Rattle.ca_server_circuit.specs.declared.effect.Effect.{Effect}
-use Rattle.ca_world_data.specs.declared.history.Entry.{Entry as Written}
+use Rattle.ca_world_data.specs.declared.history.LogEntry.{LogEntry as Written}
 use Rattle.ca_world_data.specs.declared.server.RecordSide.{RecordSide as Kept}
 use Rattle.ca_world_data.specs.declared.server.ServerSide.{ServerSide}
 use Rattle.ca_world_data.specs.Reporting.{waits}

@@ -19,8 +19,8 @@ use Rattle.ca_model.specs.World as model
 use Rattle.ca_server_subscriptions.proofs.Sieves.{filter-on, steps-sieve, without-sieve}
 use Rattle.ca_world_data.specs.declared.history.Cause.{Cause}
 use Rattle.ca_world_data.specs.declared.joined.Joined.{Joined}
-use Rattle.ca_world_data.specs.declared.joined.Creation.{Creation}
-use Rattle.ca_world_data.specs.declared.joined.Standing.{Standing}
+use Rattle.ca_world_data.specs.declared.joined.CreatedChannel.{CreatedChannel}
+use Rattle.ca_world_data.specs.declared.joined.AddedSubscription.{AddedSubscription}
 use Rattle.ca_world_data.specs.declared.server.PutPlace.{PutPlace}
 use Rattle.ca_world_data.specs.declared.server.RecordSide.{RecordSide}
 use Rattle.ca_world_data.specs.Numbering.{keys_on}
@@ -100,25 +100,25 @@ drops-none gone [] = refl
 drops-none gone (q ∷ qs) = ap (λ (t : List (Queue _)). q ∷ t) (drops-none gone qs)
 
 -- a row is passed: nothing is left of it
-pub drops-all : {E : Type 0} (gone : SubKey → Bool) (i : ℕ) (ss : List Standing) (qs : List (Queue E)) → length ss ≤ i → map (dropped gone (map (λ (s : Standing). s.key) (drop i ss))) qs ≡ qs
-drops-all {E} gone i ss qs over = ap (λ (rest : List Standing). map (dropped gone (map (λ (s : Standing). s.key) rest)) qs) (none i ss over) ∙ drops-none gone qs
+pub drops-all : {E : Type 0} (gone : SubKey → Bool) (i : ℕ) (ss : List AddedSubscription) (qs : List (Queue E)) → length ss ≤ i → map (dropped gone (map (λ (s : AddedSubscription). s.key) (drop i ss))) qs ≡ qs
+drops-all {E} gone i ss qs over = ap (λ (rest : List AddedSubscription). map (dropped gone (map (λ (s : AddedSubscription). s.key) rest)) qs) (none i ss over) ∙ drops-none gone qs
   where
-    none : (i : ℕ) (ss : List Standing) → length ss ≤ i → drop i ss ≡ []
+    none : (i : ℕ) (ss : List AddedSubscription) → length ss ≤ i → drop i ss ≡ []
     none zero [] le = refl
     none zero (s ∷ ss) le = absurd (omega (arith, le))
     none (suc i) [] le = refl
     none (suc i) (s ∷ ss) le = none i ss (omega (arith, le))
 
 -- the one at a place of a row
-pub drops-here : {E : Type 0} (gone : SubKey → Bool) (i : ℕ) (ss : List Standing) (s : Standing) (qs new : List (Queue E)) → At ss i s → new ≡ map (λ (q : Queue E). if gone s.key then cancelled s.key q else q) qs
-    → map (dropped gone (map (λ (x : Standing). x.key) (drop (i + 1) ss))) new ≡ map (dropped gone (map (λ (x : Standing). x.key) (drop i ss))) qs
+pub drops-here : {E : Type 0} (gone : SubKey → Bool) (i : ℕ) (ss : List AddedSubscription) (s : AddedSubscription) (qs new : List (Queue E)) → At ss i s → new ≡ map (λ (q : Queue E). if gone s.key then cancelled s.key q else q) qs
+    → map (dropped gone (map (λ (x : AddedSubscription). x.key) (drop (i + 1) ss))) new ≡ map (dropped gone (map (λ (x : AddedSubscription). x.key) (drop i ss))) qs
 drops-here {E} gone i ss s qs new at is =
-    drops-next gone s.key (map (λ (x : Standing). x.key) (drop (i + 1) ss)) qs new is
-    ∙ ap (λ (rest : List Standing). map (dropped gone (map (λ (x : Standing). x.key) rest)) qs) (sym (here i ss at))
+    drops-next gone s.key (map (λ (x : AddedSubscription). x.key) (drop (i + 1) ss)) qs new is
+    ∙ ap (λ (rest : List AddedSubscription). map (dropped gone (map (λ (x : AddedSubscription). x.key) rest)) qs) (sym (here i ss at))
   where
-    here : (i : ℕ) (ss : List Standing) → At ss i s → drop i ss ≡ s ∷ drop (i + 1) ss
+    here : (i : ℕ) (ss : List AddedSubscription) → At ss i s → drop i ss ≡ s ∷ drop (i + 1) ss
     here i [] at = absurd cc
-    here zero (x ∷ ss) at = ap (λ (z : Standing). z ∷ ss) (some_is x s at)
+    here zero (x ∷ ss) at = ap (λ (z : AddedSubscription). z ∷ ss) (some_is x s at)
     here (suc i) (x ∷ ss) at = (let e : suc i + 1 ≡ suc (i + 1) = omega arith in here i ss at ∙ ap (λ (k : ℕ). s ∷ drop k (x ∷ ss)) (sym e))
 
 pub cancels-it : {E : Type 0} (gone : SubKey → Bool) (key : SubKey) (qs new : List (Queue E)) → gone key ≡ true → new ≡ map (cancelled key) qs → new ≡ map (λ (q : Queue E). if gone key then cancelled key q else q) qs
@@ -190,12 +190,12 @@ each-cancelled key (q ∷ qs) known =
 
 -- ---- a circuit
 
-pub standing-left : (gone : SubKey → Bool) (ss : List Standing) → map standing_of (filter (λ (s : Standing). not (gone s.key)) ss) ≡ filter (λ (s : model.Standing). not (gone s.key)) (map standing_of ss)
+pub standing-left : (gone : SubKey → Bool) (ss : List AddedSubscription) → map standing_of (filter (λ (s : AddedSubscription). not (gone s.key)) ss) ≡ filter (λ (s : model.Standing). not (gone s.key)) (map standing_of ss)
 standing-left gone [] = refl
 standing-left gone (s ∷ ss) = go (gone s.key) (standing-left gone ss)
   where
-    kept : List Standing
-    kept = filter (λ (x : Standing). not (gone x.key)) ss
+    kept : List AddedSubscription
+    kept = filter (λ (x : AddedSubscription). not (gone x.key)) ss
 
     left : List model.Standing
     left = filter (λ (x : model.Standing). not (gone x.key)) (map standing_of ss)
@@ -204,14 +204,14 @@ standing-left gone (s ∷ ss) = go (gone s.key) (standing-left gone ss)
     go true same = same
     go false same = ap (λ (t : List model.Standing). standing_of s ∷ t) same
 
-keys-seen : (ss : List Standing) → map (λ (s : Standing). s.key) ss ≡ map (λ (s : model.Standing). s.key) (map standing_of ss)
+keys-seen : (ss : List AddedSubscription) → map (λ (s : AddedSubscription). s.key) ss ≡ map (λ (s : model.Standing). s.key) (map standing_of ss)
 keys-seen [] = refl
 keys-seen (s ∷ ss) = ap (λ (t : List SubKey). s.key ∷ t) (keys-seen ss)
 
 pub loses-so : (j new : Joined) (lost : List (ℕ × ℕ)) → AreSeated (joined_of j)
     → (down : map told_of new.lists.down.items ≡ map told_of j.lists.down.items ++ map (lost_told (map creation_of j.creations.items)) lost)
-    → (standing : new.standing.items ≡ filter (λ (s : Standing). not (is_lost lost s.key)) j.standing.items)
-    → (queues : map (λ (q : Queue (ℕ × Cause) × Bool). queue_of q.0) new.queues.items ≡ map (dropped (is_lost lost) (map (λ (s : Standing). s.key) j.standing.items)) (map (λ (q : Queue (ℕ × Cause) × Bool). queue_of q.0) j.queues.items))
+    → (standing : new.standing.items ≡ filter (λ (s : AddedSubscription). not (is_lost lost s.key)) j.standing.items)
+    → (queues : map (λ (q : Queue (ℕ × Cause) × Bool). queue_of q.0) new.queues.items ≡ map (dropped (is_lost lost) (map (λ (s : AddedSubscription). s.key) j.standing.items)) (map (λ (q : Queue (ℕ × Cause) × Bool). queue_of q.0) j.queues.items))
     → joined_of (record j { lists = record j.lists { down = new.lists.down }; standing = new.standing; queues = new.queues }) ≡ without_lost lost (joined_of j)
 loses-so j new lost seated down standing queues =
     let gone : SubKey → Bool = is_lost lost in
@@ -225,12 +225,12 @@ pub stands-no-more : (gone : SubKey → Bool) (j new : Joined) → map standing_
     → joined_of (record j { standing = new.standing; queues = new.queues }) ≡ event.without_standing gone (joined_of j)
 stands-no-more gone j new stands rows = λ t. record (joined_of j) { standing = stands t; queues = rows t }
 
-pub creations-left : (sid : ℕ) (cs : List Creation) → map creation_of (filter (λ (c : Creation). not (c.sid == sid)) cs) ≡ filter (λ (c : model.Creation). not (c.sid == sid)) (map creation_of cs)
+pub creations-left : (sid : ℕ) (cs : List CreatedChannel) → map creation_of (filter (λ (c : CreatedChannel). not (c.sid == sid)) cs) ≡ filter (λ (c : model.Creation). not (c.sid == sid)) (map creation_of cs)
 creations-left sid [] = refl
 creations-left sid (c ∷ cs) = go (c.sid == sid) (creations-left sid cs)
   where
-    kept : List Creation
-    kept = filter (λ (x : Creation). not (x.sid == sid)) cs
+    kept : List CreatedChannel
+    kept = filter (λ (x : CreatedChannel). not (x.sid == sid)) cs
 
     left : List model.Creation
     left = filter (λ (x : model.Creation). not (x.sid == sid)) (map creation_of cs)
@@ -241,9 +241,9 @@ creations-left sid (c ∷ cs) = go (c.sid == sid) (creations-left sid cs)
 
 -- a circuit without the channel of a SID, and its subscriptions
 pub ends-channel : (sid cid : ℕ) (j new : Joined) → AreSeated (joined_of j)
-    → (standing : new.standing.items ≡ filter (λ (s : Standing). not (is_lost ((sid, cid) ∷ []) s.key)) j.standing.items)
-    → (queues : map (λ (q : Queue (ℕ × Cause) × Bool). queue_of q.0) new.queues.items ≡ map (dropped (is_lost ((sid, cid) ∷ [])) (map (λ (s : Standing). s.key) j.standing.items)) (map (λ (q : Queue (ℕ × Cause) × Bool). queue_of q.0) j.queues.items))
-    → (creations : new.creations.items ≡ filter (λ (c : Creation). not (c.sid == sid)) j.creations.items)
+    → (standing : new.standing.items ≡ filter (λ (s : AddedSubscription). not (is_lost ((sid, cid) ∷ []) s.key)) j.standing.items)
+    → (queues : map (λ (q : Queue (ℕ × Cause) × Bool). queue_of q.0) new.queues.items ≡ map (dropped (is_lost ((sid, cid) ∷ [])) (map (λ (s : AddedSubscription). s.key) j.standing.items)) (map (λ (q : Queue (ℕ × Cause) × Bool). queue_of q.0) j.queues.items))
+    → (creations : new.creations.items ≡ filter (λ (c : CreatedChannel). not (c.sid == sid)) j.creations.items)
     → joined_of (record j { creations = new.creations; standing = new.standing; queues = new.queues }) ≡ without_sid sid (joined_of j)
 ends-channel sid cid j new seated standing queues creations =
     let lost : SubKey → Bool = is_lost ((sid, cid) ∷ []) in

@@ -37,7 +37,13 @@ is_lost lost k = list_any (λ (c : ℕ × ℕ). c.0 == k.sid) lost
 -- Their SERVER_DISCONNs went down, and their subscriptions are over.
 abbrev pub without_lost : List (ℕ × ℕ) → Joined → Joined
 without_lost lost j =
-    without_standing (is_lost lost) (record j { lists = record j.lists { down = j.lists.down ++ map (lost_told j.creations) lost } })
+    without_standing (is_lost lost)
+    (record j {
+      lists = record j.lists {
+        down = j.lists.down
+            ++ map (lost_told j.creations) lost;
+      };
+    })
 
 -- a queue without those of these subscriptions that a test names
 abbrev pub dropped : {E : Type 0} → (SubKey → Bool) → List SubKey → Queue E → Queue E
@@ -57,8 +63,11 @@ pub record AreSeated (j : Joined) : Type 0 where
 -- many bytes wait there
 abbrev pub lead_at : (i : ℕ) → Server → (name : List ℕ) → Joined → List (ℕ × ℕ) × ℕ
 lead_at i core name j =
-    if j.server == i && j.lists.server_open then
-    (channels_under name (under core.circuits j.at_server), length (bytes_under (under core.circuits j.at_server))) else ([], 0)
+    if j.server == i && j.lists.server_open then (
+      channels_under name (under core.circuits j.at_server),
+      length (bytes_under (under core.circuits j.at_server)),
+    )
+    else ([], 0)
 
 -- that is known, and there is room for a SERVER_DISCONN for each
 pub record IsReady (i : ℕ) (core : Server) (name : List ℕ) (j : Opened) (l : Leading) : Type 0 where
@@ -77,7 +86,8 @@ pub record AllReady (i : ℕ) (core : Server) (name : List ℕ) (ks : List Opene
 -- are after what waited
 abbrev pub Disconnects : (core : Server) → Joined → Leading → ℕ → Type 0
 Disconnects core j l n =
-    (l.waited + 16 * n ≡ length (bytes_under (under core.circuits j.at_server))) × (n ≤ length l.channels.items)
+    (l.waited + 16 * n ≡ length (bytes_under (under core.circuits j.at_server)))
+    × (n ≤ length l.channels.items)
 
 -- a circuit that is open at server i may lose channels: there is room, and its queues have the
 -- subscriptions that stand
@@ -101,7 +111,8 @@ abbrev pub AreLost : (i : ℕ) → (core : Server) → List Opened → List Lead
     → Type 0
 AreLost i core ks ls f =
     (k : ℕ) (j : Opened) (l : Leading) (n : ℕ) → At ks k j → At ls k l
-    → (j.server ≡ i → j.lists.server_open ≡ true → Disconnects core (joined_of j) l n) → f (joined_of j) ≡ lost_by i l n (joined_of j)
+    → (j.server ≡ i → j.lists.server_open ≡ true → Disconnects core (joined_of j) l n)
+    → f (joined_of j) ≡ lost_by i l n (joined_of j)
 
 -- ---- the log
 

@@ -17,7 +17,7 @@ use crate::parting::{Parting, keep_waiting};
 use ca_dbr::Meta;
 use ca_server_core::Effect;
 use ca_world_data::entries::{push_entry, push_some};
-use ca_world_data::history::{Entry, Stored};
+use ca_world_data::history::{LogEntry, Stored};
 use ca_world_data::joined::Joined;
 use ca_world_data::numbering::{number_of, post_numbers};
 use ca_world_data::server::{RecordSide, ServerSide};
@@ -33,7 +33,7 @@ pub fn tell_effect(
     server: usize,
     side: &mut ServerSide,
     circuits: &mut Vec<Joined>,
-    logs: &mut Vec<Vec<Entry>>,
+    logs: &mut Vec<Vec<LogEntry>>,
     effect: Effect,
     write: Option<Coming>,
     parting: Option<Parting>,
@@ -105,7 +105,7 @@ pub fn tell_write(
     server: usize,
     side: &mut ServerSide,
     circuits: &mut Vec<Joined>,
-    logs: &mut Vec<Vec<Entry>>,
+    logs: &mut Vec<Vec<LogEntry>>,
     wrote: Option<bool>,
     write: Option<Coming>,
 )
@@ -142,7 +142,7 @@ pub fn tell_write(
     push_entry(
         logs,
         side.life,
-        Entry::Applied(circuit, place, number, stored, busies),
+        LogEntry::Applied(circuit, place, number, stored, busies),
     );
     busy_if(&mut side.records, &name, circuit, place, busies);
     post_numbers(server, &side.core, circuits, &name, WRITE_MASK);
@@ -167,7 +167,7 @@ fn tell_wait(
     circuit: usize,
     place: usize,
     side: &mut ServerSide,
-    logs: &mut Vec<Vec<Entry>>,
+    logs: &mut Vec<Vec<LogEntry>>,
     write: Option<Coming>,
 )
     requires apart { AreApart (map record_of side.old.records.items) }
@@ -194,13 +194,13 @@ fn tell_wait(
     push_entry(
         logs,
         side.life,
-        Entry::Waits(circuit, place, number, stored),
+        LogEntry::Waits(circuit, place, number, stored),
     );
     add_waiting(&mut side.records, &name, circuit, place);
 }
 
 // The puts of the channel that is cleared leave their records.
-fn tell_clear(side: &mut ServerSide, logs: &mut Vec<Vec<Entry>>, parting: Option<Parting>)
+fn tell_clear(side: &mut ServerSide, logs: &mut Vec<Vec<LogEntry>>, parting: Option<Parting>)
     requires parted { IsPartingOf parting (map record_of side.old.records.items) }
     requires room { HasRoomFor (waits side.old.records.items) side.old.life logs.old.items }
     ensures tells { TellsClear

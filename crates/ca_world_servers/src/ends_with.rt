@@ -16,7 +16,7 @@ use ca_server_core::ServerCore;
 use ca_server_core::for_histories::has_ended;
 use ca_wire::Pipe;
 use ca_world_data::closing::close_server;
-use ca_world_data::history::Entry;
+use ca_world_data::history::LogEntry;
 use ca_world_data::joined::Joined;
 use ca_world_data::reporting::{report_ends, served_on};
 use ca_world_data::server::{PutPlace, RecordSide, ServerSide};
@@ -30,7 +30,7 @@ pub fn report_ends_with(
     server: usize,
     side: &mut ServerSide,
     circuits: &mut Vec<Joined>,
-    logs: &mut Vec<Vec<Entry>>,
+    logs: &mut Vec<Vec<LogEntry>>,
     handle: Handle,
     left: Pipe,
 )
@@ -71,7 +71,7 @@ fn withdraw_all(
     core: &ServerCore,
     circuits: &[Joined],
     records: &mut Vec<RecordSide>,
-    logs: &mut Vec<Vec<Entry>>,
+    logs: &mut Vec<Vec<LogEntry>>,
     life: usize,
 )
     requires { HasRoomFor (waits records.old.items) life logs.old.items }
@@ -145,7 +145,7 @@ fn tell_gone(
     core: &ServerCore,
     circuits: &[Joined],
     records: &[RecordSide],
-    logs: &mut Vec<Vec<Entry>>,
+    logs: &mut Vec<Vec<LogEntry>>,
     life: usize,
 )
     requires { HasRoomFor (waits records.now) life logs.old.items }
@@ -175,7 +175,7 @@ fn tell_in(
     core: &ServerCore,
     circuits: &[Joined],
     records: &[RecordSide],
-    log: &mut Vec<Entry>,
+    log: &mut Vec<LogEntry>,
 )
     requires { vec_len log.old + waits records.now ≤ vec_capacity log.old }
     ensures told { map entry_of log.new.items
@@ -197,7 +197,7 @@ fn tell_of(
     core: &ServerCore,
     circuits: &[Joined],
     waiting: &[PutPlace],
-    log: &mut Vec<Entry>,
+    log: &mut Vec<LogEntry>,
 )
     requires { vec_len log.old + length waiting.now ≤ vec_capacity log.old }
     ensures told { map entry_of log.new.items
@@ -210,7 +210,7 @@ fn tell_of(
 {
     for put in waiting {
         if is_gone(server, handle, core, circuits, put.circuit) {
-            log.push_reserved(Entry::Withdrawn(put.circuit, put.place));
+            log.push_reserved(LogEntry::Withdrawn(put.circuit, put.place));
         }
     }
 }

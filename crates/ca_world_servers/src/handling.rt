@@ -22,7 +22,7 @@ ghost use Rattle.ca_world_servers.specs.Losing.{AreSeated};
 use crate::losing::{cancel_in, drop_lost};
 use ca_queue::{ListQueue, Queues, SubKey};
 use ca_world_data::history::{Cause, Step, Told};
-use ca_world_data::joined::{Creation, Joined, Standing};
+use ca_world_data::joined::{AddedSubscription, CreatedChannel, Joined};
 use ca_world_data::room::reserve_list;
 use ca_world_data::server::{PutPlace, RecordSide};
 use std::alloc::AllocError;
@@ -65,7 +65,7 @@ pub fn begin_channel(joined: &mut Joined, sid: u32, place: usize) -> Result<(), 
         (joined_of joined.old)) }
     ensures err { OnErr result (joined_of joined.new ≡ joined_of joined.old) }
 {
-    joined.creations.push(Creation { sid, place })?;
+    joined.creations.push(CreatedChannel { sid, place })?;
     Ok(())
 }
 
@@ -96,7 +96,7 @@ pub fn begin_standing(joined: &mut Joined, key: SubKey, place: usize) -> Result<
 {
     joined.standing.reserve(1)?;
     take_number(&mut joined.queues, key, place)?;
-    joined.standing.push_reserved(Standing {
+    joined.standing.push_reserved(AddedSubscription {
         key,
         place,
         posts: 1,

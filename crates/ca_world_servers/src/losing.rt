@@ -17,8 +17,8 @@ use ca_queue::{ListQueue, Queues, SubKey};
 use ca_server_core::ServerCore;
 use ca_server_core::for_histories::{bytes_of, channels_to};
 use ca_wire::{Cid, disconnect};
-use ca_world_data::history::{Cause, Entry, Told};
-use ca_world_data::joined::{Creation, Joined, Standing};
+use ca_world_data::history::{Cause, LogEntry, Told};
+use ca_world_data::joined::{AddedSubscription, CreatedChannel, Joined};
 use ca_world_data::room::reserve_list;
 use ca_world_data::server::{PutPlace, RecordSide};
 use std::alloc::{AllocError, Global};
@@ -142,7 +142,7 @@ fn lose_open(alloc: Global, core: &ServerCore, joined: &mut Joined, leading: &Le
 }
 
 // The SERVER_DISCONNs of these channels went down. There is room for them.
-fn tell_lost(alloc: Global, creations: &[Creation], lost: &[(u32, u32)], down: &mut Vec<Told>)
+fn tell_lost(alloc: Global, creations: &[CreatedChannel], lost: &[(u32, u32)], down: &mut Vec<Told>)
     requires { vec_len down.old + length lost.now ≤ vec_capacity down.old }
     ensures { map told_of down.new.items
         ≡ map told_of down.old.items
@@ -159,7 +159,7 @@ fn tell_lost(alloc: Global, creations: &[Creation], lost: &[(u32, u32)], down: &
 }
 
 // The place of the CREATE_CHAN of the open channel of this SID.
-fn created_at(sid: u32, creations: &[Creation]) -> usize
+fn created_at(sid: u32, creations: &[CreatedChannel]) -> usize
     ensures { result ≡ world.created_at sid (map creation_of creations.now) }
 {
     for creation in creations {
@@ -172,7 +172,7 @@ fn created_at(sid: u32, creations: &[Creation]) -> usize
 
 // Subscriptions on these channels are over, and their numbers no longer wait.
 pub(crate) fn drop_lost(
-    standing: &mut Vec<Standing>,
+    standing: &mut Vec<AddedSubscription>,
     queues: &mut [ListQueue<(usize, Cause)>],
     lost: &[(u32, u32)],
 )
@@ -224,14 +224,14 @@ pub fn removal_entries(
     alloc: Global,
     name: &[u8],
     records: &[RecordSide],
-) -> Result<Vec<Entry>, AllocError>
+) -> Result<Vec<LogEntry>, AllocError>
     ensures { IfOk result (λ all.
         map entry_of all.items ≡ removed_all name.now records.now) }
 {
     let mut all = Vec::new(alloc);
     for record in records {
         if record.name.as_slice() == name {
-            all.push(Entry::Removed(record.number))?;
+            all.push(LogEntry::Removed(record.number))?;
             tell_withdrawn(&mut all, &record.waiting)?;
         }
     }
@@ -239,12 +239,12 @@ pub fn removal_entries(
 }
 
 // Tells of the withdrawal of these puts.
-fn tell_withdrawn(all: &mut Vec<Entry>, waiting: &[PutPlace]) -> Result<(), AllocError>
+fn tell_withdrawn(all: &mut Vec<LogEntry>, waiting: &[PutPlace]) -> Result<(), AllocError>
     ensures { OnOk result (map entry_of all.new.items
         ≡ map entry_of all.old.items ++ withdrawn_entries waiting.now) }
 {
     for put in waiting {
-        all.push(Entry::Withdrawn(put.circuit, put.place))?;
+        all.push(LogEntry::Withdrawn(put.circuit, put.place))?;
     }
     Ok(())
 }

@@ -12,7 +12,7 @@ use ca_ids::WireId;
 use ca_records::Put;
 use ca_server_core::ServerCore;
 use ca_server_core::for_histories::waiting_at;
-use ca_world_data::history::Entry;
+use ca_world_data::history::LogEntry;
 use ca_world_data::server::{PutPlace, RecordSide};
 use std::alloc::{AllocError, Global};
 
@@ -21,7 +21,7 @@ use std::alloc::{AllocError, Global};
 #[derive(Drop)]
 pub struct Parting {
     pub kept: Vec<Vec<PutPlace>>,
-    pub told: Vec<Entry>,
+    pub told: Vec<LogEntry>,
 }
 
 /// That of the channel of this SID on this circuit of the core.
@@ -52,7 +52,7 @@ fn part_waiting(
     circuit: Handle,
     sid: u32,
     side: &RecordSide,
-    told: &mut Vec<Entry>,
+    told: &mut Vec<LogEntry>,
 ) -> Result<Vec<PutPlace>, AllocError>
     ensures kept { IfOk result (λ v.
         places_in v ≡ kept_of core.now circuit sid (record_of side.now)) }
@@ -74,7 +74,7 @@ fn part_waiting(
 // The put at this place is kept, or the log says that it is withdrawn.
 fn put_aside(
     kept: &mut Vec<PutPlace>,
-    told: &mut Vec<Entry>,
+    told: &mut Vec<LogEntry>,
     put: PutPlace,
     gone: bool,
 ) -> Result<(), AllocError>
@@ -84,7 +84,7 @@ fn put_aside(
         ≡ map entry_of told.old.items ++ map withdrawn_at (put_if gone (place_of put))) }
 {
     if gone {
-        told.push(Entry::Withdrawn(put.circuit, put.place))?;
+        told.push(LogEntry::Withdrawn(put.circuit, put.place))?;
     } else {
         kept.push(put)?;
     }

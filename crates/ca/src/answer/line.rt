@@ -1,3 +1,4 @@
+//! What the words after `answer` ask for: records of a file, or the standing ones.
 ghost use Rattle.std.specs.Prelude.{◌≡◌, IfErr, IfOk, map, string_bytes};
 ghost use Rattle.ca_text.specs.declared.refusal.Refusal.TheVariants.{OutOfMemory};
 ghost use Rattle.clap.specs.Words.{app_of};

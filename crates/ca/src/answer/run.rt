@@ -1,3 +1,5 @@
+//! The run of `answer`, from the inside out: `serve` serves, `answer_run` makes an exit status of
+//! the outcome, and `answer_file` first reads the records from a file.
 ghost use Rattle.std.specs.Prelude.{◌+◌, ◌<◌, ◌≤◌, ◌^◌, IfErr, IfOk, Some, option_map};
 ghost use Rattle.ca_text.specs.Limits.{engine_turns};
 ghost use Rattle.ca_script.specs.Grammar.{Refuses};

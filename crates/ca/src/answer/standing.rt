@@ -1,3 +1,5 @@
+//! The six records that `answer` serves without a file: LONGs, a DOUBLE and a STRING, among them a
+//! slow one and one of up to 20,000 elements.
 ghost use Rattle.std.specs.Prelude.{◌≡◌, [], ◌∷◌, IfOk, IfErr, OnOk};
 ghost use Rattle.ca_text.specs.declared.refusal.Refusal.TheVariants.{OutOfMemory};
 ghost use Rattle.ca.specs.Standing.{gain, note, setp, slow, standing, temp, wave};

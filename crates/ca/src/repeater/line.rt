@@ -1,3 +1,4 @@
+//! What the words after `repeater` ask for: a port, and after how many datagrams it ends.
 ghost use Rattle.std.specs.Prelude.{◌≡◌, IfErr, IfOk, ℕ, MatchOption, map, option_map};
 ghost use Rattle.std.specs.Prelude.{string_bytes};
 ghost use Rattle.ca_text.specs.declared.refusal.Refusal.TheVariants.{OutOfMemory};

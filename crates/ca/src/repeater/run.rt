@@ -1,3 +1,5 @@
+//! The run of `repeater`: a datagram comes, the core returns what is to be sent, and a send that
+//! fails has the core drop that member.
 ghost use Rattle.std.specs.Prelude.{◌≡◌, ◌<◌, ◌^◌, OnErr};
 ghost use Rattle.ca.specs.Repeating.{Repeats, RepeatsFrom, RepeatsTo, Sends, SendsOne, Takes};
 
@@ -29,7 +31,7 @@ pub fn repeater_bound<D: Datagrams + Drop, K: Sink, W: Write>(
 {
     match bound {
         Err(Fault) => report(Err(Refusal::Device), err),
-        Ok(mut datagrams) => match told_port(alloc, &datagrams, line.port, sink) {
+        Ok(mut datagrams) => match write_port(alloc, &datagrams, line.port, sink) {
             Err(refusal) => report(Err(refusal), err),
             Ok(()) => repeater_run(alloc, &mut datagrams, line.datagrams, err),
         },
@@ -38,7 +40,7 @@ pub fn repeater_bound<D: Datagrams + Drop, K: Sink, W: Write>(
 
 /// Writes where datagrams are received, if the system chose the port. Refused as Device if it
 /// cannot, and as OutOfMemory.
-fn told_port<D: Datagrams, K: Sink>(
+fn write_port<D: Datagrams, K: Sink>(
     alloc: Global,
     datagrams: &D,
     port: u16,

@@ -1,6 +1,8 @@
+//! The system's UDP socket as `Datagrams`, with a way to find that a member's port is nobody's any
+//! more. No contract says what it carries.
 use crate::repeater::Datagrams;
 use ca_link::Fault;
-use ca_repeat::Address;
+use ca_repeat::UdpAddress;
 use std::net::{IpAddr, Ipv4Addr, Net, SocketAddr, UdpSocket};
 
 /// The system's socket, of which nothing is known.
@@ -8,27 +10,27 @@ use std::net::{IpAddr, Ipv4Addr, Net, SocketAddr, UdpSocket};
 /// It is connected to nobody, so the system tells it nothing of a port that nobody has: it looks
 /// whether it could have that port itself.
 #[derive(Drop)]
-pub struct Socket<'a, R> {
+pub struct RepeaterSocket<'a, R> {
     net: &'a R,
     socket: UdpSocket,
 }
 
-impl<'a, R: Net> Socket<'a, R> {
+impl<'a, R: Net> RepeaterSocket<'a, R> {
     /// A socket that is bound.
-    pub fn new(net: &'a R, socket: UdpSocket) -> Socket<'a, R> {
-        Socket { net, socket }
+    pub fn new(net: &'a R, socket: UdpSocket) -> RepeaterSocket<'a, R> {
+        RepeaterSocket { net, socket }
     }
 
     /// A socket of this port on all addresses of the host: beacons come from other hosts too.
-    pub fn bind(net: &'a R, port: u16) -> Result<Socket<'a, R>, Fault> {
+    pub fn bind(net: &'a R, port: u16) -> Result<RepeaterSocket<'a, R>, Fault> {
         match UdpSocket::bind(net, (Ipv4Addr::UNSPECIFIED, port)) {
-            Ok(socket) => Ok(Socket { net, socket }),
+            Ok(socket) => Ok(RepeaterSocket { net, socket }),
             Err(_) => Err(Fault),
         }
     }
 }
 
-impl<'a, R: Net> Datagrams for Socket<'a, R> {
+impl<'a, R: Net> Datagrams for RepeaterSocket<'a, R> {
     ghost use Rattle.std.specs.Prelude.{⊤};
 
     ghost came = { λ _ _ _ _. ⊤ };
@@ -39,14 +41,14 @@ impl<'a, R: Net> Datagrams for Socket<'a, R> {
 
     ghost fails = { λ _ _. ⊤ };
 
-    fn address(&self) -> Result<Address, Fault> {
+    fn address(&self) -> Result<UdpAddress, Fault> {
         match self.socket.local_addr() {
             Ok(address) => address_of(address),
             Err(_) => Err(Fault),
         }
     }
 
-    fn receive(&mut self, buffer: &mut [u8]) -> Result<(usize, Address), Fault> {
+    fn receive(&mut self, buffer: &mut [u8]) -> Result<(usize, UdpAddress), Fault> {
         let Ok((size, from)) = self.socket.recv_from(buffer) else {
             return Err(Fault);
         };
@@ -56,7 +58,7 @@ impl<'a, R: Net> Datagrams for Socket<'a, R> {
         }
     }
 
-    fn send(&mut self, to: Address, bytes: &[u8]) -> Result<(), Fault> {
+    fn send(&mut self, to: UdpAddress, bytes: &[u8]) -> Result<(), Fault> {
         let address = (Ipv4Addr::from_bits(to.ip), to.port);
         if UdpSocket::bind(self.net, address).is_ok() {
             return Err(Fault);
@@ -69,9 +71,9 @@ impl<'a, R: Net> Datagrams for Socket<'a, R> {
 }
 
 /// An address of IPv4. Another is a fault: none comes to the port that the repeater binds.
-fn address_of(address: SocketAddr) -> Result<Address, Fault> {
+fn address_of(address: SocketAddr) -> Result<UdpAddress, Fault> {
     match address.ip() {
-        IpAddr::V4(ip) => Ok(Address {
+        IpAddr::V4(ip) => Ok(UdpAddress {
             ip: ip.to_bits(),
             port: address.port(),
         }),

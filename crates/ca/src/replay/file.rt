@@ -1,3 +1,4 @@
+//! The run of `replay` from a file.
 ghost use Rattle.std.specs.Prelude.{◌<◌, ◌^◌};
 ghost use Rattle.ca.specs.Replaying.{ReplaysFrom};
 

@@ -1,3 +1,4 @@
+//! What the words after `replay` ask for: a file, and the seed if events are to be drawn.
 ghost use Rattle.std.specs.Prelude.{◌≡◌, IfErr, IfOk, map, option_map, string_bytes};
 ghost use Rattle.ca_text.specs.declared.refusal.Refusal.TheVariants.{OutOfMemory};
 ghost use Rattle.clap.specs.Words.{app_of};

@@ -1,3 +1,5 @@
+//! The run of `replay` from the text of a script. What was done is in the report also if the next
+//! event is refused.
 ghost use Rattle.std.specs.Prelude.{◌≡◌, ◌<◌, ◌^◌};
 ghost use Rattle.ca.specs.Replaying.{Replays, ReplaysTo, ended};
 

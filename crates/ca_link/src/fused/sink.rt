@@ -1,4 +1,5 @@
-ghost use Rattle.std.specs.Prelude.{◌≡◌, ◌⊎◌, ◌+◌, ◌<◌, ◌^◌, ℕ, [], IsErr, OnErr, OnOk, if◌then◌else◌, is_ok, take};
+ghost use Rattle.std.specs.Prelude.{◌≡◌, ◌⊎◌, ◌+◌, ◌<◌, ◌^◌, ℕ, [], IsErr, OnErr, OnOk};
+ghost use Rattle.std.specs.Prelude.{if◌then◌else◌, is_ok, take};
 ghost use Rattle.ca_link.specs.Passing.{CanPass, IsPassed};
 
 use crate::fused::Fused;

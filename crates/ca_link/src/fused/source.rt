@@ -1,4 +1,5 @@
-ghost use Rattle.std.specs.Prelude.{◌≡◌, ◌+◌, ◌<◌, ◌≤◌, ◌^◌, IfOk, IsErr, if◌then◌else◌, is_ok, length, take};
+ghost use Rattle.std.specs.Prelude.{◌≡◌, ◌+◌, ◌<◌, ◌≤◌, ◌^◌, IfOk, IsErr, if◌then◌else◌, is_ok};
+ghost use Rattle.std.specs.Prelude.{length, take};
 ghost use Rattle.ca_link.specs.Passing.{CanPass, IsPassed};
 
 use crate::fused::Fused;

@@ -26,7 +26,7 @@ impl End {
     /// the put is finished. On a quick one the reply goes first, so that no put is applied without
     /// memory for its reply; it is taken back if the put needs the plain path.
     #[inline(never)]
-    pub(crate) fn put_short(
+    pub(crate) fn put_notify_scalar(
         &mut self,
         circuit: Handle,
         records: &mut ServedRecords,

@@ -11,7 +11,7 @@ ghost use Rattle.ca_server_circuit.specs.Showing.{AnswersRead, answer_alone};
 ghost use Rattle.ca_server_circuit.specs.Stepping.{IsFast};
 
 use crate::bytes::know_bytes;
-use crate::cause::Cause;
+use crate::cause::EndCause;
 use crate::effect::Effect;
 use crate::end::End;
 use crate::fast::FAST;
@@ -19,7 +19,7 @@ use crate::step::{EndStep, FollowUp};
 use ca_link::Link;
 use ca_records::{Record, ServedRecords};
 use ca_text::Command;
-use ca_wire::{Alone, Wanted};
+use ca_wire::{ScalarMessage, Wanted};
 use std::alloc::AllocError;
 
 impl End {
@@ -33,10 +33,10 @@ impl End {
             → IsFast circuit self.old records.now result self.new records.now }
     {
         know_bytes(self.link.in_bytes());
-        match self.link.next_bare(Command::ReadNotify) {
+        match self.link.next_without_payload(Command::ReadNotify) {
             Some(wanted) => match self.read(records, &wanted) {
                 Ok(()) => Some(EndStep::Handled(FollowUp::Quiet(Effect::Quiet))),
-                Err(_) => Some(EndStep::Breaks(Cause::OutOfMemory)),
+                Err(_) => Some(EndStep::Breaks(EndCause::OutOfMemory)),
             },
             None => None,
         }
@@ -46,7 +46,7 @@ impl End {
 /// What shows the record to this read in eight bytes, if it has one element, of the
 /// type that is asked for.
 #[inline(always)]
-pub(crate) fn shown_alone(of: &Record, rights: u32, wanted: &Wanted) -> Option<u64>
+pub(crate) fn shown_scalar(of: &Record, rights: u32, wanted: &Wanted) -> Option<u64>
     ensures { IfSome result (λ n.
         AnswersRead of.now rights (read_request wanted.now) (alone (answer_alone wanted.now n))) }
 {
@@ -58,19 +58,19 @@ pub(crate) fn shown_alone(of: &Record, rights: u32, wanted: &Wanted) -> Option<u
 
 /// Answers a read by one element.
 #[inline(always)]
-pub(crate) fn send_alone(link: &mut Link, wanted: &Wanted, payload: u64) -> Result<(), AllocError>
+pub(crate) fn send_scalar(link: &mut Link, wanted: &Wanted, payload: u64) -> Result<(), AllocError>
     requires { IsOpen link.old }
     ensures ok { OnOk result (link.new
         ≡ with_sent (alone (answer_alone wanted.now payload) ∷ []) link.old) }
     ensures err { OnErr result (link.new ≡ link.old) }
 {
-    let said = Alone {
+    let said = ScalarMessage {
         command: Command::ReadNotify,
         data_type: wanted.data_type,
         id: wanted.id,
         payload,
     };
-    match link.queue_alone(said) {
+    match link.queue_scalar(said) {
         Ok(()) => Ok(()),
         Err(_) => Err(AllocError),
     }

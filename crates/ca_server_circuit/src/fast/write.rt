@@ -21,7 +21,7 @@ use ca_wire::Wanted;
 impl End {
     /// WRITE of eight bytes, if the message is one.
     #[inline(never)]
-    pub(crate) fn write_short(
+    pub(crate) fn write_scalar(
         &mut self,
         records: &mut ServedRecords,
         wanted: &Wanted,

@@ -1,9 +1,9 @@
 //! Channels that are opened, and cleared, one after another; and waits of another caller, each
 //! of which a clear ends.
 
-use crate::at_once::{Both, LEFT, ROWS, long};
+use crate::at_once::{ClientAndServer, LEFT, ROWS, long};
 use crate::moments::{began, is_within};
-use crate::peer::{create, heard, tell_message};
+use crate::peer::{create, next_message, tell_message};
 use crate::say_yes;
 use ca_arena::Handle;
 use ca_board::Ticket;
@@ -33,16 +33,16 @@ const AWAITED: u8 = 100;
 
 /// A caller that waits for requests in turn, each of which ends without a reply, and how many did.
 #[derive(Drop)]
-struct Waiter {
+struct WaitingCaller {
     context: Arc<Context<Nobody>>,
     caller: Caller,
     tickets: Vec<Ticket>,
     ended: Arc<AtomicU64>,
 }
 
-impl Work for Waiter {
+impl Work for WaitingCaller {
     fn run<R: Wait + Clock>(self, rt: &R) {
-        let Waiter {
+        let WaitingCaller {
             context,
             mut caller,
             tickets,
@@ -57,7 +57,7 @@ impl Work for Waiter {
     }
 }
 
-impl Both {
+impl ClientAndServer {
     /// Channels that are opened, each once the one before is searched for; and, once
     /// they are live, cleared.
     pub(crate) fn show_channels<R: Wait + Clock, W: Write>(
@@ -126,7 +126,7 @@ impl Both {
         for search in searches {
             let (cid, to) = *search;
             self.peer.answer(cid, to)?;
-            let asked = heard(stream)?;
+            let asked = next_message(stream)?;
             if asked.command != CREATE || asked.p1 != cid {
                 return Err(Refusal::NotLive);
             }
@@ -158,7 +158,7 @@ impl Both {
                 right = self.is_read(rt, temp, stream)? && right;
             }
             self.context.clear(rt, *channel)?;
-            messages.push(heard(stream)?)?;
+            messages.push(next_message(stream)?)?;
         }
         let is_soon = is_within(rt, &began, LEFT);
         for message in messages {
@@ -181,7 +181,7 @@ impl Both {
             let is_soon = self.are_ended_soon(rt, &channels)?;
             // A read and a clear of each came meanwhile.
             for _ in 0..2 * u32::from(AWAITED) {
-                let message = heard(stream)?;
+                let message = next_message(stream)?;
                 if message.command == CLEAR {
                     tell_message(stream, message, &[])?;
                 }
@@ -205,7 +205,7 @@ impl Both {
             tickets.push(self.context.get(&rt, *channel, 5, 1)?)?;
         }
         let ended = Arc::new(self.alloc, AtomicU64::new(0))?;
-        let waiter = Waiter {
+        let waiter = WaitingCaller {
             context: Arc::try_clone(&self.context)?,
             caller: self.context.caller(&rt)?,
             tickets,

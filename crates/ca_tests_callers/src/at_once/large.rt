@@ -2,7 +2,7 @@
 //! left the sockets to callers: what is left of a write goes on as soon as its server takes some,
 //! and not with the next turn. `tools/faults` runs this, with small buffers of sockets.
 
-use crate::at_once::{Both, begun, long};
+use crate::at_once::{ClientAndServer, begun, long};
 use crate::moments::{began, is_within};
 use crate::say_yes;
 use crate::wire::take;
@@ -52,7 +52,7 @@ pub(crate) fn show<
     shown
 }
 
-impl Both {
+impl ClientAndServer {
     fn show_large<R: Wait + Clock, W: Write>(
         &mut self,
         rt: &R,

@@ -1,6 +1,6 @@
 //! A circuit whose socket is in memory.
 use ca_arena::Handle;
-use ca_client::{Ask, ClientState, Tape, step_under_lock, turn_over};
+use ca_client::{ClientState, CoreCall, Tape, step_under_lock, turn_over};
 use ca_client_core::Address;
 use ca_text::Refusal;
 use std::alloc::Global;
@@ -42,10 +42,10 @@ pub(crate) fn memory(alloc: Global) -> Result<Tape, Refusal> {
 pub(crate) fn live(state: &mut ClientState, tape: &mut Tape) -> Result<Handle, Refusal> {
     state.datagram(0, SERVER, &FOUND[..])?;
     let circuit = wanted(state)?;
-    step_under_lock(state, Ask::Connect(circuit));
+    step_under_lock(state, CoreCall::Connect(circuit));
     turn(state, circuit, tape);
     for _ in 0..3 {
-        step_under_lock(state, Ask::Step(circuit));
+        step_under_lock(state, CoreCall::Step(circuit));
     }
     Ok(circuit)
 }

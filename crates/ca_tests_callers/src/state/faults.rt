@@ -1,6 +1,6 @@
 //! A socket that fails.
 use crate::state::circuit::{VERSION, live, memory, turn};
-use crate::state::requests::Requests;
+use crate::state::requests::MadeRequests;
 use ca_arena::Handle;
 use ca_board::Ticket;
 use ca_client::{Caller, ClientState, Tape, issue_under_lock};
@@ -14,7 +14,7 @@ pub(crate) fn lost_at(
     alloc: Global,
     state: &mut ClientState,
     caller: &mut Caller,
-    requests: &Requests,
+    requests: &MadeRequests,
     versions: usize,
     calls: u64,
 ) -> Result<usize, Refusal> {
@@ -32,7 +32,7 @@ pub(crate) fn lost_at(
 fn made_until_cut(
     alloc: Global,
     state: &mut ClientState,
-    requests: &Requests,
+    requests: &MadeRequests,
     circuit: Handle,
     tape: &mut Tape,
 ) -> Result<Vec<Ticket>, Refusal> {
@@ -49,7 +49,7 @@ fn made_until_cut(
 /// A read and a put.
 pub(crate) fn make_both(
     state: &mut ClientState,
-    requests: &Requests,
+    requests: &MadeRequests,
     tickets: &mut Vec<Ticket>,
 ) -> Result<(), Refusal> {
     let (_, first) = issue_under_lock(state, &requests.read)?;

@@ -4,10 +4,11 @@
 use crate::state::circuit::{FOUND, SERVER, memory};
 use crate::state::faults::is_lost;
 use crate::state::new_state;
-use crate::state::requests::{MANY, Requests, done_reply, is_done, make_requests};
+use crate::state::requests::{MANY, MadeRequests, done_reply, is_done, make_requests};
 use ca_arena::Handle;
 use ca_client::{
-    Answer, Ask, Caller, ClientState, Request, Tape, issue_under_lock, step_under_lock, turn_over,
+    Answer, Caller, ClientState, CoreCall, RequestCall, Tape, issue_under_lock, step_under_lock,
+    turn_over,
 };
 use ca_client_core::{Notice, Notices};
 use ca_dbr::{Outcome, Value};
@@ -21,7 +22,7 @@ struct Course {
     state: ClientState,
     caller: Caller,
     channel: Handle,
-    requests: Requests,
+    requests: MadeRequests,
     /// How many calls were refused as OutOfMemory.
     refused: u64,
     /// How many circuits ended.
@@ -116,7 +117,7 @@ impl Course {
             && self.watches(circuit, tape)?;
         if goes_on {
             self.fill_cells()?;
-            step_under_lock(&mut self.state, Ask::Cut(circuit));
+            step_under_lock(&mut self.state, CoreCall::Cut(circuit));
         }
         Ok(goes_on)
     }
@@ -131,7 +132,7 @@ impl Course {
             return Err(Refusal::BadEvent);
         };
         let circuit = first.circuit;
-        match step_under_lock(&mut self.state, Ask::Connect(circuit)) {
+        match step_under_lock(&mut self.state, CoreCall::Connect(circuit)) {
             Answer::Connected => Ok(Some(circuit)),
             _ => {
                 self.ended += 1;
@@ -152,7 +153,7 @@ impl Course {
         let mut goes_on = turn_over(&mut self.state, circuit, tape).is_none();
         let mut is_over = !goes_on;
         while !is_over {
-            match step_under_lock(&mut self.state, Ask::Step(circuit)) {
+            match step_under_lock(&mut self.state, CoreCall::Step(circuit)) {
                 Answer::Notices(told) => self.hear(told),
                 Answer::Filled => {}
                 Answer::NeedBytes => is_over = true,
@@ -223,7 +224,7 @@ impl Course {
 
     fn writes(&mut self, circuit: Handle, tape: &mut Tape) -> Result<bool, Refusal> {
         let channel = self.channel;
-        let Request::Put(_, value) = &self.requests.put else {
+        let RequestCall::Put(_, value) = &self.requests.put else {
             return Err(Refusal::BadEvent);
         };
         twice(
@@ -279,12 +280,12 @@ impl Course {
         twice(
             &mut self.state,
             &mut self.refused,
-            |state| accepted(step_under_lock(state, Ask::Tick(1_000))),
+            |state| accepted(step_under_lock(state, CoreCall::Tick(1_000))),
         )?;
         twice(
             &mut self.state,
             &mut self.refused,
-            |state| accepted(step_under_lock(state, Ask::Clear(channel))),
+            |state| accepted(step_under_lock(state, CoreCall::Clear(channel))),
         )?;
         is_due(self.refused + self.ended <= 1)
     }

@@ -2,7 +2,9 @@
 use crate::state::circuit::turn;
 use ca_arena::Handle;
 use ca_board::Ticket;
-use ca_client::{Ask, Caller, ClientState, Request, Tape, issue_under_lock, step_under_lock};
+use ca_client::{
+    Caller, ClientState, CoreCall, RequestCall, Tape, issue_under_lock, step_under_lock,
+};
 use ca_dbr::{Outcome, Value};
 use ca_text::Refusal;
 use std::alloc::Global;
@@ -13,22 +15,22 @@ pub(crate) const MANY: usize = 1_100;
 /// The requests that are made: one for a channel that there is not, which the core refuses as 10,
 /// and two that it accepts.
 #[derive(Drop)]
-pub(crate) struct Requests {
-    pub(crate) stale: Request,
-    pub(crate) read: Request,
-    pub(crate) put: Request,
+pub(crate) struct MadeRequests {
+    pub(crate) stale: RequestCall,
+    pub(crate) read: RequestCall,
+    pub(crate) put: RequestCall,
 }
 
-pub(crate) fn make_requests(alloc: Global, channel: Handle) -> Result<Requests, Refusal> {
+pub(crate) fn make_requests(alloc: Global, channel: Handle) -> Result<MadeRequests, Refusal> {
     let nothing = Handle {
         index: 9,
         generation: 9,
     };
     let value = Value::Longs(vec![in alloc; 42]?);
-    Ok(Requests {
-        stale: Request::Read(nothing, 5, 1),
-        read: Request::Read(channel, 5, 1),
-        put: Request::Put(channel, value),
+    Ok(MadeRequests {
+        stale: RequestCall::Read(nothing, 5, 1),
+        read: RequestCall::Read(channel, 5, 1),
+        put: RequestCall::Put(channel, value),
     })
 }
 
@@ -36,7 +38,7 @@ pub(crate) fn make_requests(alloc: Global, channel: Handle) -> Result<Requests, 
 pub(crate) fn answered(
     state: &mut ClientState,
     caller: &mut Caller,
-    put: &Request,
+    put: &RequestCall,
     circuit: Handle,
     tape: &mut Tape,
 ) -> Result<usize, Refusal> {
@@ -53,14 +55,14 @@ pub(crate) fn answered(
 /// A put, which the server answers.
 fn answered_put(
     state: &mut ClientState,
-    put: &Request,
+    put: &RequestCall,
     circuit: Handle,
     tape: &mut Tape,
 ) -> Result<Ticket, Refusal> {
     let (request, ticket) = issue_under_lock(state, put)?;
     tape.incoming.extend_from_slice(&done_reply(request))?;
     turn(state, circuit, tape);
-    step_under_lock(state, Ask::Step(circuit));
+    step_under_lock(state, CoreCall::Step(circuit));
     Ok(ticket)
 }
 
@@ -80,7 +82,7 @@ pub(crate) fn is_done(outcome: &Option<Outcome>) -> bool {
 }
 
 /// How many of n requests are refused with this number.
-pub(crate) fn refused_as(state: &mut ClientState, request: &Request, number: u8) -> usize {
+pub(crate) fn refused_as(state: &mut ClientState, request: &RequestCall, number: u8) -> usize {
     let mut count = 0usize;
     for _ in 0..MANY {
         if is_refused_as(state, request, number) {
@@ -90,7 +92,7 @@ pub(crate) fn refused_as(state: &mut ClientState, request: &Request, number: u8)
     count
 }
 
-fn is_refused_as(state: &mut ClientState, request: &Request, number: u8) -> bool {
+fn is_refused_as(state: &mut ClientState, request: &RequestCall, number: u8) -> bool {
     match issue_under_lock(state, request) {
         Ok(_) => false,
         Err(refusal) => refusal.number() == number,
@@ -101,7 +103,7 @@ fn is_refused_as(state: &mut ClientState, request: &Request, number: u8) -> bool
 pub(crate) fn accepted(
     alloc: Global,
     state: &mut ClientState,
-    request: &Request,
+    request: &RequestCall,
 ) -> Result<Vec<Ticket>, Refusal> {
     let mut tickets = Vec::new(alloc);
     for _ in 0..MANY {

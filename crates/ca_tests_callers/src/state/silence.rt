@@ -1,9 +1,9 @@
 //! A circuit that falls silent.
 use crate::state::circuit::{live, memory};
 use crate::state::faults::{lost, make_both};
-use crate::state::requests::Requests;
+use crate::state::requests::MadeRequests;
 use ca_arena::Handle;
-use ca_client::{Answer, Ask, Caller, ClientState, step_under_lock};
+use ca_client::{Answer, Caller, ClientState, CoreCall, step_under_lock};
 use ca_client_core::{Notice, Notices};
 use ca_text::Refusal;
 use std::alloc::Global;
@@ -15,7 +15,7 @@ pub(crate) fn silenced(
     alloc: Global,
     state: &mut ClientState,
     caller: &mut Caller,
-    requests: &Requests,
+    requests: &MadeRequests,
     channel: Handle,
 ) -> Result<(usize, usize), Refusal> {
     let mut tape = memory(alloc)?;
@@ -24,7 +24,7 @@ pub(crate) fn silenced(
     make_both(state, requests, &mut tickets)?;
     let mut channels = 0;
     for moment in [30_000, 35_000] {
-        let Answer::Ticked(ticked) = step_under_lock(state, Ask::Tick(moment)) else {
+        let Answer::Ticked(ticked) = step_under_lock(state, CoreCall::Tick(moment)) else {
             return Err(Refusal::BadEvent);
         };
         for left in ticked.closings {

@@ -1,5 +1,5 @@
 use Rattle.std.proofs.Common.{Some, inl, refl, rules}
-use Rattle.ca.specs.declared.line.Line.TheVariants.{Repeater}
+use Rattle.ca.specs.declared.line.CommandLine.TheVariants.{Repeater}
 use Rattle.ca.proofs.program.run.Goals as goal
 
 pub returns-in-Ok-Some-Repeater : goal.returns-in-Ok-Some-Repeater

@@ -2,7 +2,7 @@ use Rattle.std.proofs.Common.{ℕ, inr, subst, sym}
 use Rattle.std.proofs.Math.Numerals.{add-one}
 use Rattle.ca_client.specs.Awaited.{StateView}
 use Rattle.ca_client.specs.Calls.{HasSteppedUnderLock}
-use Rattle.ca_client.specs.declared.ask.Ask.TheVariants as ask
+use Rattle.ca_client.specs.declared.ask.CoreCall.TheVariants as ask
 use Rattle.ca_client.specs.Replies.{Replies}
 use Rattle.ca_client.proofs.replying.step_all.Goals as goal
 

@@ -1,7 +1,7 @@
 use Rattle.std.proofs.Common.{subst}
 use Rattle.ca_client.specs.Awaited.{StateView}
 use Rattle.ca_client.specs.Calls.{HasSteppedUnderLock}
-use Rattle.ca_client.specs.declared.ask.Ask.TheVariants as ask
+use Rattle.ca_client.specs.declared.ask.CoreCall.TheVariants as ask
 use Rattle.ca_client.proofs.stepping.step.Goals as goal
 
 pub returns-in-Other : goal.returns-in-Other

@@ -2,7 +2,7 @@ use Rattle.std.proofs.Common.{◌∙◌, subst, sym}
 use Rattle.std.specs.Arc.{arc_value}
 use Rattle.ca_client.specs.Awaited.{StateView}
 use Rattle.ca_client.specs.Calls.{HasSteppedUnderLock}
-use Rattle.ca_client.specs.declared.ask.Ask.TheVariants as ask
+use Rattle.ca_client.specs.declared.ask.CoreCall.TheVariants as ask
 use Rattle.ca_client.specs.Replies.{IsOther}
 use Rattle.ca_client.specs.Stepping.{notices_in}
 use Rattle.ca_client.proofs.Settled.{due-told, other-handed, stands-stepped, state-told, steps-handed}

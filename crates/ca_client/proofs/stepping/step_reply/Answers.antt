@@ -3,7 +3,7 @@ use Rattle.std.specs.Arc.{arc_value}
 use Rattle.ca_model.specs.Answers.{Completed, Notice}
 use Rattle.ca_model.specs.Client.{Client}
 use Rattle.ca_client.specs.declared.answer.Answer.TheVariants as answer
-use Rattle.ca_client.specs.declared.ask.Ask.TheVariants as ask
+use Rattle.ca_client.specs.declared.ask.CoreCall.TheVariants as ask
 use Rattle.ca_client.specs.Awaited.{IsState, StateView}
 use Rattle.ca_client.specs.Calls.{HasSteppedUnderLock}
 use Rattle.ca_client.proofs.Settled.{due-told, rests-step, stands-heard, state-told}

@@ -4,7 +4,7 @@ use Rattle.ca_client_core.specs.Ticked.{lefts_of, notices_of}
 use Rattle.ca_model.specs.Answers.{Notice, Ticked}
 use Rattle.ca_model.specs.ClientEnds.{ClientTicks}
 use Rattle.ca_client.specs.declared.answer.Answer.TheVariants as answer
-use Rattle.ca_client.specs.declared.ask.Ask.TheVariants as ask
+use Rattle.ca_client.specs.declared.ask.CoreCall.TheVariants as ask
 use Rattle.ca_client.specs.Awaited.{StateView}
 use Rattle.ca_client.specs.Calls.{HasSteppedUnderLock}
 use Rattle.ca_client.proofs.Settled.{Stands, due-told, state-told}

@@ -3,7 +3,7 @@ use Rattle.ca_dbr.specs.Elements.{bytes_2}
 use Rattle.ca_display.proofs.Images.{three_pieces}
 use Rattle.ca_display.proofs.image.put_states.Goals as goal
 
-pub returns-clause-ok : goal.returns-clause-ok
+pub returns-clause-after : goal.returns-clause-after
 unfolding bytes_2
-returns-clause-ok c =
-    three_pieces c.args.out.now.items _ _ _ c.extend_from_slice.new.self.items c.put_names.new.out.items c.put_zeros.new.out.items (c.in_ok-extend_from_slice.ensures.items ∙ ap (λ (x : List ℕ). c.args.out.now.items ++ x) c.to_be_bytes.ensures) c.in_ok-put_names.ensures c.in_ok-put_zeros.ensures
+returns-clause-after c =
+    three_pieces c.args.out.now.items _ _ _ c.put_bytes.new.out.items c.put_names.new.out.items c.put_zeros.new.out.items (c.put_bytes.ensures.after ∙ ap (λ (x : List ℕ). c.args.out.now.items ++ x) c.to_be_bytes.ensures) c.put_names.ensures.after c.put_zeros.ensures.after

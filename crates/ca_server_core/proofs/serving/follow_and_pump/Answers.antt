@@ -9,7 +9,7 @@ use Rattle.ca_server_core.specs.Noting.{TriesAt}
 use Rattle.ca_server_core.specs.Serving.{more_applied}
 use Rattle.ca_server_core.specs.Sound.{IsSound}
 use Rattle.ca_server_circuit.specs.declared.effect.Effect.TheVariants as told
-use Rattle.ca_server_core.specs.declared.stepping.Step.TheVariants as own
+use Rattle.ca_server_core.specs.declared.stepping.CoreStep.TheVariants as own
 use Rattle.ca_server_watchers.specs.Watching.{Watched}
 use Rattle.ca_server_core.proofs.Covered.{covers-thinned}
 use Rattle.ca_server_core.proofs.Led.{led-followed, led-thinned, led-wrote}

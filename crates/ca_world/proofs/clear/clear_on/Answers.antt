@@ -9,7 +9,7 @@ use Rattle.ca_model.specs.History as history
 use Rattle.ca_model.specs.World.{Joined}
 use Rattle.ca_model.specs.World as model
 use Rattle.ca_world_data.specs.declared.client.ClientSide.{ClientSide}
-use Rattle.ca_world_data.specs.declared.way.Way.{Way}
+use Rattle.ca_world_data.specs.declared.way.ChannelRoute.{ChannelRoute}
 use Rattle.ca_world_data.specs.Logs.{lines_in}
 use Rattle.ca_world_data.specs.Seen.{client_of, joined_of, named_of}
 use Rattle.ca_world_data.specs.Speaking.{GoesUp}
@@ -32,7 +32,7 @@ returns-in-Ok-clause-clears c =
     let ch : ℕ = c.args.channel in
     let x : ClientSide = c.args.side.now in
     let h : Handle = c.in_ok-handle.handle in
-    let way : Way = c.in_ok-handle.way in
+    let way : ChannelRoute = c.in_ok-handle.way in
     let r = c.in_ok-handle.ensures.ready in
     let logs : List (List Line) = lines_in c.prepare_clear.new.logs.items in
     let logs' : List (List Line) = lines_in c.tell_call.new.logs.items in

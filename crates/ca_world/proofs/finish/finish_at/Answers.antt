@@ -8,7 +8,7 @@ use Rattle.ca_model.specs.History as history
 use Rattle.ca_model.specs.ServerEvents.{first_of}
 use Rattle.ca_model.specs.World as model
 use Rattle.ca_world.specs.Finishing.{IsBeside, IsBusy, IsBusyOn, IsNext, TellsFinish}
-use Rattle.ca_world_data.specs.declared.history.Entry.{Entry}
+use Rattle.ca_world_data.specs.declared.history.LogEntry.{LogEntry}
 use Rattle.ca_world_data.specs.declared.joined.Joined.{Joined}
 use Rattle.ca_world_data.specs.declared.server.PutPlace.{PutPlace}
 use Rattle.ca_world_data.specs.declared.server.RecordSide.{RecordSide}
@@ -61,7 +61,7 @@ returns c =
     let busy : option_map place_of r.busy ≡ Some (place_of p) = ap (option_map place_of) c.in-Some-busy.is in
     let next_is : next ≡ first_of (map place_of r.waiting.items) = c.first_put-next.ensures ∙ ap (λ (ps : List PutPlace). first_of (map place_of ps)) c.deref-2.ensures.value in
     let is : IsNext logs y.life (map place_of r.waiting.items) value =
-    subst (λ (z : List (Vec Entry Global) × List PutPlace). IsNext (entries_in z.0) y.life (map place_of z.1) value) (λ t. (c.deref-3.ensures.value t, c.deref-4.ensures.value t)) c.in_ok-value.ensures in
+    subst (λ (z : List (Vec LogEntry Global) × List PutPlace). IsNext (entries_in z.0) y.life (map place_of z.1) value) (λ t. (c.deref-3.ensures.value t, c.deref-4.ensures.value t)) c.in_ok-value.ensures in
     let told : TellsFinish i name (place_of p) r.number next value y ks logs y' ks' logs' =
     subst (λ (z : List model.Joined × List (List history.Entry)). TellsFinish i name (place_of p) r.number next value y z.0 z.1 y' ks' logs') (λ t. (c.reserve_finish.ensures.same t, c.reserve_finish.ensures.logged t)) c.tell_finish.ensures in
     inl (told-ends i name y y' ks ks' logs logs' b.1.c (record_of r) (place_of p) next value beside busy next_is is c.requires.may told)

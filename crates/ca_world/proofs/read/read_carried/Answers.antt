@@ -11,7 +11,7 @@ use Rattle.ca_model.specs.World.{Joined, grown}
 use Rattle.ca_model.specs.World as model
 use Rattle.ca_laws_parts.specs.Circuit.{AreGiven}
 use Rattle.ca_world_data.specs.declared.client.ClientSide.{ClientSide}
-use Rattle.ca_world_data.specs.declared.way.Way.{Way}
+use Rattle.ca_world_data.specs.declared.way.ChannelRoute.{ChannelRoute}
 use Rattle.ca_world_data.specs.Logs.{lines_in}
 use Rattle.ca_world_data.specs.Seen.{client_of, joined_of, named_of}
 use Rattle.ca_world_data.specs.Reads.{read_names}
@@ -26,7 +26,7 @@ returns-in-Ok-clause-reads c =
     let x : ClientSide = c.args.side.now in
     let y : ClientSide = c.prepare.new.side in
     let q : Handle = c.in-Ok.request in
-    let way : Way = c.in_ok-handle.way in
+    let way : ChannelRoute = c.in_ok-handle.way in
     let a : Shape = record { data_type = c.args.data_type; count = c.args.count } in
     let r = c.in_ok-handle.ensures.ready in
     let logs : List (List Line) = lines_in c.prepare.new.logs.items in

@@ -12,7 +12,7 @@ use Rattle.ca_world_data.proofs.Indexes.{numbers-set}
 use Rattle.ca_world_data.proofs.Worlds.{found}
 use Rattle.ca_world_servers.specs.Handling.{HasRoomToNote}
 use Rattle.ca_world.specs.StepParts.{IsAheadOf}
-use Rattle.ca_world.specs.declared.server_step.Turn.{Turn}
+use Rattle.ca_world.specs.declared.server_step.SteppingEnd.{SteppingEnd}
 use Rattle.ca_world.proofs.Downward.{at-set}
 use Rattle.ca_world.proofs.StepCloses.{lacks-kept, may-step, read-one, steps-whole}
 use Rattle.ca_world.proofs.server_step.step_at.Goals as goal
@@ -100,7 +100,7 @@ step_end-requires-clause-may c =
     let first : c.index.result.now ≡ new = read-one ks k x new c.index.result.now _ there c.index.ensures in
     let second : c.index-2.result.now ≡ new = read-one ks k x new c.index-2.result.now _ there c.index-2.ensures in
     let known = subst (λ (j : Joined). IsAheadOf y.core (joined_of j) (map record_of y.records.items) c.in_ok-ahead.ahead) first c.in_ok-ahead.ensures.known in
-    let turn : Turn = record { alloc = c.args.alloc; circuit = k; server = c.args.server; at = c.index-2.result.now.at_server; waited = length c.out_bytes.result.now; applied = c.applied-applied.result } in
+    let turn : SteppingEnd = record { alloc = c.args.alloc; circuit = k; server = c.args.server; at = c.index-2.result.now.at_server; waited = length c.out_bytes.result.now; applied = c.applied-applied.result } in
     may-step turn y.core (map joined_of ks) (map joined_of (slice_set ks k new)) (map record_of y.records.items) (map record_of c.next_ahead.new.records.items) (joined_of new) c.in_ok-ahead.ahead
     joins c.next_ahead.ensures.same (At-map joined_of (slice_set ks k new) k new (at-set ks k x new there)) c.requires.may known (ap (λ (j : Joined). j.at_server) second) (ap length c.out_bytes.ensures) c.applied-applied.ensures c.if-applied-ge-APPLIED_LIMIT.false
 

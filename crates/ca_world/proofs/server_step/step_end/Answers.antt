@@ -7,7 +7,7 @@ use Rattle.ca_model.specs.ServerSteps as steps
 use Rattle.ca_model.specs.World as model
 use Rattle.ca_server_circuit.specs.Stepping.{why_is}
 use Rattle.ca_server_core.specs.Effects.{TellsEffect}
-use Rattle.ca_server_core.specs.declared.stepping.Step.TheVariants as step
+use Rattle.ca_server_core.specs.declared.stepping.CoreStep.TheVariants as step
 use Rattle.ca_world_data.specs.declared.joined.Joined.{Joined}
 use Rattle.ca_world_data.specs.declared.server.ServerSide.{ServerSide}
 use Rattle.ca_world_data.specs.Opening.{entries_in}

@@ -12,7 +12,7 @@ use Rattle.ca_model.specs.World.{Joined, grown}
 use Rattle.ca_model.specs.World as model
 use Rattle.ca_laws_parts.specs.Circuit.{AreGiven}
 use Rattle.ca_world_data.specs.declared.client.ClientSide.{ClientSide}
-use Rattle.ca_world_data.specs.declared.way.Way.{Way}
+use Rattle.ca_world_data.specs.declared.way.ChannelRoute.{ChannelRoute}
 use Rattle.ca_world_data.specs.Logs.{lines_in}
 use Rattle.ca_world_data.specs.Seen.{client_of, joined_of, named_of}
 use Rattle.ca_world_data.specs.Subscribes.{subscribe_names}
@@ -27,7 +27,7 @@ returns-in-Ok-clause-subscribes c =
     let x : ClientSide = c.args.side.now in
     let y : ClientSide = c.prepare.new.side in
     let q : Handle = c.in-Ok.subscription in
-    let way : Way = c.in_ok-handle.way in
+    let way : ChannelRoute = c.in_ok-handle.way in
     let a : Shape = record { data_type = c.args.data_type; count = c.args.count } in
     let mask : ℕ = c.args.mask in
     let r = c.in_ok-handle.ensures.ready in

@@ -12,7 +12,7 @@ use Rattle.ca_model.specs.History as history
 use Rattle.ca_model.specs.World.{Joined, grown}
 use Rattle.ca_model.specs.World as model
 use Rattle.ca_world_data.specs.declared.client.ClientSide.{ClientSide}
-use Rattle.ca_world_data.specs.declared.way.Way.{Way}
+use Rattle.ca_world_data.specs.declared.way.ChannelRoute.{ChannelRoute}
 use Rattle.ca_world_data.specs.Logs.{lines_in}
 use Rattle.ca_world_data.specs.Seen.{client_of, joined_of}
 use Rattle.ca_world_data.specs.Puts.{AreOnce, write_names}
@@ -32,7 +32,7 @@ returns-in-Ok-clause-writes c =
     let ch : ℕ = c.args.channel in
     let x : ClientSide = c.args.side.now in
     let y : ClientSide = c.prepare.new.side in
-    let way : Way = c.in_ok-handle.way in
+    let way : ChannelRoute = c.in_ok-handle.way in
     let once : AreOnce (client_of y).names = subst (λ (z : model.ClientSide). AreOnce z.names) (sym c.prepare.ensures.side) c.requires.once in
     let a : Elements = elements c.args.value.now in
     let r = c.in_ok-handle.ensures.ready in

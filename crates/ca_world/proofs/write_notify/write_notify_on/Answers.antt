@@ -18,7 +18,7 @@ use Rattle.ca_model.specs.World.{Joined, grown}
 use Rattle.ca_model.specs.World as model
 use Rattle.ca_laws_parts.specs.Circuit.{AreGiven}
 use Rattle.ca_world_data.specs.declared.client.ClientSide.{ClientSide}
-use Rattle.ca_world_data.specs.declared.way.Way.{Way}
+use Rattle.ca_world_data.specs.declared.way.ChannelRoute.{ChannelRoute}
 use Rattle.ca_world_data.specs.Logs.{lines_in}
 use Rattle.ca_world_data.specs.Seen.{client_of, joined_of, named_of}
 use Rattle.ca_world_data.specs.Puts.{put_names}
@@ -39,7 +39,7 @@ returns-in-Ok-clause-puts c =
     let x : ClientSide = c.args.side.now in
     let y : ClientSide = c.prepare.new.side in
     let q : Handle = c.in-Ok.request in
-    let way : Way = c.in_ok-handle.way in
+    let way : ChannelRoute = c.in_ok-handle.way in
     let a : Elements = elements c.args.value.now in
     let r = c.in_ok-handle.ensures.ready in
     let logs : List (List Line) = lines_in c.prepare.new.logs.items in

@@ -6,4 +6,4 @@ pub returns-then-is_over : goal.returns-then-is_over
 returns-then-is_over c = over c.args.log.now c.args.request c.args.meant (sym c.is_over.ensures ∙ c.if-is_over.true)
 
 pub returns : goal.returns
-returns c = open_still c.args.log.now c.args.request c.args.meant c.told_in.result (sym c.is_over.ensures ∙ c.if-is_over.false) c.told_in.ensures
+returns c = open_still c.args.log.now c.args.request c.args.meant c.outcome_line.result (sym c.is_over.ensures ∙ c.if-is_over.false) c.outcome_line.ensures

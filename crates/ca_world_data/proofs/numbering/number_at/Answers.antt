@@ -3,7 +3,7 @@ use Rattle.std.specs.Prelude.{map, slice_set}
 use Rattle.std.specs.Vec.{with_item}
 use Rattle.ca_text.specs.Place.{At}
 use Rattle.ca_world_data.specs.declared.joined.Joined.{Joined}
-use Rattle.ca_world_data.specs.declared.joined.Standing.{Standing}
+use Rattle.ca_world_data.specs.declared.joined.AddedSubscription.{AddedSubscription}
 use Rattle.ca_world_data.specs.Seen.{joined_of, standing_of}
 use Rattle.ca_world_data.proofs.Counting.{counts-so, key-there, others-stay, place-within}
 use Rattle.ca_world_data.proofs.Worlds.{found}
@@ -13,7 +13,7 @@ pub wait_in-requires : goal.wait_in-requires
 wait_in-requires c =
     let j : Joined = c.args.joined.now in
     let p : ℕ = c.args.place in
-    let s : Standing = c.index.result.now in
+    let s : AddedSubscription = c.index.result.now in
     let within : p < length j.standing.items = place-within p c.args.queue j c.requires in
     let at : At j.standing.items p s = found j.standing.items p s s within c.index.ensures in
     key-there p c.args.queue j s c.requires at
@@ -22,8 +22,8 @@ pub returns-clause-numbers : goal.returns-clause-numbers
 returns-clause-numbers c = λ h.
     let j : Joined = c.args.joined.now in
     let p : ℕ = c.args.place in
-    let s : Standing = c.index.result.now in
-    let next : Standing = record { key = s.key; place = s.place; posts = s.posts + 1 } in
+    let s : AddedSubscription = c.index.result.now in
+    let next : AddedSubscription = record { key = s.key; place = s.place; posts = s.posts + 1 } in
     let within : p < length j.standing.items = place-within p c.args.queue j c.requires in
     let at : At j.standing.items p s = found j.standing.items p s s within c.index.ensures in
     let new : Joined = record j { standing = with_item j.standing p next; queues = c.wait_in.new.queues } in

@@ -1,7 +1,7 @@
 use Rattle.std.proofs.Common.{◌<◌, ◌++◌, length, List, map, arith, sym, ap, ◌∙◌, Vec, Global}
 use Rattle.ca_text.specs.Place.{At}
 use Rattle.ca_model.specs.ServerEvents.{withdrawals}
-use Rattle.ca_world_data.specs.declared.history.Entry.{Entry}
+use Rattle.ca_world_data.specs.declared.history.LogEntry.{LogEntry}
 use Rattle.ca_world_data.specs.Reporting.{gone_at}
 use Rattle.ca_world_data.specs.Seen.{entry_of, joined_of, record_of}
 use Rattle.ca_world_data.proofs.Gone.{gone-all, grown-told}
@@ -10,8 +10,8 @@ use Rattle.ca_world_data.proofs.reporting.tell_gone.Goals as goal
 
 pub returns-then-life-len : goal.returns-then-life-len
 returns-then-life-len c =
-    let logs : List (Vec Entry Global) = c.args.logs.now.items in
-    let log : Vec Entry Global = c.index_mut.result.now in
+    let logs : List (Vec LogEntry Global) = c.args.logs.now.items in
+    let log : Vec LogEntry Global = c.index_mut.result.now in
     let within : c.args.life < length logs = omega (arith, c.if-life-len.true, c.len.ensures) in
     let at : At logs c.args.life log = found logs c.args.life log log within c.index_mut.ensures.value in
     let gone = gone_at c.args.server c.args.core.now (map joined_of c.args.circuits.now) in

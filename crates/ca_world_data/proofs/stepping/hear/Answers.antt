@@ -24,8 +24,8 @@ push_sendings-requires-clause-numbered c =
     let ks : List Joined = c.args.circuits.now.items in
     let j : Joined = c.index.result.now in
     let at : At (map joined_of ks) k (joined_of j) = At-map joined_of ks k j (found ks k j j c.requires.there c.index.ensures) in
-    let mid = map joined_of c.note_heard.new.circuits.items in
-    let heard : IsHeard k c.lines_logged-logged.result c.lines_logged-after.result (map joined_of ks) mid = c.note_heard.ensures.heard in
+    let mid = map joined_of c.note_client_step.new.circuits.items in
+    let heard : IsHeard k c.lines_logged-logged.result c.lines_logged-after.result (map joined_of ks) mid = c.note_client_step.ensures.heard in
     subst (λ (z : List ℕ). AreNumbered z mid c.args.client) (sym c.deref-3.ensures.value)
     (heard-numbered (map joined_of ks) mid k (step_at (joined_of j) c.lines_logged-logged.result c.lines_logged-after.result) (joined_of j) at (heard (joined_of j) at) c.args.side.now.circuits.items c.args.client c.requires.numbered)
 
@@ -35,11 +35,11 @@ push_sendings-requires-clause-room c =
     let ks : List Joined = c.args.circuits.now.items in
     let j : Joined = c.index.result.now in
     let at : At (map joined_of ks) k (joined_of j) = At-map joined_of ks k j (found ks k j j c.requires.there c.index.ensures) in
-    let mid = map joined_of c.note_heard.new.circuits.items in
-    let heard : IsHeard k c.lines_logged-logged.result c.lines_logged-after.result (map joined_of ks) mid = c.note_heard.ensures.heard in
-    all-kept c.args.client c.args.sent.items ks c.note_heard.new.circuits.items
+    let mid = map joined_of c.note_client_step.new.circuits.items in
+    let heard : IsHeard k c.lines_logged-logged.result c.lines_logged-after.result (map joined_of ks) mid = c.note_client_step.ensures.heard in
+    all-kept c.args.client c.args.sent.items ks c.note_client_step.new.circuits.items
     (heard-at (map joined_of ks) mid k (step_at (joined_of j) c.lines_logged-logged.result c.lines_logged-after.result) (joined_of j) at (heard (joined_of j) at) c.args.client)
-    c.note_heard.ensures.keeps
+    c.note_client_step.ensures.keeps
     c.requires.messages
 
 pub returns : goal.returns
@@ -60,5 +60,5 @@ returns c =
     (let is : joined_of j ≡ d = At-one seen k (joined_of j) d at there in
     let meant : intent_of c.about_next-about.result ≡ about_at d.lists (length d.lists.heard) =
     c.about_next-about.ensures ∙ ap (λ (z : model.Joined). about_at z.lists (length z.lists.heard)) is in
-    heard-leaves i k x d c.args.notices (map sending_of c.args.sent.items) (lines_in c.args.logs.now.items) (lines_in c.tell_heard.new.logs.items) seen (map joined_of c.note_heard.new.circuits.items) (map joined_of c.push_sendings.new.circuits.items)
-    (intent_of c.about_next-about.result) c.lines_logged-logged.result c.lines_logged-after.result there meant was c.tell_heard.ensures now within c.note_heard.ensures.heard c.push_sendings.ensures)
+    heard-leaves i k x d c.args.notices (map sending_of c.args.sent.items) (lines_in c.args.logs.now.items) (lines_in c.tell_about.new.logs.items) seen (map joined_of c.note_client_step.new.circuits.items) (map joined_of c.push_sendings.new.circuits.items)
+    (intent_of c.about_next-about.result) c.lines_logged-logged.result c.lines_logged-after.result there meant was c.tell_about.ensures now within c.note_client_step.ensures.heard c.push_sendings.ensures)

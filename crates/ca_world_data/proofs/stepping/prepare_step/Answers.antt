@@ -17,5 +17,5 @@ returns-clause-ready c =
     let at : At ks k j = found ks k j j c.requires.there c.index.ensures in
     let sent : List Sending = c.in_ok-sent.sent.items in
     let messages : HasRoomForAll i sent mid = subst (λ (z : List Sending). HasRoomForAll i z mid) c.deref-2.ensures.value c.in_ok-reserve_sendings.ensures.room in
-    ready-to-step i k c.args.lines c.args.side.now sent ks mid c.reserve_heard.new.circuits.items c.reserve_lines.new.logs.items j at c.reserve_sendings.ensures.same c.reserve_heard.ensures.same c.in_ok-sent.ensures.0
-    c.in_ok-reserve_lines.ensures.room messages c.reserve_heard.ensures.keeps c.in_ok-reserve_heard.ensures.room
+    ready-to-step i k c.args.lines c.args.side.now sent ks mid c.reserve_client_step.new.circuits.items c.reserve_lines.new.logs.items j at c.reserve_sendings.ensures.same c.reserve_client_step.ensures.same c.in_ok-sent.ensures.0
+    c.in_ok-reserve_lines.ensures.room messages c.reserve_client_step.ensures.keeps c.in_ok-reserve_client_step.ensures.room

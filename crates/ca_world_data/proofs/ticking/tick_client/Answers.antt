@@ -25,25 +25,25 @@ returns-in_err-reserve_sent-clause-ticks c =
     (λ t. lines_in c.args.logs.now.items)
     c.reserve_sent.ensures.same
 
-pub end_told-requires-clause-numbered : goal.end_told-requires-clause-numbered
-end_told-requires-clause-numbered c =
+pub note_ends-requires-clause-numbered : goal.note_ends-requires-clause-numbered
+note_ends-requires-clause-numbered c =
     let x : ClientSide = c.args.side.now in
     numbered-sent c.args.client (client_of x) _ x.circuits.items (map joined_of c.args.circuits.now.items) (map joined_of c.push_sendings.new.circuits.items) c.requires.numbered
     (c.push_sendings.ensures ∙ ap (map (sent_up c.args.client (client_of x).names (map sending_of c.in_ok-sent.field-0.sent.items))) c.reserve_sent.ensures.same)
 
-pub end_told-requires-clause-room : goal.end_told-requires-clause-room
-end_told-requires-clause-room c on =
+pub note_ends-requires-clause-room : goal.note_ends-requires-clause-room
+note_ends-requires-clause-room c on =
     let x : ClientSide = c.args.side.now in
     let n : ℕ = length x.names.requests.items + length x.names.channels.items in
     let does = subst (λ (y : Client). ClientTicks y c.args.moment (Ok c.in-Ok.ticked) c.in-Ok.ensures.0 c.tick.new.self) c.foretell.ensures.same c.in-Ok.ensures.1 in
     let named = length-map x.names.requests.items named_of in
     let few = told-few x.core c.args.moment n c.in-Ok.ticked c.in-Ok.ensures.0 c.tick.new.self does (omega (arith, c.requires.few, named)) in
-    room-fewer n (length (notices_of c.ticked.inside.closings.items)) x.life c.reserve_told.new.logs.items
+    room-fewer n (length (notices_of c.ticked.inside.closings.items)) x.life c.reserve_end_lines.new.logs.items
     (subst (λ (z : Ticked). length z.notices ≤ n) (sym c.ticked.view_is) few)
-    (c.in_ok-reserve_told.ensures.room on)
+    (c.in_ok-reserve_end_lines.ensures.room on)
 
-pub end_told-requires-clause-none : goal.end_told-requires-clause-none
-end_told-requires-clause-none c off =
+pub note_ends-requires-clause-none : goal.note_ends-requires-clause-none
+note_ends-requires-clause-none c off =
     let x : ClientSide = c.args.side.now in
     let does = subst (λ (y : Client). ClientTicks y c.args.moment (Ok c.in-Ok.ticked) c.in-Ok.ensures.0 c.tick.new.self) c.foretell.ensures.same c.in-Ok.ensures.1 in
     ap (λ (z : Ticked). z.closings) c.ticked.view_is ∙ told-none x.core c.args.moment c.in_ok-sent.field-0 c.in-Ok.ticked c.in-Ok.ensures.0 c.tick.new.self c.in_ok-sent.ensures.ok does off
@@ -55,11 +55,11 @@ returns-in-Ok-clause-ticks c =
     let ks : List Joined = map joined_of c.args.circuits.now.items in
     let mid : List Joined = map joined_of c.push_sendings.new.circuits.items in
     let does = subst (λ (y : Client). ClientTicks y c.args.moment (Ok a) c.in-Ok.ensures.0 c.tick.new.self) c.foretell.ensures.same c.in-Ok.ensures.1 in
-    tick-done c.args.client c.args.moment (client_of x) (lines_in c.args.logs.now.items) (lines_in c.end_told.new.logs.items) ks mid (map joined_of c.end_told.new.circuits.items) a c.in_ok-sent.field-0 c.in-Ok.ensures.0 c.tick.new.self
+    tick-done c.args.client c.args.moment (client_of x) (lines_in c.args.logs.now.items) (lines_in c.note_ends.new.logs.items) ks mid (map joined_of c.note_ends.new.circuits.items) a c.in_ok-sent.field-0 c.in-Ok.ensures.0 c.tick.new.self
     c.in_ok-sent.ensures.ok
     does
     (c.push_sendings.ensures ∙ ap (map (sent_up c.args.client (client_of x).names (map sending_of c.in_ok-sent.field-0.sent.items))) c.reserve_sent.ensures.same)
-    (c.end_told.ensures.circuits ∙ ap (λ (z : Ticked). map (after_tick c.args.client z.closings) mid) c.ticked.view_is)
-    (c.end_told.ensures.logs
-    ∙ ap (grown x.life (lines_of OfCircuit (client_of x).names (notices_of c.ticked.inside.closings.items))) c.reserve_told.ensures.same
+    (c.note_ends.ensures.circuits ∙ ap (λ (z : Ticked). map (after_tick c.args.client z.closings) mid) c.ticked.view_is)
+    (c.note_ends.ensures.logs
+    ∙ ap (grown x.life (lines_of OfCircuit (client_of x).names (notices_of c.ticked.inside.closings.items))) c.reserve_end_lines.ensures.same
     ∙ ap (λ (z : Ticked). grown x.life (lines_of OfCircuit (client_of x).names z.notices) (lines_in c.args.logs.now.items)) c.ticked.view_is)

@@ -3,7 +3,7 @@ use Rattle.std.specs.Prelude.{vec_capacity, vec_len}
 use Rattle.ca_text.specs.Place.{At}
 use Rattle.ca_model.specs.History.{Entry as Logged}
 use Rattle.ca_model.specs.ServerEvents.{withdrawals}
-use Rattle.ca_world_data.specs.declared.history.Entry.{Entry}
+use Rattle.ca_world_data.specs.declared.history.LogEntry.{LogEntry}
 use Rattle.ca_world_data.specs.Reporting.{all_gone, waits}
 use Rattle.ca_world_data.specs.Seen.{entry_of, joined_of, record_of}
 use Rattle.ca_world_data.proofs.Entering.{entries-room, no-entries-room}
@@ -15,8 +15,8 @@ use Rattle.ca_world_servers.proofs.ends_with.tell_gone.Goals as goal
 
 pub returns-then-life-len-clause-logged : goal.returns-then-life-len-clause-logged
 returns-then-life-len-clause-logged c =
-    let logs : List (Vec Entry Global) = c.args.logs.now.items in
-    let log : Vec Entry Global = c.index_mut.result.now in
+    let logs : List (Vec LogEntry Global) = c.args.logs.now.items in
+    let log : Vec LogEntry Global = c.index_mut.result.now in
     let within : c.args.life < length logs = omega (arith, c.if-life-len.true, c.len.ensures) in
     let at : At logs c.args.life log = found logs c.args.life log log within c.index_mut.ensures.value in
     let gone : ℕ → Bool = gone_with c.args.handle c.args.server c.args.core.now (map joined_of c.args.circuits.now) in
@@ -24,9 +24,9 @@ returns-then-life-len-clause-logged c =
 
 pub returns-then-life-len-clause-room : goal.returns-then-life-len-clause-room
 returns-then-life-len-clause-room c = λ n few.
-    let logs : List (Vec Entry Global) = c.args.logs.now.items in
-    let log : Vec Entry Global = c.index_mut.result.now in
-    let new : Vec Entry Global = c.tell_in.new.log in
+    let logs : List (Vec LogEntry Global) = c.args.logs.now.items in
+    let log : Vec LogEntry Global = c.index_mut.result.now in
+    let new : Vec LogEntry Global = c.tell_in.new.log in
     let within : c.args.life < length logs = omega (arith, c.if-life-len.true, c.len.ensures) in
     let at : At logs c.args.life log = found logs c.args.life log log within c.index_mut.ensures.value in
     let gone : ℕ → Bool = gone_with c.args.handle c.args.server c.args.core.now (map joined_of c.args.circuits.now) in
@@ -37,6 +37,6 @@ returns-then-life-len-clause-room c = λ n few.
 
 pub returns-else-life-len-clause-room : goal.returns-else-life-len-clause-room
 returns-else-life-len-clause-room c = λ n few.
-    let logs : List (Vec Entry Global) = c.args.logs.now.items in
+    let logs : List (Vec LogEntry Global) = c.args.logs.now.items in
     let over : length logs ≤ c.args.life = omega (arith, c.if-life-len.false, c.len.ensures) in
     no-entries-room logs c.args.life n over

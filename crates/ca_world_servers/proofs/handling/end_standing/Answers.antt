@@ -6,7 +6,7 @@ use Rattle.ca_queue.specs.Circuit.{without_each}
 use Rattle.ca_queue.specs.Keys.{same}
 use Rattle.ca_queue.specs.Queue.{cancelled}
 use Rattle.ca_world_data.specs.declared.joined.Joined.{Joined}
-use Rattle.ca_world_data.specs.declared.joined.Standing.{Standing}
+use Rattle.ca_world_data.specs.declared.joined.AddedSubscription.{AddedSubscription}
 use Rattle.ca_world_data.specs.Seen.{standing_of}
 use Rattle.ca_world_data.proofs.Counting.{queue_in}
 use Rattle.ca_world_servers.proofs.Losings.{each-cancelled, standing-left, stands-no-more}
@@ -22,5 +22,5 @@ returns c =
     ∙ c.cancel_in.ensures
     ∙ ap (λ xs. map (cancelled key) (map queue_in xs)) c.deref_mut.ensures.value
     ∙ each-cancelled key (map queue_in j.queues.items) c.requires.known in
-    let stands = ap (map standing_of) (filter_same _ (λ (s : Standing). not (same key s.key)) _ (λ x b f' k. search rules) _ _ c.retain.ensures.filtered) ∙ standing-left (same key) j.standing.items in
+    let stands = ap (map standing_of) (filter_same _ (λ (s : AddedSubscription). not (same key s.key)) _ (λ x b f' k. search rules) _ _ c.retain.ensures.filtered) ∙ standing-left (same key) j.standing.items in
     stands-no-more (same key) j (record j { standing = c.retain.new.self; queues = queues }) stands rows

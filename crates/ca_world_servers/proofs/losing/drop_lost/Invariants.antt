@@ -1,5 +1,5 @@
 use Rattle.std.proofs.Common.{◌≡◌, drop, map}
-use Rattle.ca_world_data.specs.declared.joined.Standing.{Standing}
+use Rattle.ca_world_data.specs.declared.joined.AddedSubscription.{AddedSubscription}
 use Rattle.ca_world_data.proofs.Counting.{queue_in}
 use Rattle.ca_world_servers.specs.Losing.{dropped, is_lost}
 use Rattle.ca_world_servers.proofs.losing.drop_lost.Given as goal
@@ -9,6 +9,6 @@ abbrev pub invariant-loop-place : goal.invariant-loop-place
 invariant-loop-place l =
     record {
       queues :
-          map (dropped (is_lost l.lost) (map (λ (s : Standing). s.key) (drop l.place l.standing.items))) (map queue_in l.queues)
-          ≡ map (dropped (is_lost l.lost) (map (λ (s : Standing). s.key) l.standing.items)) (map queue_in l.initial.queues);
+          map (dropped (is_lost l.lost) (map (λ (s : AddedSubscription). s.key) (drop l.place l.standing.items))) (map queue_in l.queues)
+          ≡ map (dropped (is_lost l.lost) (map (λ (s : AddedSubscription). s.key) l.standing.items)) (map queue_in l.initial.queues);
     }

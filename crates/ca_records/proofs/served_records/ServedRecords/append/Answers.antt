@@ -1,6 +1,6 @@
 use Rattle.std.proofs.Common.{◌≡◌, ◌∙◌, ◌++◌, ◌∷◌, ℕ, List, [], None, length, ap, rules, subst, sym}
-use Rattle.ca_records.specs.declared.slot.Slot.{Slot}
-use Rattle.ca_records.specs.declared.slot.Slot.TheVariants.{Full}
+use Rattle.ca_records.specs.declared.slot.RecordSlot.{RecordSlot}
+use Rattle.ca_records.specs.declared.slot.RecordSlot.TheVariants.{Full}
 use Rattle.ca_records.specs.Puts.{Record, record_named}
 use Rattle.ca_records.specs.Store.{Enters, Store, present, records_of}
 use Rattle.ca_records.proofs.Arrivals.{append-step}
@@ -32,7 +32,7 @@ returns-clause-ok c =
     let calm : c.new.result.waiting ≡ [] = ap (λ (q : Record). q.waiting) c.new.ensures in
     let grown = place_in-inserted (λ k. k.items) c.self.inside.places c.insert.new.self c.args.key c.len-place.result c.new.result.state.name (c.requires.key ∙ sym named) c.in_ok-insert.ensures.updates in
     let made = append-step slots c.self.inside.free _ _ c.self.inside.waiting rules_now stamp c.len-place.result c.new.result c.self.invariant last new calm grown in
-    let more : slots ++ Full c.new.result ∷ [] ≡ c.push_reserved.new.self.items = sym (c.push_reserved.ensures.items ∙ ap (λ (t : List Slot). t ++ Full c.new.result ∷ []) c.in_ok-reserve.ensures.items) in
+    let more : slots ++ Full c.new.result ∷ [] ≡ c.push_reserved.new.self.items = sym (c.push_reserved.ensures.items ∙ ap (λ (t : List RecordSlot). t ++ Full c.new.result ∷ []) c.in_ok-reserve.ensures.items) in
     let filled : Enters (store_of slots rules_now stamp) c.len-place.result c.new.result (store_of c.push_reserved.new.self.items rules_now stamp) =
-    subst (λ (t : List Slot). Enters (store_of slots rules_now stamp) c.len-place.result c.new.result (store_of t rules_now stamp)) more made.enters in
+    subst (λ (t : List RecordSlot). Enters (store_of slots rules_now stamp) c.len-place.result c.new.result (store_of t rules_now stamp)) more made.enters in
     rw (← c.self.view_is) (subst (λ (q : Record). Enters (store_of slots rules_now stamp) c.len-place.result q (store_of c.push_reserved.new.self.items rules_now stamp)) c.new.ensures filled)

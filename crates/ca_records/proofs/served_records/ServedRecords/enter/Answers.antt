@@ -1,5 +1,5 @@
 use Rattle.std.proofs.Common.{◌≡◌, ◌∙◌, ℕ, List, [], None, length, ap, rules, slice_set, subst, sym, vec_len}
-use Rattle.ca_records.specs.declared.slot.Slot.{Slot}
+use Rattle.ca_records.specs.declared.slot.RecordSlot.{RecordSlot}
 use Rattle.ca_records.specs.Puts.{Record, record_named}
 use Rattle.ca_records.specs.Store.{Enters, Store, present, records_of}
 use Rattle.ca_records.proofs.Arrivals.{enter-step, free-within, looked-free, not-full}
@@ -40,5 +40,5 @@ returns-clause-ok c =
     let grown = place_in-inserted (λ k. k.items) c.self.inside.places c.insert.new.self c.args.key c.in-Some.place c.new.result.state.name (c.requires.key ∙ sym named) c.in_ok-insert.ensures.updates in
     let made = enter-step slots _ _ c.self.inside.waiting rules_now stamp c.in-Some.place c.index_mut.result.now c.fill-self-inside.result c.new.result (rw c.in-Some.is at c.self.invariant) c.index_mut.ensures.value c.fill-self-inside.ensures.was new calm grown in
     let filled : Enters (store_of slots rules_now stamp) c.in-Some.place c.new.result (store_of (slice_set slots c.in-Some.place c.fill-self-inside.new.self) rules_now stamp) =
-    subst (λ (s : Slot). Enters (store_of slots rules_now stamp) c.in-Some.place c.new.result (store_of (slice_set slots c.in-Some.place s) rules_now stamp)) (sym c.fill-self-inside.ensures.full) made.enters in
+    subst (λ (s : RecordSlot). Enters (store_of slots rules_now stamp) c.in-Some.place c.new.result (store_of (slice_set slots c.in-Some.place s) rules_now stamp)) (sym c.fill-self-inside.ensures.full) made.enters in
     rw (← c.self.view_is) (subst (λ (q : Record). Enters (store_of slots rules_now stamp) c.in-Some.place q (store_of (slice_set slots c.in-Some.place c.fill-self-inside.new.self) rules_now stamp)) c.new.ensures filled)

@@ -1,7 +1,7 @@
 use Rattle.std.proofs.Common.{◌≡◌, ◌∙◌, ◌+◌, ◌-◌, ℕ, List, None, false, length, ap, arith, rules, vec_len}
 use Rattle.std.specs.Str.{bytes_eq}
 use Rattle.ca_text.proofs.Places.{At-within}
-use Rattle.ca_records.specs.declared.slot.Slot.TheVariants.{Full}
+use Rattle.ca_records.specs.declared.slot.RecordSlot.TheVariants.{Full}
 use Rattle.ca_records.specs.Index.{place_in}
 use Rattle.ca_records.proofs.Arrivals.{leave-step}
 use Rattle.ca_records.proofs.Hashed.{place_in-others}

@@ -3,7 +3,7 @@ use Rattle.std.proofs.lemmas.Bool.{both_ways}
 use Rattle.ca_records.specs.Record.{RecordState}
 use Rattle.ca_model.specs.Server.{ServerCircuit}
 use Rattle.ca_model.specs.Server as server
-use Rattle.ca_server_circuit.specs.declared.circuit.State.{State}
+use Rattle.ca_server_circuit.specs.declared.circuit.CircuitState.{CircuitState}
 use Rattle.ca_server_circuit.specs.AtOnce.{ShowsAt, ShowsAtOnce}
 use Rattle.ca_server_circuit.specs.Circuits.{circuit_of}
 use Rattle.ca_server_circuit.proofs.AtOnce.{shows-at}
@@ -13,7 +13,7 @@ use Rattle.ca_server_circuit.proofs.circuit.Circuit.show_at_once.Goals.{in-Ended
 pub returns-clause-shown : goal.returns-clause-shown
 returns-clause-shown c on = elim c.match-self.branch [
   | in-Open w ↦
-      let was : server.Open w.in-Open.end ≡ c.args.self.now = ap (λ (x : State). circuit_of x) (sym w.in-Open.is) ∙ c.self.view_is in
+      let was : server.Open w.in-Open.end ≡ c.args.self.now = ap (λ (x : CircuitState). circuit_of x) (sym w.in-Open.is) ∙ c.self.view_is in
       let r = w.at.result.now in
       let new = w.show_at_once-shown.new.self in
       let shows : ShowsAtOnce r.state c.args.mask w.in-Open.end new =

@@ -21,7 +21,7 @@ read-requires-clause-served c =
     subst (λ (t : Table OpenChannel). AreServed (records_of c.args.records.now) t) (sym (ap (λ (x : ServerEnd). x.channels) c.self.view_is)) c.requires.served
 
 pub returns-in-None : goal.returns-in-None
-returns-in-None c circuit = (same-link _ c.args.self.now c.next_bare.new.self c.self.view_is c.in-None.ensures.1, refl)
+returns-in-None c circuit = (same-link _ c.args.self.now c.next_without_payload.new.self c.self.view_is c.in-None.ensures.1, refl)
 
 pub returns-in-Ok : goal.returns-in-Ok
 returns-in-Ok c circuit port =
@@ -30,7 +30,7 @@ returns-in-Ok c circuit port =
     let m = read_request c.in-Some.wanted in
     let t = c.in-Some.ensures.1 in
     let takes = subst (λ (x : ServerEnd). TakesFirst x.link m t.0) c.self.view_is t.1 in
-    let first = taken-first _ e c.next_bare.new.self t.0 c.self.view_is t.2 in
+    let first = taken-first _ e c.next_without_payload.new.self t.0 c.self.view_is t.2 in
     let x : Takes e = record { room = c.requires.room; m = m; rest = t.0; takes = takes } in
     (x, subst (λ (w : ServerEnd). Does (Due (known port s w) m) s circuit w m (effect.Quiet told.Quiet) s c.read.new.self) first (does-reply port s circuit _ m c.read.new.self command.ReadNotify refl refl refl refl (c.in-Ok.ensures.ok port)))
 

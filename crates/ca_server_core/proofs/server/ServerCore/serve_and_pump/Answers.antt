@@ -20,7 +20,7 @@ use Rattle.ca_server_circuit.specs.Handling.{is_wrote}
 use Rattle.ca_server_core.specs.Noting.{ServesAndPumps}
 use Rattle.ca_server_core.specs.Serving.{more_applied, stepped}
 use Rattle.ca_server_circuit.specs.declared.effect.Effect.TheVariants as told
-use Rattle.ca_server_core.specs.declared.stepping.Step.TheVariants as own
+use Rattle.ca_server_core.specs.declared.stepping.CoreStep.TheVariants as own
 use Rattle.ca_server_core.proofs.server.ServerCore.serve_and_pump.Goals.{then-is_quiet-via-then-is_quiet, then-is_quiet-via-else-is_quiet+then-follow_and_pump}
 use Rattle.ca_server_core.proofs.server.ServerCore.serve_and_pump.Goals as goal
 

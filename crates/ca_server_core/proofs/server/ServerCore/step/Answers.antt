@@ -18,7 +18,7 @@ use Rattle.ca_server_circuit.specs.Handling.{effect_of}
 use Rattle.ca_server_core.proofs.Stepped.{broke-sound, handled-open, handled-settles, made-broke, made-none, none-sound, step-sound, viewed-broke, viewed-none}
 use Rattle.ca_server_circuit.specs.declared.step.FollowUp.TheVariants.{Quiet}
 use Rattle.ca_server_circuit.specs.declared.effect.Effect.TheVariants as told
-use Rattle.ca_server_core.specs.declared.stepping.Step.TheVariants as own
+use Rattle.ca_server_core.specs.declared.stepping.CoreStep.TheVariants as own
 use Rattle.ca_server_core.proofs.server.ServerCore.step.Goals as goal
 
 pub invariant_of-self : goal.invariant_of-self

@@ -69,5 +69,5 @@ returns-in_default-clause-on c =
     ∙ sym (any-on name c.self.inside.standing.entries)
     ∙ ap (λ (s : Subscribed). list_any (is_on name) s.subscriptions) c.self.view_is
 
-pub sole_of-self-inside-requires : goal.sole_of-self-inside-requires
-sole_of-self-inside-requires c = c.receivers-receivers.ensures ∙ c.self.invariant.1 c.args.name.now
+pub only_place-self-inside-requires : goal.only_place-self-inside-requires
+only_place-self-inside-requires c = c.receivers-receivers.ensures ∙ c.self.invariant.1 c.args.name.now

@@ -7,7 +7,7 @@ use Rattle.ca_model.specs.Events.{ClientRestart}
 use Rattle.ca_model.specs.Runs.{CanBe}
 use Rattle.ca_model.specs.World.{World}
 use Rattle.ca_world_data.specs.declared.client.ClientSide.{ClientSide}
-use Rattle.ca_world_data.specs.declared.history.Entry.{Entry}
+use Rattle.ca_world_data.specs.declared.history.LogEntry.{LogEntry}
 use Rattle.ca_world_data.specs.declared.history.Line.{Line}
 use Rattle.ca_world_data.specs.declared.joined.Joined.{Joined}
 use Rattle.ca_world_data.specs.declared.server.ServerSide.{ServerSide}
@@ -35,7 +35,7 @@ returns c =
     let ss : List ServerSide = w.servers.items in
     let ks : List Joined = w.circuits.items in
     let cl : List (Vec Line Global) = w.client_logs.items in
-    let sl : List (Vec Entry Global) = w.server_logs.items in
+    let sl : List (Vec LogEntry Global) = w.server_logs.items in
     let i : ℕ = c.args.client in
     let x : ClientSide = c.index_mut.result.now in
     let within : i < length cs = omega (arith, c.if-client-len.false, c.len.ensures) in
@@ -55,7 +55,7 @@ invariant_of-self c =
     let ss : List ServerSide = w.servers.items in
     let ks : List Joined = w.circuits.items in
     let cl : List (Vec Line Global) = w.client_logs.items in
-    let sl : List (Vec Entry Global) = w.server_logs.items in
+    let sl : List (Vec LogEntry Global) = w.server_logs.items in
     let i : ℕ = c.args.client in
     let x : ClientSide = c.index_mut.result.now in
     let within : i < length cs = omega (arith, c.if-client-len.false, c.len.ensures) in

@@ -1,8 +1,0 @@
-use Rattle.std.proofs.Common.{◌∙◌}
-use Rattle.ca_wire.proofs.Appends.{appended}
-use Rattle.ca_wire.proofs.Words.{three-words}
-use Rattle.ca_wire.proofs.alone.spell_alone.Goals as goal
-
-pub returns-clause-ok : goal.returns-clause-ok
-returns-clause-ok c =
-    appended c.extend_from_slice.result _ _ _ _ c.extend_from_slice.ensures.items (c.three_words.ensures ∙ three-words c.args.said _ _ c.first_half.ensures c.second_half.ensures)

@@ -1,0 +1,14 @@
+use Rattle.std.proofs.Common.{◌<◌, length, List, arith, Vec, Global}
+use Rattle.ca_text.specs.Place.{At}
+use Rattle.ca_world_data.specs.declared.history.Line.{Line}
+use Rattle.ca_world_data.proofs.Entering.{grown-lines}
+use Rattle.ca_world_data.proofs.Worlds.{found}
+use Rattle.ca_world_data.proofs.telling.tell_about.Goals as goal
+
+pub returns-then-life-len : goal.returns-then-life-len
+returns-then-life-len c =
+    let logs : List (Vec Line Global) = c.args.logs.now.items in
+    let log : Vec Line Global = c.index_mut.result.now in
+    let within : c.args.life < length logs = omega (arith, c.if-life-len.true, c.len.ensures) in
+    let at : At logs c.args.life log = found logs c.args.life log log within c.index_mut.ensures.value in
+    grown-lines logs c.args.life log c.heard_in.new.log _ at c.heard_in.ensures
