@@ -1,3 +1,5 @@
+//! The arena itself: up to 65,536 values, found by handle. Begin at `insert`, `get` and `remove`;
+//! none of them searches.
 ghost use Rattle.std.specs.Prelude.{◌≡◌, ◌≢◌, ◌+◌, ◌-◌, ◌<◌, ◌≤◌, ◌==◌, ◌↔◌, ℕ, IsTrue, IfOk, OnOk};
 ghost use Rattle.std.specs.Prelude.{Some, None, if◌then◌else◌, length, nat_lt, option_copied};
 ghost use Rattle.std.specs.Prelude.{is_some, slice_index_or, []};

@@ -1,3 +1,6 @@
+//! The handle under which an arena keeps a value. A handle that is kept too long names nothing, and
+//! never another value.
+
 /// The name of a value in an arena.
 ///
 /// It is stale once its value was removed, and names nothing from then on.

@@ -1,3 +1,5 @@
+//! What an arena guarantees: no handle is given twice, and a handle whose value was removed never
+//! finds anything again.
 ghost use Rattle.std.specs.Prelude.{◌≡◌, List, None};
 ghost use Rattle.ca_arena.specs.declared.handle.Handle.{Handle};
 ghost use Rattle.ca_arena.specs.Arena.{Contents, empty, find, Removes};

@@ -1,3 +1,5 @@
+//! When a server sends its next beacon, and with which number: at once, then after 20 milliseconds,
+//! and after twice as long each time, up to 15 seconds.
 ghost use Rattle.std.specs.Prelude.{◌≡◌, ◌≤◌, ◌↔◌, IsTrue};
 ghost use Rattle.ca_beacon.specs.Clock.{fresh, sent_at};
 

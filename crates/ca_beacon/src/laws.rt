@@ -1,3 +1,5 @@
+//! The numbers of a server's beacons and the waits between them: 20 milliseconds, doubled each
+//! time, up to 15 seconds.
 ghost use Rattle.std.specs.Prelude.{◌≡◌, ◌+◌, ◌*◌, ◌^◌, ◌%◌, ◌++◌, ◌∷◌, [], ℕ, List, length, min};
 ghost use Rattle.ca_text.specs.Waits.{latest, wait};
 ghost use Rattle.ca_beacon.specs.Clock.{fresh, run};

@@ -1,3 +1,5 @@
+//! The beacons that a client has received, by server. Begin at `heard`: it says whether a beacon is
+//! an anomaly, that is, a sign of a new or restarted server.
 ghost use Rattle.std.specs.Prelude.{◌≡◌, ◌+◌, ◌*◌, Some};
 ghost use Rattle.std.specs.FinMap as map;
 ghost use Rattle.std.specs.Net.Addr.{ipv4_bits};

@@ -1,3 +1,5 @@
+//! The board and its calls. The core uses `arm`, `fill`, `recycle` and `take_back`; callers use
+//! `collect`, `give_up` and `has_ended`. The atomic steps are in `steps.rt`.
 ghost use Rattle.std.specs.Prelude.{◌≡◌, ◌≢◌, ◌≤◌, ◌+◌, ◌*◌, ◌⊎◌, ◌∷◌, ℕ, suc, None, [], IfOk};
 ghost use Rattle.std.specs.Prelude.{IfErr, IsTrue, IsFalse};
 ghost use Rattle.std.specs.Vec.{vec_capacity};

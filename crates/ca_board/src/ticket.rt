@@ -1,3 +1,4 @@
+//! A caller's claim to the outcome of one request, and what became of the attempt to deliver it.
 use ca_dbr::Outcome;
 
 /// The right to one outcome: a cell of the board, and which of its outcomes.

@@ -1,7 +1,9 @@
 -- Working: what is made of a message that was read. No clause of a caller needs it.
-use Rattle.std.specs.Prelude.{ℕ, ◌≡◌, ◌⊎◌, List, Option, Result, Ok, Err}
+use Rattle.std.specs.Prelude.{ℕ, ◌≡◌, ◌==◌, ◌⊎◌, false, List, Option, Result, Ok, Err}
+use Rattle.std.specs.List.{list_any}
 use Rattle.std.specs.declared.alloc.AllocError.{AllocError}
 use Rattle.ca_text.specs.Command.{command_number}
+use Rattle.ca_text.specs.declared.command.Command.{Command}
 use Rattle.ca_text.specs.declared.command.Command.TheVariants as command
 use Rattle.ca_arena.specs.declared.handle.Handle.{Handle}
 use Rattle.ca_dbr.specs.declared.value.Outcome.{Outcome}
@@ -10,13 +12,17 @@ use Rattle.ca_wire.specs.declared.reading.Head.{Head}
 use Rattle.ca_model.specs.Answers as notice
 use Rattle.ca_model.specs.Client.{Client}
 use Rattle.ca_model.specs.ClientEnds.{TakesMemory}
-use Rattle.ca_model.specs.Hears.{Effect, Hears}
+use Rattle.ca_model.specs.Hears.{Effect, Hears, understood}
 use Rattle.ca_client_core.specs.First.{first_on, without_first}
 use Rattle.ca_client_core.specs.Hearing.{HearsReply}
 
 -- the command of a reply
 abbrev pub IsReply : ℕ → Type 0
 IsReply n = (n ≡ command_number command.ReadNotify) ⊎ (n ≡ command_number command.WriteNotify)
+
+-- a command that a client does not understand
+abbrev pub IsOther : ℕ → Type 0
+IsOther n = list_any (λ (k : Command). n == command_number k) understood ≡ false
 
 -- A message that was read on this circuit had its effect; or there was no memory for it,
 -- which changed nothing.

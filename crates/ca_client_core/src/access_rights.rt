@@ -1,17 +1,39 @@
 //! What a client makes of an ACCESS_RIGHTS.
 ghost use Rattle.std.specs.Prelude.{[], ◌≡◌};
+ghost use Rattle.ca_text.specs.Command.{command_number};
+ghost use Rattle.ca_text.specs.declared.command.Command.TheVariants.{AccessRights};
 ghost use Rattle.ca_requests.specs.Meaning.{message_of};
 ghost use Rattle.ca_model.specs.Client.{channel_on};
 ghost use Rattle.ca_model.specs.Hears.{becomes, rights_told};
+ghost use Rattle.ca_client_tables.specs.declared.first.First.TheVariants.{Message};
+ghost use Rattle.ca_client_core.specs.Dispatch.{HearsFirst};
+ghost use Rattle.ca_client_core.specs.First.{FirstOn};
 
 use crate::client::ClientCore;
+use crate::notices::Notices;
 use ca_arena::Handle;
 use ca_client_tables::Phase;
-use ca_wire::Header;
+use ca_wire::{Head, Header};
+use std::alloc::AllocError;
 
 impl ClientCore {
+    // It reports nothing.
+    pub(crate) fn hear_access_rights(
+        &mut self,
+        circuit: Handle,
+        head: &Head,
+    ) -> Result<Notices, AllocError>
+        requires first { FirstOn self.old circuit (Message head.now) }
+        requires command { head.now.header.command ≡ command_number AccessRights }
+        ensures { HearsFirst self.old circuit head.now result self.new }
+    {
+        self.take(circuit, head);
+        self.hear_rights(circuit, &head.header);
+        Ok(Notices::none(self.alloc))
+    }
+
     // The rights of a channel that is being created, or is live.
-    pub(crate) fn hear_access_rights(&mut self, circuit: Handle, header: &Header)
+    fn hear_rights(&mut self, circuit: Handle, header: &Header)
         ensures { becomes self.new
             ≡ rights_told
             self.old

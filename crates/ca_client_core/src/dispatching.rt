@@ -1,6 +1,6 @@
 //! What a client makes of a message that it reads, by its command.
 ghost use Rattle.ca_client_tables.specs.declared.first.First.TheVariants.{Message};
-ghost use Rattle.ca_client_core.specs.Dispatch.{HearsFirst};
+ghost use Rattle.ca_client_core.specs.Dispatch.{HearsFirst, IsOther};
 ghost use Rattle.ca_client_core.specs.First.{FirstOn};
 
 use crate::client::ClientCore;
@@ -17,51 +17,32 @@ impl ClientCore {
         requires { FirstOn self.old circuit (Message head.now) }
         ensures { HearsFirst self.old circuit head.now result self.new }
     {
-        let header = &head.header;
-        let Some(command) = Command::of(header.command) else {
-            self.take(circuit, head);
-            return Ok(Notices::none(self.alloc));
+        let Some(command) = Command::of(head.header.command) else {
+            return self.skip(circuit, head);
         };
         match command {
             Command::ReadNotify => self.hear_reply(circuit, head),
             Command::WriteNotify => self.hear_reply(circuit, head),
             Command::EventAdd => self.hear_event_add(circuit, head),
-            Command::Error => {
-                let told = self.hear_error(circuit, head);
-                Ok(Notices::one(self.alloc, told))
-            }
-            Command::Search => {
-                self.take(circuit, head);
-                self.hear_search(circuit, header)
-            }
-            Command::CreateChannel => {
-                self.take(circuit, head);
-                self.hear_create_channel(circuit, header)
-            }
-            Command::CreateChannelFail => {
-                self.take(circuit, head);
-                self.hear_create_channel_fail(circuit, header);
-                Ok(Notices::none(self.alloc))
-            }
-            Command::AccessRights => {
-                self.take(circuit, head);
-                self.hear_access_rights(circuit, header);
-                Ok(Notices::none(self.alloc))
-            }
-            Command::ServerDisconnect => {
-                self.take(circuit, head);
-                self.hear_server_disconnect(circuit, header)
-            }
-            Command::ClearChannel => {
-                self.take(circuit, head);
-                self.hear_clear_channel(circuit, header);
-                Ok(Notices::none(self.alloc))
-            }
+            Command::Error => Ok(Notices::one(self.alloc, self.hear_error(circuit, head))),
+            Command::Search => self.hear_search(circuit, head),
+            Command::CreateChannel => self.hear_create_channel(circuit, head),
+            Command::CreateChannelFail => self.hear_create_channel_fail(circuit, head),
+            Command::AccessRights => self.hear_access_rights(circuit, head),
+            Command::ServerDisconnect => self.hear_server_disconnect(circuit, head),
+            Command::ClearChannel => self.hear_clear_channel(circuit, head),
             // VERSION needs no answer, and no server sends the others.
-            _ => {
-                self.take(circuit, head);
-                Ok(Notices::none(self.alloc))
-            }
+            _ => self.skip(circuit, head),
         }
+    }
+
+    // It is dropped, and does nothing else.
+    fn skip(&mut self, circuit: Handle, head: &Head) -> Result<Notices, AllocError>
+        requires first { FirstOn self.old circuit (Message head.now) }
+        requires other { IsOther head.now.header.command }
+        ensures { HearsFirst self.old circuit head.now result self.new }
+    {
+        self.take(circuit, head);
+        Ok(Notices::none(self.alloc))
     }
 }

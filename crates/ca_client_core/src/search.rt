@@ -1,11 +1,10 @@
 //! What a client makes of a SEARCH that comes on a circuit: it is a reply.
-ghost use Rattle.std.specs.Prelude.{[], ℕ, ◌≡◌, ◌<◌, List, Some};
+ghost use Rattle.std.specs.Prelude.{◌≡◌};
 ghost use Rattle.ca_text.specs.Command.{command_number};
-ghost use Rattle.ca_text.specs.declared.command.Command.TheVariants as command;
-ghost use Rattle.ca_ids.specs.Table.{under};
-ghost use Rattle.ca_requests.specs.Meaning.{message_of};
-ghost use Rattle.ca_model.specs.Client.{ClientCircuit};
-ghost use Rattle.ca_client_core.specs.Dispatch.{HearsOr};
+ghost use Rattle.ca_text.specs.declared.command.Command.TheVariants.{Search};
+ghost use Rattle.ca_client_tables.specs.declared.first.First.TheVariants as first;
+ghost use Rattle.ca_client_core.specs.Dispatch.{HearsFirst};
+ghost use Rattle.ca_client_core.specs.First.{FirstOn};
 ghost use Rattle.ca_client_core.specs.Hearing.{FindsOr};
 
 use crate::client::ClientCore;
@@ -13,26 +12,26 @@ use crate::notices::Notices;
 use crate::searches::pause_found;
 use ca_arena::Handle;
 use ca_client_tables::{Address, find, with_header};
-use ca_wire::{Header, Message};
+use ca_wire::{Head, Message};
 use std::alloc::AllocError;
 
 impl ClientCore {
-    // The reply came from the server of the circuit. Without memory for it nothing changes.
+    // The reply came from the server of the circuit. Without memory for it nothing else changes.
     pub(crate) fn hear_search(
         &mut self,
         circuit: Handle,
-        header: &Header,
+        head: &Head,
     ) -> Result<Notices, AllocError>
-        requires there { (d : ClientCircuit) × (under self.old.circuits circuit ≡ Some d) }
-        requires command { header.now.command ≡ command_number command.Search }
-        ensures { (payload : List ℕ)
-            → HearsOr self.old circuit (message_of header.now payload) result self.new }
+        requires first { FirstOn self.old circuit (first.Message head.now) }
+        requires command { head.now.header.command ≡ command_number Search }
+        ensures { HearsFirst self.old circuit head.now result self.new }
     {
+        self.take(circuit, head);
         let Some(found) = self.circuits.by_handle(circuit) else {
             unreachable!()
         };
         let from = found.address;
-        let reply = with_header(self.alloc, *header);
+        let reply = with_header(self.alloc, head.header);
         self.hear_found(from, &reply)?;
         Ok(Notices::none(self.alloc))
     }

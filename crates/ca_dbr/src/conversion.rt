@@ -1,3 +1,5 @@
+//! Converts whole values between the base types. Begin at `convert`; how one element converts is in
+//! `numeric.rt`.
 ghost use Rattle.std.specs.Prelude.{◌≢◌, [], IsOk, Ok, Err, length, vec_capacity, ◌≤◌, ◌≡◌, true};
 ghost use Rattle.std.specs.Prelude.{false, ◌<◌, Some, None, Result, MatchResult, IfOk, IfErr};
 ghost use Rattle.std.specs.Prelude.{IsTrue, ◌↔◌};

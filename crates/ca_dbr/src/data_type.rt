@@ -1,3 +1,5 @@
+//! The DBR type numbers 0 to 20: a base type, and whether status or time stamp come before the
+//! elements. Also the sizes of elements, metadata and padding.
 ghost use Rattle.std.specs.Prelude.{◌≡◌, ◌<◌, MatchOption};
 ghost use Rattle.ca_dbr.specs.declared.data_type.BaseType.{BaseType};
 ghost use Rattle.ca_dbr.specs.declared.data_type.DataType.{DataType};

@@ -1,3 +1,4 @@
+//! The elements of each base type as bytes of a payload, big-endian, one or many at a time.
 ghost use Rattle.std.specs.Prelude.{[], ◌∷◌, ◌≡◌, ℕ, ◌≤◌, ◌<◌, ◌^◌, ◌+◌, ◌-◌, ◌*◌, ◌++◌, List};
 ghost use Rattle.std.specs.Prelude.{length, replicate, take, All, IfOk, OnErr, ◌≢◌, FitsSigned};
 ghost use Rattle.std.specs.Prelude.{vec_len, vec_capacity};

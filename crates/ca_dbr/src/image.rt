@@ -1,3 +1,5 @@
+//! Writes a value as a DBR payload: status, severity and time stamp if the type carries them,
+//! padding, then the elements. Begin at `write_value`; `reading.rt` is the way back.
 ghost use Rattle.std.specs.Prelude.{◌≡◌, ◌≤◌, ◌<◌, ◌+◌, ◌-◌, ◌*◌, ◌^◌, ◌++◌, min, replicate};
 ghost use Rattle.std.specs.Prelude.{MatchResult, OnOk, vec_len, vec_capacity, IfErr};
 ghost use Rattle.ca_dbr.specs.declared.data_type.DataType.{DataType};

@@ -1,3 +1,5 @@
+//! Laws on payloads and conversions: what was written is read again, numbers and their texts agree,
+//! and what a read shows and why it may be refused.
 ghost use Rattle.std.specs.Prelude.{◌≡◌, ℕ, ℤ, ◌++◌, List, length, Some, Ok, FitsSigned, Err};
 ghost use Rattle.std.specs.Int.{w64};
 ghost use Rattle.ca_dbr.specs.declared.data_type.BaseType.{BaseType};

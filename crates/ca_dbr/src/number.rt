@@ -1,3 +1,4 @@
+//! Integers in the text of a STRING: which texts are one, and how one is written.
 ghost use Rattle.std.specs.Prelude.{◌≡◌, ◌≤◌, ◌<◌, ◌+◌, ◌-◌, ◌*◌, ◌^◌, ◌==◌, min, length};
 ghost use Rattle.std.specs.Prelude.{option_map, Some};
 ghost use Rattle.std.specs.Char.{is_ascii_digit};
@@ -69,11 +70,11 @@ fn read_unsigned(text: &[u8]) -> Option<u64>
     ensures { result ≡ option_map (λ n. min n (2 ^ 32)) (unsigned_in text.now) }
 {
     let count = leading_digits(text);
-    let (digits, behind) = text.split_at(count);
+    let (digits, after) = text.split_at(count);
     if count == 0 {
         return None;
     }
-    if leading_spaces(behind) < behind.len() {
+    if leading_spaces(after) < after.len() {
         return None;
     }
     Some(clipped_number(digits))

@@ -1,3 +1,5 @@
+//! How one element converts to another type: numbers by their range, texts by the integer that they
+//! write. FLOAT and DOUBLE convert only to themselves. The text of a number is in `number.rt`.
 ghost use Rattle.std.specs.Prelude.{Ok, Err, ◌≡◌, ℤ, pos, Bool, true, false, ◌<◌, Option, Some};
 ghost use Rattle.std.specs.Prelude.{None, Result, option_map, unsigned_abs, MatchOption};
 ghost use Rattle.ca_text.specs.declared.refusal.Refusal.{Refusal};

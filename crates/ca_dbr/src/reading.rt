@@ -1,3 +1,5 @@
+//! Reads a value from a DBR payload. Begin at `read_value`; `read_over` is the fast path that
+//! replaces one element in place.
 ghost use Rattle.std.specs.Prelude.{◌≡◌, ◌≤◌, ◌<◌, ◌+◌, ◌-◌, ◌*◌, ◌++◌, All, false, length, take};
 ghost use Rattle.std.specs.Prelude.{drop, replicate, true, IfOk, IfErr, OnErr, ◌≢◌};
 ghost use Rattle.std.specs.List.{flat_map};

@@ -1,3 +1,5 @@
+//! The fast path for a value of one element in its own type: its payload as one 64-bit number. It
+//! does not apply to STRING.
 ghost use Rattle.std.specs.Prelude.{◌≡◌, ◌≢◌, ◌⊎◌, IfNone, IfSome, MatchOption, length};
 ghost use Rattle.ca_dbr.specs.Alone.{IsAlone, IsOneWord, IsNotAlone};
 ghost use Rattle.ca_dbr.specs.Elements.{elements};

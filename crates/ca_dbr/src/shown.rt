@@ -1,3 +1,5 @@
+//! Writes what a read or an update shows of a value: the wanted number of elements, converted to
+//! the wanted type and filled up with zeros. Begin at `write_shown`.
 ghost use Rattle.std.specs.Prelude.{◌≡◌, ◌≢◌, ◌≤◌, ◌<◌, ◌+◌, ◌-◌, ◌*◌, min, length, take, Ok, Err};
 ghost use Rattle.std.specs.Prelude.{IfErr, IsOk, OnOk, MatchResult, vec_len, vec_capacity};
 ghost use Rattle.ca_dbr.specs.declared.data_type.BaseType.TheVariants as base_type;

@@ -1,3 +1,5 @@
+//! A channel's value (elements of one of the seven types), its alarm and time stamp, and the
+//! outcome of a request. FLOAT and DOUBLE are kept as bit patterns.
 ghost use Rattle.std.specs.Prelude.{◌≡◌, ◌≢◌, IfOk, IfErr, OnErr, length};
 ghost use Rattle.ca_text.specs.declared.refusal.Refusal.TheVariants.{OutOfMemory};
 ghost use Rattle.ca_dbr.specs.Elements.{elements, base_of, count_of, IsValue};

@@ -1,3 +1,5 @@
+//! A datagram that was received, as messages. Reading ends at the first message that is incomplete
+//! or bad; the messages before it count.
 ghost use Rattle.std.specs.Prelude.{◌≡◌, List, MatchResult, length};
 ghost use Rattle.ca_text.specs.declared.refusal.Refusal.TheVariants.{OutOfMemory};
 ghost use Rattle.ca_wire.specs.Reading.{IsWhole};

@@ -1,3 +1,5 @@
+//! The datagrams of 16 bytes: a server's beacon, a client's registration with the repeater of its
+//! host, and the repeater's confirmation.
 ghost use Rattle.std.specs.Prelude.{◌≡◌, ◌<◌};
 ghost use Rattle.std.specs.Net.Addr.{ipv4_bits};
 ghost use Rattle.ca_text.specs.Command.{command_number};

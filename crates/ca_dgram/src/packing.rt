@@ -1,3 +1,5 @@
+//! A server's replies to searches, packed into datagrams: each begins with a VERSION and carries up
+//! to 42 replies.
 ghost use Rattle.std.specs.Prelude.{◌≡◌, ◌≢◌, ◌∷◌, [], IfOk, OnErr, map};
 ghost use Rattle.ca_dgram.specs.Packing.{ArePacked, datagram_of};
 

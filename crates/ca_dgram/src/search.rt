@@ -1,3 +1,5 @@
+//! A client's searches, written into a datagram one by one until its limit of 1,024 bytes. The
+//! datagram begins with a VERSION.
 ghost use Rattle.std.specs.Prelude.{◌≡◌, ◌+◌, ◌<◌, ◌≤◌, ◌++◌, IfErr, length, vec_capacity};
 ghost use Rattle.ca_dgram.specs.Search.{Searches, begun, searched};
 ghost use Rattle.ca_text.specs.declared.refusal.Refusal.TheVariants.{OutOfMemory};

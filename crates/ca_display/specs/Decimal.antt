@@ -25,8 +25,8 @@ places_of p = cast_unsigned w16 p
 abbrev pub whole_in : Format → ℕ → Float
 whole_in f n = of_int f (pos n)
 
--- A number from 0 on as so many units, of which `power` are 1: its whole part, and of what is
--- behind that one digit more than is shown, towards zero, by two products of the format; the last
+-- A number from 0 on in units, of which `power` are 1: its whole part, and of what comes after
+-- the point one digit more than is shown, towards zero, by two products of the format; the last
 -- digit is then rounded, a half up.
 abbrev pub units_of : Format → ℕ → Float → ℕ
 units_of f power x =
@@ -41,7 +41,7 @@ signed_units f power x =
     if le (float_with_sign false x) (whole_in f 10000000)
     then Some (lt x (whole_in f 0), units_of f power (float_with_sign false x)) else None
 
--- digits, with zeros before them up to so many
+-- digits, with zeros before them up to that many
 abbrev pub padded_digits : ℕ → ℕ → List ℕ
 padded_digits size n = replicate (size - length (decimal n)) 48 ++ decimal n
 

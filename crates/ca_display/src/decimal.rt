@@ -20,7 +20,7 @@ const ZEROS: [u8; 8] = [b'0'; 8];
 // What is shown by products of its format is at most this far from zero.
 const NEAR: u64 = 10_000_000;
 
-// How many units are 1, with so many places.
+// How many units are 1, with that many places.
 #[tactic(auto, using(crate::proofs::Ten::fits, crate::proofs::Ten::some, crate::proofs::Ten::most))]
 fn power_of(places: u16) -> u64
     requires { places ≤ 8 }
@@ -109,7 +109,7 @@ fn put(bytes: &[u8], text: &mut ArrayVec<u8, 40>)
     }
 }
 
-// Puts units at the end of a text, with so many places.
+// Puts units at the end of a text, with that many places.
 #[tactic(auto, using(crate::proofs::Decimals::point_none))]
 fn put_units(places: u16, units: u128, text: &mut ArrayVec<u8, 40>)
     requires { places ≤ 8 }

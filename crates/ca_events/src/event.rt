@@ -1,3 +1,5 @@
+//! The events of a simulated world of clients and servers: calls, datagrams, bytes that arrive,
+//! circuits that are cut, and the passing of time. `ca_world` carries them out.
 ghost use Rattle.std.specs.Prelude.{◌≡◌, ◌<◌};
 ghost use Rattle.ca_text.specs.Mask.{HasEvent};
 ghost use Rattle.ca_events.specs.Events.{event_of, moment_of};

@@ -1,3 +1,4 @@
+//! What the tables guarantee: no two entries in use at one time have the same wire id.
 ghost use Rattle.std.specs.Prelude.{◌≡◌};
 ghost use Rattle.ca_arena.specs.declared.handle.Handle.{Handle};
 ghost use Rattle.ca_arena.specs.Arena.{IsLive};

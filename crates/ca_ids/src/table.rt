@@ -1,3 +1,5 @@
+//! A table of values by handle and by wire id, which itself keeps the ids that drain. In
+//! `held_table.rt` each value says whether its id drains.
 ghost use Rattle.std.specs.Prelude.{◌≡◌, IfOk, IsSome, Some, MatchOption, option_copied};
 ghost use Rattle.std.specs.Option.{option_copied_mut};
 ghost use Rattle.std.specs.Borrow.{sem};

@@ -1,3 +1,5 @@
+//! The 32-bit number that names a channel, request or subscription on the wire (SID, CID, IOID or
+//! subscription id), made of the index and generation of a handle.
 ghost use Rattle.std.specs.Prelude.{◌≡◌, ◌%◌};
 ghost use Rattle.ca_ids.specs.Wire.{wire_of};
 

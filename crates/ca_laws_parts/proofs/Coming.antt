@@ -10,7 +10,7 @@ use Rattle.ca_records.specs.declared.puts.Put.{Put}
 use Rattle.ca_records.specs.Puts.{Record, new_record, removed}
 use Rattle.ca_records.specs.Record.{RecordState}
 use Rattle.ca_model.specs.Speech.{In}
-use Rattle.ca_model.specs.History.{Entry, Added, Applied, Removed, Waits, Withdrawn}
+use Rattle.ca_model.specs.History.{Circuit, Entry, Added, Applied, Removed, Waits, Withdrawn}
 use Rattle.ca_model.specs.ServerEvents.{removal_entries}
 use Rattle.ca_model.specs.World.{PutPlace, RecordSide, numbered, record_begun}
 use Rattle.ca_laws_parts.specs.Both.{Both}
@@ -76,7 +76,7 @@ module _ (Is : PutPlace → Put → Type 0) where
       subst (λ (l : List Entry). Agrees Is l c r) (append-one y e (withdrawing ws))
       (spared-withdrawing (y ++ e ∷ []) c r ws (λ p h. apart p (suc h.0, h.1)) (agrees-spared Is y c r e (apart w (0, refl)) a))
 
-module _ (Came : PutPlace → (i : ℕ) → Elements → Type 0) (Lost : PutPlace → (i : ℕ) → Type 0) (Is : PutPlace → Put → Type 0) where
+module _ (Came : (Circuit → (k i : ℕ) → Type 0) → PutPlace → (i : ℕ) → Elements → Type 0) (Lost : PutPlace → (i : ℕ) → Type 0) (Is : PutPlace → Put → Type 0) where
   -- A record is removed, and the puts that wait for it are withdrawn.
   pub agree-removed : (y : List Entry) (cs : List Record) (rs : List RecordSide) (n i : ℕ) (r : RecordSide) → At rs i r → Agree Came Lost Is y cs rs n → Agree Came Lost Is (y ++ removal_entries r.name rs) (removed r.name cs) (filter (λ (q : RecordSide). not (bytes_eq q.name r.name)) rs) n
   agree-removed y cs rs n i r in_rs a =
@@ -139,7 +139,7 @@ pub lack-of : (name : List ℕ) (number : ℕ) (rs : List RecordSide) → ((i : 
 lack-of name number [] h = tt
 lack-of name number (r ∷ rs) h = (h 0 r refl, lack-of name number rs (λ i q at. h (suc i) q at))
 
-module _ (Came : PutPlace → (i : ℕ) → Elements → Type 0) (Lost : PutPlace → (i : ℕ) → Type 0) (Is : PutPlace → Put → Type 0) where
+module _ (Came : (Circuit → (k i : ℕ) → Type 0) → PutPlace → (i : ℕ) → Elements → Type 0) (Lost : PutPlace → (i : ℕ) → Type 0) (Is : PutPlace → Put → Type 0) where
   -- what was there agrees with the log in which a record was added
   still-agree : (y : List Entry) (cs : List Record) (rs : List RecordSide) (n : ℕ) (s : RecordState) → Agree Came Lost Is y cs rs n → Both (Agrees Is (y ++ Added n s ∷ [])) cs rs
   still-agree y cs rs n s a =

@@ -15,6 +15,7 @@ use Rattle.ca_model.specs.Server.{Open, Server, ServerEnd}
 use Rattle.ca_model.specs.ServerCalls.{Replies, after_next, finish_reply, with_finish}
 use Rattle.ca_model.specs.ServerSteps.{HasEnd}
 use Rattle.ca_model.specs.History.{Reply, Told}
+use Rattle.ca_model.specs.Channels.{IsTaken}
 use Rattle.ca_model.specs.ServerEvents.{Finished, HappensFinish, about, ends_by, next_busy, next_numbers, replied_at}
 use Rattle.ca_model.specs.ServerEvents as event
 use Rattle.ca_model.specs.World.{Joined, PutPlace, ServerSide, Setting, World, with_circuit}
@@ -83,7 +84,7 @@ module _ (s : Setting) (w new : World) (i : ℕ) (y : ServerSide) (name : List �
   by : IsBusyWith own.log f.r.number f.p
   by = subst (λ (o : Option PutPlace). IsBusyBy own.log f.r.number o) f.busy agrees.busy
 
-  came : (e : ℕ) × CameOn w.circuits y.life f.p e by.v.value
+  came : (e : ℕ) × CameOn w.circuits y.life IsTaken f.p e by.v.value
   came = came-as w.circuits y.life own.log by.i f.p.circuit f.p.place f.r.number by.v true own.life.once by.at
 
   -- the circuit on which it came joins this life

@@ -6,7 +6,7 @@ use Rattle.ca_text.proofs.Places.{At-append, At-one, At-or, At-snoc, At-within}
 use Rattle.ca_model.specs.Speech.{Id, Gives, In, Speaks}
 use Rattle.ca_model.specs.History.{Intent, Reply, Sent, Told, Step, Circuit}
 use Rattle.ca_model.specs.Channels.{Suits, until}
-use Rattle.ca_model.specs.Headline.{TakesOwn}
+use Rattle.ca_model.specs.Causes.{TakesOwn}
 use Rattle.ca_laws_parts.specs.Flows.{Awaits, Concerns, Flows, IsCidOf, IsGiven, IsLast, MaySend, MayTell, MeansOwn, NoMore, with_handled, with_heard, with_sent, with_told}
 use Rattle.ca_laws_parts.proofs.CircuitLists.{At-old, until-heard, until-read, until-unread}
 use Rattle.ca_model.proofs.Tables.{length-more}

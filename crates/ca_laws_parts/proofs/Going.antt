@@ -7,8 +7,8 @@ use Rattle.ca_dbr.specs.Elements.{Elements}
 use Rattle.ca_records.specs.declared.puts.Put.{Put}
 use Rattle.ca_records.specs.Puts.{Record}
 use Rattle.ca_model.specs.Speech.{Stored, sid_in}
-use Rattle.ca_model.specs.History.{Applied, Entry, Finished, Sent, Step, Withdrawn}
-use Rattle.ca_model.specs.Channels.{CameIn, HasWaited, IsApplied as IsAppliedIn, IsBusyUntil, IsCleared, IsDropped, IsTaken, IsWaiting}
+use Rattle.ca_model.specs.History.{Applied, Circuit, Entry, Finished, Sent, Step, Withdrawn}
+use Rattle.ca_model.specs.Channels.{CameIn, HasWaited, IsApplied as IsAppliedIn, IsBusyUntil, IsCleared, IsDropped, IsHandledIn, IsTaken, IsWaiting}
 use Rattle.ca_model.specs.World.{Joined, PutPlace, RecordSide, World, circuit_of, told}
 use Rattle.ca_laws_parts.specs.Once.{Once}
 use Rattle.ca_laws_parts.specs.Agrees.{Agrees, IsBusyAs, WaitsAs}
@@ -18,14 +18,18 @@ use Rattle.ca_laws_parts.proofs.Once.{once-as}
 
 -- ---- circuits go on
 
+handled-later : (c d : Joined) (k i : ℕ) → Later c d → IsHandledIn c.lists k i → IsHandledIn d.lists k i
+handled-later c d k i l now = (now.0, l.handled k now.0 now.1, now.2, now.3)
+
 taken-later : (c d : Joined) (k i : ℕ) → Later c d → IsTaken c.lists k i → IsTaken d.lists k i
-taken-later c d k i l (inl now) = inl (now.0, l.handled k now.0 now.1, now.2, now.3)
+taken-later c d k i l (inl now) = inl (handled-later c d k i l now)
 taken-later c d k i l (inr last) =
     let e = l.ended last.1 in
     inr (last.0 ∙ ap (λ (hs : List Step). length hs) (sym e.1), e.0, λ j g at. last.2 j g (subst (λ (hs : List Step). At hs j g) e.1 at))
 
-came-later : (old new : List Joined) (life : ℕ) (p : PutPlace) (i : ℕ) (value : Elements) → AreLater old new → CameOn old life p i value → CameOn new life p i value
-came-later old new life p i value later a =
+came-later : (old new : List Joined) (life : ℕ) (Taken : Circuit → (k i : ℕ) → Type 0) (p : PutPlace) (i : ℕ) (value : Elements) → ((c d : Joined) → Later c d → Taken c.lists p.place i → Taken d.lists p.place i)
+    → AreLater old new → CameOn old life Taken p i value → CameOn new life Taken p i value
+came-later old new life Taken p i value goes later a =
     let d = later p.circuit a.c a.on in
     record {
       c = d.0;
@@ -37,8 +41,23 @@ came-later old new life p i value later a =
       given = a.given;
       reads = a.reads;
       is = a.is;
-      taken = taken-later a.c d.0 p.place i d.2 a.taken;
+      taken = goes a.c d.0 d.2 a.taken;
     }
+
+-- one that came in its step was taken
+pub came-taken : (cs : List Joined) (life : ℕ) (p : PutPlace) (i : ℕ) (value : Elements) → CameOn cs life IsHandledIn p i value → CameOn cs life IsTaken p i value
+came-taken cs life p i value a = record {
+  c = a.c;
+  on = a.on;
+  joins = a.joins;
+  s = a.s;
+  sent = a.sent;
+  writes = a.writes;
+  given = a.given;
+  reads = a.reads;
+  is = a.is;
+  taken = inl a.taken;
+}
 
 lost-later : (old new : List Joined) (p : PutPlace) (i : ℕ) → AreLater old new → LostOn old p i → LostOn new p i
 lost-later old new p i later a =
@@ -95,7 +114,8 @@ agrees-as Is Now as_it y c r a = record {
 
 pub once-later : (old new : List Joined) (life : ℕ) (y : List Entry) → AreLater old new → Once (CameOn old life) (LostOn old) y → Once (CameOn new life) (LostOn new) y
 once-later old new life y later once =
-    once-as (CameOn old life) (CameOn new life) (LostOn old) (LostOn new) y (λ p i value a. came-later old new life p i value later a) (λ p i a. lost-later old new p i later a) once
+    once-as (CameOn old life) (CameOn new life) (LostOn old) (LostOn new) y (λ p i value a. came-later old new life IsTaken p i value (λ c d l t. taken-later c d p.place i l t) later a)
+    (λ p i value a. came-later old new life IsHandledIn p i value (λ c d l t. handled-later c d p.place i l t) later a) (λ p i a. lost-later old new p i later a) once
 
 pub life-later : (old new : List Joined) (server life : ℕ) (y : List Entry) (cs : List Record) (rs : List RecordSide) (n : ℕ) → AreLater old new → Life old server life y cs rs n → Life new server life y cs rs n
 life-later old new server life y cs rs n later a = record {
@@ -108,13 +128,13 @@ life-later old new server life y cs rs n later a = record {
 -- ---- each write once, over all lives
 
 -- how an applied write came: now, or when it came to wait
-pub came-as : (cs : List Joined) (life : ℕ) (y : List Entry) (i n k r : ℕ) (v : Stored) (b : Bool) → Once (CameOn cs life) (LostOn cs) y → At y i (Applied n k r v b) → (e : ℕ) × CameOn cs life (record { circuit = n; place = k }) e v.value
+pub came-as : (cs : List Joined) (life : ℕ) (y : List Entry) (i n k r : ℕ) (v : Stored) (b : Bool) → Once (CameOn cs life) (LostOn cs) y → At y i (Applied n k r v b) → (e : ℕ) × CameOn cs life IsTaken (record { circuit = n; place = k }) e v.value
 came-as cs life y i n k r v b once at =
     elim (once.own i n k r v b at) [
       | inl came ↦ (i, came)
       | inr waited ↦
-          let came = once.came waited.0 n k r waited.1 waited.3 in
-          (waited.0, subst (λ (e : Elements). CameOn cs life (record { circuit = n; place = k }) waited.0 e) waited.4 came)
+          let came = came-taken cs life (record { circuit = n; place = k }) waited.0 waited.1.value (once.came waited.0 n k r waited.1 waited.3) in
+          (waited.0, subst (λ (e : Elements). CameOn cs life IsTaken (record { circuit = n; place = k }) waited.0 e) waited.4 came)
     ]
 
 pub applied-once : (w : World) → LogsOnce w → (n k l m i j r q : ℕ) (v u : Stored) → IsAppliedIn (told w) n k l i r v → IsAppliedIn (told w) n k m j q u → (l ≡ m) × (i ≡ j)
@@ -187,5 +207,5 @@ own-message w logs n k l i r v a =
           | inl came ↦ inl (subst (λ (d : Joined). IsTaken d.lists k i) (At-one w.circuits n came.c c came.on on) came.taken)
           | inr waited ↦
               let came = once.came waited.0 n k r waited.1 waited.3 in
-              inr (waited.0, waited.1, waited.3, waited.2, subst (λ (d : Joined). IsTaken d.lists k waited.0) (At-one w.circuits n came.c c came.on on) came.taken, λ gone. once.dropped n k r v a.1 (i, a.3) gone)
+              inr (waited.0, waited.1, waited.3, waited.2, subst (λ (d : Joined). IsHandledIn d.lists k waited.0) (At-one w.circuits n came.c c came.on on) came.taken, λ gone. once.dropped n k r v a.1 (i, a.3) gone)
         ]

@@ -9,7 +9,7 @@ use Rattle.ca_dbr.specs.Elements.{Elements}
 use Rattle.ca_records.specs.declared.puts.Put.{Put}
 use Rattle.ca_records.specs.Puts.{Record, WaitingPut, withdrawn, without_puts}
 use Rattle.ca_model.specs.Speech.{In}
-use Rattle.ca_model.specs.History.{Entry, Applied, Removed, Waits, Withdrawn}
+use Rattle.ca_model.specs.History.{Circuit, Entry, Applied, Removed, Waits, Withdrawn}
 use Rattle.ca_model.specs.ServerEvents.{channel_withdrawals, places_where, with_core, withdrawals}
 use Rattle.ca_model.specs.ServerEvents as event
 use Rattle.ca_model.specs.World.{PutPlace, RecordSide}
@@ -49,7 +49,7 @@ bool-same false false f g = refl
 
 -- ---- the log
 
-module _ (Came : PutPlace → (i : ℕ) → Elements → Type 0) (Lost : PutPlace → (i : ℕ) → Type 0) where
+module _ (Came : (Circuit → (k i : ℕ) → Type 0) → PutPlace → (i : ℕ) → Elements → Type 0) (Lost : PutPlace → (i : ℕ) → Type 0) where
   -- the log may withdraw puts that were not applied
   pub once-withdrawn : (y : List Entry) (ws : List PutPlace) → ((w : PutPlace) → In ws w → IsApplied y w → ⊥) → ((w : PutPlace) → In ws w → (r : ℕ) × (value : Elements) × HadWaited y w (length y) r value × (In y (Removed r) ⊎ ((i : ℕ) → length y ≤ i → Lost w i))) → Once Came Lost y → Once Came Lost (y ++ withdrawing ws)
   once-withdrawn y [] un lost once = subst (λ (l : List Entry). Once Came Lost l) (sym (append-nil y)) once
@@ -107,7 +107,7 @@ named-among which rs i r p at waits =
     (λ e. (let h = flat-in (λ (q : RecordSide). filter which q.waiting) rs p (there-among (named_by which rs) p e) in (In-kept which h.0.waiting p h.2).1))
     (λ e. among-there (named_by which rs) p (In-flat (λ (q : RecordSide). filter which q.waiting) rs r p (i, at) (kept-in which r.waiting p waits e)))
 
-module _ (Came : PutPlace → (i : ℕ) → Elements → Type 0) (Lost : PutPlace → (i : ℕ) → Type 0) (Is : PutPlace → Put → Type 0) where
+module _ (Came : (Circuit → (k i : ℕ) → Type 0) → PutPlace → (i : ℕ) → Elements → Type 0) (Lost : PutPlace → (i : ℕ) → Type 0) (Is : PutPlace → Put → Type 0) where
   pub agree-withdrawn : (y : List Entry) (cs : List Record) (rs : List RecordSide) (n : ℕ) (which : PutPlace → Bool) (test : Put → Bool) → TestsAgree which test cs rs → LoseAll Lost which y rs → Agree Came Lost Is y cs rs n → Agree Came Lost Is (y ++ withdrawing (named_by which rs)) (withdrawn test cs) (map (without_waiting which) rs) n
   agree-withdrawn y cs rs n which test agree lose a =
       let ws : List PutPlace = named_by which rs in
@@ -130,7 +130,7 @@ module _ (Came : PutPlace → (i : ℕ) → Elements → Type 0) (Lost : PutPlac
 
 -- ---- of circuits that end
 
-module _ (Came : PutPlace → (i : ℕ) → Elements → Type 0) (Lost : PutPlace → (i : ℕ) → Type 0) (Is : PutPlace → Put → Type 0) where
+module _ (Came : (Circuit → (k i : ℕ) → Type 0) → PutPlace → (i : ℕ) → Elements → Type 0) (Lost : PutPlace → (i : ℕ) → Type 0) (Is : PutPlace → Put → Type 0) where
   -- Circuits end: `gone` names them by number, `lost` by what the core knows of a put.
   pub agree-gone : (y : List Entry) (cs : List Record) (rs : List RecordSide) (n : ℕ) (gone : ℕ → Bool) (lost : Put → Bool) → TestsAgree (λ (p : PutPlace). gone p.circuit) lost cs rs → LoseAll Lost (λ (p : PutPlace). gone p.circuit) y rs → Agree Came Lost Is y cs rs n → Agree Came Lost Is (y ++ withdrawals gone rs) (withdrawn lost cs) (map (event.without_puts gone) rs) n
   agree-gone y cs rs n gone lost agree lose a = agree-withdrawn Came Lost Is y cs rs n (λ (p : PutPlace). gone p.circuit) lost agree lose a
@@ -170,7 +170,7 @@ module _ (Is : PutPlace → Put → Type 0) (y : List Entry) where
       places-filter (WaitsAs Is y r.number) (event.is_of_channel h sid) which r.waiting c.waiting both.0.each (λ j p w at there. agree 0 j c r p w refl refl at there) in
       λ i. mine i ++ rest i
 
-module _ (Came : PutPlace → (i : ℕ) → Elements → Type 0) (Lost : PutPlace → (i : ℕ) → Type 0) (Is : PutPlace → Put → Type 0) where
+module _ (Came : (Circuit → (k i : ℕ) → Type 0) → PutPlace → (i : ℕ) → Elements → Type 0) (Lost : PutPlace → (i : ℕ) → Type 0) (Is : PutPlace → Put → Type 0) where
   -- A channel is cleared: `which` names its puts by place.
   pub agree-cleared : (y : List Entry) (cs : List Record) (rs : List RecordSide) (n : ℕ) (h : _) (sid : ℕ) (which : PutPlace → Bool) → TestsAgree which (event.is_of_channel h sid) cs rs → LoseAll Lost which y rs → Agree Came Lost Is y cs rs n → Agree Came Lost Is (y ++ channel_withdrawals h sid cs rs) (withdrawn (event.is_of_channel h sid) cs) (with_core (event.without_channel h sid) cs rs) n
   agree-cleared y cs rs n h sid which agree lose a =

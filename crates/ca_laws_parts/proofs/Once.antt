@@ -5,8 +5,8 @@ use Rattle.ca_text.proofs.Places.{At-append, At-back, At-snoc, At-within}
 use Rattle.ca_dbr.specs.Elements.{Elements, base_of}
 use Rattle.ca_records.specs.Record.{RecordState}
 use Rattle.ca_model.specs.Speech.{In}
-use Rattle.ca_model.specs.History.{Entry, Added, Applied, Finished, Removed, Waits, Withdrawn}
-use Rattle.ca_model.specs.Channels.{IsBusyUntil}
+use Rattle.ca_model.specs.History.{Circuit, Entry, Added, Applied, Finished, Removed, Waits, Withdrawn}
+use Rattle.ca_model.specs.Channels.{IsBusyUntil, IsHandledIn, IsTaken}
 use Rattle.ca_model.specs.World.{PutPlace}
 use Rattle.ca_laws_parts.specs.Once.{HadWaited, IsLost, MayTell, Once}
 use Rattle.ca_laws_parts.proofs.WritesLists.{take-front, take-whole}
@@ -33,7 +33,7 @@ taken-all : (y : List Entry) (e : Entry) (i : ℕ) → i ≡ length y → take i
 taken-all y e i is =
     ap (λ (n : ℕ). take n (y ++ e ∷ [])) is ∙ take-front (length y) y (e ∷ []) (omega arith) ∙ take-whole y
 
-module _ (Came : PutPlace → (i : ℕ) → Elements → Type 0) (Lost : PutPlace → (i : ℕ) → Type 0) where
+module _ (Came : (Circuit → (k i : ℕ) → Type 0) → PutPlace → (i : ℕ) → Elements → Type 0) (Lost : PutPlace → (i : ℕ) → Type 0) where
   pub once-begins : Once Came Lost []
   once-begins = record {
     applied = λ i j n k r q v u b d p s. absurd cc;
@@ -74,13 +74,13 @@ module _ (Came : PutPlace → (i : ℕ) → Elements → Type 0) (Lost : PutPlac
             | inr waited ↦ inr (had-waited-grown y (e ∷ []) (record { circuit = n; place = k }) i r v.value waited)
           ]
           | inr new ↦ elim ((it (Applied n k r v b) new.1).4) [
-            | inl came ↦ inl (subst (λ (l : ℕ). Came (record { circuit = n; place = k }) l v.value) (sym new.0) came)
+            | inl came ↦ inl (subst (λ (l : ℕ). Came IsTaken (record { circuit = n; place = k }) l v.value) (sym new.0) came)
             | inr waited ↦ inr (subst (λ (l : ℕ). HadWaited (y ++ e ∷ []) (record { circuit = n; place = k }) l r v.value) (sym new.0) (had-waited-grown y (e ∷ []) (record { circuit = n; place = k }) (length y) r v.value waited))
           ]
         ];
         came = λ i n k r v p. elim (At-snoc y e i (Waits n k r v) p) [
           | inl old ↦ once.came i n k r v old
-          | inr new ↦ subst (λ (l : ℕ). Came (record { circuit = n; place = k }) l v.value) (sym new.0) (it (Waits n k r v) new.1).1
+          | inr new ↦ subst (λ (l : ℕ). Came IsHandledIn (record { circuit = n; place = k }) l v.value) (sym new.0) (it (Waits n k r v) new.1).1
         ];
         waits = λ i j n k r q v u p s. elim (At-snoc y e i (Waits n k r v) p) [
           | inl old ↦ elim (At-snoc y e j (Waits n k q u) s) [
@@ -131,15 +131,16 @@ module _ (Came : PutPlace → (i : ℕ) → Elements → Type 0) (Lost : PutPlac
       it f is = subst (λ (z : Entry). MayTell Came Lost y z) (sym is) may
 
 -- how writes may have come, and been lost, told in other words
-pub once-as : (Came Now : PutPlace → (i : ℕ) → Elements → Type 0) (Lost Gone : PutPlace → (i : ℕ) → Type 0) (y : List Entry) → ((p : PutPlace) (i : ℕ) (value : Elements) → Came p i value → Now p i value) → ((p : PutPlace) (i : ℕ) → Lost p i → Gone p i) → Once Came Lost y → Once Now Gone y
-once-as Came Now Lost Gone y as_it as_gone once = record {
+pub once-as : (Came Now : (Circuit → (k i : ℕ) → Type 0) → PutPlace → (i : ℕ) → Elements → Type 0) (Lost Gone : PutPlace → (i : ℕ) → Type 0) (y : List Entry) → ((p : PutPlace) (i : ℕ) (value : Elements) → Came IsTaken p i value → Now IsTaken p i value)
+    → ((p : PutPlace) (i : ℕ) (value : Elements) → Came IsHandledIn p i value → Now IsHandledIn p i value) → ((p : PutPlace) (i : ℕ) → Lost p i → Gone p i) → Once Came Lost y → Once Now Gone y
+once-as Came Now Lost Gone y taken_as handled_as as_gone once = record {
   applied = once.applied;
   there = once.there;
   own = λ i n k r v b at. elim (once.own i n k r v b at) [
-    | inl came ↦ inl (as_it (record { circuit = n; place = k }) i v.value came)
+    | inl came ↦ inl (taken_as (record { circuit = n; place = k }) i v.value came)
     | inr waited ↦ inr waited
   ];
-  came = λ i n k r v at. as_it (record { circuit = n; place = k }) i v.value (once.came i n k r v at);
+  came = λ i n k r v at. handled_as (record { circuit = n; place = k }) i v.value (once.came i n k r v at);
   waits = once.waits;
   dropped = once.dropped;
   withdrawn = λ i n k at. (let l = once.withdrawn i n k at in (l.0, l.1, l.2, elim l.3 [ inl gone ↦ inl gone | inr lost ↦ inr (as_gone (record { circuit = n; place = k }) i lost) ]));

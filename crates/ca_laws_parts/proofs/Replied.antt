@@ -17,6 +17,7 @@ use Rattle.ca_model.specs.ServerSteps.{Stepped, closed}
 use Rattle.ca_model.specs.ServerSteps as stepped
 use Rattle.ca_model.specs.Speech.{In}
 use Rattle.ca_model.specs.History.{Applied, Entry, Reply, Told}
+use Rattle.ca_model.specs.Channels.{IsTaken}
 use Rattle.ca_model.specs.ServerEvents.{Finished, HappensFinish, ServerStepped, StepLacks, about, acted, ending, ends_at, ends_by, ends_here, finish_entry, first_of, logged_by, next_busy, next_entries, next_numbers, numbers_after, replied_at, server_after, side_of, unsaid, withdrawals, write_numbers}
 use Rattle.ca_model.specs.ServerEvents as event
 use Rattle.ca_model.specs.World.{Joined, PutPlace, ServerSide, Setting, World, with_circuit}
@@ -112,7 +113,7 @@ finished-grew s w new i y name at h f = subst (λ (z : World). Grew w z) (sym f.
         let there = beside-right (Agrees (IsPutOf w.circuits i) own.log) y.core.records y.records f.at.0 f.r own.life.each f.at.1 in
         subst (λ (o : Option PutPlace). IsBusyBy own.log f.r.number o) f.busy there.2.busy
 
-    came : (e : ℕ) × CameOn w.circuits y.life f.p e by.v.value
+    came : (e : ℕ) × CameOn w.circuits y.life IsTaken f.p e by.v.value
     came = came-as w.circuits y.life own.log by.i f.p.circuit f.p.place f.r.number by.v true own.life.once by.at
 
     kept-logs : (t : World) → (replied_at f.p f.sent t).server_logs ≡ t.server_logs

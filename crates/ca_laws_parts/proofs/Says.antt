@@ -17,6 +17,7 @@ use Rattle.ca_laws_parts.specs.Once.{Once, write_in}
 use Rattle.ca_laws_parts.specs.Says.{IsAbout, Says}
 use Rattle.ca_laws_parts.specs.Seats.{Sound}
 use Rattle.ca_laws_parts.proofs.WritesLists.{In-append, none_at}
+use Rattle.ca_laws_parts.proofs.Going.{came-taken}
 use Rattle.ca_laws_parts.proofs.Midway.{grown-here, grown-other}
 use Rattle.ca_laws_parts.proofs.WritesMoves.{At-below, same-or}
 
@@ -29,7 +30,7 @@ module _ (cs : List Joined) (life : ℕ) (y more : List Entry) (once : Once (Cam
   abbrev WasTold : Type 0
   WasTold = (f : Entry) × In y f × (write_in f ≡ Some p)
 
-  came-old : (i : ℕ) (value : Elements) → CameOn cs life p i value → i < length y
+  came-old : (i : ℕ) (value : Elements) → CameOn cs life IsTaken p i value → i < length y
   came-old i value came =
       let g = At-below c.lists.handled k early in
       let there : At d.lists.handled k g.0 = stay k g.0 g.1 in
@@ -46,7 +47,7 @@ module _ (cs : List Joined) (life : ℕ) (y more : List Entry) (once : Once (Cam
       ]
 
   waits-old : (i r : ℕ) (v : Stored) → At (y ++ more) i (Waits n k r v) → In y (Waits n k r v)
-  waits-old i r v at = (i, At-back y more i (Waits n k r v) at (came-old i v.value (once.came i n k r v at)))
+  waits-old i r v at = (i, At-back y more i (Waits n k r v) at (came-old i v.value (came-taken cs life p i v.value (once.came i n k r v at))))
 
   applied-old : (i r : ℕ) (v : Stored) (b : Bool) → At (y ++ more) i (Applied n k r v b) → WasTold
   applied-old i r v b at = elim (once.own i n k r v b at) [

@@ -17,7 +17,8 @@ use Rattle.ca_model.specs.Speech.{In, Stored, share_bit}
 use Rattle.ca_model.specs.History.{Cause, Reply, Removal, Update, Added, Circuit, Entry, Sent, Step, Told, World}
 use Rattle.ca_model.specs.Updates.{Shows}
 use Rattle.ca_model.specs.Channels.{OfCircuits, updates}
-use Rattle.ca_model.specs.Headline.{Accepted, Follows}
+use Rattle.ca_model.specs.Headline.{Follows}
+use Rattle.ca_model.specs.Causes.{Accepted}
 use Rattle.ca_model.specs.Known.{IsDue, IsSafe}
 use Rattle.ca_model.specs.Posts.{matching, post_in}
 use Rattle.ca_laws_parts.specs.Rising.{EndsIn, Rises}

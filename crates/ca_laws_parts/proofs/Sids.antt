@@ -3,7 +3,7 @@
 use Rattle.std.proofs.Common.{◌≡◌, ℕ, zero, suc, ◌+◌, ◌<◌, ◌≤◌, inl, inr, List, [], ◌∷◌, ◌++◌, length, take, sym, ap, ◌∙◌, subst, arith}
 use Rattle.ca_text.specs.Place.{At}
 use Rattle.ca_text.proofs.Places.{At-append, At-one, At-snoc, At-within}
-use Rattle.ca_model.specs.Speech.{Clears, Creates, name_in, sid_in}
+use Rattle.ca_model.specs.Speech.{Cid, Clears, Creates, Gives, name_in, sid_in}
 use Rattle.ca_model.specs.History.{Ask, Create, Entry, On, Sent, Told, Step, Circuit}
 use Rattle.ca_model.specs.Channels.{Has, IsOpen, before}
 use Rattle.ca_laws_parts.specs.Flows.{with_handled, with_heard, with_sent, with_told}
@@ -218,7 +218,7 @@ from-taken (suc n) (y ∷ xs) (suc k) x at = (let r = from-taken n xs k x at in 
 -- A message on a channel is handled on the channel that was meant: that is open then under its SID.
 pub acts-on-own : (c : Circuit) (y : List Entry) (p channel : ℕ) (s : Sent) (ask : Ask) (h : Step) → Sids c → At c.up p s → s.intent ≡ On channel ask → (ask ≡ Create → ⊥) → At c.handled p h
     → (j k : ℕ) × (t : Told) × (q : Sent) × At c.down j t × (t.place ≡ k) × At c.up k q × (q.intent ≡ On channel Create)
-    × ((r : ℕ) (g : Step) → At c.handled k g → Has (take g.logged (take h.logged y)) r (name_in q.message) → IsOpen (before c p h) (take h.logged y) j k (sid_in s.message) r)
+    × ((r : ℕ) (g : Step) → At c.handled k g → Has (take g.logged (take h.logged y)) r (name_in q.message) → Gives q.message (Cid t.message.p1) → IsOpen (before c p h) (take h.logged y) j k (sid_in s.message) r)
 acts-on-own c y p channel s ask h f at is other handled =
     let live = f.live p channel s ask at is other in
     let l = live.2 in
@@ -231,8 +231,8 @@ acts-on-own c y p channel s ask h f at is other handled =
       l.told.1,
       l.asked.0,
       l.asked.1,
-      λ r g stands has. (
-        (l.t, l.s, g, At-taken h.sent c.down live.0 l.t l.told.0 sent, l.told.1, l.told.2, l.told.3, At-taken p c.up live.1 l.s l.asked.0 l.early, At-taken p c.handled live.1 g stands l.early, has),
+      λ r g stands has gives. (
+        (l.t, l.s, g, At-taken h.sent c.down live.0 l.t l.told.0 sent, l.told.1, l.told.2, l.told.3, At-taken p c.up live.1 l.s l.asked.0 l.early, At-taken p c.handled live.1 g stands l.early, has, gives),
         (λ i u lt there creates.
             let was = from-taken h.sent c.down i u there in
             let r = f.apart live.0 i (sid_in s.message) l.t u lt l.told.0 was.0 l.told.3 creates in

@@ -17,7 +17,8 @@ use Rattle.ca_model.specs.Due as action
 use Rattle.ca_model.specs.Server.{OpenChannel, Server, ServerEnd}
 use Rattle.ca_model.specs.ServerSteps.{IsPut, Records, knows, known_record, stored_now}
 use Rattle.ca_model.specs.Speech.{Is, Stored, sid_in}
-use Rattle.ca_model.specs.History.{Applied, Entry, Sent, Waits}
+use Rattle.ca_model.specs.History.{Applied, Circuit, Entry, Sent, Waits}
+use Rattle.ca_model.specs.Channels.{IsHandledIn, IsTaken}
 use Rattle.ca_model.specs.ServerEvents.{is_of_channel, logged_by, number_of, records_after}
 use Rattle.ca_model.specs.ServerEvents as event
 use Rattle.ca_model.specs.World.{Joined, PutPlace, RecordSide}
@@ -68,9 +69,9 @@ at-channel-is circuits h sid p c s on sent =
     ap (λ (o : Option Joined). unwrap_or (option_map (λ (x : Joined). unwrap_or (option_map (λ (t : Sent). same_handle x.at_server h && eqb (sid_in t.message) sid) (slice_get x.lists.up p.place)) false) o) false) on
     ∙ ap (λ (o : Option Sent). unwrap_or (option_map (λ (t : Sent). same_handle c.at_server h && eqb (sid_in t.message) sid) o) false) sent
 
-module _ (N : List Joined) (i life : ℕ) (log : List Entry) (rs : List RecordSide) (n : ℕ) (old : Server) (h : Handle) (e : ServerEnd) (p : PutPlace) (s : Sent) (t : Comes N i life log h p s) (a : Life N i life log old.records rs n) where
+module _ (N : List Joined) (i life : ℕ) (log : List Entry) (rs : List RecordSide) (n : ℕ) (old : Server) (Taken : Circuit → (k i : ℕ) → Type 0) (h : Handle) (e : ServerEnd) (p : PutPlace) (s : Sent) (t : Comes N i life log Taken h p s) (a : Life N i life log old.records rs n) where
   -- where the message's write comes from
-  came-on : (name : List ℕ) (value : Elements) → WritesTo (knows old e) s.message name value → IsWriting s.message → CameOn N life p (length log) value
+  came-on : (name : List ℕ) (value : Elements) → WritesTo (knows old e) s.message name value → IsWriting s.message → CameOn N life Taken p (length log) value
   came-on name value to writes = record {
     c = t.d;
     on = t.on;
@@ -122,14 +123,14 @@ module _ (N : List Joined) (i life : ℕ) (log : List Entry) (rs : List RecordSi
 
 -- A write that comes is applied, when it is handled or as its circuit closes: records and
 -- log go on in agreement.
-pub life-write : (N : List Joined) (i life : ℕ) (log : List Entry) (rs : List RecordSide) (n : ℕ) (old : Server) (h : Handle) (e : ServerEnd) (p : PutPlace) (s : Sent) (replies : List Fields) (name : List ℕ) (value : Elements) (busies : Bool) (new : Server) → Comes N i life log h p s → Due (knows old e) s.message replies (Applies name value busies) → Records old h e s.message (Applies name value busies) new → Life N i life log old.records rs n
+pub life-write : (N : List Joined) (i life : ℕ) (log : List Entry) (rs : List RecordSide) (n : ℕ) (old : Server) (h : Handle) (e : ServerEnd) (p : PutPlace) (s : Sent) (replies : List Fields) (name : List ℕ) (value : Elements) (busies : Bool) (new : Server) → Comes N i life log IsTaken h p s → Due (knows old e) s.message replies (Applies name value busies) → Records old h e s.message (Applies name value busies) new → Life N i life log old.records rs n
     → Life N i life (log ++ logged_by old h p (Applies name value busies) rs) new.records (records_after old h p (Applies name value busies) rs) n
 life-write N i life log rs n old h e p s replies name value false new t due makes a =
     let d = due-applies (knows old e) s.message replies name value false due in
-    let w = written N i life log rs n old h e p s t a name value d.0 in
+    let w = written N i life log rs n old IsTaken h e p s t a name value d.0 in
     let f = w.0.f in
     let v : Stored = stored_now old value in
-    let origin = came-on N i life log rs n old h e p s t a name value d.0 (writes-only (knows old e) s.message replies (Applies name value false) due tt) in
+    let origin = came-on N i life log rs n old IsTaken h e p s t a name value d.0 (writes-only (knows old e) s.message replies (Applies name value false) due tt) in
     let after = agree-applied (CameOn N life) (LostOn N) (IsPutOf N i) log old.records rs n f.i w.0.c f.r p v f.in_cs f.in_rs t.untold origin w.0.base a in
     subst (λ (cs : List Record). Life N i life (log ++ logged_by old h p (Applies name value false) rs) cs rs n) (ap (λ (x : Server). x.records) (sym makes))
     (subst (λ (m : ℕ). Life N i life (log ++ Applied p.circuit p.place m v false ∷ []) (with_record name (with_value value (written_meta old.stamp)) old.records) rs n) (sym w.0.number)
@@ -137,20 +138,20 @@ life-write N i life log rs n old h e p s replies name value false new t due make
 life-write N i life log rs n old h e p s replies name value true new t due makes a =
     let d = due-applies (knows old e) s.message replies name value true due in
     let more = d.1 refl in
-    let w = written N i life log rs n old h e p s t a name value d.0 in
+    let w = written N i life log rs n old IsTaken h e p s t a name value d.0 in
     let f = w.0.f in
     let v : Stored = stored_now old value in
-    let origin = came-on N i life log rs n old h e p s t a name value d.0 (writes-only (knows old e) s.message replies (Applies name value true) due tt) in
+    let origin = came-on N i life log rs n old IsTaken h e p s t a name value d.0 (writes-only (knows old e) s.message replies (Applies name value true) due tt) in
     let b : Put = makes.0 in
     let slow : w.0.c.state.slow ≡ true = ap (λ (x : KnownRecord). x.state.slow) w.1 ∙ more.1 in
     let idle : w.0.c.busy ≡ None = idle-none w.0.c.busy (ap (λ (x : KnownRecord). x.busy) w.1 ∙ more.2) in
-    let after = agree-busied (CameOn N life) (LostOn N) (IsPutOf N i) log old.records rs n f.i w.0.c f.r p b v f.in_cs f.in_rs idle t.untold origin w.0.base (put-of N i life log rs n old h e p s t a b makes.1 more.0) slow a in
+    let after = agree-busied (CameOn N life) (LostOn N) (IsPutOf N i) log old.records rs n f.i w.0.c f.r p b v f.in_cs f.in_rs idle t.untold origin w.0.base (put-of N i life log rs n old IsTaken h e p s t a b makes.1 more.0) slow a in
     subst (λ (cs : List Record). Life N i life (log ++ logged_by old h p (Applies name value true) rs) cs (records_after old h p (Applies name value true) rs) n) (ap (λ (x : Server). x.records) (sym makes.2))
     (subst (λ (m : ℕ). Life N i life (log ++ Applied p.circuit p.place m v true ∷ []) (with_record name (λ (r : Record). record (with_value value (written_meta old.stamp) r) { busy = Some b }) old.records) (event.with_record name (λ (r : RecordSide). record r { busy = Some p }) rs) n) (sym w.0.number)
     (subst (λ (m : List ℕ). Life N i life (log ++ Applied p.circuit p.place f.r.number v true ∷ []) (with_record m (λ (r : Record). record (with_value value (written_meta old.stamp) r) { busy = Some b }) old.records) (event.with_record m (λ (r : RecordSide). record r { busy = Some p }) rs) n) f.named after))
 
--- the write of a message that is handled
-comes-of : (N : List Joined) (i life : ℕ) (log : List Entry) (rs : List RecordSide) (h : Handle) (p : PutPlace) (s : Sent) (t : Takes N i life log rs h p s) → t.step.logged < t.step.after → Comes N i life log h p s
+-- the write of a message that is handled, told in its step
+comes-of : (N : List Joined) (i life : ℕ) (log : List Entry) (rs : List RecordSide) (h : Handle) (p : PutPlace) (s : Sent) (t : Takes N i life log rs h p s) → t.step.logged < t.step.after → Comes N i life log IsHandledIn h p s
 comes-of N i life log rs h p s t grows = record {
   d = t.d;
   on = t.on;
@@ -159,7 +160,20 @@ comes-of N i life log rs h p s t grows = record {
   handle = t.handle;
   sent = t.sent;
   untold = t.untold;
-  taken = inl (t.step, t.handled, (let l : t.step.logged ≡ length log = t.logged in omega (arith, l)), (let l : t.step.logged ≡ length log = t.logged in omega (arith, l, grows)));
+  taken = (t.step, t.handled, (let l : t.step.logged ≡ length log = t.logged in omega (arith, l)), (let l : t.step.logged ≡ length log = t.logged in omega (arith, l, grows)));
+}
+
+-- and so it was taken
+comes-taken : (N : List Joined) (i life : ℕ) (log : List Entry) (h : Handle) (p : PutPlace) (s : Sent) → Comes N i life log IsHandledIn h p s → Comes N i life log IsTaken h p s
+comes-taken N i life log h p s t = record {
+  d = t.d;
+  on = t.on;
+  of = t.of;
+  joins = t.joins;
+  handle = t.handle;
+  sent = t.sent;
+  untold = t.untold;
+  taken = inl t.taken;
 }
 
 module _ (N : List Joined) (i life : ℕ) (log : List Entry) (rs : List RecordSide) (n : ℕ) (old : Server) (h : Handle) (e : ServerEnd) (p : PutPlace) (s : Sent) (t : Takes N i life log rs h p s) (a : Life N i life log old.records rs n) where
@@ -210,17 +224,17 @@ pub life-step : (N : List Joined) (i life : ℕ) (log : List Entry) (rs : List R
     → Life N i life (log ++ logged_by old h p did rs) new.records (records_after old h p did rs) n
 life-step N i life log rs n old h e p s replies (Applies name value busies) new t grows due makes a =
     let lt : t.step.logged < t.step.after = (let g : t.step.logged + 1 ≤ t.step.after = grows in omega (arith, g)) in
-    life-write N i life log rs n old h e p s replies name value busies new (comes-of N i life log rs h p s t lt) due makes a
+    life-write N i life log rs n old h e p s replies name value busies new (comes-taken N i life log h p s (comes-of N i life log rs h p s t lt)) due makes a
 life-step N i life log rs n old h e p s replies (action.Waits name value) new t grows due makes a =
     let d = due-waits (knows old e) s.message replies name value due in
     let lt : t.step.logged < t.step.after = (let g : t.step.logged + 1 ≤ t.step.after = grows in omega (arith, g)) in
     let c = comes-of N i life log rs h p s t lt in
-    let w = written N i life log rs n old h e p s c a name value d.0 in
+    let w = written N i life log rs n old IsHandledIn h e p s c a name value d.0 in
     let f = w.0.f in
-    let origin = came-on N i life log rs n old h e p s c a name value d.0 (writes-only (knows old e) s.message replies (action.Waits name value) due tt) in
+    let origin = came-on N i life log rs n old IsHandledIn h e p s c a name value d.0 (writes-only (knows old e) s.message replies (action.Waits name value) due tt) in
     let b : Put = makes.0 in
     let put : WaitingPut = record { put = b; value = value } in
-    let after = agree-waits (CameOn N life) (LostOn N) (IsPutOf N i) log old.records rs n f.i w.0.c f.r p put (written_meta old.stamp) f.in_cs f.in_rs w.0.base t.untold origin (put-of N i life log rs n old h e p s c a b makes.1 d.1) a in
+    let after = agree-waits (CameOn N life) (LostOn N) (IsPutOf N i) log old.records rs n f.i w.0.c f.r p put (written_meta old.stamp) f.in_cs f.in_rs w.0.base t.untold origin (put-of N i life log rs n old IsHandledIn h e p s c a b makes.1 d.1) a in
     subst (λ (cs : List Record). Life N i life (log ++ logged_by old h p (action.Waits name value) rs) cs (records_after old h p (action.Waits name value) rs) n) (ap (λ (x : Server). x.records) (sym makes.2))
     (subst (λ (m : ℕ). Life N i life (log ++ Waits p.circuit p.place m (stored_now old value) ∷ []) (with_record name (with_waiting put) old.records) (event.with_record name (λ (r : RecordSide). record r { waiting = r.waiting ++ p ∷ [] }) rs) n) (sym w.0.number)
     (subst (λ (m : List ℕ). Life N i life (log ++ Waits p.circuit p.place f.r.number (stored_now old value) ∷ []) (with_record m (with_waiting put) old.records) (event.with_record m (λ (r : RecordSide). record r { waiting = r.waiting ++ p ∷ [] }) rs) n) f.named after))

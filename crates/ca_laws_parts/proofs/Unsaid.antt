@@ -19,6 +19,7 @@ use Rattle.ca_model.specs.Server.{Server, ServerEnd}
 use Rattle.ca_model.specs.ServerSteps.{HasEnd, LeftOf, Next, Reaches, Records, closed, is_write, knows}
 use Rattle.ca_model.specs.Speech.{In}
 use Rattle.ca_model.specs.History.{Entry, Sent, Step}
+use Rattle.ca_model.specs.Channels.{IsTaken}
 use Rattle.ca_model.specs.History as history
 use Rattle.ca_model.specs.ServerEvents.{StepLacks, acted, ending, ends_at, ends_here, logged_by, numbers_after, records_after, reported, server_after, side_of, unsaid, withdrawals, write_numbers}
 use Rattle.ca_model.specs.ServerEvents as event
@@ -116,7 +117,7 @@ module _ (g : Setting) (w : World) (k : ℕ) (j : Joined) (y : ServerSide) (e : 
   logged-W : At W.server_logs y.life ((own.log ++ L) ++ G)
   logged-W = grown-here mid.server_logs y.life (own.log ++ L) G logged-mid
 
-  comes : Comes W.circuits i y.life own.log j.at_server p s
+  comes : Comes W.circuits i y.life own.log IsTaken j.at_server p s
   comes =
       let l = later-then j c1 (ending ends c1) (same-later j c1 same-one) (ending-later ends c1) in
       let lists = ending-lists ends c1 in

@@ -8,7 +8,7 @@ use Rattle.ca_records.specs.declared.puts.Put.{Put}
 use Rattle.ca_records.specs.Puts.{Record, WaitingPut, finished, with_record, written_meta}
 use Rattle.ca_records.specs.Record.{RecordState}
 use Rattle.ca_model.specs.Speech.{In, Stored}
-use Rattle.ca_model.specs.History.{Entry, Added, Applied, Finished, Removed, Waits, Withdrawn}
+use Rattle.ca_model.specs.History.{Circuit, Entry, Added, Applied, Finished, Removed, Waits, Withdrawn}
 use Rattle.ca_model.specs.ServerEvents.{finish_entry, first_of, next_busy, next_entries}
 use Rattle.ca_model.specs.ServerEvents as event
 use Rattle.ca_model.specs.World.{PutPlace, RecordSide, ServerSide}
@@ -22,7 +22,7 @@ use Rattle.ca_laws_parts.proofs.Records.{agrees-finished, agrees-next, agrees-sp
 use Rattle.ca_laws_parts.proofs.WritesLives.{below-all, one-changes, others-with, waits-there}
 
 -- one place waits for one record
-pub waits-one : (Came : PutPlace → (i : ℕ) → Elements → Type 0) (Lost : PutPlace → (i : ℕ) → Type 0) (y : List Entry) (r q : ℕ) (p : PutPlace) (v u : Elements) → Once Came Lost y → StillWaits y r p v → StillWaits y q p u → r ≡ q
+pub waits-one : (Came : (Circuit → (k i : ℕ) → Type 0) → PutPlace → (i : ℕ) → Elements → Type 0) (Lost : PutPlace → (i : ℕ) → Type 0) (y : List Entry) (r q : ℕ) (p : PutPlace) (v u : Elements) → Once Came Lost y → StillWaits y r p v → StillWaits y q p u → r ≡ q
 waits-one Came Lost y r q p v u once a b =
     let i : a.came.0 ≡ b.came.0 = once.waits a.came.0 b.came.0 p.circuit p.place r q a.v b.v a.came.1 b.came.1 in
     let e : Waits p.circuit p.place r a.v ≡ Waits p.circuit p.place q b.v =
@@ -30,7 +30,7 @@ waits-one Came Lost y r q p v u once a b =
     cc
 
 -- and makes one busy
-pub busy-one : (Came : PutPlace → (i : ℕ) → Elements → Type 0) (Lost : PutPlace → (i : ℕ) → Type 0) (y : List Entry) (r q : ℕ) (p : PutPlace) → Once Came Lost y → IsBusyWith y r p → IsBusyWith y q p → r ≡ q
+pub busy-one : (Came : (Circuit → (k i : ℕ) → Type 0) → PutPlace → (i : ℕ) → Elements → Type 0) (Lost : PutPlace → (i : ℕ) → Type 0) (y : List Entry) (r q : ℕ) (p : PutPlace) → Once Came Lost y → IsBusyWith y r p → IsBusyWith y q p → r ≡ q
 busy-one Came Lost y r q p once a b =
     let i : a.i ≡ b.i = once.applied a.i b.i p.circuit p.place r q a.v b.v true true a.at b.at in
     let e : Applied p.circuit p.place r a.v true ≡ Applied p.circuit p.place q b.v true =
@@ -38,7 +38,7 @@ busy-one Came Lost y r q p once a b =
     cc
 
 -- a put that waits is not finished
-pub waits-unfinished : (Came : PutPlace → (i : ℕ) → Elements → Type 0) (Lost : PutPlace → (i : ℕ) → Type 0) (y : List Entry) (r : ℕ) (p : PutPlace) (v : Elements) → Once Came Lost y → StillWaits y r p v → IsFinished y p → ⊥
+pub waits-unfinished : (Came : (Circuit → (k i : ℕ) → Type 0) → PutPlace → (i : ℕ) → Elements → Type 0) (Lost : PutPlace → (i : ℕ) → Type 0) (y : List Entry) (r : ℕ) (p : PutPlace) (v : Elements) → Once Came Lost y → StillWaits y r p v → IsFinished y p → ⊥
 waits-unfinished Came Lost y r p v once w h =
     let b = (once.finished p.circuit p.place h.0 h.1).0 in
     w.unapplied (b.1, b.2, true, (b.0, b.3))
@@ -70,7 +70,7 @@ module _ (Is : PutPlace → Put → Type 0) where
       subst (λ (l : List Entry). Agrees Is l c x) (append-one y (finish_entry p) (next ∷ []))
       (agrees-spared Is (y ++ finish_entry p ∷ []) c x next (other, apart q (0, refl)) (agrees-spared Is y c x (finish_entry p) unbusy a))
 
-module _ (Came : PutPlace → (i : ℕ) → Elements → Type 0) (Lost : PutPlace → (i : ℕ) → Type 0) (Is : PutPlace → Put → Type 0) where
+module _ (Came : (Circuit → (k i : ℕ) → Type 0) → PutPlace → (i : ℕ) → Elements → Type 0) (Lost : PutPlace → (i : ℕ) → Type 0) (Is : PutPlace → Put → Type 0) where
   may-finish : (y : List Entry) (r : ℕ) (p : PutPlace) → IsBusyWith y r p → MayTell Came Lost y (finish_entry p)
   may-finish y r p b =
       ((b.i, r, b.v, b.at, At-within y b.i (Applied p.circuit p.place r b.v true) b.at, λ j m l u lt below at. b.last j m l u lt at), b.unfinished)

@@ -10,7 +10,8 @@ use Rattle.ca_dbr.specs.Elements.{Elements, base_of}
 use Rattle.ca_records.specs.declared.puts.Put.{Put}
 use Rattle.ca_records.specs.Puts.{Record, WaitingPut, with_record, with_value, with_waiting}
 use Rattle.ca_model.specs.Speech.{In, Stored}
-use Rattle.ca_model.specs.History.{Entry, Added, Applied, Finished, Posted, Waits, Withdrawn}
+use Rattle.ca_model.specs.History.{Circuit, Entry, Added, Applied, Finished, Posted, Waits, Withdrawn}
+use Rattle.ca_model.specs.Channels.{IsHandledIn, IsTaken}
 use Rattle.ca_model.specs.ServerEvents.{number_of}
 use Rattle.ca_model.specs.ServerEvents as event
 use Rattle.ca_model.specs.World.{PutPlace, RecordSide}
@@ -128,7 +129,7 @@ module _ (Is : PutPlace → Put → Type 0) where
 
 -- ---- the whole life
 
-module _ (Came : PutPlace → (i : ℕ) → Elements → Type 0) (Lost : PutPlace → (i : ℕ) → Type 0) (Is : PutPlace → Put → Type 0) where
+module _ (Came : (Circuit → (k i : ℕ) → Type 0) → PutPlace → (i : ℕ) → Elements → Type 0) (Lost : PutPlace → (i : ℕ) → Type 0) (Is : PutPlace → Put → Type 0) where
   -- one more entry, by which no record comes or goes
   pub agree-told : (y : List Entry) (cs ds : List Record) (rs qs : List RecordSide) (n : ℕ) (e : Entry) → ((r : ℕ) → IsOf r e → r < n) → MayTell Came Lost y e → Both (Agrees Is (y ++ e ∷ [])) ds qs → AreOthers qs → Agree Came Lost Is y cs rs n → Agree Came Lost Is (y ++ e ∷ []) ds qs n
   agree-told y cs ds rs qs n e below may both others a = record {
@@ -149,7 +150,7 @@ module _ (Came : PutPlace → (i : ℕ) → Elements → Type 0) (Lost : PutPlac
 
   -- a write may be told as applied to a record that is there, if nothing was told of
   -- it, or it waits there
-  may-apply : (y : List Entry) (c : Record) (r : RecordSide) (p : PutPlace) (v : Stored) (b : Bool) → base_of v.value ≡ base_of c.state.value → IsUntold y p → Agrees Is y c r → Came p (length y) v.value → MayTell Came Lost y (Applied p.circuit p.place r.number v b)
+  may-apply : (y : List Entry) (c : Record) (r : RecordSide) (p : PutPlace) (v : Stored) (b : Bool) → base_of v.value ≡ base_of c.state.value → IsUntold y p → Agrees Is y c r → Came IsTaken p (length y) v.value → MayTell Came Lost y (Applied p.circuit p.place r.number v b)
   may-apply y c r p v b same untold a came = (
     λ h. untold (Applied p.circuit p.place h.0 h.1 h.2) h.3 refl,
     λ h. untold (Withdrawn p.circuit p.place) h refl,
@@ -159,7 +160,7 @@ module _ (Came : PutPlace → (i : ℕ) → Elements → Type 0) (Lost : PutPlac
   )
 
   -- A write is applied, and makes its record not busy.
-  pub agree-applied : (y : List Entry) (cs : List Record) (rs : List RecordSide) (n : ℕ) (i : ℕ) (c : Record) (r : RecordSide) (p : PutPlace) (v : Stored) → At cs i c → At rs i r → IsUntold y p → Came p (length y) v.value → base_of v.value ≡ base_of c.state.value → Agree Came Lost Is y cs rs n → Agree Came Lost Is (y ++ Applied p.circuit p.place r.number v false ∷ []) (with_record r.name (with_value v.value v.meta) cs) rs n
+  pub agree-applied : (y : List Entry) (cs : List Record) (rs : List RecordSide) (n : ℕ) (i : ℕ) (c : Record) (r : RecordSide) (p : PutPlace) (v : Stored) → At cs i c → At rs i r → IsUntold y p → Came IsTaken p (length y) v.value → base_of v.value ≡ base_of c.state.value → Agree Came Lost Is y cs rs n → Agree Came Lost Is (y ++ Applied p.circuit p.place r.number v false ∷ []) (with_record r.name (with_value v.value v.meta) cs) rs n
   agree-applied y cs rs n i c r p v in_cs in_rs untold came same a =
       let e : Entry = Applied p.circuit p.place r.number v false in
       let there = beside-right (Agrees Is y) cs rs i r a.each in_rs in
@@ -184,7 +185,7 @@ module _ (Came : PutPlace → (i : ℕ) → Elements → Type 0) (Lost : PutPlac
           ∙ ap (λ (l : List RecordSide). q ∷ l) (same-list name qs)
 
   -- A put is applied, and makes its record busy, which was not.
-  pub agree-busied : (y : List Entry) (cs : List Record) (rs : List RecordSide) (n : ℕ) (i : ℕ) (c : Record) (r : RecordSide) (p : PutPlace) (b : Put) (v : Stored) → At cs i c → At rs i r → c.busy ≡ None → IsUntold y p → Came p (length y) v.value → base_of v.value ≡ base_of c.state.value → Is p b → c.state.slow ≡ true → Agree Came Lost Is y cs rs n
+  pub agree-busied : (y : List Entry) (cs : List Record) (rs : List RecordSide) (n : ℕ) (i : ℕ) (c : Record) (r : RecordSide) (p : PutPlace) (b : Put) (v : Stored) → At cs i c → At rs i r → c.busy ≡ None → IsUntold y p → Came IsTaken p (length y) v.value → base_of v.value ≡ base_of c.state.value → Is p b → c.state.slow ≡ true → Agree Came Lost Is y cs rs n
       → Agree Came Lost Is (y ++ Applied p.circuit p.place r.number v true ∷ []) (with_record r.name (λ (d : Record). record (with_value v.value v.meta d) { busy = Some b }) cs) (event.with_record r.name (λ (q : RecordSide). record q { busy = Some p }) rs) n
   agree-busied y cs rs n i c r p b v in_cs in_rs idle untold came same is_it slow a =
       let e : Entry = Applied p.circuit p.place r.number v true in
@@ -212,7 +213,7 @@ module _ (Came : PutPlace → (i : ℕ) → Elements → Type 0) (Lost : PutPlac
       both-none (Some p) (Some d) e h = absurd cc
 
   -- A put comes to wait.
-  pub agree-waits : (y : List Entry) (cs : List Record) (rs : List RecordSide) (n : ℕ) (i : ℕ) (c : Record) (r : RecordSide) (p : PutPlace) (w : WaitingPut) (meta : Meta) → At cs i c → At rs i r → base_of w.value ≡ base_of c.state.value → IsUntold y p → Came p (length y) w.value → Is p w.put → Agree Came Lost Is y cs rs n
+  pub agree-waits : (y : List Entry) (cs : List Record) (rs : List RecordSide) (n : ℕ) (i : ℕ) (c : Record) (r : RecordSide) (p : PutPlace) (w : WaitingPut) (meta : Meta) → At cs i c → At rs i r → base_of w.value ≡ base_of c.state.value → IsUntold y p → Came IsHandledIn p (length y) w.value → Is p w.put → Agree Came Lost Is y cs rs n
       → Agree Came Lost Is (y ++ Waits p.circuit p.place r.number (record { value = w.value; meta = meta }) ∷ []) (with_record r.name (with_waiting w) cs) (event.with_record r.name (λ (q : RecordSide). record q { waiting = q.waiting ++ p ∷ [] }) rs) n
   agree-waits y cs rs n i c r p w meta in_cs in_rs fits untold came is_it a =
       let v : Stored = record { value = w.value; meta = meta } in

@@ -8,8 +8,8 @@ use Rattle.ca_records.specs.declared.puts.Put.{Put}
 use Rattle.ca_records.specs.Puts.{Record, WaitingPut}
 use Rattle.ca_records.specs.Record.{RecordState}
 use Rattle.ca_model.specs.Speech.{In, Stored}
-use Rattle.ca_model.specs.History.{Entry, Added, Applied, Finished, Posted, Removed, Waits}
-use Rattle.ca_model.specs.History.{Withdrawn}
+use Rattle.ca_model.specs.History.{Circuit, Entry, Added, Applied, Finished, Posted, Removed}
+use Rattle.ca_model.specs.History.{Waits, Withdrawn}
 use Rattle.ca_model.specs.Known.{waiting}
 use Rattle.ca_model.specs.Posts.{post_in}
 use Rattle.ca_model.specs.World.{PutPlace, RecordSide}
@@ -142,7 +142,7 @@ IsOf r (Withdrawn n k) = ⊥
 
 -- A server's life: its log has each write once, and its records, of which n were added,
 -- are what the log says.
-pub record Agree (Came : PutPlace → (i : ℕ) → Elements → Type 0)
+pub record Agree (Came : (Circuit → (k i : ℕ) → Type 0) → PutPlace → (i : ℕ) → Elements → Type 0)
     (Lost : PutPlace → (i : ℕ) → Type 0) (Is : PutPlace → Put → Type 0) (y : List Entry)
     (records : List Record)
     (sides : List RecordSide) (added : ℕ) : Type 0 where

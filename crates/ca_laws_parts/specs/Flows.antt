@@ -7,7 +7,7 @@ use Rattle.ca_model.specs.Speech.{Id, Cid, SubId, Gives, In, Is, Speaks}
 use Rattle.ca_model.specs.History.{Ask, Create, Clear, Subscribe, Cancel, Intent, On, Reply, Sent}
 use Rattle.ca_model.specs.History.{Told, Step, Circuit}
 use Rattle.ca_model.specs.Channels.{Suits, named}
-use Rattle.ca_model.specs.Headline.{TakesOwn}
+use Rattle.ca_model.specs.Causes.{TakesOwn}
 
 -- ---- the ways in which the lists grow
 

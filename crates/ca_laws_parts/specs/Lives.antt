@@ -27,10 +27,10 @@ use Rattle.ca_laws_parts.specs.Once.{IsApplied, Once, write_in}
 abbrev pub IsWriting : Fields → Type 0
 IsWriting m = Is command.Write m ⊎ Is command.WriteNotify m
 
--- The write came at this place of a circuit that joins this life, and entry i was made when it was
--- handled. Its message has elements that are the value in that value's type.
-pub record CameOn (circuits : List Joined) (life : ℕ) (p : PutPlace) (i : ℕ)
-    (value : Elements) : Type 0 where
+-- The write came at this place of a circuit that joins this life, and entry i was made in this way.
+-- Its message has elements that are the value in that value's type.
+pub record CameOn (circuits : List Joined) (life : ℕ) (Taken : Circuit → (k i : ℕ) → Type 0)
+    (p : PutPlace) (i : ℕ) (value : Elements) : Type 0 where
   pub c : Joined
   pub on : At circuits p.circuit c
   pub joins : c.lists.server ≡ life
@@ -40,7 +40,7 @@ pub record CameOn (circuits : List Joined) (life : ℕ) (p : PutPlace) (i : ℕ)
   pub given : Elements
   pub reads : PutReads s.message given
   pub is : converted given (base_of value) ≡ Ok value
-  pub taken : IsTaken c.lists p.place i
+  pub taken : Taken c.lists p.place i
 
 -- Before entry i the put's channel was cleared, or the server's end of its circuit ended.
 pub record LostOn (circuits : List Joined) (p : PutPlace) (i : ℕ) : Type 0 where

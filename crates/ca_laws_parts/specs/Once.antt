@@ -4,8 +4,9 @@ use Rattle.ca_text.specs.Place.{At}
 use Rattle.ca_dbr.specs.Elements.{Elements, base_of}
 use Rattle.ca_records.specs.Record.{RecordState}
 use Rattle.ca_model.specs.Speech.{In, Stored}
-use Rattle.ca_model.specs.History.{Entry, Added, Applied, Finished, Removed, Waits, Withdrawn}
-use Rattle.ca_model.specs.Channels.{IsBusyUntil}
+use Rattle.ca_model.specs.History.{Circuit, Entry, Added, Applied, Finished, Removed, Waits}
+use Rattle.ca_model.specs.History.{Withdrawn}
+use Rattle.ca_model.specs.Channels.{IsBusyUntil, IsHandledIn, IsTaken}
 use Rattle.ca_model.specs.World.{PutPlace}
 
 -- ---- what is told of the write at a place
@@ -40,9 +41,10 @@ HadWaited y p i r value =
 
 -- ---- each write once
 
--- The write at a place came with this value, and was told in entry i first; it was
+-- The write at a place came with this value, and was told in entry i first, in this way; it was
 -- lost before entry i.
-module _ (Came : PutPlace → (i : ℕ) → Elements → Type 0) (Lost : PutPlace → (i : ℕ) → Type 0) where
+module _ (Came : (Circuit → (k i : ℕ) → Type 0) → PutPlace → (i : ℕ) → Elements → Type 0)
+    (Lost : PutPlace → (i : ℕ) → Type 0) where
   -- A put that had waited is withdrawn at entry i: its record was removed before, or it is lost.
   abbrev pub IsLost : List Entry → PutPlace → (i : ℕ) → Type 0
   IsLost y p i =
@@ -50,8 +52,8 @@ module _ (Came : PutPlace → (i : ℕ) → Elements → Type 0) (Lost : PutPlac
       × (In (take i y) (Removed r) ⊎ Lost p i)
 
   -- A write is applied once, to a record that is there, with the value with which it came, then or
-  -- when it came to wait. It comes to wait once, and is applied or withdrawn, not both; withdrawn
-  -- with its record, or lost. A record finishes one put at a time, each once.
+  -- when it came to wait. It comes to wait once, in its step, and is applied or withdrawn, not
+  -- both; withdrawn with its record, or lost. A record finishes one put at a time, each once.
   pub record Once (y : List Entry) : Type 0 where
     pub applied : (i j n k r q : ℕ) (v u : Stored) (b d : Bool) → At y i (Applied n k r v b)
         → At y j (Applied n k q u d) → i ≡ j
@@ -59,10 +61,10 @@ module _ (Came : PutPlace → (i : ℕ) → Elements → Type 0) (Lost : PutPlac
         → ((s : RecordState) × In (take i y) (Added r s) × (base_of v.value ≡ base_of s.value))
         × (In (take i y) (Removed r) → ⊥)
     pub own : (i n k r : ℕ) (v : Stored) (b : Bool) → At y i (Applied n k r v b)
-        → Came (record { circuit = n; place = k }) i v.value
+        → Came IsTaken (record { circuit = n; place = k }) i v.value
         ⊎ HadWaited y (record { circuit = n; place = k }) i r v.value
     pub came : (i n k r : ℕ) (v : Stored) → At y i (Waits n k r v)
-        → Came (record { circuit = n; place = k }) i v.value
+        → Came IsHandledIn (record { circuit = n; place = k }) i v.value
     pub waits : (i j n k r q : ℕ) (v u : Stored) → At y i (Waits n k r v) → At y j (Waits n k q u)
         → i ≡ j
     pub dropped : (n k r : ℕ) (v : Stored) (b : Bool) → In y (Applied n k r v b)
@@ -76,12 +78,12 @@ module _ (Came : PutPlace → (i : ℕ) → Elements → Type 0) (Lost : PutPlac
   abbrev pub MayTell : List Entry → Entry → Type 0
   MayTell y (Waits n k r v) =
       IsUntold y (record { circuit = n; place = k })
-      × Came (record { circuit = n; place = k }) (length y) v.value
+      × Came IsHandledIn (record { circuit = n; place = k }) (length y) v.value
   MayTell y (Applied n k r v busies) =
       (IsApplied y (record { circuit = n; place = k }) → ⊥) × (In y (Withdrawn n k) → ⊥)
       × ((s : RecordState) × In y (Added r s) × (base_of v.value ≡ base_of s.value))
       × (In y (Removed r) → ⊥)
-      × (Came (record { circuit = n; place = k }) (length y) v.value
+      × (Came IsTaken (record { circuit = n; place = k }) (length y) v.value
       ⊎ HadWaited y (record { circuit = n; place = k }) (length y) r v.value)
   MayTell y (Finished n k) = IsBusyUntil y n k (length y) × (In y (Finished n k) → ⊥)
   MayTell y (Withdrawn n k) =

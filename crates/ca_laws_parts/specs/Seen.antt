@@ -8,7 +8,7 @@ use Rattle.ca_model.specs.Speech.{Stored, share_bit}
 use Rattle.ca_model.specs.History.{Cause, Update, Circuit, Entry, Line, Sent, Step, Told}
 use Rattle.ca_model.specs.Updates.{Shows}
 use Rattle.ca_model.specs.Channels.{Lasts}
-use Rattle.ca_model.specs.Headline.{Accepted}
+use Rattle.ca_model.specs.Causes.{Accepted}
 use Rattle.ca_model.specs.Posts.{matching, post_in}
 use Rattle.ca_laws_parts.specs.Subsequence.{IsSubsequence}
 

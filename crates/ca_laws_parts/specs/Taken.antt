@@ -3,8 +3,7 @@ use Rattle.std.specs.Prelude.{Bool, true, false, is_some, ℕ, ◌≡◌, ◌<�
 use Rattle.ca_arena.specs.declared.handle.Handle.{Handle}
 use Rattle.ca_text.specs.Place.{At}
 use Rattle.ca_model.specs.Speech.{In}
-use Rattle.ca_model.specs.History.{Entry, Sent, Step}
-use Rattle.ca_model.specs.Channels.{IsTaken}
+use Rattle.ca_model.specs.History.{Circuit, Entry, Sent, Step}
 use Rattle.ca_model.specs.World.{Joined, PutPlace, RecordSide, ServerSide, World}
 use Rattle.ca_records.specs.declared.puts.Put.{Put}
 use Rattle.ca_model.specs.Server.{Server}
@@ -33,10 +32,10 @@ pub record Takes (circuits : List Joined) (i life : ℕ) (log : List Entry) (rs 
       → (q.circuit ≡ p.circuit) × (q.place < p.place)
 
 -- On circuits as they will be after the event: server i takes the write at this place of circuit k,
--- which it knows under this handle, and tells of it next, as it is handled or as its circuit
--- closes. The log did not tell of the place yet.
-pub record Comes (circuits : List Joined) (i life : ℕ) (log : List Entry) (h : Handle)
-    (p : PutPlace) (s : Sent) : Type 0 where
+-- which it knows under this handle, and tells of it next, in this way. The log did not tell of the
+-- place yet.
+pub record Comes (circuits : List Joined) (i life : ℕ) (log : List Entry)
+    (Taken : Circuit → (k i : ℕ) → Type 0) (h : Handle) (p : PutPlace) (s : Sent) : Type 0 where
   pub d : Joined
   pub on : At circuits p.circuit d
   pub of : d.server ≡ i
@@ -44,7 +43,7 @@ pub record Comes (circuits : List Joined) (i life : ℕ) (log : List Entry) (h :
   pub handle : d.at_server ≡ h
   pub sent : At d.lists.up p.place s
   pub untold : IsUntold log p
-  pub taken : IsTaken d.lists p.place (length log)
+  pub taken : Taken d.lists p.place (length log)
 
 -- What else holds as a step of the server's end of circuit k handles a message, after which its
 -- core is this. The end is open, and of this life; the message is the first that was not handled;

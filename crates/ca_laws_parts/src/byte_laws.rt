@@ -1,3 +1,5 @@
+//! The message that an end reads next is the next one that the other end sent. Also that everything
+//! a client sends is a well-formed message; servers are in `sending.rt`.
 ghost use Rattle.std.specs.Prelude.{◌≡◌, ◌+◌, ◌++◌, Bool, List, Ok, Option, Some, ℕ};
 ghost use Rattle.ca_text.specs.Place.{At};
 ghost use Rattle.ca_arena.specs.declared.handle.Handle.{Handle};

@@ -1,3 +1,5 @@
+//! One law that gathers the events which change little: all but a message that is read, an update
+//! that leaves, a finished put and a removed record.
 ghost use Rattle.std.specs.Prelude.{List, ℕ};
 ghost use Rattle.ca_model.specs.Events.{Event};
 ghost use Rattle.ca_model.specs.Runs.{Happens};

@@ -1,3 +1,5 @@
+//! What a client's tables hold of a circuit stays right as a channel is created, cleared or
+//! refused, and as a server handles messages. Reads, puts and subscriptions are in `circuit.rt`.
 ghost use Rattle.std.specs.Prelude.{[], ◌≡◌, ◌<◌, ◌++◌, ◌⊎◌, ◌∷◌, List, Some, false, length, map};
 ghost use Rattle.std.specs.Prelude.{true, ℕ};
 ghost use Rattle.ca_text.specs.declared.command.Command.TheVariants.{CreateChannel, EventAdd};

@@ -1,3 +1,5 @@
+//! One circuit, whose two lists grow: what ids and SIDs in flight mean, and what its client's
+//! tables hold. Begin with `ids_mean_their_own` and `requests_hold_their_ids`.
 ghost use Rattle.std.specs.Prelude.{[], ◌≡◌, ◌++◌, ◌<◌, ◌≤◌, ◌⊎◌, ◌∷◌, Bool, List, Some, false};
 ghost use Rattle.std.specs.Prelude.{length, map, take, true, ℕ};
 ghost use Rattle.ca_text.specs.declared.command.Command.TheVariants.{CreateChannel};
@@ -31,8 +33,8 @@ ghost use Rattle.ca_model.specs.Hears.{without_drained, without_request, without
 ghost use Rattle.ca_model.specs.History.{Ask, Cancel, Circuit, Clear, Create, Entry, Intent, Kind};
 ghost use Rattle.ca_model.specs.History.{On, Reply, Request, Sent, Step, Subscribe, Told};
 ghost use Rattle.ca_model.specs.ServerCalls.{finish_reply};
-ghost use Rattle.ca_model.specs.Speech.{Creates, Gives, Id, In, Ioid, Is, Speaks, Stored, SubId};
-ghost use Rattle.ca_model.specs.Speech.{name_in, sid_in};
+ghost use Rattle.ca_model.specs.Speech.{Cid, Creates, Gives, Id, In, Ioid, Is, Speaks, Stored};
+ghost use Rattle.ca_model.specs.Speech.{SubId, name_in, sid_in};
 ghost use Rattle.ca_model.specs.Updates.{ShowsTo};
 ghost use Rattle.ca_model.specs.Channels.{Has, IsOpen, Suits, before, named};
 ghost use Rattle.ca_model.specs.ClientEvents.{cancelled, channel_number, meant_by};
@@ -232,6 +234,7 @@ pub fn sids_mean_their_channel()
         × (q.intent ≡ On channel Create)
         × ((r : ℕ) (g : Step) → At c.handled k g
         → Has (take g.logged (take h.logged y)) r (name_in q.message)
+        → Gives q.message (Cid t.message.p1)
         → IsOpen (before c p h) (take h.logged y) j k (sid_in s.message) r) }
 {}
 

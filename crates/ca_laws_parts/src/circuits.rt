@@ -1,3 +1,6 @@
+//! A call of a client, bytes that move, a cut, and a step of either end keep the meaning of every
+//! id in flight, on every circuit of the world. The remaining events are in `other_laws.rt` and
+//! `calm.rt`.
 ghost use Rattle.std.specs.Prelude.{◌≡◌, List, Some, true, ℕ};
 ghost use Rattle.ca_text.specs.Place.{At};
 ghost use Rattle.ca_arena.specs.declared.handle.Handle.{Handle};

@@ -1,3 +1,5 @@
+//! What a client's core sends is legal whatever its peers send, and which call sends which message.
+//! The server's side is in `server_calls.rt`.
 ghost use Rattle.std.specs.Prelude.{List, Option};
 ghost use Rattle.ca_arena.specs.declared.handle.Handle.{Handle};
 ghost use Rattle.ca_wire.specs.Fields.{Fields};

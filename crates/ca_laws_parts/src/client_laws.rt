@@ -1,3 +1,5 @@
+//! A client's tables stay consistent in every run: handles refer to entries that exist, requests
+//! and subscriptions are on channels, and channels are on circuits.
 ghost use Rattle.std.specs.Prelude.{List, Option, ℕ};
 ghost use Rattle.ca_model.specs.Events.{Event};
 ghost use Rattle.ca_model.specs.Runs.{Happens, Runs};

@@ -1,3 +1,5 @@
+//! What a server keeps for the messages of a circuit (open channels, subscriptions, queued updates,
+//! waiting puts), and which of its events leave the meaning of ids as it was.
 ghost use Rattle.std.specs.Prelude.{◌<◌, ◌≡◌, ◌⊎◌, List, Option, length, ℕ};
 ghost use Rattle.ca_text.specs.Place.{At};
 ghost use Rattle.ca_model.specs.Speech.{In};

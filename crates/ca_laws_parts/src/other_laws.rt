@@ -1,3 +1,5 @@
+//! Events that send no request of a caller: opened channels, collected results, posts, restarts,
+//! datagrams, new circuits and the passing of time. Each keeps the meaning of every id in flight.
 ghost use Rattle.std.specs.Prelude.{◌<◌, List, Option, length, ℕ};
 ghost use Rattle.ca_text.specs.Place.{At};
 ghost use Rattle.ca_dbr.specs.Elements.{Elements};

@@ -1,3 +1,5 @@
+//! Everything a server sends is a well-formed message, each field of its width. The client's part
+//! is in `byte_laws.rt`.
 ghost use Rattle.std.specs.Prelude.{[], ◌<◌, ◌≡◌, ◌^◌, Bool, List, Ok, Option, map, ℕ};
 ghost use Rattle.ca_arena.specs.declared.handle.Handle.{Handle};
 ghost use Rattle.ca_dbr.specs.Elements.{Elements, IsValue};

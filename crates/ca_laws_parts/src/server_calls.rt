@@ -1,3 +1,5 @@
+//! What a server's core sends is legal whatever its peers send: SIDs, updates, confirmations and
+//! SERVER_DISCONNs. The client's side is in `client_calls.rt`.
 ghost use Rattle.ca_arena.specs.declared.handle.Handle.{Handle};
 ghost use Rattle.ca_model.specs.Server.{Server};
 ghost use Rattle.ca_model.specs.ServerSteps.{Stepped, Steps};

@@ -1,3 +1,5 @@
+//! The queues of updates: the numbers in them rise and end in the newest post, and values and
+//! numbers leave together. Begin at `a_subscriber_sees_posts`.
 ghost use Rattle.std.specs.Prelude.{[], ◌≡◌, ◌+◌, ◌++◌, ◌∷◌, Bool, List, None, Some, false, map};
 ghost use Rattle.std.specs.Prelude.{replicate, take, ℕ};
 ghost use Rattle.std.specs.List.{FoldsTo, fold};

@@ -1,3 +1,5 @@
+//! Writes, beside the log of a server's life: what each event adds to it, that the records are as
+//! it says, and that each write is in it once.
 ghost use Rattle.std.specs.Prelude.{[], ◌≡◌, ◌<◌, ◌≤◌, ◌+◌, ◌++◌, ◌∷◌, ◌⊎◌, Bool, List, None};
 ghost use Rattle.std.specs.Prelude.{Option, Some, drop, false, filter, length, map, not, take};
 ghost use Rattle.std.specs.Prelude.{true, ℕ};
@@ -20,7 +22,8 @@ ghost use Rattle.ca_model.specs.Speech.{In, Is, Stored};
 ghost use Rattle.ca_model.specs.History.{Added, Applied, Entry, Finished, Posted, Sent, Waits};
 ghost use Rattle.ca_model.specs.History.{Withdrawn};
 ghost use Rattle.ca_model.specs.Known.{IsNow};
-ghost use Rattle.ca_model.specs.Channels.{Has, IsApplied, IsBusyUntil, IsDropped};
+ghost use Rattle.ca_model.specs.Channels.{Has, IsApplied, IsBusyUntil, IsDropped, IsHandledIn};
+ghost use Rattle.ca_model.specs.Channels.{IsTaken};
 ghost use Rattle.ca_model.specs.ServerEvents.{acted, channel_withdrawals, ending, ends_at, ends_by};
 ghost use Rattle.ca_model.specs.ServerEvents.{ends_here, finish_entry, first_of, is_of_channel};
 ghost use Rattle.ca_model.specs.ServerEvents.{logged_by, next_busy, next_entries, noted, number_of};
@@ -65,14 +68,15 @@ pub fn records_agree_with_their_log()
     ensures applied { (circuits : List Joined) (server life : ℕ) (y : List Entry)
         (cs : List Record) (rs : List RecordSide) (n i : ℕ) (c : Record) (r : RecordSide)
         (p : PutPlace) (v : Stored) → At cs i c → At rs i r → IsUntold y p
-        → CameOn circuits life p (length y) v.value → base_of v.value ≡ base_of c.state.value
+        → CameOn circuits life IsTaken p (length y) v.value
+        → base_of v.value ≡ base_of c.state.value
         → Life circuits server life y cs rs n
         → Life circuits server life (y ++ Applied p.circuit p.place r.number v false ∷ [])
         (with_record r.name (with_value v.value v.meta) cs) rs n }
     ensures busied { (circuits : List Joined) (server life : ℕ) (y : List Entry)
         (cs : List Record) (rs : List RecordSide) (n i : ℕ) (c : Record) (r : RecordSide)
         (p : PutPlace) (b : Put) (v : Stored) → At cs i c → At rs i r → c.busy ≡ None
-        → IsUntold y p → CameOn circuits life p (length y) v.value
+        → IsUntold y p → CameOn circuits life IsTaken p (length y) v.value
         → base_of v.value ≡ base_of c.state.value → IsPutOf circuits server p b
         → c.state.slow ≡ true → Life circuits server life y cs rs n
         → Life circuits server life (y ++ Applied p.circuit p.place r.number v true ∷ [])
@@ -84,7 +88,7 @@ pub fn records_agree_with_their_log()
         (cs : List Record) (rs : List RecordSide) (n i : ℕ) (c : Record) (r : RecordSide)
         (p : PutPlace) (w : WaitingPut) (meta : Meta) → At cs i c → At rs i r
         → base_of w.value ≡ base_of c.state.value → IsUntold y p
-        → CameOn circuits life p (length y) w.value → IsPutOf circuits server p w.put
+        → CameOn circuits life IsHandledIn p (length y) w.value → IsPutOf circuits server p w.put
         → Life circuits server life y cs rs n
         → Life circuits server life
         (y ++ Waits p.circuit p.place r.number (record { value = w.value; meta = meta }) ∷ [])

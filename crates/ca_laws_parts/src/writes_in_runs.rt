@@ -1,3 +1,5 @@
+//! Every event keeps the records of a server in agreement with its log of writes, and so with the
+//! replies that it sent. The laws over whole runs are in `written.rt`.
 ghost use Rattle.std.specs.Prelude.{◌≡◌, List, Option, ℕ};
 ghost use Rattle.ca_text.specs.Place.{At};
 ghost use Rattle.ca_model.specs.Speech.{In, Stored};

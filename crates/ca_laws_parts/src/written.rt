@@ -1,3 +1,5 @@
+//! Over every run: no write is applied twice, and a caller's Done or Failed is right. Begin here;
+//! `writes_in_runs.rt` has the steps and `write_laws.rt` the single messages.
 ghost use Rattle.std.specs.Prelude.{◌≡◌, List, ℕ};
 ghost use Rattle.ca_text.specs.Place.{At};
 ghost use Rattle.ca_text.specs.declared.status.Status.{Status};

@@ -7,7 +7,7 @@ use Rattle.ca_text.proofs.Places.{At-one, At-or, At-within}
 use Rattle.ca_model.specs.History.{Circuit, Entry, Sent, Step}
 use Rattle.ca_model.specs.Speech.{name_in, sid_in}
 use Rattle.ca_model.specs.Channels.{Has, IsOpen, before}
-use Rattle.ca_model.specs.Headline.{Acted}
+use Rattle.ca_model.specs.Causes.{Acted}
 use Rattle.ca_laws_parts.proofs.WritesLists.{At-take, none_at, take-front}
 
 -- ---- beginnings of lists
@@ -97,6 +97,7 @@ acted-back c d y z k r s h ext longer at_s at_h sent logged a = (
       taken-back k c.up d.up ext.up up_le a.3 was.0.1 was.0.7,
       taken-back k c.handled d.handled ext.handled handled_le a.3 was.0.2 was.0.8,
       subst (λ (l : List Entry). Has (take (was.0.2).logged l) r (name_in (was.0.1).message)) (longer-taken h.logged y z longer logged) was.0.9,
+      was.0.10,
     ),
     λ i t lt at creates. was.1 i t lt (taken-on h.sent c.down d.down ext.down i t at) creates,
     λ l q lt within at clears. was.2 l q lt (grows-length (take k c.handled) (take k d.handled) (taken-on k c.handled d.handled ext.handled) l within) (taken-on k c.up d.up ext.up l q at) clears,

@@ -76,7 +76,7 @@ module _ (j : Joined) (log : List Entry) (f : Facts j log) (channel i k sid : �
 
   live-open : IsOpen (circuit_of j) log i k sid m.r
   live-open = (
-    (l.0, m.s, m.h, l.2, l.3, l.4, l.5, subst (λ (p : ℕ). At j.lists.up p m.s) l.3 m.sent, subst (λ (p : ℕ). At j.lists.handled p m.h) l.3 m.handled, m.has),
+    (l.0, m.s, m.h, l.2, l.3, l.4, l.5, subst (λ (p : ℕ). At j.lists.up p m.s) l.3 m.sent, subst (λ (p : ℕ). At j.lists.handled p m.h) l.3 m.handled, m.has, m.gives),
     λ p u lt at creates. no-other j log f channel i k sid (length j.lists.up) all p u lt at creates
         (let in_it : u.place < length j.lists.handled = (f.created.about p sid u at (f.replies p u at creates.0) creates).0 in let le : length j.lists.handled ≤ length j.lists.up = few in omega (arith, in_it, le)),
     λ p q lt within at clears. no-clear j log f channel i k sid (length j.lists.up) all p q lt (let le : length j.lists.handled ≤ length j.lists.up = few in omega (arith, within, le)) at clears,

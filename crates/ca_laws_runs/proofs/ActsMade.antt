@@ -13,7 +13,7 @@ use Rattle.ca_model.specs.Due.{Due, IsCreated}
 use Rattle.ca_model.specs.History.{Circuit, Entry, Reply, Sent, Step, Told}
 use Rattle.ca_model.specs.Server.{ServerEnd}
 use Rattle.ca_model.specs.ServerSteps.{Stepped, knows}
-use Rattle.ca_model.specs.Speech.{Creates, name_in}
+use Rattle.ca_model.specs.Speech.{Cid, Creates, Gives, name_in}
 use Rattle.ca_model.specs.Channels.{Has}
 use Rattle.ca_model.specs.ClientEvents.{HappensAccept, WantsFirst, connected_as, new_circuit}
 use Rattle.ca_model.specs.Events.{Event}
@@ -45,7 +45,8 @@ use Rattle.ca_laws_runs.proofs.Known.{longer-le}
 use Rattle.ca_laws_runs.proofs.FollowsWhole.{LogsGrow, LogsThere, leaves-grew, logs-grow, logs-there}
 
 -- The reply at place j created a channel: the server had a record under the name in its
--- CREATE_CHAN, when it handled that, and it sent the reply before it handled the next message.
+-- CREATE_CHAN, when it handled that, the reply has its CID, and was sent before the next message
+-- was handled.
 pub record IsMade (log : List Entry) (c : Circuit) (j : ℕ) (t : Told) : Type 0 where
   pub s : Sent
   pub sent : At c.up t.place s
@@ -54,6 +55,7 @@ pub record IsMade (log : List Entry) (c : Circuit) (j : ℕ) (t : Told) : Type 0
   pub within : h.logged ≤ length log
   pub r : ℕ
   pub has : Has (take h.logged log) r (name_in s.message)
+  pub gives : Gives s.message (Cid t.message.p1)
   pub next : (l : ℕ) (g : Step) → t.place < l → At c.handled l g → j < g.sent
 
 -- So it is of each on a circuit, and on all circuits.
@@ -74,6 +76,7 @@ made-on log lg c d longer k all j sid t at reply creates = record {
   within = (let le : (m.h).logged ≤ length log = m.within in let more : length log ≤ length lg = longer-le log lg longer in omega (arith, le, more));
   r = m.r;
   has = subst (λ (l : List Entry). Has l m.r (name_in (m.s).message)) (sym (longer-taken (m.h).logged log lg longer m.within)) m.has;
+  gives = m.gives;
   next = λ l g lt there. m.next l g lt (subst (λ (x : List Step). At x l g) k.handled there);
 }
   where
@@ -158,6 +161,7 @@ module _ (w new : World) (k : ℕ) (j : Joined) (y : ServerSide) (f : StepHandle
           within = (let le : (m.h).logged ≤ length log = m.within in let more : length log ≤ length lg = longer-le log lg longer in omega (arith, le, more));
           r = m.r;
           has = subst (λ (l : List Entry). Has l m.r (name_in (m.s).message)) (sym (longer-taken (m.h).logged log lg longer m.within)) m.has;
+          gives = m.gives;
           next = λ l g lt in_it. elim (At-snoc j.lists.handled step l g (subst (λ (x : List Step). At x l g) lists.2 in_it)) [
             | inl was ↦ m.next l g lt was
             | inr last ↦ (let e : g.sent ≡ length j.lists.down = ap (λ (x : Step). x.sent) last.1 in let below : i < length j.lists.down = At-within j.lists.down i t old in omega (arith, e, below))
@@ -175,6 +179,7 @@ module _ (w new : World) (k : ℕ) (j : Joined) (y : ServerSide) (f : StepHandle
           within = (let more : length log ≤ length lg = longer-le log lg longer in let e : step.logged ≡ length log = logged in omega (arith, e, more));
           r = (fit made.1).0;
           has = subst (λ (l : List Entry). Has l (fit made.1).0 (name_in s.message)) (sym here) (fit made.1).1;
+          gives = (made.0, sym (ap (λ (z : Told). z.message.p1) r.2 ∙ made.4));
           next = λ l g lt in_it. absurd (let within : l < length (j.lists.handled ++ step ∷ []) = At-within (j.lists.handled ++ step ∷ []) l g (subst (λ (x : List Step). At x l g) lists.2 in_it) in let e : length (j.lists.handled ++ step ∷ []) ≡ place + 1 = more-steps in omega (arith, lt, within, e, is));
         }
   ]

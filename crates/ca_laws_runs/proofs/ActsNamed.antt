@@ -1,9 +1,10 @@
 -- What an event leaves of the channels that clients opened, by what it leaves of one client, of
--- logs and of circuits: each CREATE_CHAN has the name under which its channel was opened.
-use Rattle.std.proofs.Common.{◌≡◌, ℕ, zero, suc, ◌+◌, ◌<◌, ◌≤◌, ◌⊎◌, inl, inr, Bool, true, false, ◌&&◌, cond, eqb, List, [], ◌∷◌, ◌++◌, length, Some, refl, sym, ap, ◌∙◌, subst, arith}
+-- logs and of circuits: each CREATE_CHAN has the name under which its channel was opened, and each
+-- channel that is cleared was by a call.
+use Rattle.std.proofs.Common.{◌≡◌, ℕ, zero, suc, ◌+◌, ◌<◌, ◌≤◌, ◌⊎◌, inl, inr, Bool, true, false, ◌&&◌, cond, eqb, List, [], ◌∷◌, ◌++◌, length, None, Some, refl, sym, ap, ◌∙◌, subst, arith}
 use Rattle.std.specs.Prelude.{Contains, Ok, filter, map, not, slice_set, take}
 use Rattle.std.specs.List.{before_first, prefix_len}
-use Rattle.std.proofs.lemmas.Bool.{and_parts, eqb-true}
+use Rattle.std.proofs.lemmas.Bool.{and_parts, both_ways, eqb-true}
 use Rattle.std.proofs.lemmas.List.{append-nil, append_assoc}
 use Rattle.ca_text.specs.Place.{At}
 use Rattle.ca_text.proofs.Places.{At-append, At-after, At-last, At-mapped, At-one, At-parts, At-set, some_is}
@@ -15,7 +16,7 @@ use Rattle.ca_model.specs.Answers.{Aim, Notice, Sending}
 use Rattle.ca_model.specs.Answers as aim
 use Rattle.ca_model.specs.Client.{Channel, Client, Searching}
 use Rattle.ca_model.specs.ClientCalls.{ClientOpens, Opening, opened}
-use Rattle.ca_model.specs.History.{Create, Intent, Line, On, OfCircuit, Opened, Sent, Subscribe}
+use Rattle.ca_model.specs.History.{Called, Create, Intent, Line, On, OfCircuit, Opened, Sent, Subscribe}
 use Rattle.ca_model.specs.History as history
 use Rattle.ca_model.specs.Speech.{In, name_in}
 use Rattle.ca_model.proofs.Tables.{held-back, length-more}
@@ -28,7 +29,8 @@ use Rattle.ca_laws_parts.proofs.Named.{place-there}
 use Rattle.ca_laws_runs.specs.Quiet.{Tidy}
 use Rattle.ca_laws_runs.proofs.OnceWorld.{AllSame, IsEndAfter, LogsAfter, OnceStand, after-sent, logs-grown, logs-still}
 use Rattle.ca_laws_runs.proofs.Says.{meant-at}
-use Rattle.ca_laws_runs.proofs.ActsTitles.{Titled}
+use Rattle.ca_laws_runs.proofs.ActsTitles.{Titled, nobody}
+use Rattle.ca_laws_runs.proofs.OnceLess.{is_gone}
 
 -- ---- the name in a CREATE_CHAN
 
@@ -50,11 +52,13 @@ name-is cid name whole = ap (λ (l : List ℕ). before_first (λ b. eqb b 0) l) 
 -- ---- what is told of channels
 
 -- The channels of clients by their numbers, beside the logs of their lives: each that is there was
--- opened under its name, and no two have one number. Each CREATE_CHAN that was sent has the name
--- under which its channel was opened.
+-- opened under its name, and no two have one number; one that is cleared has its call. Each
+-- CREATE_CHAN that was sent has the name under which its channel was opened.
 pub record NamesStand (w : World) : Type 0 where
   pub titled : (i : ℕ) (x : ClientSide) (log : List Line) (h : Handle) (ch : Channel) → At w.clients i x → At w.client_logs x.life log → under x.core.channels h ≡ Some ch
       → In log (Opened (channel_number x.names h) ch.name) × (Contains ch.name 0 → ⊥)
+  pub cleared : (i : ℕ) (x : ClientSide) (log : List Line) (h : Handle) (ch : Channel) → At w.clients i x → At w.client_logs x.life log → under x.core.channels h ≡ Some ch
+      → is_gone ch.standing ≡ true → In log (Called (On (channel_number x.names h) history.Clear) None)
   pub few : (i : ℕ) (x : ClientSide) (log : List Line) (p c : ℕ) (name : List ℕ) → At w.clients i x → At w.client_logs x.life log → At log p (Opened c name) → c < length x.names.channels
   pub once : (life : ℕ) (log : List Line) (p q c : ℕ) (a b : List ℕ) → At w.client_logs life log → At log p (Opened c a) → At log q (Opened c b) → p ≡ q
   pub said : (k p a : ℕ) (j : Joined) (log : List Line) (s : Sent) → At w.circuits k j → At w.client_logs j.lists.client log → At j.lists.up p s → s.intent ≡ On a Create → In log (Opened a (name_in s.message))
@@ -63,8 +67,9 @@ pub record NamesStand (w : World) : Type 0 where
 -- these lines are logged.
 pub record NamesCalls (n : Names) (x : Client) (spoken : Names) (sent : List Sending) (lines : List Line) (now : Names) (y : Client) : Type 0 where
   pub stay : (h : Handle) (ch : Channel) → under y.channels h ≡ Some ch
-      → ((w : Channel) × (under x.channels h ≡ Some w) × (ch.name ≡ w.name) × (channel_number now h ≡ channel_number n h))
-      ⊎ (In lines (Opened (channel_number now h) ch.name) × (Contains ch.name 0 → ⊥))
+      → ((w : Channel) × (under x.channels h ≡ Some w) × (ch.name ≡ w.name) × (channel_number now h ≡ channel_number n h)
+      × (is_gone ch.standing ≡ true → (is_gone w.standing ≡ true) ⊎ In lines (Called (On (channel_number now h) history.Clear) None)))
+      ⊎ (In lines (Opened (channel_number now h) ch.name) × (Contains ch.name 0 → ⊥) × (is_gone ch.standing ≡ false))
   pub creates : (i : ℕ) (s : Sending) (a : ℕ) → At sent i s → intent_of spoken s.aim ≡ On a Create
       → (h : Handle) × (w : Channel) × (under x.channels h ≡ Some w) × (a ≡ channel_number n h) × (s.message ≡ create_request (wire_of h) w.name)
   pub opens : (p c : ℕ) (name : List ℕ) → At lines p (Opened c name) → (p ≡ 0) × (c ≡ length n.channels) × (c < length now.channels)
@@ -143,13 +148,22 @@ create-aim n c t (aim.Cancel h g) number is = absurd (by (meant_by n.subscriptio
     by (On a (history.Cancel m)) e d = cc
 
 -- a call that opens no channel
-pub calls-titled : (n : Names) (x : Client) (spoken : Names) (sent : List Sending) (lines : List Line) (now : Names) (y c : Client) → Tidy spoken c → spoken.channels ≡ n.channels → now.channels ≡ n.channels → Titled x sent y → NoOpened lines
-    → NamesCalls n x spoken sent lines now y
-calls-titled n x spoken sent lines now y c tidy spoken_same now_same t none = record {
-  stay = λ h ch is. (let w = t.stay h ch is in inl (w.0, w.1, w.2, ap (λ (l : List Handle). channel_number (record n { channels = l }) h) now_same));
+pub calls-titled : (gone may : Handle → Type 0) (n : Names) (x : Client) (spoken : Names) (sent : List Sending) (lines : List Line) (now : Names) (y c : Client) → Tidy spoken c → spoken.channels ≡ n.channels → now.channels ≡ n.channels → Titled gone may x sent y → NoOpened lines
+    → ((h : Handle) → gone h → In lines (Called (On (channel_number now h) history.Clear) None)) → NamesCalls n x spoken sent lines now y
+calls-titled gone may n x spoken sent lines now y c tidy spoken_same now_same t none tells = record {
+  stay = λ h ch is. (let w = t.stay h ch is in inl (
+    w.0,
+    w.1,
+    w.2,
+    ap (λ (l : List Handle). channel_number (record n { channels = l }) h) now_same,
+    λ cleared. elim (w.3 cleared) [
+      | inl was ↦ inl was
+      | inr own ↦ inr (tells h own)
+    ],
+  ));
   creates = λ i s a at is.
       let b = create-aim spoken c tidy s.aim a is in
-      let w = t.named i s b.0 at b.1 in
+      let w = (t.named i s b.0 at).0 b.1 in
       (b.0, w.0, w.1, b.2 ∙ ap (λ (l : List Handle). channel_number (record n { channels = l }) b.0) spoken_same, w.2);
   opens = λ p number name at. absurd (none p number name at);
   more = (let e : length now.channels ≡ length n.channels = ap (λ (l : List Handle). length l) now_same in omega (arith, e));
@@ -160,10 +174,11 @@ pub calls-opened : (n : Names) (x : Client) (a : Opening) (h : Handle) (sent : L
     → (let now : Names = record n { channels = n.channels ++ h ∷ [] } in NamesCalls n x now sent (Opened (length n.channels) a.name ∷ []) now y)
 calls-opened n x a h sent y opens t u = record {
   stay = λ g ch is. elim (held-back x.channels g h new ch (subst (λ (z : Client). under z.channels g ≡ Some ch) y_is is)) [
-    | inr old ↦ inl (ch, old, refl, place-there (same_handle g) n.channels (h ∷ []) g (t.numbered g ch old))
+    | inr old ↦ inl (ch, old, refl, place-there (same_handle g) n.channels (h ∷ []) g (t.numbered g ch old), λ cleared. inl cleared)
     | inl own ↦ inr (
       (0, ap (λ (v : ℕ × List ℕ). Some (Opened v.0 v.1)) (λ i. (sym (number g own.0) i, sym (ap (λ (z : Channel). z.name) own.1) i))),
       λ c. opens.0.0.whole (subst (λ (l : List ℕ). Contains l 0) (ap (λ (z : Channel). z.name) own.1) c),
+      ap (λ (z : Channel). is_gone z.standing) own.1,
     )
   ];
   creates = λ i s number at. absurd (nothing i s (subst (λ (l : List Sending). At l i s) opens.2.0 at));
@@ -201,6 +216,7 @@ calls-opened n x a h sent y opens t u = record {
 pub names-same : (w new : World) → new.clients ≡ w.clients → new.client_logs ≡ w.client_logs → AllSame w.circuits new.circuits → NamesStand w → NamesStand new
 names-same w new same logs all s = record {
   titled = λ i x log h ch at there is. s.titled i x log h ch (was i x at) (old x.life log there) is;
+  cleared = λ i x log h ch at there is gone. s.cleared i x log h ch (was i x at) (old x.life log there) is gone;
   few = λ i x log p c name at there line. s.few i x log p c name (was i x at) (old x.life log there) line;
   once = λ life log p q c a b at first second. s.once life log p q c a b (old life log at) first second;
   said = λ k p a j log r at there place is.
@@ -265,6 +281,19 @@ module _ (w new : World) (i : ℕ) (x z : ClientSide) (spoken : Names) (sent : L
             | inr fresh ↦ ((length own.0 + fresh.0.0, At-after own.0 lines fresh.0.0 _ fresh.0.1), fresh.1)
           ])
     ];
+    cleared = λ l y log h ch at there is gone. elim (clients l y at) [
+      | inr old ↦ s.cleared l y log h ch old.0 (of-others l y log old.0 old.1 there) is gone
+      | inl here ↦
+          let own = own-log log (subst (λ (n : ℕ). At new.client_logs n log) (ap (λ (v : ClientSide). v.life) here.1 ∙ life) there) in
+          subst (λ (v : List Line × ClientSide). In v.0 (Called (On (channel_number v.1.names h) history.Clear) None)) (λ t. (sym own.2 t, sym here.1 t))
+          (elim (calls.stay h ch (subst (λ (v : ClientSide). under v.core.channels h ≡ Some ch) here.1 is)) [
+            | inl kept ↦ elim (kept.4 gone) [
+              | inl was ↦ in-more own.0 lines _ (subst (λ (v : ℕ). In own.0 (Called (On v history.Clear) None)) (sym kept.3) (s.cleared i x own.0 h kept.0 at_x own.1 kept.1 was))
+              | inr now ↦ (length own.0 + now.0, At-after own.0 lines now.0 _ now.1)
+            ]
+            | inr fresh ↦ absurd (both_ways (is_gone ch.standing) fresh.2 gone)
+          ])
+    ];
     few = λ l y log p c name at there line. elim (clients l y at) [
       | inr old ↦ s.few l y log p c name old.0 (of-others l y log old.0 old.1 there) line
       | inl here ↦
@@ -324,7 +353,7 @@ names-called w i x spoken o at calls once s =
     let t = once.there i x at in
     names-moved w (client_after i x spoken o w) i x z spoken o.sent o.lines at (λ l y there. At-set w.clients i z l y there) refl (logs-grown w.client_logs x.life o.lines t.0 t.1) (after-sent i spoken o.sent w.circuits) calls once s
 
-nothing-sent : (i : ℕ) (n : Names) (a : Joined) → IsEndAfter i n [] a a
+pub nothing-sent : (i : ℕ) (n : Names) (a : Joined) → IsEndAfter i n [] a a
 nothing-sent i n a = record { client = refl; life = refl; opens = λ o. o; up = by (eqb a.client i && a.lists.client_open) }
   where
     by : (b : Bool) → a.lists.up ≡ a.lists.up ++ cond b [] []
@@ -348,7 +377,7 @@ names-lines w i x lines at tidy none once s =
       | inl same ↦ inl (same, At-one w.clients i y x (subst (λ (n : ℕ). At w.clients n y) same there) at)
       | inr other ↦ inr (there, other)
     ]) refl (logs-grown w.client_logs x.life lines t.0 t.1) (λ k j there. (j, there, nothing-sent i x.names j))
-    (calls-titled x.names x.core x.names [] lines x.names x.core x.core tidy refl refl (record { stay = λ h ch is. (ch, is, refl); named = λ m r h place. absurd (nowhere m r place) }) none) once s
+    (calls-titled nobody nobody x.names x.core x.names [] lines x.names x.core x.core tidy refl refl (record { stay = λ h ch is. (ch, is, refl, λ gone. inl gone); named = λ m r h place. absurd (nowhere m r place) }) none (λ h own. absurd own)) once s
   where
     nowhere : (m : ℕ) (r : Sending) → (let l : List Sending = [] in At l m r) → ⊥
     nowhere m r place = cc

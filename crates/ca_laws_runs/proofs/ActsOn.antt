@@ -9,7 +9,7 @@ use Rattle.ca_model.specs.History.{Added, Ask, Circuit, Create, Entry, Line, On,
 use Rattle.ca_model.specs.Speech.{Clears, Creates, In, Is, name_in, sid_in}
 use Rattle.ca_model.proofs.Thinner.{three-ways}
 use Rattle.ca_model.specs.Channels.{Created, Has, IsNamed, Joins, Meant, OfCircuits, Suits}
-use Rattle.ca_model.specs.Headline.{Acted}
+use Rattle.ca_model.specs.Causes.{Acted}
 use Rattle.ca_model.specs.Events.{Event}
 use Rattle.ca_model.specs.Runs.{AreEvents, Runs}
 use Rattle.ca_model.specs.World.{IsSetting, Joined, Setting, World, circuit_of, told}
@@ -46,7 +46,7 @@ of-circuits s es stopped w ok runs P each n d at =
     ]
 
 created-is : (j : Joined) (log : List Entry) → AreMade log j.lists → (i sid : ℕ) (t : Told) → At j.lists.down i t → t.cause ≡ Reply → Creates t.message sid → (r : ℕ) × Created (circuit_of j) log i t.place sid r
-created-is j log made i sid t at reply creates = (let m = made i sid t at reply creates in (m.r, (t, m.s, m.h, at, refl, reply, creates, m.sent, m.handled, m.has)))
+created-is j log made i sid t at reply creates = (let m = made i sid t at reply creates in (m.r, (t, m.s, m.h, at, refl, reply, creates, m.sent, m.handled, m.has, m.gives)))
 
 pub run-creations : (s : Setting) (es : List Event) (stopped : Option Event) (w : World) → IsSetting s → Runs s es stopped w → CreationsAre w
 run-creations s es stopped w ok runs =
@@ -141,6 +141,7 @@ module _ (j : Joined) (log : List Entry) (f : Facts j log) where
           taken-at p j.lists.up k m.s b.early (subst (λ (n : ℕ). At j.lists.up n m.s) b.told.1 m.sent),
           taken-at p j.lists.handled k m.h b.early made-handled,
           subst (λ (l : List Entry). Has l m.r (name_in (m.s).message)) (sym (take-take (m.h).logged h.logged log logged-before)) m.has,
+          m.gives,
         ),
         λ l u lt at creates.
             let in_it : At j.lists.down l u = At-take h.sent j.lists.down l u at in

@@ -15,7 +15,7 @@ use Rattle.ca_model.specs.History.{Added, Applied, Circuit, Entry, Finished, Int
 use Rattle.ca_model.specs.History as history
 use Rattle.ca_model.specs.Speech.{In, Is, name_in, sid_in}
 use Rattle.ca_model.specs.Channels.{Has, IsOpen, IsReply, IsUse, Suits, before}
-use Rattle.ca_model.specs.Headline.{Acted}
+use Rattle.ca_model.specs.Causes.{Acted}
 use Rattle.ca_model.specs.Events.{Event}
 use Rattle.ca_model.specs.Runs.{Runs}
 use Rattle.ca_model.specs.World.{IsSetting, Setting, World}

@@ -35,8 +35,8 @@ use Rattle.ca_laws_parts.proofs.WritesLists.{At-take}
 
 -- a channel that is open by what the server handled
 open-known : (c : Circuit) (y : List Entry) (i k sid r : ℕ) → IsOpen c y i k sid r → IsOpen (as_known c) y i k sid r
-open-known c y i k sid r ((t, s, h, at_t, place, cause, creates, at_s, at_h, has), later, cleared) = (
-  (t, s, h, at_t, place, cause, creates, taken-at (length c.handled) c.up k s (At-within c.handled k h at_h) at_s, at_h, has),
+open-known c y i k sid r ((t, s, h, at_t, place, cause, creates, at_s, at_h, has, gives), later, cleared) = (
+  (t, s, h, at_t, place, cause, creates, taken-at (length c.handled) c.up k s (At-within c.handled k h at_h) at_s, at_h, has, gives),
   later,
   λ l q lt within at clears. cleared l q lt within (At-take (length c.handled) c.up l q at) clears,
 )

@@ -131,6 +131,6 @@ run-all-added s es stopped w ok are (mid, folds, stops) = stop stopped (known-ru
     ]
     stop stopped now stops = subst (λ (v : World). AllAdded v) (sym stops) all
 
-pub run-added-anew : (s : Setting) (es : List Event) (stopped : Option Event) (w : World) → IsSetting s → AreEvents es → Runs s es stopped w → SubscriptionsAreAddedAnew w
-run-added-anew s es stopped w ok are runs k sid j x g d at at_x opened there stands live =
+pub run-added-renewed : (s : Setting) (es : List Event) (stopped : Option Event) (w : World) → IsSetting s → AreEvents es → Runs s es stopped w → SubscriptionsAreAddedAnew w
+run-added-renewed s es stopped w ok are runs k sid j x g d at at_x opened there stands live =
     run-all-added s es stopped w ok are runs k j x g d.channel at at_x opened (record { d = d; there = there; stands = stands; to = refl; live = (sid, live) })

@@ -86,12 +86,12 @@ AllAnew w = (n : ℕ) (c : Joined) (y : List Line) (i a sid number : ℕ) (t : T
     → IsStanding (take h.logged y) (On a (Subscribe number)) → IsAnew c.lists a number t.place h.sent
 
 -- what was read before
-anew-old : (w new : World) → Known w → WorldsOn w new → ClientsUse w new → ClientsInOrder w → AllAnew w
+renewed-old : (w new : World) → Known w → WorldsOn w new → ClientsUse w new → ClientsInOrder w → AllAnew w
     → (n : ℕ) (c d : Joined) (y : List Line) (i a sid number : ℕ) (t : Told) (h : Step) (s : Sent) → At w.circuits n c → At new.circuits n d
     → At new.client_logs d.lists.client y → At d.lists.down i t
     → At c.lists.heard i h → t.cause ≡ Reply → Creates t.message sid → At d.lists.up t.place s → s.intent ≡ On a Create
     → IsStanding (take h.logged y) (On a (Subscribe number)) → IsAnew d.lists a number t.place h.sent
-anew-old w new known goes uses order all n c d y i a sid number t h s on at_d at_y at_t at_h reply creates at_s meant standing =
+renewed-old w new known goes uses order all n c d y i a sid number t h s on at_d at_y at_t at_h reply creates at_s meant standing =
     let o = was-there w new known goes uses n c d i h on at_d at_h in
     let t_c = o.told i t (omega arith) at_t in
     let early : t.place < length c.lists.up = t_c.1 in
@@ -257,9 +257,9 @@ module _ (w new : World) (k : ℕ) (j : Joined) (x : ClientSide) (on : At w.circ
         let b = (known.sided.sides k j x on at opened).lives busy.0 native.sid (record { ch = f_ch.0; native = native; rights = rights; there = f_ch.1; stands = f_ch.3; is = refl }) in
         unread b.0 b.1 native.sid (length j.lists.up) (subst (λ (v : ℕ). IsCreatedBefore j.lists v b.0 b.1 native.sid (length j.lists.up)) number_of b.3) b.2 (At-within j.lists.up t.place s up)
 
-    pub anew-now : (y : List Line) → At new.client_logs now.lists.client y → IsStanding (take step.logged y) (On a (Subscribe number))
+    pub renewed-now : (y : List Line) → At new.client_logs now.lists.client y → IsStanding (take step.logged y) (On a (Subscribe number))
         → IsAnew now.lists a number t.place step.sent
-    anew-now y at_y standing = by found.0 found.1 found.2
+    renewed-now y at_y standing = by found.0 found.1 found.2
       where
         life : now.lists.client ≡ x.life
         life = goes_on.client ∙ known.lives.same k j x on at opened
@@ -324,27 +324,27 @@ pub record AnewStand (w : World) : Type 0 where
   pub adds : AllAddsNamed w
   pub called : AllNamedCalled w
   pub said : AllAddsCalled w
-  pub anew : AllAnew w
+  pub renewed : AllAnew w
 
 module _ (w new : World) (known : Known w) (now : Known new) (goes : WorldsOn w new) (uses : ClientsUse w new) (order : ClientsInOrder w)
     (lasts : ClientsLast w new) (adding : AddingBack w new) (z : AnewStand w) where
   called-now : AllNamedCalled new
   called-now = named-called-on w new known.once goes lasts z.called
 
-  anew-with : AllAnew new → AnewStand new
-  anew-with anew = record {
+  renewed-with : AllAnew new → AnewStand new
+  renewed-with renewed = record {
     names = named-once-on w new known.stands uses z.names;
     stand = stand-on w new known.once goes lasts z.stand;
     adds = adds-named-on w new known now.once now.quiet adding goes uses z.adds;
     called = called-now;
     said = adds-called-on w new known.once now.quiet adding goes called-now z.said;
-    anew = anew;
+    renewed = renewed;
   }
 
   -- nothing is read
-  anew-quiet : ReadsNone w new → AnewStand new
-  anew-quiet reads = anew-with (λ n d y i a sid number t h s at_d at_y at_t at_h reply creates at_s meant standing. elim (reads n d at_d) [
-    | inl old ↦ anew-old w new known goes uses order z.anew n old.0 d y i a sid number t h s old.1 at_d at_y at_t (subst (λ (l : List Step). At l i h) old.2 at_h) reply creates at_s meant standing
+  renewed-quiet : ReadsNone w new → AnewStand new
+  renewed-quiet reads = renewed-with (λ n d y i a sid number t h s at_d at_y at_t at_h reply creates at_s meant standing. elim (reads n d at_d) [
+    | inl old ↦ renewed-old w new known goes uses order z.renewed n old.0 d y i a sid number t h s old.1 at_d at_y at_t (subst (λ (l : List Step). At l i h) old.2 at_h) reply creates at_s meant standing
     | inr none ↦ absurd (none_at i h (subst (λ (l : List Step). At l i h) none at_h))
   ])
 
@@ -378,7 +378,7 @@ module _ (s : Setting) (es : List Event) (w new : World) (ok : IsSetting s) (are
   adding = event-says w new e known.stands known.quiet known-now.quiet known.once happens
 
   quiet : ReadsNone w new → AnewStand new
-  quiet reads = anew-quiet w new known known-now goes uses order lasts adding z reads
+  quiet reads = renewed-quiet w new known known-now goes uses order lasts adding z reads
 
   module _ (k : ℕ) (f : Happens w (event.ClientStep k) new) (hearing : IsHearing w new k f.0.j f.0.x) where
     abbrev j : Joined
@@ -400,29 +400,29 @@ module _ (s : Setting) (es : List Event) (w new : World) (ok : IsSetting s) (are
           ]
         ]
 
-    anew-step : AllAnew new
-    anew-step n d y i a sid number t h q at_d at_y at_t at_h reply creates at_q meant standing = elim (heard-or n d i h at_d at_h) [
-      | inl old ↦ anew-old w new known goes uses order z.anew n old.0 d y i a sid number t h q old.1 at_d at_y at_t old.2 reply creates at_q meant standing
+    renewed-step : AllAnew new
+    renewed-step n d y i a sid number t h q at_d at_y at_t at_h reply creates at_q meant standing = elim (heard-or n d i h at_d at_h) [
+      | inl old ↦ renewed-old w new known goes uses order z.renewed n old.0 d y i a sid number t h q old.1 at_d at_y at_t old.2 reply creates at_q meant standing
       | inr fresh ↦
           let hear = runs-hear s es None w ok are runs in
           let m = next w new k j f.0.x f.0.joins.at f.0.joins.client f.0.is_open hearing hear (runs-caused s es None w ok are runs) (reached-answer w (s, es, None, ok, runs)) (run-removals s es None w ok runs) (run-tells s es None w new k ok are runs f) known.held known.once known.quiet known.lives in
           let t_is : m.t ≡ t = At-one d.lists.down (length j.lists.heard) m.t t (fresh.3.tells (length j.lists.heard) m.t m.told) (subst (λ (v : ℕ). At d.lists.down v t) fresh.1 at_t) in
           let s_is : m.s ≡ q = At-one d.lists.up t.place m.s q (subst (λ (v : Told). At d.lists.up v.place m.s) t_is (fresh.3.said (m.t).place m.s m.up)) at_q in
           subst (λ (v : Told × Step). IsAnew d.lists a number v.0.place v.1.sent) (λ p. (t_is p, sym fresh.2 p))
-          (anew-now w new k j f.0.x f.0.joins.at f.0.joins.client f.0.is_open hearing known goes (reached-created w (s, es, None, ok, runs)) (run-after s es None w ok runs) z.stand z.adds z.names
+          (renewed-now w new k j f.0.x f.0.joins.at f.0.joins.client f.0.is_open hearing known goes (reached-created w (s, es, None, ok, runs)) (run-after s es None w ok runs) z.stand z.adds z.names
           known-now.sided (reached-created new (s, es ++ e ∷ [], None, ok, runs-next)) (run-after s (es ++ e ∷ []) None new ok runs-next)
           m.m m.rest m.t m.s m.told m.up m.is m.hear d fresh.0 fresh.3 a sid number (ap (λ (v : Told). v.cause) t_is ∙ reply) (subst (λ (v : Told). Creates v.message sid) (sym t_is) creates) (ap (λ (v : Sent). v.intent) s_is ∙ meant)
           y at_y (subst (λ (v : Step). IsStanding (take v.logged y) (On a (Subscribe number))) fresh.2 standing))
     ]
 
-  pub event-anew : AnewStand new
-  event-anew = each-event (AnewStand new) w new (λ g. quiet (none-grown w new g))
+  pub event-renewed : AnewStand new
+  event-renewed = each-event (AnewStand new) w new (λ g. quiet (none-grown w new g))
       (λ k f. elim (step-grown w new k f.0.j f.0.y f.1.0 f.0.joins.at f.1.1) [
         | inl handles ↦ quiet (none-handled w new k f.0.j f.0.y f.0.joins.at handles)
         | inr g ↦ quiet (none-grown w new g)
       ])
       (λ k f. elim (hearing-or w new k f.0.j f.0.x f.0.joins.at f.0.joins.client f.1) [
-        | inl hearing ↦ anew-with w new known known-now goes uses order lasts adding z (anew-step k f hearing)
+        | inl hearing ↦ renewed-with w new known known-now goes uses order lasts adding z (renewed-step k f hearing)
         | inr g ↦ quiet (none-grown w new g)
       ])
       (λ i f. elim (made-or w new i f) [
@@ -431,16 +431,16 @@ module _ (s : Setting) (es : List Event) (w new : World) (ok : IsSetting s) (are
       ])
       (λ i f. quiet (subst (λ (v : World). ReadsNone w v) (sym f.1) (none-grown w (begun-mid w new i f.0.x f.1) (begun-grown w new i f.0.x f.1)))) e happens
 
-after-anew : (s : Setting) (es rest : List Event) (w new : World) → IsSetting s → AreEvents es → AreEvents rest → FoldsTo Happens (opening s) es w
+after-renewed : (s : Setting) (es rest : List Event) (w new : World) → IsSetting s → AreEvents es → AreEvents rest → FoldsTo Happens (opening s) es w
     → FoldsTo Happens w rest new → AnewStand w → AnewStand new
-after-anew s es [] w new ok are more folds same z = subst (λ (v : World). AnewStand v) same z
-after-anew s es (e ∷ rest) w new ok are more folds (mid, one, others) z =
+after-renewed s es [] w new ok are more folds same z = subst (λ (v : World). AnewStand v) same z
+after-renewed s es (e ∷ rest) w new ok are more folds (mid, one, others) z =
     let longer : AreEvents (es ++ e ∷ []) = are-snoc es e are (more 0 e refl) in
-    after-anew s (es ++ e ∷ []) rest mid new ok longer (λ i f at. more (suc i) f at) (folds-snoc es (opening s) w mid e folds one) others
-    (event-anew s es w mid ok are folds e longer one z)
+    after-renewed s (es ++ e ∷ []) rest mid new ok longer (λ i f at. more (suc i) f at) (folds-snoc es (opening s) w mid e folds one) others
+    (event-renewed s es w mid ok are folds e longer one z)
 
-opening-anew : (s : Setting) → AnewStand (opening s)
-opening-anew s = record {
+opening-renewed : (s : Setting) → AnewStand (opening s)
+opening-renewed s = record {
   names = λ i x at k l e f at_k at_l same.
       let r = numbered-place 0 (client_begun (addresses s.servers) 0) s.clients i x at in
       absurd (none_at k e (subst (λ (v : ClientSide). At v.names.subscriptions k e) r.2 at_k));
@@ -452,15 +452,15 @@ opening-anew s = record {
       let r = numbered-place 0 (client_begun (addresses s.servers) 0) s.clients i x at in
       absurd (none_at m e (subst (λ (v : ClientSide). At v.names.subscriptions m e) r.2 named));
   said = λ n k a m c q x at. absurd (none_at n c at);
-  anew = λ n c y i a sid number t h q at. absurd (none_at n c at);
+  renewed = λ n c y i a sid number t h q at. absurd (none_at n c at);
 }
 
-pub run-anew-stand : (s : Setting) (es : List Event) (stopped : Option Event) (w : World) → IsSetting s → AreEvents es → Runs s es stopped w
+pub run-renewed-stand : (s : Setting) (es : List Event) (stopped : Option Event) (w : World) → IsSetting s → AreEvents es → Runs s es stopped w
     → AnewStand w
-run-anew-stand s es stopped w ok are (mid, folds, stops) = stop stopped (known-runs s es stopped w ok are (mid, folds, stops)) stops
+run-renewed-stand s es stopped w ok are (mid, folds, stops) = stop stopped (known-runs s es stopped w ok are (mid, folds, stops)) stops
   where
     all : AnewStand mid
-    all = after-anew s [] es (opening s) mid ok (λ i e at. absurd (none_at i e at)) are refl folds (opening-anew s)
+    all = after-renewed s [] es (opening s) mid ok (λ i e at. absurd (none_at i e at)) are refl folds (opening-renewed s)
 
     stop : (stopped : Option Event) → Known w → StopsAt mid stopped w → AnewStand w
     stop (Some (event.Tick moment)) now stops = elim stops [
@@ -469,25 +469,25 @@ run-anew-stand s es stopped w ok are (mid, folds, stops) = stop stopped (known-r
           let runs : Runs s es None mid = (mid, folds, refl) in
           let known : Known mid = known-runs s es None mid ok are runs in
           let g = ticks-grown moment mid (clients_below ticked.0) w ticked.3 in
-          anew-quiet mid w known now (on-grown mid w g) (use-stay mid w (ticks-use moment (clients_below ticked.0) mid w known.quiet ticked.3)) (run-heard s es None mid ok are runs)
+          renewed-quiet mid w known now (on-grown mid w g) (use-stay mid w (ticks-use moment (clients_below ticked.0) mid w known.quiet ticked.3)) (run-heard s es None mid ok are runs)
           (last-still mid w (ticks-last moment (clients_below ticked.0) mid w ticked.3)) (ticks-says moment (clients_below ticked.0) mid w ticked.3) all (none-grown mid w g)
     ]
     stop stopped now stops = subst (λ (v : World). AnewStand v) (sym stops) all
 
 -- ---- what the statement says
 
-pub run-adds-anew : (s : Setting) (es : List Event) (stopped : Option Event) (w : World) → IsSetting s → AreEvents es → Runs s es stopped w
+pub run-adds-renewed : (s : Setting) (es : List Event) (stopped : Option Event) (w : World) → IsSetting s → AreEvents es → Runs s es stopped w
     → LiveChannelsAreSubscribedTo w
-run-adds-anew s es stopped w ok fine runs n d at =
+run-adds-renewed s es stopped w ok fine runs n d at =
     let j = At-mapped circuit_of w.circuits n d at in
     let l = run-server-steps s es stopped w ok runs n d at in
     let log : At w.client_logs (j.0.lists).client l.0 = subst (λ (v : Circuit). At w.client_logs v.client l.0) j.2 l.2.1 in
-    (l.0, l.1, l.2, subst (λ (v : Circuit). AddsWhatStands v l.0) (sym j.2) (anew n j.0 l.0 j.1 log))
+    (l.0, l.1, l.2, subst (λ (v : Circuit). AddsWhatStands v l.0) (sym j.2) (renewed n j.0 l.0 j.1 log))
   where
-    anew : (n : ℕ) (c : Joined) (x : List Line) → At w.circuits n c → At w.client_logs c.lists.client x → AddsWhatStands c.lists x
-    anew n c x on log channel k number h live standing =
+    renewed : (n : ℕ) (c : Joined) (x : List Line) → At w.circuits n c → At w.client_logs c.lists.client x → AddsWhatStands c.lists x
+    renewed n c x on log channel k number h live standing =
         let t : Told = live.2 in
         let place : t.place ≡ k = live.5 in
         let at_r : At c.lists.up t.place live.3.0 = subst (λ (v : ℕ). At c.lists.up v live.3.0) (sym place) live.3.1 in
-        let r = (run-anew-stand s es stopped w ok fine runs).anew n c x live.0 channel live.1 number t h live.3.0 on log live.4 live.8 live.6 live.7 at_r live.3.2 standing in
+        let r = (run-renewed-stand s es stopped w ok fine runs).renewed n c x live.0 channel live.1 number t h live.3.0 on log live.4 live.8 live.6 live.7 at_r live.3.2 standing in
         (r.0, r.2, (r.1, r.3, r.4), λ p late before meant. r.5 p meant.0 (subst (λ (v : ℕ). v < p) (sym place) late) before meant.1 meant.2)

@@ -52,7 +52,7 @@ use Rattle.ca_laws_parts.proofs.Midway.{grown-here}
 use Rattle.ca_laws_parts.proofs.WritesMoves.{same-or}
 use Rattle.ca_laws_parts.proofs.Says.{logs-stay}
 use Rattle.ca_laws_runs.specs.FollowsAnswering.{AnsweredAt, AnsweredBy, AnsweredSo, AreAnswered, KnowsLists, LogsSo, past}
-use Rattle.ca_model.specs.Channels.{Has, IsBusyUntil, IsCleared, IsUncleared}
+use Rattle.ca_model.specs.Channels.{Has, IsBusyUntil, IsCleared, IsTaken, IsUncleared}
 use Rattle.ca_laws_runs.specs.KnewLists.{as_known}
 use Rattle.ca_laws_runs.proofs.Acting.{Extends, Grows, IsLonger, grown-back, longer-taken}
 use Rattle.ca_laws_runs.proofs.ActsOn.{of-circuits}
@@ -600,7 +600,7 @@ busy-came s w i y name new f ready at = go (own.life.once.own b.i f.p.circuit f.
     b : IsBusyWith own.log f.r.number f.p
     b = subst (λ (o : Option PutPlace). IsBusyBy own.log f.r.number o) f.busy x.2.busy
 
-    go : CameOn w.circuits y.life f.p b.i b.v.value ⊎ HadWaited own.log f.p b.i f.r.number b.v.value → CameSome w.circuits y.life f.p
+    go : CameOn w.circuits y.life IsTaken f.p b.i b.v.value ⊎ HadWaited own.log f.p b.i f.r.number b.v.value → CameSome w.circuits y.life f.p
     go (inl came) = record { c = came.c; on = came.on; joins = came.joins }
     go (inr waited) = (let came = own.life.once.came waited.0 f.p.circuit f.p.place f.r.number waited.1 waited.3 in record { c = came.c; on = came.on; joins = came.joins })
 

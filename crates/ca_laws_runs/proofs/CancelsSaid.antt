@@ -27,7 +27,7 @@ use Rattle.ca_model.specs.ClientEnds as ends
 use Rattle.ca_model.specs.Ends.{Address}
 use Rattle.ca_model.specs.Hears.{Answers, Completes, Effect, Fails, FindsAt, Hears, PutsOn, Updates, any_failed, becomes, clear_answered, confirmed, create_sent, created, doing, event_adds, failed, failing, found_at, heard_by, left, put_on, request_failed, rights_told, searched_by, subscription_failed, write_failed}
 use Rattle.ca_model.specs.Hears as hears
-use Rattle.ca_model.specs.History.{Cancel, Intent, Line, Sent, Step}
+use Rattle.ca_model.specs.History.{Called, Cancel, Intent, Line, Sent, Step}
 use Rattle.ca_model.specs.History as history
 use Rattle.ca_model.proofs.Handles.{same-is}
 use Rattle.ca_model.proofs.Standings.{at-filter-map, found-standing, stands-as}
@@ -35,7 +35,7 @@ use Rattle.ca_model.specs.ClientEvents.{DownTaken, HappensAccept, HappensClear, 
 use Rattle.ca_model.specs.Events.{Event}
 use Rattle.ca_model.specs.Events as event
 use Rattle.ca_model.specs.Runs.{Happens}
-use Rattle.ca_model.specs.World.{ClientSide, Joined, Names, ServerSide, World, log_length, with_circuit, with_client, with_server}
+use Rattle.ca_model.specs.World.{ClientSide, Joined, Names, ServerSide, World, grown, log_length, with_circuit, with_client, with_server}
 use Rattle.ca_laws_parts.specs.Held.{with_request, with_subscription}
 use Rattle.ca_laws_parts.specs.Circuit.{sent_to, stamped}
 use Rattle.ca_laws_parts.specs.Clients.{ClientsStand}
@@ -56,8 +56,8 @@ abbrev pub IsOther : Sent → Type 0
 IsOther s = (a m : ℕ) → s.intent ≡ history.On a (Cancel m) → ⊥
 
 -- The EVENT_CANCEL of a subscription that is on a live channel, sent as the first on its
--- circuit since this world.
-pub record IsCancelling (w : World) (n k : ℕ) (s : Sent) : Type 0 where
+-- circuit since this world, by a call that the log has.
+pub record IsCancelling (w new : World) (n k : ℕ) (s : Sent) : Type 0 where
   pub c : Joined
   pub x : ClientSide
   pub g : Handle
@@ -69,10 +69,14 @@ pub record IsCancelling (w : World) (n k : ℕ) (s : Sent) : Type 0 where
   pub place : k ≡ length c.lists.up
   pub meant : s.intent ≡ cancelled (meant_by x.names.subscriptions g)
   pub wire : s.message.p2 ≡ wire_of g
+  pub number : ℕ
+  pub intent : Intent
+  pub named : At x.names.subscriptions number (g, intent)
+  pub logs : new.client_logs ≡ grown x.life (Called (cancelled intent) None ∷ []) w.client_logs
 
 -- Each message is no EVENT_CANCEL, or was there, or is one so.
 abbrev pub CancelsBack : (w new : World) → Type 0
-CancelsBack w new = (n : ℕ) (d : Joined) (k : ℕ) (s : Sent) → At new.circuits n d → At d.lists.up k s → IsOther s ⊎ (((c : Joined) × At w.circuits n c × At c.lists.up k s) ⊎ IsCancelling w n k s)
+CancelsBack w new = (n : ℕ) (d : Joined) (k : ℕ) (s : Sent) → At new.circuits n d → At d.lists.up k s → IsOther s ⊎ (((c : Joined) × At w.circuits n c × At c.lists.up k s) ⊎ IsCancelling w new n k s)
 
 -- no message with this aim is for a cancel
 abbrev AllPlain : List Sending → Type 0
@@ -441,10 +445,10 @@ module _ (w new : World) (i : ℕ) (x : ClientSide) (at : At w.clients i x) (q :
       by-old happens.0 (ap (λ (z : World). z.circuits) happens.3) (plain-all-received from happens.2.0 came e happens.2.2)
 
   -- the one call that sends an EVENT_CANCEL
-  says-unsubscribe : (g : Handle × Intent) → HappensUnsubscribe w i x g new → CancelsBack w new
-  says-unsubscribe g happens = elim happens [
+  says-unsubscribe : (number : ℕ) (g : Handle × Intent) → At x.names.subscriptions number g → HappensUnsubscribe w i x g new → CancelsBack w new
+  says-unsubscribe number g named happens = elim happens [
     | inl refusal ↦ same-world (ap (λ (z : World). z.circuits) refusal.3)
-    | inr did ↦ by did.1 (did.3).0 (stands-as x.core g.0 (did.3).0 (did.3).1) (ap (λ (z : World). z.circuits) did.4) (standing_at x.core ((did.3).0).channel) refl ((did.3).3).0
+    | inr did ↦ by did.1 (did.3).0 (stands-as x.core g.0 (did.3).0 (did.3).1) (ap (λ (z : World). z.circuits) did.4) (ap (λ (z : World). z.client_logs) did.4) (standing_at x.core ((did.3).0).channel) refl ((did.3).3).0
   ]
     where
       silent : (sent : List Sending) → new.circuits ≡ map (sent_to i x.names sent) w.circuits → sent ≡ [] → CancelsBack w new
@@ -454,15 +458,15 @@ module _ (w new : World) (i : ℕ) (x : ClientSide) (at : At w.clients i x) (q :
       only r s zero there = sym (some_is r s there)
       only r s (suc m) there = absurd cc
 
-      by : (sent : List Sending) (d : Subscription) → (under x.core.subscriptions g.0 ≡ Some d) × (stands_in d.stage ≡ true) → new.circuits ≡ map (sent_to i x.names sent) w.circuits → (o : Option Standing) → standing_at x.core d.channel ≡ o → sent ≡ cancel_sent g.0 d o → CancelsBack w new
-      by sent d stands circuits None is sent_is = silent sent circuits sent_is
-      by sent d stands circuits (Some Searching) is sent_is = silent sent circuits sent_is
-      by sent d stands circuits (Some (On c Connecting)) is sent_is = silent sent circuits sent_is
-      by sent d stands circuits (Some (On c (Creating rights))) is sent_is = silent sent circuits sent_is
-      by sent d stands circuits (Some (On c Leaving)) is sent_is = silent sent circuits sent_is
-      by sent d stands circuits (Some (On c Clearing)) is sent_is = silent sent circuits sent_is
-      by sent d stands circuits (Some (On c Doomed)) is sent_is = silent sent circuits sent_is
-      by sent d stands circuits (Some (On c (Live native rights))) is sent_is = λ n j k s at_j there.
+      by : (sent : List Sending) (d : Subscription) → (under x.core.subscriptions g.0 ≡ Some d) × (stands_in d.stage ≡ true) → new.circuits ≡ map (sent_to i x.names sent) w.circuits → new.client_logs ≡ grown x.life (Called (cancelled g.1) None ∷ []) w.client_logs → (o : Option Standing) → standing_at x.core d.channel ≡ o → sent ≡ cancel_sent g.0 d o → CancelsBack w new
+      by sent d stands circuits logs None is sent_is = silent sent circuits sent_is
+      by sent d stands circuits logs (Some Searching) is sent_is = silent sent circuits sent_is
+      by sent d stands circuits logs (Some (On c Connecting)) is sent_is = silent sent circuits sent_is
+      by sent d stands circuits logs (Some (On c (Creating rights))) is sent_is = silent sent circuits sent_is
+      by sent d stands circuits logs (Some (On c Leaving)) is sent_is = silent sent circuits sent_is
+      by sent d stands circuits logs (Some (On c Clearing)) is sent_is = silent sent circuits sent_is
+      by sent d stands circuits logs (Some (On c Doomed)) is sent_is = silent sent circuits sent_is
+      by sent d stands circuits logs (Some (On c (Live native rights))) is sent_is = λ n j k s at_j there.
           let r : Sending = event_cancel_sent c native.sid g.0 d in
           let b = after-goes i x.names (r ∷ []) w new (circuits ∙ ap (λ (l : List Sending). map (sent_to i x.names l) w.circuits) sent_is) n j at_j in
           elim (At-parts b.0.lists.up (sent_on i x.names (r ∷ []) b.0) k s (subst (λ (l : List Sent). At l k s) b.2 there)) [
@@ -487,6 +491,10 @@ module _ (w new : World) (i : ℕ) (x : ClientSide) (at : At w.clients i x) (q :
                   place = (let e : k ≡ length b.0.lists.up + late.0 = late.1 in omega (arith, e, first));
                   meant = ap (λ (z : Sent). z.intent) s_is;
                   wire = ap (λ (z : Sent). z.message.p2) s_is;
+                  number = number;
+                  intent = g.1;
+                  named = named;
+                  logs = logs;
                 }))
           ]
 
@@ -569,9 +577,9 @@ says-restart w new i x happens = says-ups w new (λ n b at.
 
 -- ---- a moment
 
--- Over a moment no EVENT_CANCEL is sent.
-abbrev NoneBack : (w new : World) → Type 0
-NoneBack w new = (n : ℕ) (d : Joined) (k : ℕ) (s : Sent) → At new.circuits n d → At d.lists.up k s → IsOther s ⊎ ((c : Joined) × At w.circuits n c × At c.lists.up k s)
+-- Over a moment nothing is sent that is for a channel.
+abbrev pub NoneBack : (w new : World) → Type 0
+NoneBack w new = (n : ℕ) (d : Joined) (k : ℕ) (s : Sent) → At new.circuits n d → At d.lists.up k s → (s.intent ≡ history.OfCircuit) ⊎ ((c : Joined) × At w.circuits n c × At c.lists.up k s)
 
 tick-none : (moment : ℕ) (w : World) (i : ℕ) (new : World) → TicksOne moment w i new → NoneBack w new
 tick-none moment w i new (x, at, t, sent, core, does, is) n d k s at_d at_s =
@@ -583,7 +591,7 @@ tick-none moment w i new (x, at, t, sent, core, does, is) n d k s at_d at_s =
       | inl old ↦ inr (b.0, b.1, old)
       | inr late ↦
           let v = (on-circuit-sent i x.names sent b.0 late.0 s late.2).2 in
-          inl (λ c m meant. not-served c m (sym ((ticked-client x.names moment x.core).ticked.serves v.0 v.1 (subst (λ (l : List Sending). At l v.0 v.1) does.1 v.2)) ∙ ap (λ (z : Sent). z.intent) (sym v.4) ∙ meant))
+          inl (ap (λ (z : Sent). z.intent) v.4 ∙ (ticked-client x.names moment x.core).ticked.serves v.0 v.1 (subst (λ (l : List Sending). At l v.0 v.1) does.1 v.2))
     ]
   where
     by : (a : Joined) (b : Bool) (o : Option (List ℕ)) → (cond b (unwrap_or (option_map (λ (left : List ℕ). client_closed left a) o) a) a).lists.up ≡ a.lists.up
@@ -591,19 +599,16 @@ tick-none moment w i new (x, at, t, sent, core, does, is) n d k s at_d at_s =
     by a true None = refl
     by a false o = refl
 
-    not-served : (a m : ℕ) → history.OfCircuit ≡ history.On a (Cancel m) → ⊥
-    not-served a m e = cc
-
-ticks-none : (moment : ℕ) (is : List ℕ) (w new : World) → FoldsTo (TicksOne moment) w is new → NoneBack w new
+pub ticks-none : (moment : ℕ) (is : List ℕ) (w new : World) → FoldsTo (TicksOne moment) w is new → NoneBack w new
 ticks-none moment [] w new folds n d k s at there = inr (d, subst (λ (v : World). At v.circuits n d) (sym folds) at, there)
 ticks-none moment (i ∷ is) w new folds n d k s at there = elim (ticks-none moment is folds.0 new folds.2 n d k s at there) [
-  | inl other ↦ inl other
+  | inl served ↦ inl served
   | inr b ↦ tick-none moment w i folds.0 folds.1 n b.0 k s b.1 b.2
 ]
 
 none-says : (w new : World) → NoneBack w new → CancelsBack w new
 none-says w new all n d k s at there = elim (all n d k s at there) [
-  | inl other ↦ inl other
+  | inl served ↦ inl (λ a m is. (let e : history.OfCircuit ≡ history.On a (Cancel m) = sym served ∙ is in cc))
   | inr old ↦ inr (inl old)
 ]
 
@@ -619,7 +624,7 @@ event-says w new (event.Read i k data_type count) c q now happens = says-read w 
 event-says w new (event.Write i k e) c q now happens = says-write w new i happens.0.x happens.0.at q now k happens.0.h e happens.1
 event-says w new (event.WriteNotify i k e) c q now happens = says-put w new i happens.0.x happens.0.at q now k happens.0.h e happens.1
 event-says w new (event.Subscribe i k data_type count mask) c q now happens = says-subscribe w new i happens.0.x happens.0.at q now k happens.0.h data_type count mask happens.1
-event-says w new (event.Unsubscribe i n) c q now happens = says-unsubscribe w new i happens.0.x happens.0.at q now happens.0.s happens.1
+event-says w new (event.Unsubscribe i n) c q now happens = says-unsubscribe w new i happens.0.x happens.0.at q now n happens.0.s happens.0.named happens.1
 event-says w new (event.Collect i r) c q now happens = says-ups w new (ups-self w new (ap (λ (z : World). z.circuits) happens.1.2))
 event-says w new (event.GiveUp i r) c q now happens = says-ups w new (ups-self w new (ap (λ (z : World). z.circuits) happens.1.2))
 event-says w new (event.ClientDatagram i from bytes) c q now happens = says-datagram w new i happens.0.x happens.0.at q now from bytes happens.1
@@ -638,4 +643,4 @@ event-says w new (event.Post i name e mask) c q now happens = says-ups w new (up
 event-says w new (event.Finish i name) c q now happens = says-ups w new (ups-from w new (from-finish w w new i happens.0.y (from-itself w) name happens.1))
 event-says w new (event.Remove i name) c q now happens = says-ups w new (ups-from w new (from-remove w w new i happens.0.y (from-itself w) name happens.1))
 event-says w new (event.Add i r) c q now happens = says-ups w new (ups-from w new (from-add w w new i happens.0.y (from-itself w) r happens.1))
-event-says w new (event.Tick moment) c q now happens = (λ n d k s at there. ticks-says moment _ w happens.1.0 happens.1.1 n d k s (subst (λ (v : World). At v.circuits n d) happens.1.2 at) there)
+event-says w new (event.Tick moment) c q now happens = none-says w new (λ n d k s at there. ticks-none moment _ w happens.1.0 happens.1.1 n d k s (subst (λ (v : World). At v.circuits n d) happens.1.2 at) there)

@@ -15,7 +15,7 @@ use Rattle.ca_model.specs.ServerCalls.{channels_of, finish_reply}
 use Rattle.ca_model.specs.ServerSteps.{HasEnd, Pumps}
 use Rattle.ca_model.specs.Speech.{Creates, In, name_in}
 use Rattle.ca_model.specs.Channels.{Created, Has, IsCleared}
-use Rattle.ca_model.specs.Headline.{HasCause}
+use Rattle.ca_model.specs.Causes.{HasCause}
 use Rattle.ca_model.specs.ServerEvents.{HappensPump, about, disconnected_at, ends_at, ends_by, noted, removal_entries, removal_told, server_after, withdrawals}
 use Rattle.ca_model.specs.ServerEvents as server
 use Rattle.ca_model.specs.World.{Creation, Joined, RecordSide, ServerSide, Setting, Standing, World, circuit_of}

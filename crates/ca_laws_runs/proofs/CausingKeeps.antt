@@ -8,7 +8,7 @@ use Rattle.ca_text.proofs.Places.{At-append, At-one, At-within}
 use Rattle.ca_model.specs.History.{Circuit, Entry, Removal, Removed, Reply, Sent, Step, Told, Update}
 use Rattle.ca_model.specs.Speech.{Creates, Is, name_in, sid_in}
 use Rattle.ca_model.specs.Channels.{Created, Has, IsCleared, IsOpen, before}
-use Rattle.ca_model.specs.Headline.{Acted, HasCause}
+use Rattle.ca_model.specs.Causes.{Acted, HasCause}
 use Rattle.ca_model.specs.World.{Joined}
 use Rattle.ca_laws_parts.proofs.WritesMoves.{At-below}
 use Rattle.ca_laws_runs.specs.Causing.{IsTaken, SourcesOn}
@@ -38,6 +38,7 @@ acted-forth c d y z k r s h ext longer at_s at_h sent logged (s1, h1, i, l, at_s
       taken-on k c.up d.up ext.up l was.0.1 was.0.7,
       taken-on k c.handled d.handled ext.handled l was.0.2 was.0.8,
       subst (λ (x : List Entry). Has (take (was.0.2).logged x) r (name_in (was.0.1).message)) (sym (longer-taken h.logged y z longer logged)) was.0.9,
+      was.0.10,
     ),
     λ m t lt at creates. was.1 m t lt (taken-back h.sent c.down d.down ext.down sent m t at) creates,
     λ m q lt within at clears.
@@ -62,7 +63,7 @@ acted-forth c d y z k r s h ext longer at_s at_h sent logged (s1, h1, i, l, at_s
     handled_le = (let lt : k < length c.handled = At-within c.handled k h at_h in omega (arith, lt))
 
 pub created-forth : (c d : Circuit) (y z : List Entry) (j k sid r : ℕ) → Extends c d → IsLonger y z → ((m : ℕ) (h : Step) → At c.handled m h → h.logged ≤ length y) → Created c y j k sid r → Created d z j k sid r
-created-forth c d y z j k sid r ext longer within (t, s, h, at_t, place, cause, creates, at_s, at_h, has) = (
+created-forth c d y z j k sid r ext longer within (t, s, h, at_t, place, cause, creates, at_s, at_h, has, gives) = (
   t,
   s,
   h,
@@ -73,6 +74,7 @@ created-forth c d y z j k sid r ext longer within (t, s, h, at_t, place, cause, 
   ext.up k s at_s,
   ext.handled k h at_h,
   subst (λ (x : List Entry). Has x r (name_in s.message)) (sym (longer-taken h.logged y z longer (within k h at_h))) has,
+  gives,
 )
 
 -- ---- what is known of a circuit's steps

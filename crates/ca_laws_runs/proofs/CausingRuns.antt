@@ -24,7 +24,7 @@ use Rattle.ca_model.specs.Speech.{Creates, In, Is, Stored}
 use Rattle.ca_dbr.specs.Shown.{shown}
 use Rattle.ca_model.specs.Updates.{Shows, ShowsTo, update_count, update_in}
 use Rattle.ca_model.specs.Channels.{Has, Suits}
-use Rattle.ca_model.specs.Headline.{Accepted, HasCause}
+use Rattle.ca_model.specs.Causes.{Accepted, HasCause}
 use Rattle.ca_model.specs.ClientEvents.{HappensAccept, WantsFirst, connected_as, new_circuit}
 use Rattle.ca_model.specs.Events.{Event}
 use Rattle.ca_model.specs.Events as event

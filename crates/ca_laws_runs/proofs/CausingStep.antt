@@ -63,6 +63,7 @@ module _ (log lg : List Entry) (rs : List RecordSide) (core : Server) (e : Serve
           subst (λ (n : ℕ). At d.lists.up n s) (sym here) (ext.up place s at_s),
           subst (λ (n : ℕ). At d.lists.handled n step) (sym here) at_step,
           subst (λ (l : List Entry). Has l has.0 (name_in s.message)) (sym log-is) has.1,
+          (made.0, sym (ap (λ (z : Told). z.message.p1) x.2 ∙ made.4)),
         ),
       )
 
@@ -87,6 +88,7 @@ module _ (log lg : List Entry) (rs : List RecordSide) (core : Server) (e : Serve
           taken-at place d.lists.up o.x.place m.1.1 early (ext.up o.x.place m.1.1 (subst (λ (n : ℕ). At c.lists.up n m.1.1) u.3 m.1.7)),
           taken-at place d.lists.handled o.x.place m.1.2 early (ext.handled o.x.place m.1.2 (subst (λ (n : ℕ). At c.lists.handled n m.1.2) u.3 m.1.8)),
           subst (λ (l : List Entry). Has (take (m.1.2).logged l) m.0 (name_in (m.1.1).message)) (sym log-is) m.1.9,
+          m.1.10,
         ),
         later,
         cleared,

@@ -14,7 +14,7 @@ use Rattle.ca_model.specs.Server.{ServerEnd}
 use Rattle.ca_model.specs.Speech.{In, Is, Stored}
 use Rattle.ca_model.specs.Updates.{Shows}
 use Rattle.ca_model.specs.Channels.{Lasts, Suits}
-use Rattle.ca_model.specs.Headline.{Accepted, Acted}
+use Rattle.ca_model.specs.Causes.{Accepted, Acted}
 use Rattle.ca_model.specs.Headline as headline
 use Rattle.ca_model.specs.Known.{IsDue}
 use Rattle.ca_model.specs.Posts.{matching}

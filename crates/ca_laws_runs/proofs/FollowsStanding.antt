@@ -14,7 +14,7 @@ use Rattle.ca_model.specs.ServerSteps.{Leaves}
 use Rattle.ca_model.specs.ServerSteps as stepped
 use Rattle.ca_model.specs.Speech.{In, Stored}
 use Rattle.ca_model.specs.Updates.{ShowsTo}
-use Rattle.ca_model.specs.Headline as headline
+use Rattle.ca_model.specs.Causes as causes
 use Rattle.ca_model.specs.Known.{IsDue}
 use Rattle.ca_model.specs.Posts.{matching}
 use Rattle.ca_model.specs.ServerEvents.{front_number, number_of, stamped}
@@ -67,7 +67,7 @@ standing-shown log rs e c others q p i st at j a t told place cause = record {
   handled = subst (λ (n : ℕ). At c.lists.handled n x.stands.h) (sym place) x.stands.handled;
   within = p.within st.place x.stands.h x.stands.handled;
   shows = λ r acted.
-      let number : number_of x.sub.name rs ≡ r = number-is rs x.sub.name r others (x.on.acted r (subst (λ (n : ℕ). headline.Acted c.lists log n r) place acted)) in (
+      let number : number_of x.sub.name rs ≡ r = number-is rs x.sub.name r others (x.on.acted r (subst (λ (n : ℕ). causes.Acted c.lists log n r) place acted)) in (
         v.0,
         subst (λ (l : List Stored). At l a v.0)
             (ap (λ (l : ℕ). matching log l (number_of x.sub.name rs) x.sub.mask) (logged-is c.lists.handled st.place x.stands.h x.stands.handled)

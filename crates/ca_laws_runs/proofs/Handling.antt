@@ -22,7 +22,7 @@ use Rattle.ca_model.specs.Server.{OpenChannel, Server, ServerEnd, Subscription, 
 use Rattle.ca_model.specs.ServerSteps.{Acts, known_channel, knows, without_channel}
 use Rattle.ca_model.specs.Speech.{Creates, Ends, In, Is, name_in, sid_in}
 use Rattle.ca_model.specs.Channels.{Has, IsOpen, before}
-use Rattle.ca_model.specs.Headline.{Acted}
+use Rattle.ca_model.specs.Causes.{Acted}
 use Rattle.ca_model.specs.ServerEvents.{about, handled_at, numbers_after}
 use Rattle.ca_model.specs.World.{Creation, Joined, RecordSide, Standing}
 use Rattle.ca_laws_runs.specs.Creations.{CreationsOn}

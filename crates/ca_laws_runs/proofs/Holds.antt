@@ -16,7 +16,7 @@ use Rattle.ca_model.specs.ServerSteps as stepped
 use Rattle.ca_model.specs.History.{Ask, Intent, Reply, Sent, Told}
 use Rattle.ca_model.specs.History as history
 use Rattle.ca_model.specs.Speech.{Cid, Id, In, Speaks}
-use Rattle.ca_model.specs.Headline.{TakesOwn}
+use Rattle.ca_model.specs.Causes.{TakesOwn}
 use Rattle.ca_model.specs.Channels.{Suits}
 use Rattle.ca_model.specs.ClientEvents.{TicksOne, channel_number}
 use Rattle.ca_model.specs.Events.{Event}

@@ -9,7 +9,7 @@ use Rattle.ca_model.specs.Client.{Client}
 use Rattle.ca_model.specs.History.{Sent, Told}
 use Rattle.ca_model.specs.Speech.{Id, Speaks}
 use Rattle.ca_model.specs.Channels.{Suits}
-use Rattle.ca_model.specs.Headline.{TakesOwn}
+use Rattle.ca_model.specs.Causes.{TakesOwn}
 use Rattle.ca_model.specs.Events.{Event}
 use Rattle.ca_model.specs.Events as event
 use Rattle.ca_model.specs.Runs.{AreEvents, Happens, IsEvent, Runs, StopsAt, clients_below}

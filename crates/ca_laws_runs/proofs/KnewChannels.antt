@@ -129,6 +129,7 @@ module _ (log : List Entry) (rs : List RecordSide) (e : ServerEnd) (c : Joined) 
         taken-at many c.lists.up o.x.place m.1.1 early (subst (λ (n : ℕ). At c.lists.up n m.1.1) u.3 m.1.7),
         subst (λ (n : ℕ). At c.lists.handled n m.1.2) u.3 m.1.8,
         m.1.9,
+        m.1.10,
       ),
       later,
       cleared,
@@ -216,7 +217,7 @@ module _ (log : List Entry) (rs : List RecordSide) (e : ServerEnd) (c : Joined) 
 
   -- the channel that is open under a SID, by the lists, is the core's
   pub held-as : (j k sid r : ℕ) → IsOpen known_c log j k sid r → (g : Handle) × (ch : OpenChannel) × (under e.channels g ≡ Some ch) × (wire_of g ≡ sid) × ((a : OpenAs g ch) × (a.o.x.place ≡ k) × (a.r ≡ r))
-  held-as j k sid r ((t, s, h, at_t, place_is, cause, creates, at_s, at_h, has), later, uncleared) = elim (f.created.noted j sid t f.opened at_t cause creates) [
+  held-as j k sid r ((t, s, h, at_t, place_is, cause, creates, at_s, at_h, has, gives), later, uncleared) = elim (f.created.noted j sid t f.opened at_t cause creates) [
     | inr cleared ↦ absurd (uncleared cleared.0 cleared.1 (subst (λ (n : ℕ). n < cleared.0) place_is cleared.2) cleared.3 (taken-at many c.lists.up cleared.0 cleared.1 cleared.3 cleared.4) cleared.5)
     | inl noted ↦
         let x = noted.0 in

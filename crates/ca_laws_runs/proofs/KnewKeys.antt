@@ -11,7 +11,7 @@ use Rattle.ca_model.specs.History.{Circuit, Entry, Removed, Sent}
 use Rattle.ca_model.specs.Server.{ServerEnd, key_of}
 use Rattle.ca_model.specs.Speech.{Ends, In}
 use Rattle.ca_model.specs.Channels.{Suits}
-use Rattle.ca_model.specs.Headline.{Acted}
+use Rattle.ca_model.specs.Causes.{Acted}
 use Rattle.ca_model.specs.Known.{AreJust, IsKey}
 use Rattle.ca_model.specs.World.{Joined, RecordSide, Standing}
 use Rattle.ca_laws_parts.specs.Both.{Both}
@@ -64,7 +64,7 @@ module _ (c : Circuit) (log : List Entry) where
   many = length c.handled
 
   pub acted-known : (k r : ℕ) → k < many → Acted c log k r → Acted (as_known c) log k r
-  acted-known k r lt (s, h, i, l, at_s, at_h, ((t, q, g, at_t, place, cause, creates, at_q, at_g, has), later, cleared)) = (
+  acted-known k r lt (s, h, i, l, at_s, at_h, ((t, q, g, at_t, place, cause, creates, at_q, at_g, has, gives), later, cleared)) = (
     s,
     h,
     i,
@@ -72,7 +72,7 @@ module _ (c : Circuit) (log : List Entry) where
     taken-at many c.up k s lt at_s,
     at_h,
     (
-      (t, q, g, at_t, place, cause, creates, within l q at_q, at_g, has),
+      (t, q, g, at_t, place, cause, creates, within l q at_q, at_g, has, gives),
       later,
       λ p m after below at clears. cleared p m after below (taken-at k c.up p m (taken-below k (take many c.up) p m at) (At-take many c.up p m (At-take k (take many c.up) p m at))) clears,
     ),
@@ -82,7 +82,7 @@ module _ (c : Circuit) (log : List Entry) where
       within p m at = (let below : p < k = taken-below k c.up p m at in taken-at k (take many c.up) p m below (taken-at many c.up p m (omega (arith, below, lt)) (At-take k c.up p m at)))
 
   pub acted-all : (k r : ℕ) → Acted (as_known c) log k r → Acted c log k r
-  acted-all k r (s, h, i, l, at_s, at_h, ((t, q, g, at_t, place, cause, creates, at_q, at_g, has), later, cleared)) = (
+  acted-all k r (s, h, i, l, at_s, at_h, ((t, q, g, at_t, place, cause, creates, at_q, at_g, has, gives), later, cleared)) = (
     s,
     h,
     i,
@@ -90,7 +90,7 @@ module _ (c : Circuit) (log : List Entry) where
     At-take many c.up k s at_s,
     at_h,
     (
-      (t, q, g, at_t, place, cause, creates, taken-at k c.up l q (taken-below k (take many c.up) l q at_q) (At-take many c.up l q (At-take k (take many c.up) l q at_q)), at_g, has),
+      (t, q, g, at_t, place, cause, creates, taken-at k c.up l q (taken-below k (take many c.up) l q at_q) (At-take many c.up l q (At-take k (take many c.up) l q at_q)), at_g, has, gives),
       later,
       λ p m after below at clears. cleared p m after below (within p m at) clears,
     ),

@@ -22,7 +22,7 @@ use Rattle.ca_model.specs.ServerCalls.{channels_of, end_without, is_on, retired}
 use Rattle.ca_model.specs.ServerSteps.{Leaves, Update}
 use Rattle.ca_model.specs.Speech.{In, Stored}
 use Rattle.ca_model.specs.Channels.{Has}
-use Rattle.ca_model.specs.Headline.{Acted}
+use Rattle.ca_model.specs.Causes.{Acted}
 use Rattle.ca_model.specs.ServerEvents.{about, removal_entries, removal_told, stamped, with_number}
 use Rattle.ca_model.specs.World.{Creation, Joined, PutPlace, RecordSide, Standing, record_begun}
 use Rattle.ca_laws_parts.proofs.Channels.{each-back}

@@ -15,6 +15,7 @@ use Rattle.ca_model.specs.Channels.{IsCleared, IsReply, IsTaken, IsUncleared}
 use Rattle.ca_model.specs.World.{Joined}
 use Rattle.ca_laws_parts.specs.Lives.{CameOn, LostOn}
 use Rattle.ca_laws_parts.specs.Once.{Once}
+use Rattle.ca_laws_parts.proofs.Going.{came-taken}
 use Rattle.ca_laws_parts.proofs.WritesLists.{none_at}
 use Rattle.ca_laws_runs.specs.FollowsAnswering.{LogsSo}
 use Rattle.ca_laws_runs.proofs.Acting.{Extends, IsLonger}
@@ -108,7 +109,7 @@ beyond (suc a) (suc i) le = (let r = beyond a i (omega (arith, le)) in let e : i
 -- Of the message at place k of circuit n, which was handled, the log says first in its step.
 module _ (cs : List Joined) (life : ℕ) (z : List Entry) (once : Once (CameOn cs life) (LostOn cs) z) (n k : ℕ) (d : Joined) (on : At cs n d)
     (h : Step) (at_h : At d.lists.handled k h) where
-  came-in : (i : ℕ) (value : Elements) → CameOn cs life (record { circuit = n; place = k }) i value → (h.logged ≤ i) × (i < h.after)
+  came-in : (i : ℕ) (value : Elements) → CameOn cs life IsTaken (record { circuit = n; place = k }) i value → (h.logged ≤ i) × (i < h.after)
   came-in i value came = elim (subst (λ (x : Joined). IsTaken x.lists k i) (At-one cs n came.c d came.on on) came.taken) [
     | inl now ↦ subst (λ (x : Step). (x.logged ≤ i) × (i < x.after)) (At-one d.lists.handled k now.0 h now.1 at_h) (now.2, now.3)
     | inr last ↦ (let is : k ≡ length d.lists.handled = last.0 in
@@ -133,7 +134,7 @@ module _ (cs : List Joined) (life : ℕ) (z : List Entry) (once : Once (CameOn c
 
     waits-so : (i r : ℕ) (v : Stored) → At z i (Waits n k r v) → IsLateDid did
     waits-so i r v at =
-        let c = came-in i v.value (once.came i n k r v at) in
+        let c = came-in i v.value (came-taken cs life (record { circuit = n; place = k }) i v.value (once.came i n k r v at)) in
         elim (in-step i (Waits n k r v) at c.0 c.1) [
           | inl own ↦ waits-did n k n k r v base did logs so own
           | inr other ↦ absurd (withdrawn-waits other.0 other.1 n k r v other.2)
@@ -156,7 +157,7 @@ module _ (cs : List Joined) (life : ℕ) (z : List Entry) (once : Once (CameOn c
 module _ (cs : List Joined) (life : ℕ) (y more : List Entry) (once : Once (CameOn cs life) (LostOn cs) (y ++ more)) (n k : ℕ) (d : Joined)
     (on : At cs n d) (h : Step) (at_h : At d.lists.handled k h) (within : h.after ≤ length y) where
   was-in : (i r : ℕ) (v : Stored) → At (y ++ more) i (Waits n k r v) → In y (Waits n k r v)
-  was-in i r v at = (let c = came-in cs life (y ++ more) once n k d on h at_h i v.value (once.came i n k r v at) in
+  was-in i r v at = (let c = came-in cs life (y ++ more) once n k d on h at_h i v.value (came-taken cs life (record { circuit = n; place = k }) i v.value (once.came i n k r v at)) in
       let lt : i < h.after = c.1 in (i, At-back y more i (Waits n k r v) at (omega (arith, lt, within))))
 
   pub delayed-old : IsDelayed (y ++ more) n k → IsDelayed y n k

@@ -22,7 +22,7 @@ use Rattle.ca_model.specs.Server.{Ended, Open, OpenChannel, Server, ServerCircui
 use Rattle.ca_model.specs.ServerCalls.{Replies, after_next, finish_reply, with_finish}
 use Rattle.ca_model.specs.ServerSteps.{HasEnd, Pumps, Stepped, knows}
 use Rattle.ca_model.specs.Speech.{In, Is, Stored, sid_in}
-use Rattle.ca_model.specs.Channels.{IsReply, IsUncleared}
+use Rattle.ca_model.specs.Channels.{IsReply, IsTaken, IsUncleared}
 use Rattle.ca_model.specs.ClientEvents.{HappensAccept, WantsFirst, connected_as, new_circuit}
 use Rattle.ca_model.specs.Events.{Event}
 use Rattle.ca_model.specs.Events as event
@@ -499,7 +499,7 @@ module _ (Answers : Fields → Fields → Type 0) where
           on-one : (c : Joined) → At w.circuits f.p.circuit c → c.lists.server ≡ y.life → put.c.lists.server ≡ y.life
           on-one c on joins = ap (λ (z : Joined). z.lists.server) (At-one w.circuits f.p.circuit put.c c put.on on) ∙ joins
 
-          go : CameOn w.circuits y.life f.p by.i by.v.value ⊎ HadWaited own-life.log f.p by.i f.r.number by.v.value → put.c.lists.server ≡ y.life
+          go : CameOn w.circuits y.life IsTaken f.p by.i by.v.value ⊎ HadWaited own-life.log f.p by.i f.r.number by.v.value → put.c.lists.server ≡ y.life
           go (inl came) = on-one came.c came.on came.joins
           go (inr waited) = (let came = own-life.life.once.came waited.0 f.p.circuit f.p.place f.r.number waited.1 waited.3 in on-one came.c came.on came.joins)
 

@@ -80,7 +80,7 @@ pair-intent e = e.1
 
 -- ---- the event that sends it
 
-module _ (w : World) (known : Known w) (added : AllAdded w) (n k a m : ℕ) (s : Sent) (z : IsCancelling w n k s) (is : s.intent ≡ On a (Cancel m)) where
+module _ (w new : World) (known : Known w) (added : AllAdded w) (n k a m : ℕ) (s : Sent) (z : IsCancelling w new n k s) (is : s.intent ≡ On a (Cancel m)) where
   abbrev up : List Sent
   up = ((z.c).lists).up
 
@@ -202,7 +202,7 @@ cancels-on w new known added back on all n d k a m s at at_s is = elim (back n d
         own = λ p q lt upto there gives_q. was.own p q lt upto (below c old.1 p q (omega (arith, upto, within)) there) gives_q;
         first = λ p b q upto there is_q. was.first p b q upto (below c old.1 p q (omega (arith, upto, within)) there) is_q;
       }
-  | inr (inr z) ↦ cancels-now w known added n k a m s z is d.lists.up (grows z.c z.on) (below z.c z.on)
+  | inr (inr z) ↦ cancels-now w new known added n k a m s z is d.lists.up (grows z.c z.on) (below z.c z.on)
 ]
   where
     grows : (c : Joined) → At w.circuits n c → (p : ℕ) (q : Sent) → At c.lists.up p q → At d.lists.up p q

@@ -144,7 +144,7 @@ after-ids s es (e ∷ rest) w new ok are more folds (mid, one, others) both =
     ] in
     after-ids s (es ++ e ∷ []) rest mid new ok longer (λ i f at. more (suc i) f at) then_so others next
 
-run-both : (s : Setting) (es : List Event) (stopped : Option Event) (w : World) → IsSetting s → AreEvents es → Runs s es stopped w → Both w
+pub run-both : (s : Setting) (es : List Event) (stopped : Option Event) (w : World) → IsSetting s → AreEvents es → Runs s es stopped w → Both w
 run-both s es stopped w ok are (mid, folds, stops) = stop stopped stops
   where
     both : Both mid

@@ -88,7 +88,7 @@ module _ (s : Setting) (w : World) (h : Ready s w) (all_gone : AllGone w) (n : �
   gone = all_gone n c seat.y seat.e log on seat.at opened seat.has own-log
 
   noted-told : (x : Creation) → In c.creations x → (j k sid r : ℕ) → Created c.lists log j k sid r → x.sid ≡ sid → x.place ≡ k → In log (Removed r) → IsTold c.lists k
-  noted-told x noted j k sid r (t, q, g, at_t, place, cause, creates, at_q, at_g, has) is at_k removed = go ch.1.0 ch.0 ch.1.1 ch.1.2 ch.1.0.retired refl
+  noted-told x noted j k sid r (t, q, g, at_t, place, cause, creates, at_q, at_g, has, gives) is at_k removed = go ch.1.0 ch.0 ch.1.1 ch.1.2 ch.1.0.retired refl
     where
       ch : (h : Handle) × ((ch : OpenChannel) × (under seat.e.channels h ≡ Some ch) × (wire_of h ≡ x.sid))
       ch = (let st = channels.stale x noted in (st.0, (st.1, st.2, st.3)))
@@ -115,7 +115,7 @@ module _ (w : World) (n : ℕ) (c d : Joined) (log lg : List Entry) (on : Onward
     (here : (x : Creation) → In d.creations x → (j k sid r : ℕ) → Created d.lists lg j k sid r → x.sid ≡ sid → x.place ≡ k → In lg (Removed r) → IsTold d.lists k) where
   -- its channel was cleared since it was removed, so all this was before the event
   past : (j k sid r e : ℕ) → Created d.lists lg j k sid r → At lg e (Removed r) → IsUncleared d.lists k sid e → IsClearedWithin d.lists.up sid k (length d.lists.handled) → IsTold d.lists k
-  past j k sid r e (t, q, h, at_t, place, cause, creates, at_q, at_h, has) removed uncleared (l, m, lt, within, at_m, clears) =
+  past j k sid r e (t, q, h, at_t, place, cause, creates, at_q, at_h, has, gives) removed uncleared (l, m, lt, within, at_m, clears) =
       let x = At-below d.lists.handled l within in
       let g : Step = x.0 in
       let bounds = bound g x.1 in
@@ -134,7 +134,7 @@ module _ (w : World) (n : ℕ) (c d : Joined) (log lg : List Entry) (on : Onward
       let was_h : At c.lists.handled k h = grown-back c.lists.handled d.lists.handled on.lists.handled k h (omega (arith, below, place)) at_h in
       let was_has : Has (take h.logged log) r (name_in q.message) = subst (λ (y : List Entry). Has y r (name_in q.message)) (longer-taken h.logged log lg longer ((steady.within k h was_h).logged)) has in
       let was_removed : At log e (Removed r) = At-back log longer.0 e (Removed r) (subst (λ (y : List Entry). At y e (Removed r)) longer.1 removed) (omega (arith, after, late)) in
-      let told = old j k sid r e (t, q, h, was_t, place, cause, creates, was_q, was_h, was_has) was_removed
+      let told = old j k sid r e (t, q, h, was_t, place, cause, creates, was_q, was_h, was_has, gives) was_removed
       (λ (cleared : IsCleared c.lists k sid e). uncleared (cleared.0, cleared.1, cleared.2, cleared.3, on.lists.up cleared.0 cleared.1 cleared.4, on.lists.handled cleared.0 cleared.2 cleared.5, cleared.6, cleared.7)) in
       (told.0, told.1, on.lists.down told.0 told.1 told.2, told.3, told.4)
     where

@@ -121,6 +121,7 @@ pub mod AddsAnew
 pub mod LegalIdsGoing
 pub mod LegalIdsFreed
 pub mod LegalIds
+pub mod LegalIdsApart
 pub mod Logged
 pub mod LoggedEvents
 pub mod LoggedStep
@@ -193,8 +194,12 @@ pub mod WritesSaid
 pub mod WritesCarried
 pub mod WritesTitled
 pub mod OwnWrites
-pub mod UsesCalled
+pub mod AllCalled
+pub mod ClearsSaid
+pub mod ClearsCalled
 pub mod Awaiting
 pub mod ClearedPuts
 pub mod AnsweredWhole
+pub mod OriginsKept
+pub mod OriginsRuns
 pub mod Promised

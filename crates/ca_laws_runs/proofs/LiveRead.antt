@@ -1,9 +1,7 @@
 -- A client that reads a SERVER_DISCONN clears the channel: over every event and run.
 use Rattle.std.proofs.Common.{◌≡◌, ℕ, suc, ◌+◌, ◌<◌, ◌≤◌, inl, inr, Bool, true, false, cond, ◌&&◌, eqb, eq-eqb, List, [], ◌∷◌, ◌++◌, length, Option, Some, None, refl, sym, ap, subst, ◌∙◌, arith}
 use Rattle.std.specs.Prelude.{map, option_and_then, option_map, slice_get, slice_set, unwrap_or}
-use Rattle.std.specs.List.{FoldsTo, list_any}
-use Rattle.ca_text.specs.Command.{command_number}
-use Rattle.ca_text.specs.declared.command.Command.{Command}
+use Rattle.std.specs.List.{FoldsTo}
 use Rattle.ca_arena.specs.declared.handle.Handle.{Handle}
 use Rattle.ca_ids.specs.Table.{same_handle, under}
 use Rattle.ca_ids.specs.Wire.{wire_of}
@@ -19,8 +17,7 @@ use Rattle.ca_model.specs.Answers as answer
 use Rattle.ca_model.specs.Client.{Channel, Client, Connection, Live, Phase, channel_on, connection_at, phase_on}
 use Rattle.ca_model.specs.ClientCalls.{clear_sent}
 use Rattle.ca_model.specs.ClientEnds.{StepsOn, after_taking}
-use Rattle.ca_model.specs.Hears.{Effect, Hears, left}
-use Rattle.ca_model.specs.Hears as hears
+use Rattle.ca_model.specs.Hears.{Effect, left}
 use Rattle.ca_model.specs.History.{Circuit, Create, Intent, On, Removal, Reply, Sent, Step, Told}
 use Rattle.ca_model.specs.History as history
 use Rattle.ca_model.specs.Speech.{Is}
@@ -40,6 +37,7 @@ use Rattle.ca_laws_runs.specs.Created.{AllCreated}
 use Rattle.ca_laws_runs.specs.Held.{AllCircuitsHeld}
 use Rattle.ca_laws_runs.specs.OrderSteps.{ClientsInOrder}
 use Rattle.ca_laws_runs.specs.Sides.{AllSided, IsLiveAs}
+use Rattle.ca_laws_runs.proofs.ClearsSaid.{left-of}
 use Rattle.ca_laws_runs.proofs.Created.{reached-created}
 use Rattle.ca_laws_runs.proofs.Joint.{are-snoc, folds-snoc, run-held, run-sided}
 use Rattle.ca_laws_runs.proofs.LegalRemovals.{AllRemovedRight, RemovedAs, run-right}
@@ -124,30 +122,6 @@ creates-channel q suits asks = go q.intent refl suits
     go (On channel (history.Request history.Put number)) is suits = absurd (apart 19 suits (λ e. absurd (omega (arith, e))))
     go (On channel (history.Request history.Write number)) is suits = absurd (apart 4 suits (λ e. absurd (omega (arith, e))))
     go history.OfCircuit is suits = absurd (suits Create asks)
-
--- a SERVER_DISCONN has this effect
-left-of : (y : Client) (on : Handle) (m : Fields) (e : Effect) → m.command ≡ 27 → Hears y on m e → e ≡ left y on (channel_on y on m.p1)
-left-of y on m e is h = go h
-  where
-    apart : (a : ℕ) → m.command ≡ a → (a ≡ 27 → ⊥) → ⊥
-    apart a other differ = differ (sym other ∙ is)
-
-    go : Hears y on m e → e ≡ left y on (channel_on y on m.p1)
-    go (hears.ServerDisconnect k does) = does
-    go (hears.Search k d there finds) = absurd (apart 6 k (λ e. absurd (omega (arith, e))))
-    go (hears.AccessRights k does) = absurd (apart 22 k (λ e. absurd (omega (arith, e))))
-    go (hears.CreateChannel k does) = absurd (apart 18 k (λ e. absurd (omega (arith, e))))
-    go (hears.CreateChannelFail k does) = absurd (apart 26 k (λ e. absurd (omega (arith, e))))
-    go (hears.ClearChannel k does) = absurd (apart 12 k (λ e. absurd (omega (arith, e))))
-    go (hears.Reply (inl k) does) = absurd (apart 15 k (λ e. absurd (omega (arith, e))))
-    go (hears.Reply (inr k) does) = absurd (apart 19 k (λ e. absurd (omega (arith, e))))
-    go (hears.Confirmation k empty does) = absurd (apart 1 k (λ e. absurd (omega (arith, e))))
-    go (hears.Update k some does) = absurd (apart 1 k (λ e. absurd (omega (arith, e))))
-    go (hears.Error k does) = absurd (apart 11 k (λ e. absurd (omega (arith, e))))
-    go (hears.Other k does) = absurd (known m.command is k)
-      where
-        known : (n : ℕ) → n ≡ 27 → list_any (λ (c : Command). eqb n (command_number c)) hears.understood ≡ false → ⊥
-        known n at none = (let f : list_any (λ (c : Command). eqb 27 (command_number c)) hears.understood ≡ false = subst (λ (z : ℕ). list_any (λ (c : Command). eqb z (command_number c)) hears.understood ≡ false) at none in cc)
 
 -- one message goes on its own circuit
 sent-here : (i : ℕ) (n : Names) (z : Sending) (c : Joined) → c.client ≡ i → c.lists.client_open ≡ true → same_handle z.circuit c.at_client ≡ true → sent_on i n (z ∷ []) c ≡ record { message = z.message; intent = intent_of n z.aim } ∷ []

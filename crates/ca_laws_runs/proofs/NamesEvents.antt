@@ -85,7 +85,7 @@ ends-keep w i y ends core log here all =
     told-more w (server_after i y ends core w) y.life (withdrawals (ends_at ends w.circuits) y.records) log refl here
     (plain-all (withdrawals (ends_at ends w.circuits) y.records) log (withdrawn-plain (flat_map (λ (r : RecordSide). filter (λ (p : PutPlace). ends_at ends w.circuits p.circuit) r.waiting) y.records))) all
 
-log-of : (w : World) (i : ℕ) (y : ServerSide) → Writes w → At w.servers i y → (log : List Entry) × At w.server_logs y.life log
+pub log-of : (w : World) (i : ℕ) (y : ServerSide) → Writes w → At w.servers i y → (log : List Entry) × At w.server_logs y.life log
 log-of w i y h at = ((h.lives i y at).log, (h.lives i y at).at)
 
 -- ---- a step of a server's end
@@ -102,7 +102,7 @@ acted-plain core g p (action.Adds x) rs = none-plain
 acted-plain core g p (action.Drops x) rs = none-plain
 acted-plain core g p (action.Switches x) rs = none-plain
 
-side-life : (w : World) (k : ℕ) (j : Joined) (y : ServerSide) (did : Action) → At w.servers j.server y → (side_of j.server y (acted k j y did w)).life ≡ y.life
+pub side-life : (w : World) (k : ℕ) (j : Joined) (y : ServerSide) (did : Action) → At w.servers j.server y → (side_of j.server y (acted k j y did w)).life ≡ y.life
 side-life w k j y did at = go (slice_get (acted k j y did w).servers j.server) refl
   where
     next : ServerSide

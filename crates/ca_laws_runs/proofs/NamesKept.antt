@@ -120,7 +120,7 @@ lack-none name number (r ∷ rs) lack = go (bytes_eq r.name name) refl (lack-non
     go false is rest = rest
 
 -- at most one record has a name
-one-named : (name : List ℕ) (rs : List RecordSide) → AreOthers rs
+pub one-named : (name : List ℕ) (rs : List RecordSide) → AreOthers rs
     → (filter (λ (r : RecordSide). bytes_eq r.name name) rs ≡ []) ⊎ ((x : RecordSide) × In rs x × (filter (λ (r : RecordSide). bytes_eq r.name name) rs ≡ x ∷ []))
 one-named name [] others = inl refl
 one-named name (r ∷ rs) others = go (bytes_eq r.name name) refl (one-named name rs others.1)

@@ -4,12 +4,12 @@ use Rattle.ca_text.specs.Place.{At}
 use Rattle.ca_model.specs.History.{Circuit, Entry, Line, Sent, Told}
 use Rattle.ca_model.specs.Speech.{Id, Speaks}
 use Rattle.ca_model.specs.Channels.{OfCircuits, Suits}
-use Rattle.ca_model.specs.Headline.{TakesOwn}
+use Rattle.ca_model.specs.Causes.{TakesOwn}
 use Rattle.ca_model.specs.Worlds.{IsLegalWorld, IsSafeWorld, Promise}
 use Rattle.ca_model.specs.Events.{Event}
 use Rattle.ca_model.specs.Runs.{AreEvents, Runs}
 use Rattle.ca_model.specs.World.{IsSetting, Setting, World, told}
-use Rattle.ca_laws_runs.proofs.AddsAnew.{run-adds-anew}
+use Rattle.ca_laws_runs.proofs.AddsAnew.{run-adds-renewed}
 use Rattle.ca_laws_runs.proofs.CauseOnce.{run-removed-once}
 use Rattle.ca_laws_runs.proofs.Completing.{run-complete}
 use Rattle.ca_laws_runs.proofs.Joint.{run-asked, run-takes}
@@ -17,8 +17,10 @@ use Rattle.ca_laws_runs.proofs.LegalApart.{run-apart}
 use Rattle.ca_laws_runs.proofs.LegalCancels.{run-cancels}
 use Rattle.ca_laws_runs.proofs.LegalEnded.{run-none-ended}
 use Rattle.ca_laws_runs.proofs.LegalIds.{run-ids}
+use Rattle.ca_laws_runs.proofs.LegalIdsApart.{run-ids-apart}
 use Rattle.ca_laws_runs.proofs.OnceSentRuns.{is-sent}
 use Rattle.ca_laws_runs.proofs.OrderKeeps.{run-steps}
+use Rattle.ca_laws_runs.proofs.OriginsRuns.{run-traced}
 use Rattle.ca_laws_runs.proofs.SeeingRuns.{run-sees}
 use Rattle.ca_laws_runs.specs.Promised.{AllAreAnswered, AnswersAreOwn, MessagesMeanOwn}
 use Rattle.ca_laws_runs.proofs.ActsOn.{of-circuits}
@@ -29,7 +31,7 @@ use Rattle.ca_laws_runs.proofs.LegalCut.{run-channels}
 use Rattle.ca_laws_runs.proofs.LegalTold.{run-told}
 use Rattle.ca_laws_runs.proofs.LegalUpdates.{run-legal}
 use Rattle.ca_laws_runs.proofs.OwnWrites.{run-not-twice}
-use Rattle.ca_laws_runs.proofs.UsesCalled.{run-uses-called}
+use Rattle.ca_laws_runs.proofs.AllCalled.{run-called}
 use Rattle.ca_laws_runs.proofs.FollowsWhole.{run-record}
 
 -- ---- what is answered
@@ -71,7 +73,7 @@ run-legal-world s es stopped w ok are runs = record {
   circuits = λ n c at.
       let a =
       both-of w _ _ (both-of w _ _ (both-of w _ _ (run-channels s es stopped w ok are runs) (run-cancels s es stopped w ok are runs)) (both-of w _ _ (run-ids s es stopped w ok are runs) (run-legal s es stopped w ok are runs)))
-      (both-of w _ _ (both-of w _ _ (both-of w _ _ (run-uses-called s es stopped w ok are runs) (run-told s es stopped w ok runs)) (run-apart s es stopped w ok runs)) (both-of w _ _ (run-adds-anew s es stopped w ok are runs) (run-none-ended s es stopped w ok are runs))) n c at in (
+      (both-of w _ _ (both-of w _ _ (both-of w _ _ (run-called s es stopped w ok are runs) (run-told s es stopped w ok runs)) (run-apart s es stopped w ok runs)) (both-of w _ _ (run-adds-renewed s es stopped w ok are runs) (run-none-ended s es stopped w ok are runs))) n c at in (
         a.0,
         a.1,
         a.2,
@@ -81,13 +83,14 @@ run-legal-world s es stopped w ok are runs = record {
           called = a.3.1.0.0.0;
           told = a.3.1.0.0.1;
           apart = a.3.1.0.1;
-          anew = a.3.1.1.0;
+          renewed = a.3.1.1.0;
           ended = a.3.1.1.1;
         },
       );
   subscriptions = is-sent s es stopped w runs;
+  ids = run-ids-apart s es stopped w ok are runs;
 }
 
 -- What is promised of every run.
 pub promised : Promise
-promised s es stopped w ok are runs = (run-safe s es stopped w ok are runs, run-legal-world s es stopped w ok are runs)
+promised s es stopped w ok are runs = (run-safe s es stopped w ok are runs, run-legal-world s es stopped w ok are runs, run-traced s es stopped w ok runs)

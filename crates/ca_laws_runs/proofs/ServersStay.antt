@@ -29,7 +29,7 @@ use Rattle.ca_laws_parts.proofs.LastingStep.{told-servers}
 abbrev pub AsMany : World → World → Type 0
 AsMany w new = length new.servers ≡ length w.servers
 
-set-count : {A : Type 0} (xs : List A) (i : ℕ) (y : A) → length (slice_set xs i y) ≡ length xs
+pub set-count : {A : Type 0} (xs : List A) (i : ℕ) (y : A) → length (slice_set xs i y) ≡ length xs
 set-count [] i y = refl
 set-count (x ∷ xs) zero y = refl
 set-count (x ∷ xs) (suc i) y = ap (λ (n : ℕ). suc n) (set-count xs i y)

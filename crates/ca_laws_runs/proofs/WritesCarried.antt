@@ -31,7 +31,8 @@ use Rattle.ca_laws_runs.proofs.OnceRuns.{once-runs}
 use Rattle.ca_laws_runs.proofs.OnceWorld.{OnceStand}
 use Rattle.ca_laws_runs.proofs.OrderGrows.{ticks-grown}
 use Rattle.ca_laws_runs.proofs.ToldGrows.{WorldsOn, event-on, on-grown}
-use Rattle.ca_laws_runs.specs.Carried.{AllCarried, Carries, IsCalledIn, IsCarried, IsRead, IsWrite}
+use Rattle.ca_model.specs.Legal.{Carries}
+use Rattle.ca_laws_runs.specs.Carried.{AllCarried, IsCalledIn, IsCarried, IsRead, IsWrite}
 use Rattle.ca_laws_runs.proofs.WritesSaid.{CarriesBack, event-carries, ticks-carry}
 
 -- ---- what is read of a message
@@ -97,13 +98,13 @@ not-read OfCircuit writes reads = writes
 
 pub write-carried : (x : List Line) (s : Sent) → IsWrite s.intent → IsCalledIn x s → IsCarried x s
 write-carried x s writes (inl read) = absurd (not-read s.intent writes read.0)
-write-carried x s writes (inr c) = c
+write-carried x s writes (inr c) = c.1
 
 -- ---- every event
 
 called-more : (x more : List Line) (s : Sent) → IsCalledIn x s → IsCalledIn (x ++ more) s
 called-more x more s (inl read) = inl (read.0, (read.1.0, At-append x more read.1.0 _ read.1.1))
-called-more x more s (inr c) = inr (record { given = c.given; called = (c.called.0, At-append x more c.called.0 _ c.called.1); valued = c.valued; carries = c.carries })
+called-more x more s (inr (writes, c)) = inr (writes, record { given = c.given; called = (c.called.0, At-append x more c.called.0 _ c.called.1); valued = c.valued; carries = c.carries })
 
 carried-on : (w new : World) → OnceStand w → CarriesBack w new → WorldsOn w new → AllCarried w → AllCarried new
 carried-on w new once back on all n k d s x at at_s at_x writes = elim (back n d k s at at_s writes) [

@@ -37,7 +37,7 @@ use Rattle.ca_laws_runs.proofs.OnceCalls.{NoRequest, calls-put, calls-read, call
 use Rattle.ca_laws_runs.proofs.OnceMoved.{ArePlain, moved-all-received, moved-connected, moved-given, moved-heard, none-sent, one-plain}
 use Rattle.ca_laws_runs.proofs.OnceWorld.{OnceStand, logs-grown, on-circuit-sent}
 use Rattle.ca_laws_runs.proofs.Servers.{from-add, from-cut-server, from-finish, from-post, from-pump, from-remove, from-server-restart, from-server-step}
-use Rattle.ca_laws_runs.specs.Carried.{IsCalledIn, IsRead}
+use Rattle.ca_laws_runs.specs.Carried.{IsCalledIn, IsRead, IsWrite}
 
 -- The log of the circuit's client has the call of what was sent.
 abbrev pub IsCalledBy : (new : World) → Joined → Sent → Type 0
@@ -187,7 +187,7 @@ module _ (w new : World) (i : ℕ) (x : ClientSide) (at : At w.clients i x) (sta
         let r : Sending = put_sent h did.3.0 e did.0 in
         let same : a.0 ≡ r = some_is a.0 r (subst (λ (l : List Sending). At l 0 r) (sym did.3.4.0 ∙ a.1) refl) in
         let meant : intent_of names r.aim ≡ intent = ap (λ (z : Sending). intent_of names z.aim) (sym same) ∙ a.2 in
-        says-one w new i x names o r (Some e) at once did.4 did.3.4.0 (ap (λ (z : Intent). Called z (Some e) ∷ []) (sym meant)) (λ l has. inr (record { given = e; called = has; valued = valued; carries = record { typed = refl; counted = refl; payload = refl } }))
+        says-one w new i x names o r (Some e) at once did.4 did.3.4.0 (ap (λ (z : Intent). Called z (Some e) ∷ []) (sym meant)) (λ l has. inr (subst (λ (z : Intent). IsWrite z) (sym meant) tt, record { given = e; called = has; valued = valued; carries = record { typed = refl; counted = refl; payload = refl } }))
   ]
 
   says-write : (c : ℕ) (h : Handle) (e : Elements) → At x.names.channels c h → IsValue e → HappensWrite w i x c h e new → CarriesBack w new
@@ -201,7 +201,7 @@ module _ (w new : World) (i : ℕ) (x : ClientSide) (at : At w.clients i x) (sta
         let r : Sending = write_sent h did.3.0 e in
         let same : a.0 ≡ r = some_is a.0 r (subst (λ (l : List Sending). At l 0 r) (sym did.3.3.0 ∙ a.1) refl) in
         let meant : intent_of x.names r.aim ≡ intent = ap (λ (z : Sending). intent_of x.names z.aim) (sym same) ∙ a.2 in
-        says-one w new i x x.names o r (Some e) at once did.4 did.3.3.0 (ap (λ (z : Intent). Called z (Some e) ∷ []) (sym meant)) (λ l has. inr (record { given = e; called = has; valued = valued; carries = record { typed = refl; counted = refl; payload = refl } }))
+        says-one w new i x x.names o r (Some e) at once did.4 did.3.3.0 (ap (λ (z : Intent). Called z (Some e) ∷ []) (sym meant)) (λ l has. inr (subst (λ (z : Intent). IsWrite z) (sym meant) tt, record { given = e; called = has; valued = valued; carries = record { typed = refl; counted = refl; payload = refl } }))
   ]
 
   says-subscribe : (c : ℕ) (h : Handle) (data_type count mask : ℕ) → HappensSubscribe w i x c h data_type count mask new → CarriesBack w new

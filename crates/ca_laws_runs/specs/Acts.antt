@@ -5,7 +5,7 @@ use Rattle.ca_text.specs.Place.{At}
 use Rattle.ca_model.specs.History.{Ask, Circuit, Create, Entry, Line, On, Opened, Reply, Told}
 use Rattle.ca_model.specs.Speech.{Creates}
 use Rattle.ca_model.specs.Channels.{Created, IsLive, IsNamed, IsOpen, Meant, OfCircuits, OfClients}
-use Rattle.ca_model.specs.Headline.{Acted}
+use Rattle.ca_model.specs.Causes.{Acted}
 use Rattle.ca_model.specs.World.{World, told}
 
 -- Each reply that creates a channel created it for a record that the server had then under the

@@ -1,14 +1,13 @@
 -- Working: what clients read, put and write was called, and puts and plain writes carry what their
 -- callers gave; the record that each was applied to has the name of the caller's channel.
 use Rattle.std.specs.Prelude.{ℕ, ◌≡◌, ◌⊎◌, List, None, Some}
-use Rattle.ca_dbr.specs.Elements.{Elements, IsValue, base_of, bytes_of, count_of}
-use Rattle.ca_dbr.specs.Types.{base_number}
+use Rattle.ca_dbr.specs.Elements.{Elements, IsValue}
 use Rattle.ca_records.specs.Record.{RecordState}
 use Rattle.ca_text.specs.Place.{At}
-use Rattle.ca_wire.specs.Fields.{Fields, padded}
 use Rattle.ca_model.specs.History.{Added, Applied, Ask, Called, Entry, Intent, Line, On, Opened}
 use Rattle.ca_model.specs.History.{Put, Read, Request, Sent, Waits, Write}
 use Rattle.ca_model.specs.Channels.{IsRequest}
+use Rattle.ca_model.specs.Legal.{Carries}
 use Rattle.ca_model.specs.Speech.{In, IsWritten}
 use Rattle.ca_model.specs.World.{Joined, World}
 
@@ -25,12 +24,6 @@ IsWrite (On channel (Request Put number)) = Unit {0}
 IsWrite (On channel (Request Write number)) = Unit {0}
 IsWrite intent = ⊥
 
--- The message has these elements: their type, how many they are, and their bytes.
-pub record Carries (m : Fields) (e : Elements) : Type 0 where
-  pub typed : m.data_type ≡ base_number (base_of e)
-  pub counted : m.count ≡ count_of e
-  pub payload : m.payload ≡ padded (bytes_of e)
-
 -- By these lines what the message is meant for was called with a value, which the message carries.
 pub record IsCarried (x : List Line) (s : Sent) : Type 0 where
   pub given : Elements
@@ -40,7 +33,8 @@ pub record IsCarried (x : List Line) (s : Sent) : Type 0 where
 
 -- What the message is meant for was called: a read, or a put or a plain write with its value.
 abbrev pub IsCalledIn : List Line → Sent → Type 0
-IsCalledIn x s = (IsRead s.intent × In x (Called s.intent None)) ⊎ IsCarried x s
+IsCalledIn x s =
+    (IsRead s.intent × In x (Called s.intent None)) ⊎ (IsWrite s.intent × IsCarried x s)
 
 -- So it is of each request that was sent, by the log of its client's life.
 abbrev pub AllCarried : World → Type 0

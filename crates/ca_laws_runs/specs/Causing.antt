@@ -6,7 +6,7 @@ use Rattle.ca_text.specs.Place.{At}
 use Rattle.ca_model.specs.History.{Circuit, Entry, Line, Removal, Reply, Sent, Step, Told, Update}
 use Rattle.ca_model.specs.Speech.{Creates, In, Is}
 use Rattle.ca_model.specs.Channels.{Created, OfCircuits}
-use Rattle.ca_model.specs.Headline.{Acted, HasCause}
+use Rattle.ca_model.specs.Causes.{Acted, HasCause}
 use Rattle.ca_model.specs.World.{Joined, Standing, World, told}
 
 -- The message at place k is an EVENT_ADD that was handled on a record, and no reply is about it.

@@ -13,7 +13,7 @@ use Rattle.ca_model.specs.Server.{OpenChannel, ServerEnd, Subscription, key_of}
 use Rattle.ca_model.specs.ServerSteps.{HasEnd}
 use Rattle.ca_model.specs.Speech.{Ends, In, Is, name_in}
 use Rattle.ca_model.specs.Channels.{Has}
-use Rattle.ca_model.specs.Headline.{Acted}
+use Rattle.ca_model.specs.Causes.{Acted}
 use Rattle.ca_model.specs.World.{Creation, Joined, RecordSide, ServerSide, Standing, World}
 use Rattle.ca_laws_runs.specs.Entries.{titles}
 use Rattle.ca_laws_parts.specs.Both.{Both}

@@ -1,18 +1,17 @@
 -- Statement: of what is sent on a circuit: parts of what is said of that, each by itself.
-use Rattle.std.specs.Prelude.{ℕ, ◌≡◌, ◌<◌, ◌≤◌, ◌%◌, List, [], Option, take}
+use Rattle.std.specs.Prelude.{ℕ, ◌≡◌, ◌<◌, ◌≤◌, ◌%◌, List, [], take}
 use Rattle.ca_text.specs.declared.command.Command.TheVariants as command
 use Rattle.ca_text.specs.Limits.{arena_slots}
 use Rattle.ca_text.specs.Place.{At}
 use Rattle.ca_dbr.specs.declared.value.Outcome.{Outcome}
-use Rattle.ca_dbr.specs.Elements.{Elements}
 use Rattle.ca_wire.specs.Fields.{Fields}
-use Rattle.ca_model.specs.History.{Called, Circuit, Create, Entry, Intent, Line, Noticed, On, Step}
+use Rattle.ca_model.specs.History.{Circuit, Create, Entry, Line, Noticed, On, Sent, Step}
 use Rattle.ca_model.specs.History.{Subscribe}
 use Rattle.ca_model.specs.Sends.{Conduct, HasChannel, IsConnected, IsOnChannel, IsOpenAt}
 use Rattle.ca_model.specs.Sends.{IsUncancelled, ReadsBetween}
 use Rattle.ca_model.specs.Speech.{Clears, Creates, In, Is, sid_in}
-use Rattle.ca_model.specs.Channels.{IsHeld, IsUse, Meant, OfCircuits}
-use Rattle.ca_model.specs.Legal.{client_conduct, server_conduct}
+use Rattle.ca_model.specs.Channels.{IsHeld, Meant, OfCircuits}
+use Rattle.ca_model.specs.Legal.{WasCalled, client_conduct, server_conduct}
 use Rattle.ca_model.specs.World.{World, told}
 
 -- A SID is given only if no open channel has its index.
@@ -58,12 +57,11 @@ SubscriptionsAreAddedApart w =
     → Meant c l (On channel (Subscribe number))
     → (p : ℕ) × (k < p) × (p < l) × Meant c p (On channel Create))
 
--- A read, a write or an EVENT_ADD was called.
-abbrev pub UsesWereCalled : World → Type 0
-UsesWereCalled w =
+-- What a client sent for a channel was called.
+abbrev pub MessagesWereCalled : World → Type 0
+MessagesWereCalled w =
     OfCircuits (told w) (λ (n : ℕ) (c : Circuit) (x : List Line) (y : List Entry).
-    (k : ℕ) (intent : Intent) → IsUse intent → Meant c k intent
-    → (given : Option Elements) × In x (Called intent given))
+    (k : ℕ) (s : Sent) → At c.up k s → WasCalled c x k s.intent s.message)
 
 -- A message on a channel goes out under the SID of one that the client has; and a
 -- CLEAR_CHANNEL has its CID.

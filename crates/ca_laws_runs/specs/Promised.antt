@@ -6,7 +6,8 @@ use Rattle.ca_model.specs.History.{Circuit, Entry, Line, Removal, Sent, Step, To
 use Rattle.ca_model.specs.Speech.{Id, Speaks}
 use Rattle.ca_model.specs.Updates.{Shows}
 use Rattle.ca_model.specs.Channels.{AreSteps, OfCircuits, Suits}
-use Rattle.ca_model.specs.Headline.{Answered, AnswersOwn, HasCause, TakesOwn}
+use Rattle.ca_model.specs.Headline.{Answered, AnswersOwn}
+use Rattle.ca_model.specs.Causes.{HasCause, TakesOwn}
 use Rattle.ca_model.specs.Known.{IsDue}
 use Rattle.ca_model.specs.World.{World, port_of, rules_of, told}
 

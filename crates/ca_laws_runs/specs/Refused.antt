@@ -7,7 +7,8 @@ use Rattle.ca_model.specs.History.{Circuit, Entry, Line, Removed, Sent, Step}
 use Rattle.ca_model.specs.Speech.{In}
 use Rattle.ca_model.specs.Updates.{Shows}
 use Rattle.ca_model.specs.Channels.{IsReply, IsUse, OfCircuits}
-use Rattle.ca_model.specs.Headline.{Acted, IsBadChannel}
+use Rattle.ca_model.specs.Headline.{IsBadChannel}
+use Rattle.ca_model.specs.Causes.{Acted}
 use Rattle.ca_model.specs.Known.{IsDue}
 use Rattle.ca_model.specs.World.{World, port_of, rules_of, told}
 

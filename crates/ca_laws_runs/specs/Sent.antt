@@ -6,7 +6,7 @@ use Rattle.ca_wire.specs.Messages.{mask_in}
 use Rattle.ca_model.specs.History.{Circuit, Entry, Sent, Step, Told, Update}
 use Rattle.ca_model.specs.Speech.{Stored}
 use Rattle.ca_model.specs.Updates.{Shows}
-use Rattle.ca_model.specs.Headline.{Acted}
+use Rattle.ca_model.specs.Causes.{Acted}
 use Rattle.ca_model.specs.Posts.{matching}
 use Rattle.ca_model.specs.World.{Joined, World}
 use Rattle.ca_laws_runs.specs.Known.{IsWithin}

@@ -1,3 +1,5 @@
+//! A server handles each message on the record that its channel names, from the CREATE_CHAN on. The
+//! whole clause `ActsOnRecord` is put together in `live_laws.rt`.
 ghost use Rattle.std.specs.Prelude.{List, Option};
 ghost use Rattle.ca_model.specs.Events.{Event};
 ghost use Rattle.ca_model.specs.Runs.{AreEvents, Runs};

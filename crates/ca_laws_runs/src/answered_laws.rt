@@ -1,3 +1,5 @@
+//! The replies that a server sends in the step that handles a message, and what that step logs.
+//! Replies to puts that finish later are in `late_laws.rt`.
 ghost use Rattle.std.specs.Prelude.{List, Option};
 ghost use Rattle.ca_model.specs.Events.{Event};
 ghost use Rattle.ca_model.specs.Runs.{Runs};

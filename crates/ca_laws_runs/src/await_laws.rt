@@ -1,3 +1,5 @@
+//! A put that waits has a record to wait for: when a record is removed, all puts that wait for it
+//! are withdrawn.
 ghost use Rattle.std.specs.Prelude.{List, Option};
 ghost use Rattle.ca_model.specs.Events.{Event};
 ghost use Rattle.ca_model.specs.Runs.{Runs};

@@ -1,3 +1,5 @@
+//! Messages of a server come after the message that they are about; a channel gets at most one
+//! SERVER_DISCONN and a message at most one ERROR, which quotes its header.
 ghost use Rattle.std.specs.Prelude.{List, Option};
 ghost use Rattle.ca_model.specs.Events.{Event};
 ghost use Rattle.ca_model.specs.Runs.{Runs};

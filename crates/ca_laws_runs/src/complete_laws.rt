@@ -1,3 +1,5 @@
+//! What callers learn of their requests and channels: each result comes from the reply to that very
+//! request, and comes once. Begin at `calls_complete_once`, the whole clause `CompletesOnce`.
 ghost use Rattle.std.specs.Prelude.{List, Option};
 ghost use Rattle.ca_model.specs.Events.{Event};
 ghost use Rattle.ca_model.specs.Runs.{AreEvents, Runs};

@@ -1,3 +1,6 @@
+//! The updates of every accepted EVENT_ADD follow the posts of its record, also after the
+//! subscription or the circuit has ended. Begin at `follows_record_in_runs`; `post_laws.rt` comes
+//! before.
 ghost use Rattle.std.specs.Prelude.{List, Option};
 ghost use Rattle.ca_model.specs.Events.{Event};
 ghost use Rattle.ca_model.specs.Runs.{Runs};

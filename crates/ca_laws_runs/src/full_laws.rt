@@ -1,3 +1,5 @@
+//! A server that has no SID left for a circuit is right: by the messages on that circuit, every
+//! index is in use or has run out of generations.
 ghost use Rattle.std.specs.Prelude.{List, Option};
 ghost use Rattle.ca_model.specs.Events.{Event};
 ghost use Rattle.ca_model.specs.Runs.{Runs};

@@ -1,3 +1,4 @@
+//! A channel that a server has retired lost its record, and its client was sent a SERVER_DISCONN.
 ghost use Rattle.std.specs.Prelude.{List, Option};
 ghost use Rattle.ca_model.specs.Events.{Event};
 ghost use Rattle.ca_model.specs.Runs.{Runs};

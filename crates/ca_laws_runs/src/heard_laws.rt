@@ -1,3 +1,5 @@
+//! What a client makes of each message that it reads concerns the request, subscription or channel
+//! that the message is about. This holds as long as servers take messages as they were meant.
 ghost use Rattle.std.specs.Prelude.{List, Option, ℕ};
 ghost use Rattle.ca_model.specs.Events.{ClientStep, Event};
 ghost use Rattle.ca_model.specs.Runs.{AreEvents, Happens, Runs};

@@ -1,9 +1,11 @@
+//! That each id that is on its way on a circuit still means what it was given for, in every run:
+//! the fact by which no reply is taken for another's. Begin at `all_circuits_are_held`.
 ghost use Rattle.std.specs.Prelude.{List, Option, ℕ};
 ghost use Rattle.ca_text.specs.Place.{At};
 ghost use Rattle.ca_model.specs.History.{Sent, Told};
 ghost use Rattle.ca_model.specs.Speech.{Id, Speaks};
 ghost use Rattle.ca_model.specs.Channels.{Suits};
-ghost use Rattle.ca_model.specs.Headline.{TakesOwn};
+ghost use Rattle.ca_model.specs.Causes.{TakesOwn};
 ghost use Rattle.ca_model.specs.Events.{ClientStep, Event, ServerStep};
 ghost use Rattle.ca_model.specs.Runs.{AreEvents, Happens, Runs};
 ghost use Rattle.ca_model.specs.World.{IsSetting, Joined, Setting, World};

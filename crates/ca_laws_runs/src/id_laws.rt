@@ -1,3 +1,5 @@
+//! A client gives an id (CID, IOID or subscription id) again only once it has read the message that
+//! frees the last id with that index.
 ghost use Rattle.std.specs.Prelude.{List, Option};
 ghost use Rattle.ca_model.specs.Events.{Event};
 ghost use Rattle.ca_model.specs.Runs.{AreEvents, Runs};

@@ -1,3 +1,5 @@
+//! What a server's core knows of a circuit (its open channels, its subscriptions, and the peer's
+//! user and host) is what the messages on that circuit say.
 ghost use Rattle.std.specs.Prelude.{List, Option};
 ghost use Rattle.ca_model.specs.Events.{Event};
 ghost use Rattle.ca_model.specs.Runs.{Runs};

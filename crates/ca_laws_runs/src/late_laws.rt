@@ -1,3 +1,5 @@
+//! The late reply to a WRITE_NOTIFY on a slow record: one at most, sent once the put is finished.
+//! Replies in the same step are in `answered_laws.rt`.
 ghost use Rattle.std.specs.Prelude.{List, Option};
 ghost use Rattle.ca_model.specs.Events.{Event};
 ghost use Rattle.ca_model.specs.Runs.{Runs};

@@ -1,3 +1,5 @@
+//! What each end may send, and what it has to: parts of `Legal`, each by itself. More are in
+//! `id_laws.rt` and `sent_laws.rt`, and `what_is_sent_is_legal` in `promise_laws.rt` has all.
 ghost use Rattle.std.specs.Prelude.{List, Option};
 ghost use Rattle.ca_model.specs.Channels.{OfClients};
 ghost use Rattle.ca_model.specs.Legal.{IsSent};
@@ -13,11 +15,11 @@ ghost use Rattle.ca_laws_runs.specs.LegalParts.{
   AddsWereHeld,
   ClientsCancelWhatWasAdded,
   ClientsSendOnChannels,
+  MessagesWereCalled,
   ServersConfirmAtOnce,
   ServersEndOpenChannels,
   ServersGiveFreeSids,
   SubscriptionsAreAddedApart,
-  UsesWereCalled,
 };
 
 /// In every world to which a run leads, whatever its setting and events, each accepted subscription
@@ -27,12 +29,14 @@ pub fn accepted_subscriptions_were_sent()
         → Runs s es stopped w → OfClients (told w) (IsSent (told w)) }
 {}
 
-/// After every run from a well-formed setting by well-formed events, each read, put, plain write
-/// and EVENT_ADD that a client sent was called: the log of its client's life has the call. This is
-/// `called` of the statement's `LegalCircuit`. It holds also of what an end sent that has ended.
-pub fn what_uses_a_record_was_called()
+/// After every run from a well-formed setting by well-formed events, each message that a client
+/// sent for a channel was called, by the log of its client's life: a write with the value that it
+/// carries. A CREATE_CHAN has the name under which its channel was opened; and a CLEAR_CHANNEL that
+/// was not called answers a SERVER_DISCONN. This is `called` of the statement's `LegalCircuit`. It
+/// holds also of what an end sent that has ended.
+pub fn what_a_client_sends_was_called()
     ensures { (s : Setting) (es : List Event) (stopped : Option Event) (w : World) → IsSetting s
-        → AreEvents es → Runs s es stopped w → UsesWereCalled w }
+        → AreEvents es → Runs s es stopped w → MessagesWereCalled w }
 {}
 
 /// After every run from a well-formed setting by well-formed events, a server gives a SID on a

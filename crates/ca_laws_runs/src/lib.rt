@@ -76,12 +76,12 @@ pub use legal_laws::{
     live_channels_are_subscribed_to, live_subscriptions_are_held_by_logs,
     live_subscriptions_were_added, servers_confirm_at_once, servers_disconnect_open_channels,
     servers_give_free_sids, subscriptions_are_added_apart,
-    subscriptions_were_held_as_they_were_added, what_uses_a_record_was_called,
+    subscriptions_were_held_as_they_were_added, what_a_client_sends_was_called,
 };
 pub use live_laws::{
     live_channels_have_their_records, servers_act_on_records, what_lost_its_record_is_cleared,
 };
-pub use name_laws::{names_are_kept, records_keep_their_names};
+pub use name_laws::{entries_come_from_events, names_are_kept, records_keep_their_names};
 pub use once_laws::{a_call_is_accepted_once, a_request_is_at_one_place, what_was_called_was_sent};
 pub use order_laws::{circuits_join_lives, steps_are_in_order, steps_of_servers_are_in_order};
 pub use post_laws::{subscriptions_follow_their_posts, what_stands_follows_its_record};

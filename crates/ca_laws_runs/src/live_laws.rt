@@ -1,3 +1,5 @@
+//! A channel that is live at its client is open at the server, and its record exists or a
+//! SERVER_DISCONN is on its way. `servers_act_on_records` is the whole clause `ActsOnRecord`.
 ghost use Rattle.std.specs.Prelude.{List, Option};
 ghost use Rattle.ca_model.specs.Events.{Event};
 ghost use Rattle.ca_model.specs.Runs.{AreEvents, Runs};

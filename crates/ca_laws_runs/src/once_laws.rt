@@ -1,3 +1,5 @@
+//! A client accepts each call once, sends it in one message on one circuit, and reports its result
+//! at most once: the first clauses of `CompletesOnce`. These laws need no well-formed setting.
 ghost use Rattle.std.specs.Prelude.{List, Option};
 ghost use Rattle.ca_model.specs.Channels.{OfClients};
 ghost use Rattle.ca_model.specs.Events.{Event};

@@ -1,3 +1,5 @@
+//! The steps of the two ends of a circuit are in order: one step for each message, each within what
+//! was sent and logged by then.
 ghost use Rattle.std.specs.Prelude.{List, Option};
 ghost use Rattle.ca_model.specs.Events.{Event};
 ghost use Rattle.ca_model.specs.Runs.{AreEvents, Runs};

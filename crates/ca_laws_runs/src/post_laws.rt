@@ -1,3 +1,5 @@
+//! The updates of a subscription that has not ended, sent and queued: rising numbers, each with the
+//! value of its post, the newest among them. Subscriptions that ended are in `follow_laws.rt`.
 ghost use Rattle.std.specs.Prelude.{List, Option};
 ghost use Rattle.ca_model.specs.Events.{Event};
 ghost use Rattle.ca_model.specs.Runs.{Happens, Runs};

@@ -1,3 +1,5 @@
+//! The promise: `runs_are_safe`, the law for which all others are there. The three before it put
+//! the last two parts of it together, `AnswersOwn` and `Legal`.
 ghost use Rattle.std.specs.Prelude.{List, Option};
 ghost use Rattle.ca_model.specs.Worlds.{IsLegalWorld, Promise};
 ghost use Rattle.ca_model.specs.Events.{Event};
@@ -33,9 +35,10 @@ pub fn what_is_sent_is_legal()
 
 /// The whole: from a well-formed setting, whatever well-formed events in a row lead to is safe, and
 /// legal. Servers act on the records that channels name; each answer is its own request's, once; no
-/// write is applied twice; subscribers see their record's posts in order, up to the newest; and
-/// each end sends what it may. All events count: cuts, restarts, datagrams, records that come and
-/// go, and calls that memory stopped.
+/// write is applied twice; subscribers see their record's posts in order, up to the newest; each
+/// end sends what it may; and the posts, additions, removals and finishes in servers' logs come
+/// from the events. All events count: cuts, restarts, datagrams, records that come and go, and
+/// calls that memory stopped.
 pub fn runs_are_safe()
     ensures { Promise }
 {}

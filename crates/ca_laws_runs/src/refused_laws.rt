@@ -1,3 +1,5 @@
+//! When a server answers ECA_BADCHID: only if the record of the channel had been removed by then,
+//! and then to every read, put, write and subscription that it answers.
 ghost use Rattle.std.specs.Prelude.{List, Option};
 ghost use Rattle.ca_model.specs.Events.{Event};
 ghost use Rattle.ca_model.specs.Runs.{Runs};

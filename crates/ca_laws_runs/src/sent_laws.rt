@@ -1,3 +1,5 @@
+//! What each end may send by the messages on the circuit: updates and SERVER_DISCONNs of servers,
+//! and the SIDs under which clients send. Other parts are in `legal_laws.rt` and `id_laws.rt`.
 ghost use Rattle.std.specs.Prelude.{List, Option};
 ghost use Rattle.ca_model.specs.Events.{Event};
 ghost use Rattle.ca_model.specs.Runs.{AreEvents, Runs};

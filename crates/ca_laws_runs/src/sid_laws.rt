@@ -1,3 +1,5 @@
+//! A message on a channel carries the SID that the channel got when it was last created, so the
+//! server handles it on the channel that the client meant.
 ghost use Rattle.std.specs.Prelude.{◌+◌, ◌<◌, ◌≡◌, length, true, ℕ};
 ghost use Rattle.ca_text.specs.Place.{At};
 ghost use Rattle.ca_text.specs.declared.command.Command.TheVariants.{Write};

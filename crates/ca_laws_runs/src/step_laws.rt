@@ -1,10 +1,12 @@
+//! What each event keeps of the ids that are on their way: the induction over runs, under
+//! conditions on the steps of ends (`what_is_held_in_runs`), without which `held_laws.rt` has it.
 ghost use Rattle.std.specs.Prelude.{◌≡◌, ◌∷◌, List, Option, [], length, true, ℕ};
 ghost use Rattle.ca_text.specs.Place.{At};
 ghost use Rattle.ca_wire.specs.Fields.{Fields};
 ghost use Rattle.ca_model.specs.ServerSteps.{Handled, Stepped};
 ghost use Rattle.ca_model.specs.History.{Told};
 ghost use Rattle.ca_model.specs.Speech.{Id, In, Speaks};
-ghost use Rattle.ca_model.specs.Headline.{TakesOwn};
+ghost use Rattle.ca_model.specs.Causes.{TakesOwn};
 ghost use Rattle.ca_model.specs.Events.{Event, Finish, ServerStep};
 ghost use Rattle.ca_model.specs.Runs.{AreEvents, Happens, Runs};
 ghost use Rattle.ca_model.specs.ServerEvents.{ServerStepped, StepHandles};

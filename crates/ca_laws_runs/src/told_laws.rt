@@ -1,3 +1,5 @@
+//! What callers learn of channels and subscriptions comes from the replies to their own CREATE_CHAN
+//! or EVENT_ADD, and a subscriber gets the updates that were sent in order, with none left out.
 ghost use Rattle.std.specs.Prelude.{List, Option};
 ghost use Rattle.ca_model.specs.Events.{Event};
 ghost use Rattle.ca_model.specs.Runs.{AreEvents, Runs};

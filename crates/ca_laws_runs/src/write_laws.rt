@@ -1,3 +1,5 @@
+//! Writes from the caller to the record: each has the caller's value, reaches the record that the
+//! channel names, and is applied at most once. Begin at `writes_are_not_made_twice`.
 ghost use Rattle.std.specs.Prelude.{List, Option};
 ghost use Rattle.ca_model.specs.Events.{Event};
 ghost use Rattle.ca_model.specs.Runs.{AreEvents, Runs};

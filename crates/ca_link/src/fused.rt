@@ -1,3 +1,5 @@
+//! A source or sink that fails on purpose: it passes a given number of calls on, and then each call
+//! is a fault. Tests use it to lose a circuit at any moment.
 ghost use Rattle.std.specs.Prelude.{◌≡◌, ◌↔◌, ◌-◌, IsTrue, if◌then◌else◌};
 ghost use Rattle.ca_link.specs.Passing.{CanPass};
 

@@ -1,3 +1,6 @@
+//! What a silence on a circuit asks of an end: nothing yet, an ECHO after 30 seconds, or a close
+//! of the circuit after 35.
+
 /// What a moment asks of an end of a circuit.
 #[derive(Clone, Copy, Debug, PartialEq, Eq)]
 pub enum Keep {

@@ -1,3 +1,5 @@
+//! One open circuit as both cores keep it: bytes that came, bytes to be sent, and its silence. What
+//! the messages mean only the cores know.
 ghost use Rattle.std.specs.Prelude.{ℕ, List, ◌≡◌, ◌≤◌, IfOk, drop, length, nat_le, take};
 ghost use Rattle.ca_text.specs.Limits.{output_limit, payload_limit};
 ghost use Rattle.ca_link.specs.Calls.{FirstShort, Gives, Nexts, NextsBare, Queues, QueuesMade};
@@ -17,7 +19,8 @@ use std::marker::Model;
 /// One end of an open circuit: what came and was not read, what waits to be sent, and
 /// since when no bytes came.
 ///
-/// After 2 or 3 it answers 17 from then on. Any other refusal leaves it as it was.
+/// After Misaligned or TooLarge it answers CircuitClosed from then on. Any other refusal leaves it
+/// as it was.
 #[derive(Debug, Drop)]
 pub struct Link {
     input: Deframer,

@@ -1,3 +1,5 @@
+//! How a program reports its end: exit status 0 for success, 1 for a refusal, 2 for words that are
+//! not understood, with a line on standard error for the last two.
 ghost use Rattle.std.specs.Prelude.{◌≡◌};
 ghost use Rattle.ca_link.specs.Exits.{not_understood_status, status_of};
 

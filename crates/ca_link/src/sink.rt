@@ -1,3 +1,5 @@
+//! Where the bytes of a circuit go: the trait `Sink`, and any writer of the standard library as a
+//! sink. A write takes all bytes or fails; calls and faults are counted.
 ghost use Rattle.std.specs.Io.KnownBytes.{Appends};
 ghost use Rattle.std.specs.Prelude.{◌≡◌, ◌+◌, ◌<◌, ◌^◌, ℕ, List, OnErr, OnOk, if◌then◌else◌, is_ok};
 ghost use Rattle.std.specs.Prelude.{take};

@@ -1,3 +1,5 @@
+//! Where the bytes of a circuit come from: the trait `Source`, its error `Fault`, and any reader of
+//! the standard library as a source. Calls and faults are counted.
 ghost use Rattle.std.specs.Prelude.{◌≡◌, ◌+◌, ◌<◌, ◌≤◌, ◌^◌, ℕ, List, IfOk, if◌then◌else◌, is_ok};
 ghost use Rattle.std.specs.Prelude.{length, take};
 

@@ -1,3 +1,5 @@
+//! Buffers that the circuits of a server share. A circuit borrows them while it has bytes to keep,
+//! so that an idle circuit needs no memory for its bytes.
 ghost use Rattle.std.specs.Prelude.{◌≡◌, []};
 
 use std::alloc::Global;

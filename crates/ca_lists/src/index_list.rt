@@ -1,3 +1,4 @@
+//! One sorted list of table indices without duplicates. `index_lists.rt` keeps one for each owner.
 ghost use Rattle.std.specs.Prelude.{◌≡◌, [], OnErr, OnOk};
 ghost use Rattle.ca_lists.specs.Lists.{Ascends, IsSought, added, without};
 

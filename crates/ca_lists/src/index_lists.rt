@@ -1,3 +1,4 @@
+//! A list of table indices for each owner, for example the subscriptions of each channel.
 ghost use Rattle.std.specs.Prelude.{◌≡◌, ◌≢◌, ◌<◌, [], ℕ, OnErr, OnOk, length};
 ghost use Rattle.ca_lists.specs.Lists.{Ascends, added, list_of, without};
 

@@ -9,8 +9,8 @@ use Rattle.ca_dbr.specs.Conversion.{converted}
 use Rattle.ca_dbr.specs.Elements.{Elements, base_of}
 use Rattle.ca_records.specs.Record.{RecordState}
 use Rattle.ca_wire.specs.Fields.{Fields}
-use Rattle.ca_model.specs.Speech.{Id, Cid, Ioid, SubId, Clears, Creates, Ends, In, Is, IsWritten}
-use Rattle.ca_model.specs.Speech.{Stored, name_in, sid_in}
+use Rattle.ca_model.specs.Speech.{Id, Cid, Ioid, SubId, Clears, Creates, Ends, Gives, In, Is}
+use Rattle.ca_model.specs.Speech.{IsWritten, Stored, name_in, sid_in}
 use Rattle.ca_model.specs.History.{Ask, Create, Clear, Request, Subscribe, Cancel, Read, Put, Write}
 use Rattle.ca_model.specs.History.{Intent, On}
 use Rattle.ca_model.specs.History.{OfCircuit}
@@ -141,13 +141,14 @@ pub record KeepNames (x : List Line) (y : List Entry) : Type 0 where
 abbrev pub IsNamed : List Line → List Entry → (channel r : ℕ) → Type 0
 IsNamed x y channel r = (s : RecordState) × In x (Opened channel s.name) × In y (Added r s)
 
--- The CREATE_CHAN at place k was answered at place j with this SID, for record r, which the
--- server had under its name.
+-- The CREATE_CHAN at place k was answered at place j with its CID and this SID, for record r, which
+-- the server had under its name.
 abbrev pub Created : Circuit → List Entry → (j k sid r : ℕ) → Type 0
 Created c y j k sid r =
     (t : Told) × (s : Sent) × (h : Step) × At c.down j t × (t.place ≡ k) × (t.cause ≡ Reply)
     × Creates t.message sid
     × At c.up k s × At c.handled k h × Has (take h.logged y) r (name_in s.message)
+    × Gives s.message (Cid t.message.p1)
 
 -- The channel so created is open: no other was created under its SID later, and no
 -- CLEAR_CHANNEL of it was handled.
@@ -199,29 +200,32 @@ abbrev pub IsApplied : World → (n k l i r : ℕ) → Stored → Type 0
 IsApplied w n k l i r v =
     (y : List Entry) × (busies : Bool) × At w.servers l y × At y i (Applied n k r v busies)
 
--- Entry i was made when the message at place k was handled; or after all that were, as the
--- server's end closed on it.
+-- Entry i was made in the step that handled the message at place k.
+abbrev pub IsHandledIn : Circuit → (k i : ℕ) → Type 0
+IsHandledIn c k i = (h : Step) × At c.handled k h × (h.logged ≤ i) × (i < h.after)
+
+-- It was made then; or after all steps, as the server's end closed on the message.
 abbrev pub IsTaken : Circuit → (k i : ℕ) → Type 0
 IsTaken c k i =
-    ((h : Step) × At c.handled k h × (h.logged ≤ i) × (i < h.after))
+    IsHandledIn c k i
     ⊎ ((k ≡ length c.handled) × (c.server_open ≡ false)
     × ((l : ℕ) (g : Step) → At c.handled l g → g.after ≤ i))
 
--- The write at place k of circuit n came to server life l in entry i: the circuit joins that life,
--- and the entry was made when the message was handled, or as the server's end closed on it.
+-- The put at place k of circuit n came to server life l in entry i: the circuit joins that life,
+-- and the entry was made in the step that handled the message.
 abbrev pub CameIn : World → (n k l i : ℕ) → Type 0
-CameIn w n k l i = (c : Circuit) × At w.circuits n c × (c.server ≡ l) × IsTaken c k i
+CameIn w n k l i = (c : Circuit) × At w.circuits n c × (c.server ≡ l) × IsHandledIn c k i
 
 -- The put at place k of circuit n waits for record r with this value, by entry i of the log of
 -- server life l.
 abbrev pub IsWaiting : World → (n k l i r : ℕ) → Stored → Type 0
 IsWaiting w n k l i r v = (y : List Entry) × At w.servers l y × At y i (Waits n k r v)
 
--- The put at place k of circuit n came to wait for record r when it was handled, before entry i,
--- and was never withdrawn.
+-- The put at place k of circuit n came to wait for record r in its step, before entry i, and was
+-- never withdrawn.
 abbrev pub HasWaited : (n : ℕ) → Circuit → List Entry → (k i r : ℕ) → Type 0
 HasWaited n c y k i r =
-    (e : ℕ) × (v : Stored) × At y e (Waits n k r v) × (e < i) × IsTaken c k e
+    (e : ℕ) × (v : Stored) × At y e (Waits n k r v) × (e < i) × IsHandledIn c k e
     × (In y (Withdrawn n k) → ⊥)
 
 -- The put at place k of circuit n is dropped at entry i: it had come to wait before; and its record

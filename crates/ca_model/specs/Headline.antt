@@ -8,60 +8,17 @@ use Rattle.ca_dbr.specs.declared.value.Outcome.{Outcome}
 use Rattle.ca_dbr.specs.declared.value.Outcome.TheVariants.{Done, Failed, Disconnected}
 use Rattle.ca_dbr.specs.Elements.{Elements}
 use Rattle.ca_wire.specs.Fields.{Fields}
-use Rattle.ca_model.specs.Speech.{Id, Disconnects, Gives, In, Speaks, Stored, sid_in}
+use Rattle.ca_model.specs.Speech.{Id, In, Speaks, Stored}
 use Rattle.ca_wire.specs.Messages.{mask_in}
-use Rattle.ca_model.specs.History.{Ask, Create, Request, Subscribe, Put, Intent, On, Cause, Reply}
-use Rattle.ca_model.specs.History.{Removal, Update}
+use Rattle.ca_model.specs.History.{Ask, Create, Request, Put, Intent, On, Reply, Removal, Update}
 use Rattle.ca_model.specs.History.{Sent, Told, Step, Circuit, Entry, Removed, Finished, Withdrawn}
-use Rattle.ca_model.specs.History.{Line, Called}
-use Rattle.ca_model.specs.History.{Noticed, Updated, World}
-use Rattle.ca_model.specs.Channels.{AreSteps, CameIn, Created, IsApplied, IsBusyUntil, IsDropped}
-use Rattle.ca_model.specs.Channels.{IsFinished, IsHeld, IsLive}
-use Rattle.ca_model.specs.Channels.{IsOwnWrite, IsReply, IsRequest, IsUncleared, IsUnread, IsUse}
-use Rattle.ca_model.specs.Channels.{KeepNames}
-use Rattle.ca_model.specs.Channels.{IsLost, IsNamed, IsOpen, IsWaiting, Lasts, Meant}
-use Rattle.ca_model.specs.Channels.{OfCircuits, OfClients, Stands, Suits, before, named, until}
-use Rattle.ca_model.specs.Channels.{updates}
+use Rattle.ca_model.specs.History.{Line, Called, Noticed, Updated, World}
+use Rattle.ca_model.specs.Channels.{AreSteps, CameIn, IsApplied, IsBusyUntil, IsDropped, IsFinished}
+use Rattle.ca_model.specs.Channels.{IsHeld, IsLive, IsOwnWrite, IsReply, IsRequest, IsUnread, IsUse}
+use Rattle.ca_model.specs.Channels.{KeepNames, IsLost, IsNamed, IsOpen, IsWaiting, Lasts, Meant}
+use Rattle.ca_model.specs.Channels.{OfCircuits, OfClients, Stands, Suits, before, updates}
 use Rattle.ca_model.specs.Posts.{matching}
-
--- The message at place k was handled on record r: that of the channel that was open then under its
--- SID.
-abbrev pub Acted : Circuit → List Entry → (k r : ℕ) → Type 0
-Acted c y k r =
-    (s : Sent) × (h : Step) × (i l : ℕ) × At c.up k s × At c.handled k h
-    × IsOpen (before c k h) (take h.logged y) i l (sid_in s.message) r
-
--- When it reads the message at place j, the client takes the id for that of its message at place k:
--- the last so far that gave it.
-abbrev pub Took : Circuit → (j : ℕ) → Id → (k : ℕ) → Type 0
-Took c j id k =
-    (s : Sent) × At c.up k s × Gives s.message id × (k < until c j)
-    × ((l : ℕ) (r : Sent) → k < l → l < until c j → At c.up l r → Gives r.message id → ⊥)
-
--- The id in the message at place j is taken for what the client's message at place p is about, and
--- was not given again since.
-abbrev pub TakesOwn : Circuit → (j p : ℕ) → Id → Type 0
-TakesOwn c j p id =
-    (k number : ℕ) × (s r : Sent) × Took c j id k × (k ≤ p) × At c.up k s × At c.up p r
-    × (named id s.intent ≡ Some number) × (named id r.intent ≡ Some number)
-
--- The EVENT_ADD s at place k was accepted in step h: it was handled on record r, and no reply
--- refused it.
-abbrev pub Accepted : Circuit → List Entry → (k r : ℕ) → Sent → Step → Type 0
-Accepted c y k r s h =
-    (channel number : ℕ) × At c.up k s × (s.intent ≡ On channel (Subscribe number))
-    × At c.handled k h × Acted c y k r
-    × ((j : ℕ) (t : Told) → At c.down j t → t.place ≡ k → t.cause ≡ Reply → ⊥)
-
--- A message has its cause: an update an accepted EVENT_ADD; a SERVER_DISCONN a channel that was
--- open when its record was removed.
-abbrev pub HasCause : Circuit → List Entry → Told → Cause → Type 0
-HasCause c y t Reply = Unit {0}
-HasCause c y t (Update item) = (r : ℕ) × (s : Sent) × (h : Step) × Accepted c y t.place r s h
-HasCause c y t Removal =
-    (j sid r e : ℕ) × (s : Sent) × Created c y j t.place sid r × At y e (Removed r)
-    × IsUncleared c t.place sid e
-    × At c.up t.place s × Disconnects s.message t.message
+use Rattle.ca_model.specs.Causes.{Acted, TakesOwn, Accepted, HasCause}
 
 -- What is due for a message, by what its server knew: replies now, one when its put finishes, and
 -- what is logged. Which update shows an EVENT_ADD a stored value. What outcome a message means.
@@ -177,9 +134,9 @@ module _
 
   -- 3. A write is applied once, in all lives of all servers, with its own value to its own record,
   -- when it was handled, or as the server's end closed on it, or after it had waited. A put came to
-  -- wait in one of the first two ways, and is dropped only with its record, its channel or its
-  -- circuit. A record finishes one put at a time, each once. A put told Done is applied; a write
-  -- told Failed is not.
+  -- wait when it was handled, and is dropped only with its record, its channel or its circuit. A
+  -- record finishes one put at a time, each once. A put told Done is applied; a write told Failed
+  -- is not.
   pub record NotTwice (w : World) : Type 0 where
     pub once : (n k l m i j r q : ℕ) (v u : Stored) → IsApplied w n k l i r v
         → IsApplied w n k m j q u

@@ -25,7 +25,8 @@ use Rattle.ca_model.specs.History.{Withdrawn, World}
 use Rattle.ca_model.specs.Updates.{Shows}
 use Rattle.ca_model.specs.Channels.{Has, IsOpen, Lasts}
 use Rattle.ca_model.specs.Posts.{post_in}
-use Rattle.ca_model.specs.Headline.{Accepted, Safe}
+use Rattle.ca_model.specs.Headline.{Safe}
+use Rattle.ca_model.specs.Causes.{Accepted}
 use Rattle.ca_requests.specs.Meaning.{Means}
 
 -- ---- records, as the log says

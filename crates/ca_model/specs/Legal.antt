@@ -1,14 +1,18 @@
 -- Statement: what each end of each circuit sends is what it may send.
-use Rattle.std.specs.Prelude.{ℕ, ◌≡◌, ◌<◌, ◌≤◌, true, List, Option, None, map, take}
+use Rattle.std.specs.Prelude.{ℕ, ◌≡◌, ◌<◌, ◌≤◌, ◌⊎◌, true, List, None, Some, length, map, take}
 use Rattle.ca_text.specs.Place.{At}
 use Rattle.ca_dbr.specs.declared.value.Outcome.{Outcome}
-use Rattle.ca_dbr.specs.Elements.{Elements}
-use Rattle.ca_model.specs.Sends.{Conduct, LegalClient, LegalServer}
-use Rattle.ca_model.specs.Speech.{Creates, In}
-use Rattle.ca_model.specs.History.{Create, Subscribe, Intent, On, Reply, Removal, Sent, Told, Step}
+use Rattle.ca_dbr.specs.Elements.{Elements, base_of, bytes_of, count_of}
+use Rattle.ca_dbr.specs.Types.{base_number}
+use Rattle.ca_wire.specs.Fields.{Fields, padded}
+use Rattle.ca_model.specs.Sends.{Conduct, IsDisconnect, IsFree, LegalClient, LegalServer}
+use Rattle.ca_model.specs.Sends.{SameIndex}
+use Rattle.ca_model.specs.Speech.{Creates, Gives, Id, In, name_in}
+use Rattle.ca_model.specs.History.{Clear, Create, Put, Request, Subscribe, Write, Intent, On}
+use Rattle.ca_model.specs.History.{OfCircuit, Reply, Removal, Sent, Told, Step}
 use Rattle.ca_model.specs.History.{Circuit, Entry}
-use Rattle.ca_model.specs.History.{Removed, Line, Called, Noticed, World}
-use Rattle.ca_model.specs.Channels.{Created, IsHeld, IsUncleared, IsUse, Meant, OfCircuits}
+use Rattle.ca_model.specs.History.{Removed, Line, Called, Noticed, Opened, World}
+use Rattle.ca_model.specs.Channels.{Created, IsHeld, IsUncleared, Meant, OfCircuits}
 use Rattle.ca_model.specs.Channels.{OfClients, Stands}
 
 -- What the client did on a circuit, and what the server did.
@@ -38,7 +42,34 @@ abbrev pub IsStanding : List Line → Intent → Type 0
 IsStanding x intent =
     In x (Called intent None) × IsHeld x intent × ((o : Outcome) → In x (Noticed intent o) → ⊥)
 
--- What goes out on a circuit. Each end sends what it may. A read, a write or an EVENT_ADD was
+-- The message has these elements: their type, how many they are, and their bytes.
+pub record Carries (m : Fields) (e : Elements) : Type 0 where
+  pub typed : m.data_type ≡ base_number (base_of e)
+  pub counted : m.count ≡ count_of e
+  pub payload : m.payload ≡ padded (bytes_of e)
+
+-- By these lines a write was called, with the value that the message carries.
+abbrev pub IsGiven : List Line → Intent → Fields → Type 0
+IsGiven x intent m = (given : Elements) × In x (Called intent (Some given)) × Carries m given
+
+-- The client sent its message at place k as it read a SERVER_DISCONN for this CID.
+abbrev pub AnswersDisconnect : Circuit → (k cid : ℕ) → Type 0
+AnswersDisconnect c k cid =
+    (j : ℕ) × (t : Told) × (h : Step) × At c.down j t × At c.heard j h × (h.sent ≡ k)
+    × IsDisconnect cid t.message
+
+-- What message m, at place k, was sent for was called by these lines. A CREATE_CHAN has the name
+-- under which its channel was opened, and a write the value that was given. A CLEAR_CHANNEL was
+-- called, or answers a SERVER_DISCONN.
+abbrev pub WasCalled : Circuit → List Line → (k : ℕ) → Intent → Fields → Type 0
+WasCalled c x k (On a Create) m = In x (Opened a (name_in m))
+WasCalled c x k (On a Clear) m = In x (Called (On a Clear) None) ⊎ AnswersDisconnect c k m.p2
+WasCalled c x k (On a (Request Put number)) m = IsGiven x (On a (Request Put number)) m
+WasCalled c x k (On a (Request Write number)) m = IsGiven x (On a (Request Write number)) m
+WasCalled c x k (On a ask) m = In x (Called (On a ask) None)
+WasCalled c x k OfCircuit m = Unit {0}
+
+-- What goes out on a circuit. Each end sends what it may. What the client sends for a channel was
 -- called. A channel that was open when its record was removed has a SERVER_DISCONN. And for each
 -- creation of its channel a subscription has one EVENT_ADD: two are for different creations; each
 -- time that the channel becomes live there is one if the subscription stands, and none if its
@@ -46,15 +77,14 @@ IsStanding x intent =
 pub record LegalCircuit (n : ℕ) (c : Circuit) (x : List Line) (y : List Entry) : Type 0 where
   pub client : LegalClient (client_conduct c)
   pub server : LegalServer (server_conduct c)
-  pub called : (k : ℕ) (intent : Intent) → IsUse intent → Meant c k intent
-      → (given : Option Elements) × In x (Called intent given)
+  pub called : (k : ℕ) (s : Sent) → At c.up k s → WasCalled c x k s.intent s.message
   pub told : (j k sid r e : ℕ) → Created c y j k sid r → At y e (Removed r) → IsUncleared c k sid e
       → c.server_open ≡ true
       → (q : ℕ) × (t : Told) × At c.down q t × (t.place ≡ k) × (t.cause ≡ Removal)
   pub apart : (k l channel number : ℕ) → k < l → Meant c k (On channel (Subscribe number))
       → Meant c l (On channel (Subscribe number))
       → (p : ℕ) × (k < p) × (p < l) × Meant c p (On channel Create)
-  pub anew : (channel k number : ℕ) (h : Step) → BecomesLive c channel k h
+  pub renewed : (channel k number : ℕ) (h : Step) → BecomesLive c channel k h
       → IsStanding (take h.logged x) (On channel (Subscribe number))
       → (l : ℕ) × (h.sent ≤ l) × Meant c l (On channel (Subscribe number))
       × ((p : ℕ) → k < p → p < l → Meant c p (On channel Create) → ⊥)
@@ -69,7 +99,21 @@ IsSent w life x =
     (channel number : ℕ) → In x (Called (On channel (Subscribe number)) None) → (n k : ℕ)
     × Stands w life (On channel (Subscribe number)) n k
 
+-- By now the id is free that the client's message at place l gave.
+abbrev pub IsFreeNow : Circuit → (l : ℕ) → Type 0
+IsFreeNow c l = IsFree (client_conduct c) l (length c.up)
+
+-- Of two ids of one index that a client gave on two circuits, one is free, if both its ends are
+-- open.
+abbrev pub IdsAreApart : World → Type 0
+IdsAreApart w =
+    (n m l k : ℕ) (c d : Circuit) (s r : Sent) (a b : Id) → n < m → At w.circuits n c
+    → At w.circuits m d → c.client ≡ d.client → c.client_open ≡ true → d.client_open ≡ true
+    → At c.up l s → At d.up k r → Gives s.message a → Gives r.message b → SameIndex a b
+    → IsFreeNow c l ⊎ IsFreeNow d k
+
 -- What is sent in a world is legal.
 pub record Legal (w : World) : Type 0 where
   pub circuits : OfCircuits w LegalCircuit
   pub subscriptions : OfClients w (IsSent w)
+  pub ids : IdsAreApart w

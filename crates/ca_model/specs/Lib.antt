@@ -23,7 +23,9 @@ pub mod ClientEvents
 pub mod Runs
 pub mod Posts
 pub mod Channels
+pub mod Causes
 pub mod Headline
 pub mod Legal
 pub mod Known
+pub mod Origins
 pub mod Worlds

@@ -1,7 +1,7 @@
 -- Vocabulary: the calls of a server beside its circuits, by answer (sections "Process Variables",
 -- "CA_PROTO_WRITE_NOTIFY", "CA_PROTO_SERVER_DISCONN", "CA_PROTO_SEARCH"). Each is the contract of
 -- the call of `ServerCore` that its comment names.
-use Rattle.std.specs.Prelude.{ℕ, ◌≡◌, ◌≢◌, ◌<◌, ◌≤◌, ◌+◌, ◌==◌, ◌&&◌, ◌||◌, ◌++◌, ◌⊎◌, Bool, true}
+use Rattle.std.specs.Prelude.{ℕ, ◌≡◌, ◌≢◌, ◌<◌, ◌≤◌, ◌==◌, ◌&&◌, ◌||◌, ◌++◌, ◌⊎◌, Bool, true}
 use Rattle.std.specs.Prelude.{not, List, [], ◌∷◌, Option, Some, None, Ok, Err, Result, drop, filter}
 use Rattle.std.specs.Prelude.{if◌then◌else◌, is_some, length, map, max, take}
 use Rattle.std.specs.List.{flat_map, list_any}
@@ -25,13 +25,11 @@ use Rattle.ca_text.specs.Command.{command_number}
 use Rattle.ca_text.specs.declared.command.Command.TheVariants as command
 use Rattle.ca_text.specs.declared.refusal.Refusal.{Refusal}
 use Rattle.ca_text.specs.declared.refusal.Refusal.TheVariants as refusal
-use Rattle.ca_text.specs.Limits.{datagram_replies}
-use Rattle.ca_text.specs.Place.{At}
 use Rattle.ca_text.specs.Status.{normal}
 use Rattle.ca_wire.specs.Fields.{Fields}
 use Rattle.ca_wire.specs.Header.{short_header}
 use Rattle.ca_wire.specs.Message.{header_of, spelled}
-use Rattle.ca_wire.specs.Messages.{disconnect, search_reply, text_in, version_reply}
+use Rattle.ca_wire.specs.Messages.{disconnect, search_reply, text_in}
 use Rattle.ca_model.specs.Ends as why
 use Rattle.ca_model.specs.Server.{Ended, Open, OpenChannel, Server, ServerCircuit, ServerEnd}
 use Rattle.ca_model.specs.Server.{without_subscriptions}

@@ -6,6 +6,7 @@ use Rattle.ca_model.specs.Runs.{AreEvents, Runs}
 use Rattle.ca_model.specs.World.{Setting, IsSetting, World, port_of, rules_of, told}
 use Rattle.ca_model.specs.Known.{IsSafe}
 use Rattle.ca_model.specs.Legal.{Legal}
+use Rattle.ca_model.specs.Origins.{ComeFromEvents}
 
 -- What happened in the world is safe, by the ports and rules that its servers were given.
 abbrev pub IsSafeWorld : World → Type 0
@@ -17,9 +18,10 @@ abbrev pub IsLegalWorld : World → Type 0
 IsLegalWorld w = Legal (told w)
 
 -- What is promised: from a well-formed setting, whatever events in a row lead to is safe, and
--- legal.
+-- legal; and what servers' logs have that no message makes comes from these events.
 abbrev pub Promise : Type 0
 Promise =
     (setting : Setting) (es : List Event) (stopped : Option Event) (w : World) → IsSetting setting
     → AreEvents es
     → Runs setting es stopped w → IsSafeWorld w × IsLegalWorld w
+    × ComeFromEvents setting es w.server_logs

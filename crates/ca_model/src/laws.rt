@@ -1,3 +1,5 @@
+//! One law on the model of a client: reading a message, clearing a channel and losing a circuit
+//! keep requests and subscriptions on channels that were live.
 ghost use Rattle.std.specs.Prelude.{◌≡◌, Some};
 ghost use Rattle.ca_arena.specs.declared.handle.Handle.{Handle};
 ghost use Rattle.ca_wire.specs.Fields.{Fields};

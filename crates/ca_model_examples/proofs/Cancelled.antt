@@ -12,7 +12,7 @@ use Rattle.ca_model_examples.specs.Unsafe.{cancelled, cancelling, confirmed, ope
 use Rattle.ca_model_examples.proofs.Lists.{each-at, two-at}
 use Rattle.ca_model_examples.proofs.Quiet.{quiet, holds, whole}
 use Rattle.ca_model_examples.proofs.Shown.{answered-by, answered-each, caused-each, taken-each}
-use Rattle.ca_model.specs.Headline.{TakesOwn}
+use Rattle.ca_model.specs.Causes.{TakesOwn}
 use Rattle.ca_model.specs.Updates.{Shows}
 use Rattle.ca_requests.specs.Meaning.{Means}
 use Rattle.ca_model_examples.proofs.Names.{its-part}
@@ -21,7 +21,8 @@ use Rattle.ca_model_examples.proofs.Speaks.{heads, of-update}
 use Rattle.ca_model_examples.proofs.Creations.{only-added}
 use Rattle.ca_model.specs.Channels.{Lasts, updates}
 use Rattle.ca_model.specs.History.{Ask}
-use Rattle.ca_model.specs.Headline.{Acted, IsBadChannel}
+use Rattle.ca_model.specs.Headline.{IsBadChannel}
+use Rattle.ca_model.specs.Causes.{Acted}
 use Rattle.ca_model.specs.Speech.{Gives, SubId}
 use Rattle.ca_model.specs.Channels.{IsNamed}
 use Rattle.ca_dbr.specs.declared.value.Outcome.TheVariants as outcome

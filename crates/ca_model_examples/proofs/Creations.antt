@@ -16,7 +16,8 @@ use Rattle.ca_model_examples.specs.Unsafe.{opened, created, created_closed, live
 use Rattle.ca_model_examples.proofs.Lists.{each-at, none-at, one-at}
 use Rattle.ca_model_examples.proofs.Quiet.{any, none, quiet, holds, whole, is_removed, is_called}
 use Rattle.ca_model_examples.proofs.Shown.{ToldAt, answered-by, answered-each, caused-each, taken-each, told-each}
-use Rattle.ca_model.specs.Headline.{HasCause, LosesLive, Reads, TakesOwn}
+use Rattle.ca_model.specs.Headline.{LosesLive, Reads}
+use Rattle.ca_model.specs.Causes.{HasCause, TakesOwn}
 use Rattle.ca_model.specs.Updates.{Shows}
 use Rattle.ca_requests.specs.Meaning.{Means}
 use Rattle.ca_model_examples.proofs.Names.{its-part, was-there}

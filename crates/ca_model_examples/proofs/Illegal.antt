@@ -1,26 +1,27 @@
 -- Of each of these histories one part of what is legal is broken, or none.
 use Rattle.std.proofs.Common.{◌≡◌, ◌≢◌, ℕ, ◌<◌, ◌≤◌, ◌⊎◌, inl, inr, List, [], ◌∷◌, refl, sym, ap, subst, ◌∙◌, arith}
-use Rattle.std.specs.Prelude.{true, false, None, take}
+use Rattle.std.specs.Prelude.{Bool, true, false, None, Some, get_or, length, take}
 use Rattle.ca_text.specs.Place.{At}
 use Rattle.ca_text.proofs.Places.{At-within, some_is}
 use Rattle.ca_text.specs.declared.command.Command.TheVariants as command
 use Rattle.ca_dbr.specs.declared.value.Outcome.{Outcome}
-use Rattle.ca_wire.specs.Fields.{Fields}
-use Rattle.ca_model.specs.Speech.{Cid, Ioid, Creates, Gives, In, Is, SubId, sid_in}
-use Rattle.ca_model.specs.History.{Cancel, Clear, Create, Read, Request, Subscribe, Intent, On, Sent, Told, Step, Circuit, Line, Added, Called, Noticed, Opened}
+use Rattle.ca_dbr.specs.Elements.{Elements, bytes_of, signed_bytes_4}
+use Rattle.ca_wire.specs.Fields.{Fields, padded}
+use Rattle.ca_model.specs.Speech.{Cid, Ioid, Creates, Gives, Id, In, Is, SubId, name_in, sid_in}
+use Rattle.ca_model.specs.History.{Cancel, Clear, Create, Read, Request, Subscribe, Write, Intent, On, Sent, Told, Step, Circuit, Entry, Line, Added, Called, Noticed, Opened}
 use Rattle.ca_model.specs.Channels.{IsHeld, Meant}
-use Rattle.ca_model.specs.Sends.{Conduct, Frees, HasChannel, IsConnected, IsDisconnect, IsOnChannel, IsOpenAt, IsUncancelled, ReadsBetween}
-use Rattle.ca_model.specs.Legal.{BecomesLive, IsStanding, Legal, client_conduct, server_conduct}
-use Rattle.ca_model_examples.specs.Worlds.{putting, clearing, temp, adding, created_told, creating, disconnected, reading, step, temp_name, world}
+use Rattle.ca_model.specs.Sends.{Conduct, Frees, HasChannel, SameIndex, IsConnected, IsDisconnect, IsOnChannel, IsOpenAt, IsUncancelled, ReadsBetween}
+use Rattle.ca_model.specs.Legal.{BecomesLive, IsStanding, Legal, WasCalled, client_conduct, server_conduct}
+use Rattle.ca_model_examples.specs.Worlds.{putting, clearing, temp, adding, created_told, creating, disconnected, long, reading, step, temp_name, world}
 use Rattle.ca_model_examples.specs.Unsafe.{cancelling, opened, temp_removed, temp_there, updated}
-use Rattle.ca_model_examples.specs.Illegal.{added_again, asked_again, asked_with, both_asked, both_created, called_at, calls, cancel_called, confirm_out, created_again, goes_out, live_again, read_out, reads_out, alone, writing, unasked, sent_in, subscribe_called, told_closed, told_so, uncalled_in, update_out}
-use Rattle.ca_model_examples.specs.Parts.{MaySend, Sending, SendsWrong, SentSo}
+use Rattle.ca_model_examples.specs.Illegal.{added_again, asked_again, asked_with, both_asked, both_created, called_at, called_in, calls, cancel_called, clears_lost, confirm_out, created_again, created_read, goes_out, live_again, read_out, reads_out, alone, writing, unasked, sent_in, subscribe_called, told_closed, told_so, two_circuits, uncalled_in, update_out, write_called}
+use Rattle.ca_model_examples.specs.Parts.{CalledSo, HeldSo, MaySend, Sending, SendsWrong, SentSo}
 use Rattle.ca_model_examples.specs.Parts as part
-use Rattle.ca_model_examples.proofs.Lists.{each-at, none-at, one-at}
-use Rattle.ca_model_examples.proofs.Quiet.{none}
+use Rattle.ca_model_examples.proofs.Lists.{each-at, none-at, one-at, two-at}
+use Rattle.ca_model_examples.proofs.Quiet.{clash, none}
 use Rattle.ca_model_examples.proofs.Opened.{created-here}
 use Rattle.ca_model_examples.proofs.Creations.{channel-of, only-added, uncleared}
-use Rattle.ca_model_examples.proofs.Sent.{all-legal, all-on-sid, is, is-so, its-sent, on-channel-so, on-sid, quiet-sends, sends}
+use Rattle.ca_model_examples.proofs.Sent.{all-legal, all-on-sid, is, is-so, its-sent, on-channel-so, on-sid, quiet-sends, quiet-sent, sends}
 
 -- ---- what a client sends
 
@@ -37,7 +38,7 @@ read-uncalled-rest part.OnChannel ne = sends part.OnChannel (read_out (step 1 0 
 read-uncalled-rest p ne = quiet-sends p (read_out (step 1 0 0 ∷ [])) opened temp_there refl refl refl
 
 pub read-uncalled : SendsWrong part.HasCall (uncalled_in (read_out (step 1 0 0 ∷ [])))
-read-uncalled = (read-uncalled-rest, λ h. (let c = its-sent part.HasCall (read_out (step 1 0 0 ∷ [])) opened temp_there refl refl h.0 1 (On 0 (Request Read 0)) tt (reading 0 7, refl, refl) in let e : Called (On 0 (Request Read 0)) c.0 ≡ Opened 0 temp_name = (one-at (Opened 0 temp_name) c.1.0 _ c.1.1).1 in cc))
+read-uncalled = (read-uncalled-rest, λ h. (let c = its-sent part.HasCall (read_out (step 1 0 0 ∷ [])) opened temp_there refl refl h.0 1 (reading 0 7) refl in let e : Called (On 0 (Request Read 0)) None ≡ Opened 0 temp_name = (one-at (Opened 0 temp_name) c.0 _ c.1).1 in cc))
 
 read-too-soon-rest : (p : Sending) → (p ≡ part.OnChannel → ⊥) → MaySend p (sent_in (read_out []))
 read-too-soon-rest part.OnChannel ne = absurd (ne refl)
@@ -64,6 +65,7 @@ alone-fails : (m : Sent) → IsOnChannel m.message → MaySend part.OnChannel (s
 alone-fails m on h = (let o = its-sent part.OnChannel (alone m) (calls (alone m).up) temp_there refl refl h.0 0 m.message refl on in none-at o.1 o.3.4.0 o.3.4.2)
 
 put-alone-rest : (p : Sending) → (p ≡ part.OnChannel → ⊥) → MaySend p (sent_in (alone (putting 0 8 22)))
+unfolding signed_bytes_4
 put-alone-rest part.OnChannel ne = absurd (ne refl)
 put-alone-rest p ne = quiet-sends p (alone (putting 0 8 22)) (calls (alone (putting 0 8 22)).up) temp_there refl refl refl
 
@@ -71,6 +73,7 @@ pub put-alone : SendsWrong part.OnChannel (sent_in (alone (putting 0 8 22)))
 put-alone = (put-alone-rest, alone-fails (putting 0 8 22) (inr (inl refl)))
 
 write-alone-rest : (p : Sending) → (p ≡ part.OnChannel → ⊥) → MaySend p (sent_in (alone (writing)))
+unfolding signed_bytes_4
 write-alone-rest part.OnChannel ne = absurd (ne refl)
 write-alone-rest p ne = quiet-sends p (alone (writing)) (calls (alone (writing)).up) temp_there refl refl refl
 
@@ -286,6 +289,230 @@ removed-untold-rest p ne = quiet-sends p (told_so (created_told ∷ [])) opened 
 pub removed-untold : SendsWrong part.ToldRemoved (world (told_so (created_told ∷ []) ∷ []) opened temp_removed)
 removed-untold = (removed-untold-rest, λ h. (let t = its-sent part.ToldRemoved (told_so (created_told ∷ [])) opened temp_removed refl refl h.0 0 0 5 0 1 (created-here (told_so (created_told ∷ [])) temp_removed refl refl refl refl (only-added (Added 0 temp ∷ []) 0 refl)) refl (uncleared (told_so (created_told ∷ [])) 1 refl) refl in let e = (one-at created_told t.0 t.1 t.2).1 in let f : created_told.cause ≡ t.1.cause = ap (λ (u : Told). u.cause) (sym e) in let g = t.4 in cc))
 
+-- ---- a write of its value, a cancel, a clear and a creation
+
+write-legal-each : (p : Sending) → MaySend p (called_in (write_called 22) (goes_out (writing ∷ [])))
+unfolding signed_bytes_4
+write-legal-each part.OnChannel = sends part.OnChannel (goes_out (writing ∷ [])) (write_called 22) temp_there refl refl (all-on-sid (goes_out (writing ∷ [])) (write_called 22) temp_there (writing.message) [] 1 refl refl refl refl refl refl refl) tt
+write-legal-each p = quiet-sends p (goes_out (writing ∷ [])) (write_called 22) temp_there refl refl refl
+
+pub write-legal : Legal (called_in (write_called 22) (goes_out (writing ∷ [])))
+write-legal = all-legal _ write-legal-each
+
+write-other-rest : (p : Sending) → (p ≡ part.HasCall → ⊥) → MaySend p (called_in (write_called 23) (goes_out (writing ∷ [])))
+write-other-rest part.HasCall ne = absurd (ne refl)
+write-other-rest part.OnChannel ne = sends part.OnChannel (goes_out (writing ∷ [])) (write_called 23) temp_there refl refl (all-on-sid (goes_out (writing ∷ [])) (write_called 23) temp_there (writing.message) [] 1 refl refl refl refl refl refl refl) tt
+write-other-rest p ne = quiet-sends p (goes_out (writing ∷ [])) (write_called 23) temp_there refl refl refl
+
+abbrev value-of : Line → Elements
+value-of (Called i (Some e)) = e
+value-of l = (long 0).value
+
+pub write-other : SendsWrong part.HasCall (called_in (write_called 23) (goes_out (writing ∷ [])))
+unfolding signed_bytes_4
+write-other = (
+  write-other-rest,
+  λ h.
+      (let c = its-sent part.HasCall (goes_out (writing ∷ [])) (write_called 23) temp_there refl refl h.0 1 writing refl in
+      let call = two-at (Opened 0 temp_name) (Called (On 0 (Request Write 0)) (Some (long 23).value)) c.1.0 (Called (On 0 (Request Write 0)) (Some c.0)) c.1.1 in
+      elim call [
+        | inl first ↦ (let e : Called (On 0 (Request Write 0)) (Some c.0) ≡ Opened 0 temp_name = first.1 in cc)
+        | inr second ↦
+            let given : c.0 ≡ (long 23).value = ap value-of second.1 in
+            let byte : ◌≡◌ {A = ℕ} 22 23 = ap (λ (l : List ℕ). get_or l 3 0) (c.2.payload ∙ ap (λ (e : Elements). padded (bytes_of e)) given) in
+            omega (arith, byte)
+      ]),
+)
+
+cancel-uncalled-rest : (p : Sending) → (p ≡ part.HasCall → ⊥) → MaySend p (called_in (calls (creating ∷ adding 0 9 ∷ [])) (goes_out (adding 0 9 ∷ cancelling ∷ [])))
+cancel-uncalled-rest part.HasCall ne = absurd (ne refl)
+cancel-uncalled-rest part.OnChannel ne = sends part.OnChannel (goes_out (adding 0 9 ∷ cancelling ∷ [])) (calls (creating ∷ adding 0 9 ∷ [])) temp_there refl refl (all-on-sid (goes_out (adding 0 9 ∷ cancelling ∷ [])) (calls (creating ∷ adding 0 9 ∷ [])) temp_there ((adding 0 9).message) (cancelling.message ∷ []) 1 refl refl refl refl refl refl refl) tt
+cancel-uncalled-rest part.Cancels ne = sends part.Cancels (goes_out (adding 0 9 ∷ cancelling ∷ [])) (calls (creating ∷ adding 0 9 ∷ [])) temp_there refl refl (cancel-for (goes_out (adding 0 9 ∷ cancelling ∷ [])) refl) tt
+cancel-uncalled-rest p ne = quiet-sends p (goes_out (adding 0 9 ∷ cancelling ∷ [])) (calls (creating ∷ adding 0 9 ∷ [])) temp_there refl refl refl
+
+pub cancel-uncalled : SendsWrong part.HasCall (called_in (calls (creating ∷ adding 0 9 ∷ [])) (goes_out (adding 0 9 ∷ cancelling ∷ [])))
+cancel-uncalled = (
+  cancel-uncalled-rest,
+  λ h.
+      (let c = its-sent part.HasCall (goes_out (adding 0 9 ∷ cancelling ∷ [])) (calls (creating ∷ adding 0 9 ∷ [])) temp_there refl refl h.0 2 cancelling refl in
+      each-at (λ (i : ℕ) (l : Line). l ≡ Called (On 0 (Cancel 0)) None → ⊥) (calls (creating ∷ adding 0 9 ∷ [])) ((λ e. cc), ((λ e. cc), tt)) c.0 _ c.1 refl),
+)
+
+-- A CLEAR_CHANNEL goes out on the channel, once the creation's reply was read.
+clear-on-sid : (c : Circuit) (x : List Line) (y : List Entry) → (client_conduct c).sent ≡ creating.message ∷ clearing.message ∷ [] → At (client_conduct c).came 0 created_told.message → At (client_conduct c).read 0 1 → SentSo part.OnChannel 0 c x y
+clear-on-sid c x y sent came read = λ k r at on. each-at (λ (i : ℕ) (z : Fields). IsOnChannel z → (p q cid : ℕ) × HasChannel (client_conduct c) i p q cid (sid_in z)
+    × ((Is command.ClearChannel z × (z.p2 ≡ cid)) ⊎ ((Is command.ClearChannel z → ⊥) × ((l : ℕ) (d : Fields) → q < l → ReadsBetween (client_conduct c) p i l d → IsDisconnect cid d → ⊥)))) (creating.message ∷ clearing.message ∷ []) (
+      (λ first. absurd (clash (on-channel-so creating.message first) refl)),
+      ((λ first. (0, 0, 1, (creating.message, created_told.message, subst (λ (l : List Fields). At l 0 creating.message) (sym sent) refl, (refl, refl), (1, came, read, omega arith, omega arith), (refl, refl), refl, λ l d late early there clears. absurd (omega (arith, late, early))), inl (refl, refl))), tt),
+    ) k r (subst (λ (l : List Fields). At l k r) sent at) on
+
+clear-legal-each : (p : Sending) → MaySend p (sent_in (goes_out (clearing ∷ [])))
+clear-legal-each part.OnChannel = sends part.OnChannel (goes_out (clearing ∷ [])) (calls (goes_out (clearing ∷ [])).up) temp_there refl refl (clear-on-sid (goes_out (clearing ∷ [])) (calls (goes_out (clearing ∷ [])).up) temp_there refl refl refl) tt
+clear-legal-each p = quiet-sends p (goes_out (clearing ∷ [])) (calls (goes_out (clearing ∷ [])).up) temp_there refl refl refl
+
+pub clear-legal : Legal (sent_in (goes_out (clearing ∷ [])))
+clear-legal = all-legal _ clear-legal-each
+
+clear-uncalled-rest : (p : Sending) → (p ≡ part.HasCall → ⊥) → MaySend p (uncalled_in (goes_out (clearing ∷ [])))
+clear-uncalled-rest part.HasCall ne = absurd (ne refl)
+clear-uncalled-rest part.OnChannel ne = sends part.OnChannel (goes_out (clearing ∷ [])) opened temp_there refl refl (clear-on-sid (goes_out (clearing ∷ [])) opened temp_there refl refl refl) tt
+clear-uncalled-rest p ne = quiet-sends p (goes_out (clearing ∷ [])) opened temp_there refl refl refl
+
+-- nobody called it
+clear-not-called : (At opened 0 (Opened 0 temp_name)) → In opened (Called (On 0 Clear) None) → ⊥
+clear-not-called one c = (let e : Called (On 0 Clear) None ≡ Opened 0 temp_name = (one-at (Opened 0 temp_name) c.0 _ c.1).1 in cc)
+
+pub clear-uncalled : SendsWrong part.HasCall (uncalled_in (goes_out (clearing ∷ [])))
+clear-uncalled = (
+  clear-uncalled-rest,
+  λ h. elim (its-sent part.HasCall (goes_out (clearing ∷ [])) opened temp_there refl refl h.0 1 clearing refl) [
+    | inl c ↦ clear-not-called refl c
+    | inr a ↦ (let t = one-at created_told a.0 a.1 a.3 in let lost : Is command.ServerDisconnect created_told.message = subst (λ (z : Told). Is command.ServerDisconnect z.message) t.1 a.6.0 in omega (arith, lost))
+  ],
+)
+
+lost-disconnects : (heard : List Step) (x : List Line) (y : List Entry) → SentSo part.Disconnects 0 (clears_lost heard) x y
+lost-disconnects heard x y = λ k m at e. each-at (λ (i : ℕ) (z : Fields). Is command.ServerDisconnect z → (a sid : ℕ) × IsOpenAt (server_conduct (clears_lost heard)) i a z.p1 sid × IsConnected (server_conduct (clears_lost heard)) a i z.p1) (server_conduct (clears_lost heard)).sent (
+  (λ f. absurd (omega (arith, f))),
+  ((λ f. (0, 5, (created_told.message, refl, (refl, refl), refl, omega arith, λ j r reads clears. none-at j reads.0 reads.2), λ l d late early. absurd (omega (arith, late, early)))), tt),
+) k m at e
+
+clear-answers-each : (p : Sending) → MaySend p (uncalled_in (clears_lost (created_read ∷ created_read ∷ [])))
+clear-answers-each part.OnChannel = sends part.OnChannel (clears_lost (created_read ∷ created_read ∷ [])) opened temp_there refl refl (clear-on-sid (clears_lost (created_read ∷ created_read ∷ [])) opened temp_there refl refl refl) tt
+clear-answers-each part.Disconnects = sends part.Disconnects (clears_lost (created_read ∷ created_read ∷ [])) opened temp_there refl refl (lost-disconnects (created_read ∷ created_read ∷ []) opened temp_there) tt
+clear-answers-each part.HasCall = sends part.HasCall (clears_lost (created_read ∷ created_read ∷ [])) opened temp_there refl refl
+    (λ k s at. each-at (λ (i : ℕ) (z : Sent). WasCalled (clears_lost (created_read ∷ created_read ∷ [])) opened i z.intent z.message) (creating ∷ clearing ∷ []) ((0, refl), (inr (1, disconnected, created_read, refl, refl, refl, (refl, refl)), tt)) k s at) tt
+clear-answers-each p = quiet-sends p (clears_lost (created_read ∷ created_read ∷ [])) opened temp_there refl refl refl
+
+pub clear-answers : Legal (uncalled_in (clears_lost (created_read ∷ created_read ∷ [])))
+clear-answers = all-legal _ clear-answers-each
+
+clear-too-soon-rest : (p : Sending) → (p ≡ part.HasCall → ⊥) → MaySend p (uncalled_in (clears_lost (created_read ∷ [])))
+clear-too-soon-rest part.HasCall ne = absurd (ne refl)
+clear-too-soon-rest part.OnChannel ne = sends part.OnChannel (clears_lost (created_read ∷ [])) opened temp_there refl refl (clear-on-sid (clears_lost (created_read ∷ [])) opened temp_there refl refl refl) tt
+clear-too-soon-rest part.Disconnects ne = sends part.Disconnects (clears_lost (created_read ∷ [])) opened temp_there refl refl (lost-disconnects (created_read ∷ []) opened temp_there) tt
+clear-too-soon-rest p ne = quiet-sends p (clears_lost (created_read ∷ [])) opened temp_there refl refl refl
+
+pub clear-too-soon : SendsWrong part.HasCall (uncalled_in (clears_lost (created_read ∷ [])))
+clear-too-soon = (
+  clear-too-soon-rest,
+  λ h. elim (its-sent part.HasCall (clears_lost (created_read ∷ [])) opened temp_there refl refl h.0 1 clearing refl) [
+    | inl c ↦ clear-not-called refl c
+    | inr a ↦
+        let first : a.0 ≡ 0 = (one-at created_read a.0 a.2 a.4).0 in
+        let lost : a.0 ≡ 1 = each-at (λ (i : ℕ) (z : Told). Is command.ServerDisconnect z.message → i ≡ 1) (created_told ∷ disconnected ∷ []) ((λ e. absurd (omega (arith, e))), ((λ e. refl), tt)) a.0 a.1 a.3 a.6.0 in
+        omega (arith, first, lost)
+  ],
+)
+
+create-legal-each : (p : Sending) → MaySend p (called_in opened (alone creating))
+create-legal-each part.HasCall = quiet-sends part.HasCall (alone creating) opened temp_there refl refl refl
+create-legal-each p = quiet-sends p (alone creating) opened temp_there refl refl refl
+
+pub create-legal : Legal (called_in opened (alone creating))
+create-legal = all-legal _ create-legal-each
+
+create-other-rest : (p : Sending) → (p ≡ part.HasCall → ⊥) → MaySend p (called_in (Opened 0 (84 ∷ []) ∷ []) (alone creating))
+create-other-rest part.HasCall ne = absurd (ne refl)
+create-other-rest p ne = quiet-sends p (alone creating) (Opened 0 (84 ∷ []) ∷ []) temp_there refl refl refl
+
+abbrev name-of : Line → List ℕ
+name-of (Opened a name) = name
+name-of l = []
+
+pub create-other : SendsWrong part.HasCall (called_in (Opened 0 (84 ∷ []) ∷ []) (alone creating))
+create-other = (
+  create-other-rest,
+  λ h.
+      (let c = its-sent part.HasCall (alone creating) (Opened 0 (84 ∷ []) ∷ []) temp_there refl refl h.0 0 creating refl in
+      let named : name_in creating.message ≡ 84 ∷ [] = ap name-of (one-at (Opened 0 (84 ∷ [])) c.0 _ c.1).1 in
+      let long_is : ◌≡◌ {A = ℕ} 4 1 = ap (λ (l : List ℕ). length l) named in
+      omega (arith, long_is)),
+)
+
+-- ---- ids on two circuits
+
+abbrev other-circuit : ℕ → Bool → Circuit
+other-circuit cid stays = record (alone (asked_with cid)) { client_open = stays }
+
+-- what is said of each circuit, of the log, and of the world
+two-send : (p : Sending) (cid : ℕ) (stays : Bool) → ((n : ℕ) → SentSo p n (alone creating) (calls (creating ∷ asked_with cid ∷ [])) temp_there) → ((n : ℕ) → SentSo p n (other-circuit cid stays) (calls (creating ∷ asked_with cid ∷ [])) temp_there)
+    → CalledSo p (two_circuits cid stays) 0 (calls (creating ∷ asked_with cid ∷ [])) → HeldSo p (two_circuits cid stays) → MaySend p (two_circuits cid stays)
+two-send p cid stays one two called held = (
+  λ n c at. elim (two-at (alone creating) (other-circuit cid stays) n c at) [
+    | inl first ↦ (
+      calls (creating ∷ asked_with cid ∷ []),
+      temp_there,
+      (at, subst (λ (d : Circuit). At (two_circuits cid stays).clients d.client (calls (creating ∷ asked_with cid ∷ []))) (sym first.1) refl, subst (λ (d : Circuit). At (two_circuits cid stays).servers d.server temp_there) (sym first.1) refl),
+      subst (λ (d : Circuit). SentSo p n d (calls (creating ∷ asked_with cid ∷ [])) temp_there) (sym first.1) (one n),
+    )
+    | inr second ↦ (
+      calls (creating ∷ asked_with cid ∷ []),
+      temp_there,
+      (at, subst (λ (d : Circuit). At (two_circuits cid stays).clients d.client (calls (creating ∷ asked_with cid ∷ []))) (sym second.1) refl, subst (λ (d : Circuit). At (two_circuits cid stays).servers d.server temp_there) (sym second.1) refl),
+      subst (λ (d : Circuit). SentSo p n d (calls (creating ∷ asked_with cid ∷ [])) temp_there) (sym second.1) (two n),
+    )
+  ],
+  (λ life x at. (let e = one-at (calls (creating ∷ asked_with cid ∷ [])) life x at in subst (λ (v : List Line). CalledSo p (two_circuits cid stays) life v) (sym e.1) (subst (λ (m : ℕ). CalledSo p (two_circuits cid stays) m (calls (creating ∷ asked_with cid ∷ []))) (sym e.0) called))),
+  held,
+)
+
+-- every part but that of ids on two circuits
+two-rest : (p : Sending) (cid : ℕ) (stays : Bool) → (p ≡ part.IdsApart → ⊥) → MaySend p (two_circuits cid stays)
+two-rest part.IdsApart cid stays ne = absurd (ne refl)
+two-rest part.HasAdd cid stays ne = two-send part.HasAdd cid stays (λ n. tt) (λ n. tt) (λ channel number h. absurd (each-at (λ (i : ℕ) (l : Line). l ≡ Called (On channel (Subscribe number)) None → ⊥) (calls (creating ∷ asked_with cid ∷ [])) ((λ e. cc), ((λ e. cc), tt)) h.0 _ h.1 refl)) tt
+two-rest p cid stays ne = two-send p cid stays (λ n. quiet-sent p (alone creating) (calls (creating ∷ asked_with cid ∷ [])) temp_there refl) (λ n. quiet-sent p (other-circuit cid stays) (calls (creating ∷ asked_with cid ∷ [])) temp_there refl) tt tt
+
+-- the places of two circuits, and what is sent there
+two-places : (n m l k : ℕ) (c d : Circuit) (s r : Sent) (cid : ℕ) (stays : Bool) → n < m → At (two_circuits cid stays).circuits n c → At (two_circuits cid stays).circuits m d → At c.up l s → At d.up k r
+    → (s ≡ creating) × (r ≡ asked_with cid) × (d ≡ other-circuit cid stays)
+two-places n m l k c d s r cid stays lt at_c at_d at_s at_r = elim (two-at (alone creating) (other-circuit cid stays) m d at_d) [
+  | inl first ↦ (let e = first.0 in absurd (omega (arith, lt, e)))
+  | inr second ↦ elim (two-at (alone creating) (other-circuit cid stays) n c at_c) [
+    | inr both ↦ (let e = both.0 in let f = second.0 in absurd (omega (arith, lt, e, f)))
+    | inl first ↦ (
+      (one-at creating l s (subst (λ (v : Circuit). At v.up l s) first.1 at_s)).1,
+      (one-at (asked_with cid) k r (subst (λ (v : Circuit). At v.up k r) second.1 at_r)).1,
+      second.1,
+    )
+  ]
+]
+
+-- they give two CIDs
+apart-ids : (a b : Id) → Gives creating.message a → Gives (asked_with 2).message b → SameIndex a b → ⊥
+apart-ids (Cid a) (Cid b) p q same = (let e = p.1 in let f = q.1 in omega (arith, e, f, same))
+apart-ids (Ioid a) b p q same = elim p.0 [ inl e ↦ omega (arith, e) | inr e ↦ omega (arith, e) ]
+apart-ids (SubId a) b p q same = (let e = p.0 in omega (arith, e))
+apart-ids (Cid a) (Ioid b) p q same = absurd same
+apart-ids (Cid a) (SubId b) p q same = absurd same
+
+cids-apart-each : (p : Sending) → MaySend p (two_circuits 2 true)
+cids-apart-each part.IdsApart = two-send part.IdsApart 2 true (λ n. tt) (λ n. tt) tt (λ n m l k c d s r a b lt at_c at_d same open_c open_d at_s at_r gives_s gives_r index.
+    let at = two-places n m l k c d s r 2 true lt at_c at_d at_s at_r in
+    absurd (apart-ids a b (subst (λ (z : Sent). Gives z.message a) at.0 gives_s) (subst (λ (z : Sent). Gives z.message b) at.1 gives_r) index))
+cids-apart-each p = two-rest p 2 true (λ e. cc)
+
+pub cids-apart : Legal (two_circuits 2 true)
+cids-apart = all-legal _ cids-apart-each
+
+cids-ended-each : (p : Sending) → MaySend p (two_circuits 1 false)
+cids-ended-each part.IdsApart = two-send part.IdsApart 1 false (λ n. tt) (λ n. tt) tt (λ n m l k c d s r a b lt at_c at_d same open_c open_d at_s at_r gives_s gives_r index.
+    let at = two-places n m l k c d s r 1 false lt at_c at_d at_s at_r in
+    absurd (clash (sym (ap (λ (e : Circuit). e.client_open) at.2) ∙ open_d) refl))
+cids-ended-each p = two-rest p 1 false (λ e. cc)
+
+pub cids-ended : Legal (two_circuits 1 false)
+cids-ended = all-legal _ cids-ended-each
+
+pub cids-shared : SendsWrong part.IdsApart (two_circuits 1 true)
+cids-shared = (
+  (λ p ne. two-rest p 1 true ne),
+  λ h. elim (h.2 0 1 0 0 (alone creating) (other-circuit 1 true) creating (asked_with 1) (Cid 1) (Cid 1) (omega arith) refl refl refl refl refl refl refl (refl, refl) (refl, refl) refl) [
+    | inl free ↦ none-at free.0 free.3 free.5
+    | inr free ↦ none-at free.0 free.3 free.5
+  ],
+)
+
 -- ---- subscriptions
 
 adds-legal-each : (p : Sending) → MaySend p (sent_in (goes_out (adding 0 9 ∷ adding 1 10 ∷ [])))
@@ -301,7 +528,7 @@ adds-uncalled-rest part.OnChannel ne = sends part.OnChannel (goes_out (adding 0 
 adds-uncalled-rest p ne = quiet-sends p (goes_out (adding 0 9 ∷ adding 1 10 ∷ [])) opened temp_there refl refl refl
 
 pub adds-uncalled : SendsWrong part.HasCall (uncalled_in (goes_out (adding 0 9 ∷ adding 1 10 ∷ [])))
-adds-uncalled = (adds-uncalled-rest, λ h. (let c = its-sent part.HasCall (goes_out (adding 0 9 ∷ adding 1 10 ∷ [])) opened temp_there refl refl h.0 1 (On 0 (Subscribe 0)) tt (adding 0 9, refl, refl) in let e : Called (On 0 (Subscribe 0)) c.0 ≡ Opened 0 temp_name = (one-at (Opened 0 temp_name) c.1.0 _ c.1.1).1 in cc))
+adds-uncalled = (adds-uncalled-rest, λ h. (let c = its-sent part.HasCall (goes_out (adding 0 9 ∷ adding 1 10 ∷ [])) opened temp_there refl refl h.0 1 (adding 0 9) refl in let e : Called (On 0 (Subscribe 0)) None ≡ Opened 0 temp_name = (one-at (Opened 0 temp_name) c.0 _ c.1).1 in cc))
 
 added-twice-rest : (p : Sending) → (p ≡ part.Apart → ⊥) → MaySend p (sent_in (goes_out (adding 0 9 ∷ adding 0 10 ∷ [])))
 added-twice-rest part.Apart ne = absurd (ne refl)

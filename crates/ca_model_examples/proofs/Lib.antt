@@ -52,3 +52,4 @@ pub mod RefusedCreation
 pub mod OwnValue
 pub mod Engine
 pub mod Limits
+pub mod Posting

@@ -11,7 +11,7 @@ use Rattle.ca_dbr.specs.Elements.{Elements}
 use Rattle.ca_dbr.specs.Elements as E
 use Rattle.ca_model.specs.Speech.{Stored}
 use Rattle.ca_wire.specs.Messages.{mask_in}
-use Rattle.ca_model.specs.History.{Circuit, Intent, On, Create, Request, Subscribe, Put, Line, Entry, Sent, Told, Step, Added, Finished, Waits, Withdrawn, Reply, Update, Cause, Called, Noticed, Updated}
+use Rattle.ca_model.specs.History.{Circuit, Intent, On, Create, Request, Subscribe, Put, Line, Entry, Sent, Told, Step, Added, Finished, Withdrawn, Reply, Update, Cause, Called, Noticed, Updated}
 use Rattle.ca_model.specs.Channels.{IsApplied, IsLost, IsRequest, IsUse, IsWaiting, Joins, OfCircuits, OfClients, Stands, updates}
 use Rattle.ca_model.specs.Headline.{ActsOnRecord, AnswersOwn, CompletesOnce, Follows, FollowsRecord, LosesLive, NotTwice, Reads, Sees}
 use Rattle.ca_model.specs.Known.{IsSafe}
@@ -23,6 +23,7 @@ use Rattle.ca_model_examples.specs.Worlds.{adding, created_told, creating, long,
 use Rattle.ca_model_examples.specs.Safe.{first_update}
 use Rattle.ca_model_examples.specs.Moved.{ended, found_again, moved, moved_entries, moved_lines, moved_world, valued}
 use Rattle.ca_model_examples.proofs.Lists.{at-take, each-at, one-at, two-at}
+use Rattle.ca_model_examples.proofs.Quiet.{clash}
 use Rattle.ca_model_examples.proofs.SmallDue.{TrueDue}
 use Rattle.ca_model_examples.proofs.UsedActs.{channel-of}
 use Rattle.ca_model_examples.proofs.MovedActs.{moved-acts}
@@ -50,6 +51,10 @@ pub moved-legal : (o p : Outcome) → Legal (moved_world o p)
 moved-legal o p = record {
   circuits = each-circuit o p LegalCircuit (moved-circuit 0 5 6 5 true o p) (moved-circuit 1 1 3 7 false o p);
   subscriptions = each-life o p (IsSent (moved_world o p)) (λ channel number h. (0, 1, (found_again, refl, refl, (adding 0 9, refl, (call-at o p h.0 channel number h.1).1))));
+  ids = λ n m l k c d s r a b lt at_c at_d same open_c open_d at_s at_r gives_s gives_r index. elim (two-at found_again ended m d at_d) [
+    | inl first ↦ (let zero_is = first.0 in absurd (omega (arith, lt, zero_is)))
+    | inr second ↦ absurd (clash (sym (ap (λ (e : Circuit). e.client_open) second.1) ∙ open_d) refl)
+  ];
 }
 
 -- ---- the client's log

@@ -8,7 +8,8 @@ use Rattle.ca_dbr.specs.declared.value.Outcome.TheVariants as outcome
 use Rattle.ca_model.specs.Speech.{Clears, Creates}
 use Rattle.ca_model.specs.History.{Circuit, On, Create, Line, Entry, Opened, Sent, Told, Added, Removed, Reply}
 use Rattle.ca_model.specs.Channels.{IsNamed, IsOpen, IsUse, KeepNames, Meant, before}
-use Rattle.ca_model.specs.Headline.{Acted, ActsOnRecord}
+use Rattle.ca_model.specs.Headline.{ActsOnRecord}
+use Rattle.ca_model.specs.Causes.{Acted}
 use Rattle.ca_requests.specs.Meaning.{Means}
 use Rattle.ca_model.specs.Updates.{Shows}
 use Rattle.ca_model_examples.specs.Worlds.{adding, created_told, creating, rights_told, step}
@@ -67,14 +68,14 @@ module _ (server live read value : ℕ) (stays : Bool) where
 
   pub open-1 : IsOpen (before c 1 (step 2 1 1)) (take 1 y) 1 0 5 0
   open-1 = (
-    (created_told, creating, step 0 1 1, refl, refl, refl, (refl, refl), refl, refl, (valued value, (0, refl), refl, (λ h. no-removal value h.0 0 (at-take 1 y h.0 _ (at-take 1 (take 1 y) h.0 _ h.1))))),
+    (created_told, creating, step 0 1 1, refl, refl, refl, (refl, refl), refl, refl, (valued value, (0, refl), refl, (λ h. no-removal value h.0 0 (at-take 1 y h.0 _ (at-take 1 (take 1 y) h.0 _ h.1)))), (refl, refl)),
     (λ i t after at. no-later i t after (at-take 2 c.down i t at)),
     (λ l m after early at. no-clear l m (at-take 1 c.up l m at)),
   )
 
   open-now : IsOpen c y 1 0 5 0
   open-now = (
-    (created_told, creating, step 0 1 1, refl, refl, refl, (refl, refl), refl, refl, (valued value, (0, refl), refl, (λ h. no-removal value h.0 0 (at-take 1 y h.0 _ h.1)))),
+    (created_told, creating, step 0 1 1, refl, refl, refl, (refl, refl), refl, refl, (valued value, (0, refl), refl, (λ h. no-removal value h.0 0 (at-take 1 y h.0 _ h.1))), (refl, refl)),
     (λ i t after at. no-later i t after at),
     (λ l m after early at. no-clear l m at),
   )

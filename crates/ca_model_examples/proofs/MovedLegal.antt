@@ -218,6 +218,6 @@ module _ (server live read value : ℕ) (stays : Bool) where
     called = quiet-sent part.HasCall c (moved_lines o p) (moved_entries value) refl;
     told = λ j k sid r e made gone uncleared up. absurd (no-removal value e r gone);
     apart = λ k l channel number lt a b. (let d = subscribed-at k channel number a in let e = subscribed-at l channel number b in absurd (omega (arith, d, e, lt)));
-    anew = λ channel k number h lives standing. sent-after o p channel k number h lives standing.0;
+    renewed = λ channel k number h lives standing. sent-after o p channel k number h lives standing.0;
     ended = λ channel k l number h lives lt meant. (is-held o p h.logged channel number, (λ q there. no-refusal o p q h.logged channel number there));
   }

@@ -7,7 +7,8 @@ use Rattle.ca_wire.specs.Fields.{Fields}
 use Rattle.ca_model.specs.Speech.{Cid, Gives, Id, Speaks, SubId}
 use Rattle.ca_model.specs.History.{Circuit, Sent, Told, Step, Reply, Removal}
 use Rattle.ca_model.specs.Channels.{AreSteps, IsReply, Suits}
-use Rattle.ca_model.specs.Headline.{Answered, AnswersOwn, HasCause, TakesOwn}
+use Rattle.ca_model.specs.Headline.{Answered, AnswersOwn}
+use Rattle.ca_model.specs.Causes.{HasCause, TakesOwn}
 use Rattle.ca_requests.specs.Meaning.{Means}
 use Rattle.ca_model.specs.Updates.{Shows}
 use Rattle.ca_model_examples.specs.Worlds.{adding, created_told, creating, rights_told, step}

@@ -9,7 +9,7 @@ use Rattle.ca_model.specs.Channels.{Created, IsOpen, named, until}
 use Rattle.ca_model_examples.specs.Worlds.{creating, step, temp}
 use Rattle.ca_model_examples.proofs.Lists.{none-at}
 use Rattle.ca_model_examples.proofs.Quiet.{any, none}
-use Rattle.ca_model.specs.Headline.{TakesOwn}
+use Rattle.ca_model.specs.Causes.{TakesOwn}
 use Rattle.ca_model_examples.specs.Worlds.{created_told, disconnected}
 use Rattle.ca_model_examples.proofs.Speaks.{heads, of-channel}
 use Rattle.std.proofs.lemmas.Bool.{eq-eqb}
@@ -29,7 +29,7 @@ takes-cid c j p r first at is early test = (0, 0, creating, r, (creating, first,
 
 -- the creation's reply
 pub created-here : (c : Circuit) (y : List Entry) → At c.down 0 created_told → At c.up 0 creating → At c.handled 0 (step 0 1 1) → At (take 1 y) 0 (Added 0 temp) → (In (take 1 y) (Removed 0) → ⊥) → Created c y 0 0 5 0
-created-here c y a b d e f = (created_told, creating, step 0 1 1, a, refl, refl, (refl, refl), b, d, (temp, (0, e), refl, f))
+created-here c y a b d e f = (created_told, creating, step 0 1 1, a, refl, refl, (refl, refl), b, d, (temp, (0, e), refl, f), (refl, refl))
 
 pub open-here : (c : Circuit) (y : List Entry) → Created c y 0 0 5 0 → not (any (λ (t : Told). t.message.command == 18) (drop 1 c.down)) ≡ true → not (any (λ (s : Sent). s.message.command == 12) c.up) ≡ true → IsOpen c y 0 0 5 0
 open-here c y made test clear = (made, others, λ l s after early at clears. none (λ (z : Sent). z.message.command == 12) c.up clear l s at (eq-eqb s.message.command 12 clears.0))

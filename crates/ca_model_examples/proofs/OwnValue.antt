@@ -20,7 +20,8 @@ use Rattle.ca_model.specs.Due.{KnownRecord, Knows, Nothing, Opens, ReadDue, Serv
 use Rattle.ca_model.specs.Faults.{read_shown, type_of}
 use Rattle.ca_model.specs.History.{Circuit, Entry, Sent, Told, Added, Removed, Reply}
 use Rattle.ca_model.specs.Channels.{Has, IsOpen, IsReply, before}
-use Rattle.ca_model.specs.Headline.{Acted, Answered, AnswersOwn, TakesOwn}
+use Rattle.ca_model.specs.Headline.{Answered, AnswersOwn}
+use Rattle.ca_model.specs.Causes.{Acted, TakesOwn}
 use Rattle.ca_model.specs.Known.{IsBusy, IsChannel, IsNow, IsRecordOf, IsSafe, Knew}
 use Rattle.ca_requests.specs.Meaning.{Means}
 use Rattle.ca_model.specs.Updates.{Shows}
@@ -80,7 +81,7 @@ known value = before (temp_read value) 1 (step 2 2 2)
 
 open-now : (value : ℕ) → IsOpen (known value) temp_and_setp 1 0 5 0
 open-now value = (
-  (created_told, creating, step 0 2 2, refl, refl, refl, (refl, refl), refl, refl, has-temp),
+  (created_told, creating, step 0 2 2, refl, refl, refl, (refl, refl), refl, refl, has-temp, (refl, refl)),
   (λ i t after at made. (let w = at-take-within 2 (temp_read value).down i t at in omega (arith, w, after))),
   (λ l s after early at clears. omega (arith, after, early)),
 )

@@ -10,12 +10,11 @@ use Rattle.ca_model.specs.Speech.{Cid, Clears, Creates, Gives, Id, In, Ioid, Is,
 use Rattle.ca_model.specs.Sends.{Conduct, HasChannel, IsConnected, IsDisconnect, IsFree, IsOnChannel, IsOpenAt, LegalClient, LegalServer, ReadsBetween, SameIndex}
 use Rattle.ca_model.specs.History.{Noticed, Circuit, Intent, On, OfCircuit, Create, Line, Entry, Called, Subscribe, Sent, Told, Step, Removed, Removal}
 use Rattle.ca_model.specs.Channels.{Created, IsHeld, Joins, Meant, OfCircuits, OfClients}
-use Rattle.ca_model.specs.Legal.{BecomesLive, IsSent, Legal, LegalCircuit, client_conduct, server_conduct}
+use Rattle.ca_model.specs.Legal.{BecomesLive, IsSent, Legal, LegalCircuit, WasCalled, client_conduct, server_conduct}
 use Rattle.ca_model_examples.specs.Worlds.{adding, clearing, created_told, creating, disconnected, step}
 use Rattle.ca_model_examples.specs.Safe.{reopened, reopened_entries, reopened_lines, reopened_world}
-use Rattle.ca_model_examples.specs.Parts as part
 use Rattle.ca_model_examples.proofs.Lists.{each-at, at-take, at-take-within, one-at}
-use Rattle.ca_model_examples.proofs.Sent.{quiet-sent}
+use Rattle.ca_model_examples.proofs.Sent.{one-apart}
 
 abbrev cl : Conduct
 cl = client_conduct reopened
@@ -516,7 +515,10 @@ legal-circuit : (o : Outcome) → LegalCircuit 0 reopened (reopened_lines o) reo
 legal-circuit o = record {
   client = reopened-client;
   server = reopened-server;
-  called = quiet-sent part.HasCall reopened (reopened_lines o) reopened_entries refl;
+  called = λ k s at. each-at (λ (i : ℕ) (z : Sent). WasCalled reopened (reopened_lines o) i z.intent z.message) reopened.up (
+    (0, refl),
+    ((2, refl), (inr (3, disconnected, step 2 4 5, refl, refl, refl, (refl, refl)), ((0, refl), ((2, refl), tt)))),
+  ) k s at;
   told = λ j k sid r e made gone uncleared up. gone-told j k sid r e made gone;
   apart = λ k l channel number lt a b. elim (subscribed-at k channel number a) [
     | inl x ↦ elim (subscribed-at l channel number b) [
@@ -528,7 +530,7 @@ legal-circuit o = record {
       | inr y ↦ absurd (omega (arith, x, y, lt))
     ]
   ];
-  anew = λ channel k number h live standing. sent-again o channel k number h live standing.0;
+  renewed = λ channel k number h live standing. sent-again o channel k number h live standing.0;
   ended = λ channel k l number h live lt meant. (is-held o h.logged channel number, (λ p there. no-refusal o there.0 channel number p (at-take h.logged (reopened_lines o) there.0 _ there.1)));
 }
 
@@ -547,4 +549,5 @@ pub reopened-legal : (o : Outcome) → Legal (reopened_world o)
 reopened-legal o = record {
   circuits = each-circuit o LegalCircuit (legal-circuit o);
   subscriptions = each-life o (IsSent (reopened_world o)) (λ channel number h. (0, 1, (reopened, refl, refl, (adding 0 9, refl, (call-at o h.0 _ h.1).1))));
+  ids = one-apart (reopened_world o) reopened refl;
 }

@@ -9,7 +9,8 @@ use Rattle.ca_wire.specs.Fields.{Fields}
 use Rattle.ca_model.specs.Speech.{Cid, Clears, Gives, Heads, Id, Ioid, Is, Speaks, SubId}
 use Rattle.ca_model.specs.History.{Sent, Told, Step, Reply, Removal}
 use Rattle.ca_model.specs.Channels.{AreSteps, IsReply, IsUncleared, Suits}
-use Rattle.ca_model.specs.Headline.{Answered, AnswersOwn, HasCause, TakesOwn}
+use Rattle.ca_model.specs.Headline.{Answered, AnswersOwn}
+use Rattle.ca_model.specs.Causes.{HasCause, TakesOwn}
 use Rattle.ca_requests.specs.Meaning.{Means}
 use Rattle.ca_model.specs.Updates.{Shows}
 use Rattle.ca_model_examples.specs.Worlds.{adding, clearing, created_told, creating, disconnected, rights_told, step}
@@ -198,7 +199,7 @@ reopened-caused j t at =
         (
           ((0, adding 0 9, step 2 1 1, (0, 0, refl, refl, refl, (adding 0 9, step 2 1 1, 1, 0, refl, refl, open-1), (λ k u a p c. no-reply 1 k u (inl refl) a p c))), (step 2 1 1, refl, omega arith)),
           (
-            ((1, 5, 0, 1, creating, (created_told, creating, step 0 1 1, refl, refl, refl, (refl, refl), refl, refl, first-there 1 refl), refl, uncleared, refl, (refl, refl)), (step 0 1 1, refl, omega arith)),
+            ((1, 5, 0, 1, creating, (created_told, creating, step 0 1 1, refl, refl, refl, (refl, refl), refl, refl, first-there 1 refl, (refl, refl)), refl, uncleared, refl, (refl, refl)), (step 0 1 1, refl, omega arith)),
             (
               (tt, (step 4 2 2, refl, omega arith)),
               (

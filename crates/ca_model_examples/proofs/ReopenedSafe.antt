@@ -10,7 +10,8 @@ use Rattle.ca_records.specs.Record.{RecordState}
 use Rattle.ca_model.specs.Speech.{Clears, Creates, In}
 use Rattle.ca_model.specs.History.{Ask, Circuit, Intent, On, OfCircuit, Create, Line, Entry, Opened, Sent, Told, Added, Removed, Clear, Reply}
 use Rattle.ca_model.specs.Channels.{Has, IsNamed, IsOpen, IsUse, KeepNames, before}
-use Rattle.ca_model.specs.Headline.{Acted, ActsOnRecord}
+use Rattle.ca_model.specs.Headline.{ActsOnRecord}
+use Rattle.ca_model.specs.Causes.{Acted}
 use Rattle.ca_requests.specs.Meaning.{Means}
 use Rattle.ca_model.specs.Updates.{Shows}
 use Rattle.ca_model_examples.specs.Worlds.{adding, clearing, created_told, creating, long, reply, rights_told, step, temp, temp_name}
@@ -152,28 +153,28 @@ not-removed r is h = (let e = (removed-at h.0 r h.1).1 in omega (arith, e, is))
 
 pub open-1 : IsOpen (before reopened 1 (step 2 1 1)) (take 1 reopened_entries) 1 0 5 0
 open-1 = (
-  (created_told, creating, step 0 1 1, refl, refl, refl, (refl, refl), refl, refl, first-there 1 refl),
+  (created_told, creating, step 0 1 1, refl, refl, refl, (refl, refl), refl, refl, first-there 1 refl, (refl, refl)),
   (λ i t after at. no-later 2 i 1 t (inl (omega arith)) (omega arith) after at),
   (λ l m after early at. no-clear 1 l 0 m (inl (omega arith)) after at),
 )
 
 pub open-2 : IsOpen (before reopened 2 (step 4 2 2)) (take 2 reopened_entries) 1 0 5 0
 open-2 = (
-  (created_told, creating, step 0 1 1, refl, refl, refl, (refl, refl), refl, refl, first-there 2 refl),
+  (created_told, creating, step 0 1 1, refl, refl, refl, (refl, refl), refl, refl, first-there 2 refl, (refl, refl)),
   (λ i t after at. no-later 4 i 1 t (inl (omega arith)) (omega arith) after at),
   (λ l m after early at. no-clear 2 l 0 m (inl (omega arith)) after at),
 )
 
 pub open-4 : IsOpen (before reopened 4 (step 7 3 3)) (take 3 reopened_entries) 6 3 5 1
 open-4 = (
-  (reply 3 created_told.message, creating, step 5 3 3, refl, refl, refl, (refl, refl), refl, refl, (back, (2, refl), refl, (λ h. not-removed 1 refl (h.0, at-take 3 reopened_entries h.0 _ (at-take 3 (take 3 reopened_entries) h.0 _ h.1))))),
+  (reply 3 created_told.message, creating, step 5 3 3, refl, refl, refl, (refl, refl), refl, refl, (back, (2, refl), refl, (λ h. not-removed 1 refl (h.0, at-take 3 reopened_entries h.0 _ (at-take 3 (take 3 reopened_entries) h.0 _ h.1)))), (refl, refl)),
   (λ i t after at. no-later 7 i 6 t (inr (omega arith)) (omega arith) after at),
   (λ l m after early at. no-clear 4 l 3 m (inr (omega arith)) after at),
 )
 
 pub open-now : IsOpen reopened reopened_entries 6 3 5 1
 open-now = (
-  (reply 3 created_told.message, creating, step 5 3 3, refl, refl, refl, (refl, refl), refl, refl, (back, (2, refl), refl, (λ h. not-removed 1 refl (h.0, at-take 3 reopened_entries h.0 _ h.1)))),
+  (reply 3 created_told.message, creating, step 5 3 3, refl, refl, refl, (refl, refl), refl, refl, (back, (2, refl), refl, (λ h. not-removed 1 refl (h.0, at-take 3 reopened_entries h.0 _ h.1))), (refl, refl)),
   (λ i t after at. no-later 8 i 6 t (inr (omega arith)) (omega arith) after at),
   (λ l m after early at. no-clear 5 l 3 m (inr (omega arith)) after at),
 )

@@ -1,23 +1,25 @@
 -- What is legal in small histories, by tests that compute.
 use Rattle.std.proofs.Common.{◌≡◌, ℕ, zero, suc, ◌<◌, ◌≤◌, ◌%◌, ◌⊎◌, inl, inr, List, [], ◌∷◌, refl, sym, ap, subst, ◌∙◌, arith}
-use Rattle.std.specs.Prelude.{Bool, true, false, not, ◌&&◌, ◌||◌, ◌==◌, None, Option, take}
+use Rattle.std.specs.Prelude.{Bool, true, false, not, ◌&&◌, ◌||◌, ◌==◌, None, Some, bytes_eq, take}
+use Rattle.std.proofs.lemmas.Slice.Eq.{bytes_eq-Decides}
 use Rattle.std.proofs.lemmas.Bool.{not-false, and_from, and_parts, eq-eqb, eqb-true, or_cases}
 use Rattle.ca_text.specs.Limits.{arena_slots}
 use Rattle.ca_text.specs.Place.{At}
 use Rattle.ca_text.proofs.Places.{some_is}
-use Rattle.ca_wire.specs.Fields.{Fields}
+use Rattle.ca_wire.specs.Fields.{Fields, padded}
 use Rattle.ca_text.specs.declared.command.Command.TheVariants as command
-use Rattle.ca_model.specs.Speech.{Id, Cid, Ioid, SubId, Gives, In, Is, sid_in}
-use Rattle.ca_dbr.specs.Elements.{Elements}
-use Rattle.ca_model.specs.History.{Kind, Put, Read, Request, Subscribe, Write, Intent, On, OfCircuit, Sent, Step, Circuit, Entry, Line, Called, World}
-use Rattle.ca_model.specs.Channels.{IsUse, Meant, OfCircuits}
+use Rattle.ca_model.specs.Speech.{Id, Cid, Ioid, SubId, Gives, In, Is, name_in, sid_in}
+use Rattle.ca_dbr.specs.Elements.{Elements, base_of, bytes_of, count_of}
+use Rattle.ca_dbr.specs.Types.{base_number}
+use Rattle.ca_model.specs.History.{Cancel, Clear, Create, Kind, Put, Read, Request, Subscribe, Write, Intent, On, OfCircuit, Sent, Step, Circuit, Entry, Line, Called, Opened, World}
+use Rattle.ca_model.specs.Channels.{OfCircuits}
 use Rattle.ca_model.specs.Sends.{Conduct, HasChannel, IsDisconnect, IsOnChannel, ReadsBetween, SameIndex}
-use Rattle.ca_model.specs.Legal.{Legal, client_conduct, server_conduct}
+use Rattle.ca_model.specs.Legal.{Carries, IdsAreApart, IsGiven, Legal, WasCalled, client_conduct, server_conduct}
 use Rattle.ca_model_examples.specs.Worlds.{AnyDue, created_told, creating, world}
-use Rattle.ca_model_examples.specs.Parts.{Sending, CalledSo, MaySend, SentSo}
+use Rattle.ca_model_examples.specs.Parts.{Sending, CalledSo, HeldSo, MaySend, SentSo}
 use Rattle.ca_model_examples.specs.Parts as part
-use Rattle.ca_model_examples.proofs.Lists.{none-at}
-use Rattle.ca_model_examples.proofs.Quiet.{of-circuit, of-life, any, any-at, clash, idle, is_called, is_noticed, is_removed, is_subscription, is_use, is-use, its, none}
+use Rattle.ca_model_examples.proofs.Lists.{none-at, one-at}
+use Rattle.ca_model_examples.proofs.Quiet.{of-circuit, of-life, any, any-at, clash, idle, is_called, is_noticed, is_removed, is_subscription, its, none}
 
 -- no two messages clash
 abbrev pub spread : {A : Type 0} → (A → A → Bool) → List A → Bool
@@ -131,17 +133,19 @@ abbrev pub subscribes : Line → Bool
 subscribes (Called i e) = is_subscription i
 subscribes l = false
 
--- two intents to use a record that are the same
+-- two calls that are the same
 abbrev pub same_kind : Kind → Kind → Bool
 same_kind Read Read = true
 same_kind Put Put = true
 same_kind Write Write = true
 same_kind k l = false
 
-abbrev pub same_use : Intent → Intent → Bool
-same_use (On a (Request k n)) (On b (Request l m)) = (a == b && n == m) && same_kind k l
-same_use (On a (Subscribe n)) (On b (Subscribe m)) = a == b && n == m
-same_use i j = false
+abbrev pub same_call : Intent → Intent → Bool
+same_call (On a (Request k n)) (On b (Request l m)) = (a == b && n == m) && same_kind k l
+same_call (On a (Subscribe n)) (On b (Subscribe m)) = a == b && n == m
+same_call (On a (Cancel n)) (On b (Cancel m)) = a == b && n == m
+same_call (On a Clear) (On b Clear) = a == b
+same_call i j = false
 
 kind-is : (k l : Kind) → same_kind k l ≡ true → k ≡ l
 kind-is Read Read h = refl
@@ -149,33 +153,71 @@ kind-is Put Put h = refl
 kind-is Write Write h = refl
 kind-is k l h = absurd cc
 
-use-is : (i j : Intent) → same_use i j ≡ true → i ≡ j
-use-is (On a (Request k n)) (On b (Request l m)) h =
+call-is : (i j : Intent) → same_call i j ≡ true → i ≡ j
+call-is (On a (Request k n)) (On b (Request l m)) h =
     let both_of = and_parts (a == b && n == m) (same_kind k l) h in
     let numbers = and_parts (a == b) (n == m) both_of.0 in
     let channel : a ≡ b = eqb-true a b numbers.0 in
     let number : n ≡ m = eqb-true n m numbers.1 in
     let kind : k ≡ l = kind-is k l both_of.1 in
     λ t. On (channel t) (Request (kind t) (number t))
-use-is (On a (Subscribe n)) (On b (Subscribe m)) h =
+call-is (On a (Subscribe n)) (On b (Subscribe m)) h =
     let numbers = and_parts (a == b) (n == m) h in
     let channel : a ≡ b = eqb-true a b numbers.0 in
     let number : n ≡ m = eqb-true n m numbers.1 in
     λ t. On (channel t) (Subscribe (number t))
-use-is i j h = absurd cc
-
--- the line calls what is meant so
-abbrev pub calls_it : Intent → Line → Bool
-calls_it i (Called j e) = same_use i j
-calls_it i l = false
+call-is (On a (Cancel n)) (On b (Cancel m)) h =
+    let numbers = and_parts (a == b) (n == m) h in
+    let channel : a ≡ b = eqb-true a b numbers.0 in
+    let number : n ≡ m = eqb-true n m numbers.1 in
+    λ t. On (channel t) (Cancel (number t))
+call-is (On a Clear) (On b Clear) h = (let channel : a ≡ b = eqb-true a b h in λ t. On (channel t) Clear)
+call-is i j h = absurd cc
 
 abbrev pub intent_in : Line → Intent
 intent_in (Called i e) = i
 intent_in l = OfCircuit
 
-line-called : (i : Intent) (l : Line) → calls_it i l ≡ true → (given : Option Elements) × (l ≡ Called i given)
-line-called i (Called j e) h = (e, ap (λ (z : Intent). Called z e) (sym (use-is i j h)))
+-- the message has these elements
+abbrev pub carries : Fields → Elements → Bool
+carries m e = (m.data_type == base_number (base_of e) && m.count == count_of e) && bytes_eq m.payload (padded (bytes_of e))
+
+carries-so : (m : Fields) (e : Elements) → carries m e ≡ true → Carries m e
+carries-so m e h =
+    let parts = and_parts (m.data_type == base_number (base_of e) && m.count == count_of e) (bytes_eq m.payload (padded (bytes_of e))) h in
+    let head = and_parts (m.data_type == base_number (base_of e)) (m.count == count_of e) parts.0 in
+    record { typed = eqb-true m.data_type (base_number (base_of e)) head.0; counted = eqb-true m.count (count_of e) head.1; payload = (bytes_eq-Decides m.payload (padded (bytes_of e))).0 parts.1 }
+
+-- the line calls what is meant so, with no value, or with that of the message; or it opens the channel under this name
+abbrev pub calls_it : Intent → Line → Bool
+calls_it i (Called j None) = same_call i j
+calls_it i l = false
+
+abbrev pub gives_it : Intent → Fields → Line → Bool
+gives_it i m (Called j (Some e)) = same_call i j && carries m e
+gives_it i m l = false
+
+abbrev pub opens_it : ℕ → List ℕ → Line → Bool
+opens_it a name (Opened b other) = a == b && bytes_eq name other
+opens_it a name l = false
+
+line-called : (i : Intent) (l : Line) → calls_it i l ≡ true → l ≡ Called i None
+line-called i (Called j None) h = ap (λ (z : Intent). Called z None) (sym (call-is i j h))
 line-called i l h = absurd cc
+
+line-given : (i : Intent) (m : Fields) (l : Line) → gives_it i m l ≡ true → (given : Elements) × (l ≡ Called i (Some given)) × Carries m given
+line-given i m (Called j (Some e)) h =
+    let parts = and_parts (same_call i j) (carries m e) h in
+    (e, ap (λ (z : Intent). Called z (Some e)) (sym (call-is i j parts.0)), carries-so m e parts.1)
+line-given i m l h = absurd cc
+
+line-opened : (a : ℕ) (name : List ℕ) (l : Line) → opens_it a name l ≡ true → l ≡ Opened a name
+line-opened a name (Opened b other) h =
+    let parts = and_parts (a == b) (bytes_eq name other) h in
+    let channel : a ≡ b = eqb-true a b parts.0 in
+    let named : name ≡ other = (bytes_eq-Decides name other).0 parts.1 in
+    λ t. Opened (sym channel t) (sym named t)
+line-opened a name l h = absurd cc
 
 there : {A : Type 0} (t : A → Bool) (xs : List A) → any t xs ≡ true → (i : ℕ) × (v : A) × At xs i v × (t v ≡ true)
 there t [] h = absurd cc
@@ -207,6 +249,17 @@ no-payload xs e = subst (λ v. idle v ≡ true) (sym e) refl
 abbrev pub told_by : Step → List Line → Bool
 told_by h x = any is_called (take h.logged x) || any is_noticed (take h.logged x)
 
+-- what is meant by the message was called
+abbrev pub was_called : List Line → Intent → Fields → Bool
+was_called x (On a Create) m = any (opens_it a (name_in m)) x
+was_called x (On a (Request Put n)) m = any (gives_it (On a (Request Put n)) m) x
+was_called x (On a (Request Write n)) m = any (gives_it (On a (Request Write n)) m) x
+was_called x (On a (Request Read n)) m = any (calls_it (On a (Request Read n))) x
+was_called x (On a (Subscribe n)) m = any (calls_it (On a (Subscribe n))) x
+was_called x (On a (Cancel n)) m = any (calls_it (On a (Cancel n))) x
+was_called x (On a Clear) m = any (calls_it (On a Clear)) x
+was_called x OfCircuit m = true
+
 abbrev pub send_test : Sending → Circuit → List Line → List Entry → Bool
 send_test part.OnChannel c x y = not (any on_channel (client_conduct c).sent)
 send_test part.Cancels c x y = not (any (is 2) (client_conduct c).sent)
@@ -215,12 +268,13 @@ send_test part.Sids c x y = spread sids_clash (server_conduct c).sent
 send_test part.Updates c x y = not (any has_update (server_conduct c).sent)
 send_test part.Confirmations c x y = not (any confirms (server_conduct c).sent)
 send_test part.Disconnects c x y = not (any (is 27) (server_conduct c).sent)
-send_test part.HasCall c x y = not (any (λ (s : Sent). is_use s.intent && not (any (calls_it s.intent) x)) c.up)
+send_test part.HasCall c x y = not (any (λ (s : Sent). not (was_called x s.intent s.message)) c.up)
 send_test part.ToldRemoved c x y = not c.server_open || not (any is_removed y)
 send_test part.Apart c x y = spread (λ (s r : Sent). one_subscription s.intent r.intent) c.up
 send_test part.Anew c x y = not (any (λ (h : Step). any subscribes (take h.logged x)) c.heard)
 send_test part.Ended c x y = not (any (λ (s : Sent). is_subscription s.intent) c.up) || not (any (λ (h : Step). told_by h x) c.heard)
-send_test part.HasAdd c x y = c.client == 0 && not (any (λ (l : Line). subscribes l && not (any (λ (s : Sent). same_use (intent_in l) s.intent) c.up)) x)
+send_test part.IdsApart c x y = true
+send_test part.HasAdd c x y = c.client == 0 && not (any (λ (l : Line). subscribes l && not (any (λ (s : Sent). same_call (intent_in l) s.intent) c.up)) x)
 
 any-not : {A : Type 0} (t : A → Bool) (xs : List A) → any t xs ≡ false → (i : ℕ) (v : A) → At xs i v → t v ≡ true → ⊥
 any-not t xs e i v at p = clash p (any-at t xs e i v at)
@@ -236,13 +290,29 @@ not-true-false false h = refl
 apart-so : (s r : Sent) (channel number : ℕ) → s.intent ≡ On channel (Subscribe number) → r.intent ≡ On channel (Subscribe number) → one_subscription s.intent r.intent ≡ true
 apart-so s r channel number e f = subst (λ (i : Intent). one_subscription i r.intent ≡ true) (sym e) (subst (λ (i : Intent). one_subscription (On channel (Subscribe number)) i ≡ true) (sym f) (one-subscription channel number))
 
-called-in : (c : Circuit) (x : List Line) → not (any (λ (s : Sent). is_use s.intent && not (any (calls_it s.intent) x)) c.up) ≡ true → (k : ℕ) (intent : Intent) → IsUse intent → Meant c k intent → (given : Option Elements) × In x (Called intent given)
-called-in c x t k intent uses meant =
-    let s : Sent = meant.0 in
-    let missing : (is_use s.intent && not (any (calls_it s.intent) x)) ≡ false = any-at (λ (z : Sent). is_use z.intent && not (any (calls_it z.intent) x)) c.up (not-true-false _ t) k s meant.1 in
-    let it = there (calls_it s.intent) x (so-then (is_use s.intent) (any (calls_it s.intent) x) missing (ap is_use meant.2 ∙ is-use intent uses)) in
-    let line = line-called s.intent it.1 it.3 in
-    (line.0, (it.0, subst (λ (l : Line). At x it.0 l) (line.1 ∙ ap (λ (z : Intent). Called z line.0) meant.2) it.2))
+was-given : (x : List Line) (i : Intent) (m : Fields) → any (gives_it i m) x ≡ true → IsGiven x i m
+was-given x i m h =
+    let it = there (gives_it i m) x h in
+    let line = line-given i m it.1 it.3 in
+    (line.0, (it.0, subst (λ (l : Line). At x it.0 l) line.1 it.2), line.2)
+
+was-in : (x : List Line) (i : Intent) → any (calls_it i) x ≡ true → In x (Called i None)
+was-in x i h = (let it = there (calls_it i) x h in (it.0, subst (λ (l : Line). At x it.0 l) (line-called i it.1 it.3) it.2))
+
+was-called : (c : Circuit) (x : List Line) (k : ℕ) (i : Intent) (m : Fields) → was_called x i m ≡ true → WasCalled c x k i m
+was-called c x k (On a Create) m h = (let it = there (opens_it a (name_in m)) x h in (it.0, subst (λ (l : Line). At x it.0 l) (line-opened a (name_in m) it.1 it.3) it.2))
+was-called c x k (On a (Request Put n)) m h = was-given x (On a (Request Put n)) m h
+was-called c x k (On a (Request Write n)) m h = was-given x (On a (Request Write n)) m h
+was-called c x k (On a (Request Read n)) m h = was-in x (On a (Request Read n)) h
+was-called c x k (On a (Subscribe n)) m h = was-in x (On a (Subscribe n)) h
+was-called c x k (On a (Cancel n)) m h = was-in x (On a (Cancel n)) h
+was-called c x k (On a Clear) m h = inl (was-in x (On a Clear) h)
+was-called c x k OfCircuit m h = tt
+
+called-in : (c : Circuit) (x : List Line) → not (any (λ (s : Sent). not (was_called x s.intent s.message)) c.up) ≡ true → (k : ℕ) (s : Sent) → At c.up k s → WasCalled c x k s.intent s.message
+called-in c x t k s at =
+    was-called c x k s.intent s.message
+    (not-false (was_called x s.intent s.message) (any-at (λ (z : Sent). not (was_called x z.intent z.message)) c.up (not-true-false _ t) k s at))
 
 pub quiet-sent : (p : Sending) (c : Circuit) (x : List Line) (y : List Entry) → send_test p c x y ≡ true → SentSo p 0 c x y
 quiet-sent part.OnChannel c x y t = λ k m at on. absurd (none on_channel (client_conduct c).sent t k m at (on-channel-so m on))
@@ -270,20 +340,32 @@ quiet-sent part.Ended c x y t = λ channel k l number h live lt meant.
           )
     ]
 quiet-sent part.HasAdd c x y t = tt
+quiet-sent part.IdsApart c x y t = tt
 
 pub quiet-called : (p : Sending) (c : Circuit) (x : List Line) (y : List Entry) → send_test p c x y ≡ true → CalledSo p (world (c ∷ []) x y) 0 x
 quiet-called part.HasAdd c x y t = λ channel number h.
     let intent : Intent = On channel (Subscribe number) in
     let parts = and_parts (c.client == 0) _ t in
-    let missing = any-at (λ (l : Line). subscribes l && not (any (λ (s : Sent). same_use (intent_in l) s.intent) c.up)) x (not-true-false _ parts.1) h.0 (Called intent None) h.1 in
-    let it = there (λ (s : Sent). same_use intent s.intent) c.up (so-then true (any (λ (s : Sent). same_use intent s.intent) c.up) missing refl) in
-    (0, it.0, (c, refl, eqb-true c.client 0 parts.0, (it.1, it.2, sym (use-is intent (it.1).intent it.3))))
+    let missing = any-at (λ (l : Line). subscribes l && not (any (λ (s : Sent). same_call (intent_in l) s.intent) c.up)) x (not-true-false _ parts.1) h.0 (Called intent None) h.1 in
+    let it = there (λ (s : Sent). same_call intent s.intent) c.up (so-then true (any (λ (s : Sent). same_call intent s.intent) c.up) missing refl) in
+    (0, it.0, (c, refl, eqb-true c.client 0 parts.0, (it.1, it.2, sym (call-is intent (it.1).intent it.3))))
 quiet-called p c x y t = tt
 
 -- ---- a world of one circuit between the first lives
 
+-- on one circuit alone nothing is held on two
+pub one-apart : (w : World) (c : Circuit) → w.circuits ≡ c ∷ [] → IdsAreApart w
+one-apart w c is n m l k d e s r a b lt at_d at_e same open_d open_e at_s at_r gives_s gives_r index =
+    let i = (one-at c n d (subst (λ (v : List Circuit). At v n d) is at_d)).0 in
+    let j = (one-at c m e (subst (λ (v : List Circuit). At v m e) is at_e)).0 in
+    absurd (omega (arith, i, j, lt))
+
+quiet-held : (p : Sending) (c : Circuit) (x : List Line) (y : List Entry) → HeldSo p (world (c ∷ []) x y)
+quiet-held part.IdsApart c x y = one-apart (world (c ∷ []) x y) c refl
+quiet-held p c x y = tt
+
 pub sends : (p : Sending) (c : Circuit) (x : List Line) (y : List Entry) → c.client ≡ 0 → c.server ≡ 0 → SentSo p 0 c x y → CalledSo p (world (c ∷ []) x y) 0 x → MaySend p (world (c ∷ []) x y)
-sends p c x y e f a b = (of-circuit AnyDue (SentSo p) c x y e f a, of-life AnyDue (CalledSo p (world (c ∷ []) x y)) c x y b)
+sends p c x y e f a b = (of-circuit AnyDue (SentSo p) c x y e f a, of-life AnyDue (CalledSo p (world (c ∷ []) x y)) c x y b, quiet-held p c x y)
 
 pub quiet-sends : (p : Sending) (c : Circuit) (x : List Line) (y : List Entry) → c.client ≡ 0 → c.server ≡ 0 → send_test p c x y ≡ true → MaySend p (world (c ∷ []) x y)
 quiet-sends p c x y e f t = sends p c x y e f (quiet-sent p c x y t) (quiet-called p c x y t)
@@ -314,27 +396,29 @@ all-legal w each = record {
       called = its AnyDue w (SentSo part.HasCall) (each part.HasCall).0 n c h.0 h.1 h.2;
       told = its AnyDue w (SentSo part.ToldRemoved) (each part.ToldRemoved).0 n c h.0 h.1 h.2;
       apart = its AnyDue w (SentSo part.Apart) (each part.Apart).0 n c h.0 h.1 h.2;
-      anew = its AnyDue w (SentSo part.Anew) (each part.Anew).0 n c h.0 h.1 h.2;
+      renewed = its AnyDue w (SentSo part.Anew) (each part.Anew).0 n c h.0 h.1 h.2;
       ended = its AnyDue w (SentSo part.Ended) (each part.Ended).0 n c h.0 h.1 h.2;
     },
   ));
   subscriptions = (each part.HasAdd).1;
+  ids = (each part.IdsApart).2;
 }
 
 pub each-legal : (w : World) → Legal w → (p : Sending) → MaySend p w
-each-legal w l part.OnChannel = (λ n c at. (let h = l.circuits n c at in (h.0, h.1, h.2, h.3.client.on_channel)), λ life x at. tt)
-each-legal w l part.Cancels = (λ n c at. (let h = l.circuits n c at in (h.0, h.1, h.2, h.3.client.cancels)), λ life x at. tt)
-each-legal w l part.Ids = (λ n c at. (let h = l.circuits n c at in (h.0, h.1, h.2, h.3.client.ids)), λ life x at. tt)
-each-legal w l part.Sids = (λ n c at. (let h = l.circuits n c at in (h.0, h.1, h.2, h.3.server.sids)), λ life x at. tt)
-each-legal w l part.Updates = (λ n c at. (let h = l.circuits n c at in (h.0, h.1, h.2, h.3.server.updates)), λ life x at. tt)
-each-legal w l part.Confirmations = (λ n c at. (let h = l.circuits n c at in (h.0, h.1, h.2, h.3.server.confirmations)), λ life x at. tt)
-each-legal w l part.Disconnects = (λ n c at. (let h = l.circuits n c at in (h.0, h.1, h.2, h.3.server.disconnects)), λ life x at. tt)
-each-legal w l part.HasCall = (λ n c at. (let h = l.circuits n c at in (h.0, h.1, h.2, h.3.called)), λ life x at. tt)
-each-legal w l part.ToldRemoved = (λ n c at. (let h = l.circuits n c at in (h.0, h.1, h.2, h.3.told)), λ life x at. tt)
-each-legal w l part.Apart = (λ n c at. (let h = l.circuits n c at in (h.0, h.1, h.2, h.3.apart)), λ life x at. tt)
-each-legal w l part.Anew = (λ n c at. (let h = l.circuits n c at in (h.0, h.1, h.2, h.3.anew)), λ life x at. tt)
-each-legal w l part.Ended = (λ n c at. (let h = l.circuits n c at in (h.0, h.1, h.2, h.3.ended)), λ life x at. tt)
-each-legal w l part.HasAdd = (λ n c at. (let h = l.circuits n c at in (h.0, h.1, h.2, tt)), l.subscriptions)
+each-legal w l part.OnChannel = (λ n c at. (let h = l.circuits n c at in (h.0, h.1, h.2, h.3.client.on_channel)), (λ life x at. tt), tt)
+each-legal w l part.Cancels = (λ n c at. (let h = l.circuits n c at in (h.0, h.1, h.2, h.3.client.cancels)), (λ life x at. tt), tt)
+each-legal w l part.Ids = (λ n c at. (let h = l.circuits n c at in (h.0, h.1, h.2, h.3.client.ids)), (λ life x at. tt), tt)
+each-legal w l part.Sids = (λ n c at. (let h = l.circuits n c at in (h.0, h.1, h.2, h.3.server.sids)), (λ life x at. tt), tt)
+each-legal w l part.Updates = (λ n c at. (let h = l.circuits n c at in (h.0, h.1, h.2, h.3.server.updates)), (λ life x at. tt), tt)
+each-legal w l part.Confirmations = (λ n c at. (let h = l.circuits n c at in (h.0, h.1, h.2, h.3.server.confirmations)), (λ life x at. tt), tt)
+each-legal w l part.Disconnects = (λ n c at. (let h = l.circuits n c at in (h.0, h.1, h.2, h.3.server.disconnects)), (λ life x at. tt), tt)
+each-legal w l part.HasCall = (λ n c at. (let h = l.circuits n c at in (h.0, h.1, h.2, h.3.called)), (λ life x at. tt), tt)
+each-legal w l part.ToldRemoved = (λ n c at. (let h = l.circuits n c at in (h.0, h.1, h.2, h.3.told)), (λ life x at. tt), tt)
+each-legal w l part.Apart = (λ n c at. (let h = l.circuits n c at in (h.0, h.1, h.2, h.3.apart)), (λ life x at. tt), tt)
+each-legal w l part.Anew = (λ n c at. (let h = l.circuits n c at in (h.0, h.1, h.2, h.3.renewed)), (λ life x at. tt), tt)
+each-legal w l part.Ended = (λ n c at. (let h = l.circuits n c at in (h.0, h.1, h.2, h.3.ended)), (λ life x at. tt), tt)
+each-legal w l part.HasAdd = (λ n c at. (let h = l.circuits n c at in (h.0, h.1, h.2, tt)), l.subscriptions, tt)
+each-legal w l part.IdsApart = (λ n c at. (let h = l.circuits n c at in (h.0, h.1, h.2, tt)), (λ life x at. tt), l.ids)
 
 -- ---- a message on the channel
 

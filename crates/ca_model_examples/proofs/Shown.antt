@@ -7,7 +7,8 @@ use Rattle.ca_wire.specs.Fields.{Fields}
 use Rattle.ca_model.specs.Speech.{Id, Speaks}
 use Rattle.ca_model.specs.History.{Reply, Circuit, Entry, Line, Sent, Told, Step, Applied, Waits, Withdrawn, Finished, Called, Noticed, World}
 use Rattle.ca_model.specs.Channels.{CameIn, IsBusyUntil, IsDropped, IsLost, IsOwnWrite, IsReply, IsRequest, Stands, before}
-use Rattle.ca_model.specs.Headline.{Answered, HasCause, Reads, TakesOwn}
+use Rattle.ca_model.specs.Headline.{Answered, Reads}
+use Rattle.ca_model.specs.Causes.{HasCause, TakesOwn}
 use Rattle.ca_requests.specs.Meaning.{Means}
 use Rattle.ca_model.specs.Updates.{Shows}
 use Rattle.ca_model_examples.specs.Worlds.{AnyDue, world}

@@ -17,7 +17,8 @@ use Rattle.ca_model_examples.specs.Unsafe.{both_updated, opened, posted, saw, su
 use Rattle.ca_model_examples.proofs.Lists.{Each, each-at, one-at, two-at}
 use Rattle.ca_model_examples.proofs.Quiet.{none, quiet, holds, whole, is_called}
 use Rattle.ca_model_examples.proofs.Shown.{answered-by, answered-each, caused-each, taken-each}
-use Rattle.ca_model.specs.Headline.{Follows, Reads, TakesOwn}
+use Rattle.ca_model.specs.Headline.{Follows, Reads}
+use Rattle.ca_model.specs.Causes.{TakesOwn}
 use Rattle.ca_model.specs.Updates.{Shows}
 use Rattle.ca_requests.specs.Meaning.{Means}
 use Rattle.ca_model_examples.proofs.Names.{its-part}
@@ -25,7 +26,7 @@ use Rattle.ca_model_examples.proofs.Opened.{created-here, created-own, open-here
 use Rattle.ca_model_examples.proofs.Speaks.{heads, of-update}
 use Rattle.ca_model_examples.proofs.Creations.{number-of, only-added}
 use Rattle.ca_model_examples.proofs.Uses.{acted-record, acts-by, two-only}
-use Rattle.ca_model.specs.Headline.{Accepted}
+use Rattle.ca_model.specs.Causes.{Accepted}
 use Rattle.ca_model.specs.Channels.{Lasts, updates}
 use Rattle.ca_model.specs.Posts.{matching}
 use Rattle.ca_model.specs.Updates.{update_in}

@@ -47,7 +47,7 @@ unread-names = record {
 -- the channel is open at the server
 is-open : IsOpen unread unread_entries 0 0 5 0
 is-open = (
-  (created_told, creating, step 0 1 1, refl, refl, refl, (refl, refl), refl, refl, there),
+  (created_told, creating, step 0 1 1, refl, refl, refl, (refl, refl), refl, refl, there, (refl, refl)),
   (λ i t after at creates. elim (two-at created_told disconnected i t at) [
     | inl e ↦ (let f = e.0 in omega (arith, f, after))
     | inr e ↦ (let f = ap (λ (u : Told). u.message.command) e.1 in let g = creates.0 in omega (arith, f, g))

@@ -11,7 +11,8 @@ use Rattle.ca_records.specs.Record.{RecordState}
 use Rattle.ca_model.specs.Speech.{Clears, Creates, In, Is}
 use Rattle.ca_model.specs.History.{Ask, Create, Intent, On, OfCircuit, Circuit, Entry, Line, Sent, Told, Added, Removed, Opened}
 use Rattle.ca_model.specs.Channels.{IsNamed, IsOpen, KeepNames, before}
-use Rattle.ca_model.specs.Headline.{Acted, ActsOnRecord}
+use Rattle.ca_model.specs.Headline.{ActsOnRecord}
+use Rattle.ca_model.specs.Causes.{Acted}
 use Rattle.ca_requests.specs.Meaning.{Means}
 use Rattle.ca_model.specs.Updates.{Shows}
 use Rattle.ca_model_examples.specs.Worlds.{adding, created_told, creating, putting, reading, step, temp}
@@ -72,21 +73,21 @@ first-only n r h = no-removed h.0 r (at-take n used_entries h.0 _ h.1)
 -- the channel is open when each of the later messages is handled
 pub open-1 : IsOpen (before used 1 (step 2 1 2)) (take 1 used_entries) 1 0 5 0
 open-1 = (
-  (created_told, creating, step 0 1 1, refl, refl, refl, (refl, refl), refl, refl, (temp, (0, refl), refl, (λ h. first-only 1 0 h))),
+  (created_told, creating, step 0 1 1, refl, refl, refl, (refl, refl), refl, refl, (temp, (0, refl), refl, (λ h. first-only 1 0 h)), (refl, refl)),
   (λ i t after at. no-later 2 i t after at),
   (λ l m after early at. no-clears 1 l m at),
 )
 
 pub open-2 : IsOpen (before used 2 (step 3 2 2)) (take 2 used_entries) 1 0 5 0
 open-2 = (
-  (created_told, creating, step 0 1 1, refl, refl, refl, (refl, refl), refl, refl, (temp, (0, refl), refl, (λ h. first-only 1 0 h))),
+  (created_told, creating, step 0 1 1, refl, refl, refl, (refl, refl), refl, refl, (temp, (0, refl), refl, (λ h. first-only 1 0 h)), (refl, refl)),
   (λ i t after at. no-later 3 i t after at),
   (λ l m after early at. no-clears 2 l m at),
 )
 
 pub open-3 : IsOpen (before used 3 (step 4 2 2)) (take 2 used_entries) 1 0 5 0
 open-3 = (
-  (created_told, creating, step 0 1 1, refl, refl, refl, (refl, refl), refl, refl, (temp, (0, refl), refl, (λ h. first-only 1 0 h))),
+  (created_told, creating, step 0 1 1, refl, refl, refl, (refl, refl), refl, refl, (temp, (0, refl), refl, (λ h. first-only 1 0 h)), (refl, refl)),
   (λ i t after at. no-later 4 i t after at),
   (λ l m after early at. no-clears 3 l m at),
 )
@@ -106,7 +107,7 @@ named channel e = subst (λ (k : ℕ). IsNamed used_lines used_entries k 0) (sym
 
 pub used-open : IsOpen used used_entries 1 0 5 0
 used-open = (
-  (created_told, creating, step 0 1 1, refl, refl, refl, (refl, refl), refl, refl, (temp, (0, refl), refl, (λ h. first-only 1 0 h))),
+  (created_told, creating, step 0 1 1, refl, refl, refl, (refl, refl), refl, refl, (temp, (0, refl), refl, (λ h. first-only 1 0 h)), (refl, refl)),
   (λ i t after at. no-later 5 i t after at),
   (λ l m after early at. no-clears 4 l m at),
 )

@@ -9,7 +9,8 @@ use Rattle.ca_wire.specs.Messages.{update, value_reply}
 use Rattle.ca_model.specs.Speech.{Id, Cid, Ioid, SubId, Gives, Is, Speaks}
 use Rattle.ca_model.specs.History.{Reply, Removal, Circuit, Entry, Sent, Told, Step, Applied}
 use Rattle.ca_model.specs.Channels.{AreSteps, IsReply, Suits, before}
-use Rattle.ca_model.specs.Headline.{Answered, AnswersOwn, HasCause, TakesOwn}
+use Rattle.ca_model.specs.Headline.{Answered, AnswersOwn}
+use Rattle.ca_model.specs.Causes.{HasCause, TakesOwn}
 use Rattle.ca_requests.specs.Meaning.{Means}
 use Rattle.ca_model.specs.Updates.{Shows}
 use Rattle.ca_model_examples.specs.Worlds.{adding, created_told, creating, long, put_told, putting, reading, rights_told, step}

@@ -18,7 +18,8 @@ use Rattle.ca_model_examples.specs.Unsafe.{opened, fails, no_channel, put_made, 
 use Rattle.ca_model_examples.proofs.Lists.{at-take, each-at, none-at, one-at, two-at}
 use Rattle.ca_model_examples.proofs.Quiet.{fine, is_applied, is_fine, none, quiet, holds, whole}
 use Rattle.ca_model_examples.proofs.Shown.{ToldAt, own-each, sent-each, answered-by, answered-each, caused-each, taken-each, told-each}
-use Rattle.ca_model.specs.Headline.{Acted, IsBadChannel, TakesOwn}
+use Rattle.ca_model.specs.Headline.{IsBadChannel}
+use Rattle.ca_model.specs.Causes.{Acted, TakesOwn}
 use Rattle.ca_model.specs.Updates.{Shows}
 use Rattle.ca_requests.specs.Meaning.{Means}
 use Rattle.ca_model_examples.proofs.Names.{its-part, was-there}

@@ -8,7 +8,8 @@ use Rattle.ca_records.specs.Record.{RecordState}
 use Rattle.ca_model.specs.Speech.{Clears, Creates, In, Is}
 use Rattle.ca_model.specs.History.{On, Entry, Line, Sent, Told, Added, Removed, Opened}
 use Rattle.ca_model.specs.Channels.{IsNamed, IsOpen, KeepNames, before}
-use Rattle.ca_model.specs.Headline.{Acted, ActsOnRecord}
+use Rattle.ca_model.specs.Headline.{ActsOnRecord}
+use Rattle.ca_model.specs.Causes.{Acted}
 use Rattle.ca_requests.specs.Meaning.{Means}
 use Rattle.ca_model.specs.Updates.{Shows}
 use Rattle.ca_model_examples.specs.Worlds.{created_told, creating, putting, step}
@@ -47,14 +48,14 @@ first-only n r h = no-removed h.0 r (at-take n waited_entries h.0 _ h.1)
 -- the channel is open when each put is handled
 pub open-1 : IsOpen (before waited 1 (step 2 1 2)) (take 1 waited_entries) 1 0 5 0
 open-1 = (
-  (created_told, creating, step 0 1 1, refl, refl, refl, (refl, refl), refl, refl, (slow_temp, (0, refl), refl, (λ h. first-only 1 0 h))),
+  (created_told, creating, step 0 1 1, refl, refl, refl, (refl, refl), refl, refl, (slow_temp, (0, refl), refl, (λ h. first-only 1 0 h)), (refl, refl)),
   (λ i t after at. no-later 2 i t after at),
   (λ l m after early at. no-clears l m (at-take 1 waited.up l m at)),
 )
 
 pub open-2 : IsOpen (before waited 2 (step 2 2 3)) (take 2 waited_entries) 1 0 5 0
 open-2 = (
-  (created_told, creating, step 0 1 1, refl, refl, refl, (refl, refl), refl, refl, (slow_temp, (0, refl), refl, (λ h. first-only 1 0 h))),
+  (created_told, creating, step 0 1 1, refl, refl, refl, (refl, refl), refl, refl, (slow_temp, (0, refl), refl, (λ h. first-only 1 0 h)), (refl, refl)),
   (λ i t after at. no-later 2 i t after at),
   (λ l m after early at. no-clears l m (at-take 2 waited.up l m at)),
 )

@@ -3,6 +3,7 @@ use Rattle.std.proofs.Common.{◌≡◌, ℕ, ◌<◌, ◌⊎◌, inl, inr, refl
 use Rattle.std.specs.Prelude.{None}
 use Rattle.ca_text.specs.Place.{At}
 use Rattle.ca_text.specs.declared.command.Command.TheVariants as command
+use Rattle.ca_dbr.specs.Elements.{signed_bytes_4}
 use Rattle.ca_wire.specs.Fields.{Fields}
 use Rattle.ca_model.specs.Speech.{Cid, Creates, Gives, Id, Ioid, Is, SubId}
 use Rattle.ca_model.specs.Sends.{Conduct, HasChannel, IsDisconnect, IsOnChannel, LegalClient, LegalServer, ReadsBetween, SameIndex}
@@ -13,7 +14,7 @@ use Rattle.ca_model_examples.specs.Worlds.{created_told, creating}
 use Rattle.ca_model_examples.specs.Waited.{waited, waited_entries, waited_lines, waited_world}
 use Rattle.ca_model_examples.specs.Parts as part
 use Rattle.ca_model_examples.proofs.Lists.{each-at, at-take, none-at}
-use Rattle.ca_model_examples.proofs.Sent.{quiet-sent}
+use Rattle.ca_model_examples.proofs.Sent.{one-apart, quiet-sent}
 use Rattle.ca_model_examples.proofs.WaitedActs.{no-removed}
 use Rattle.ca_model_examples.proofs.WaitedRest.{each-circuit, each-life}
 
@@ -151,13 +152,14 @@ none-called i channel number at =
     each-at (λ (k : ℕ) (l : Line). l ≡ Called (On channel (Subscribe number)) None → ⊥) waited_lines ((λ e. cc), ((λ e. cc), ((λ e. cc), ((λ e. cc), tt)))) i _ at refl
 
 legal-circuit : LegalCircuit 0 waited waited_lines waited_entries
+unfolding signed_bytes_4
 legal-circuit = record {
   client = waited-client;
   server = waited-server;
   called = quiet-sent part.HasCall waited waited_lines waited_entries refl;
   told = λ j k sid r e made gone uncleared up. absurd (no-removed e r gone);
   apart = λ k l channel number lt a b. absurd (no-subscription k channel number a);
-  anew = λ channel k number h live standing. absurd (none-called standing.0.0 channel number (at-take h.logged waited_lines standing.0.0 _ standing.0.1));
+  renewed = λ channel k number h live standing. absurd (none-called standing.0.0 channel number (at-take h.logged waited_lines standing.0.0 _ standing.0.1));
   ended = λ channel k l number h live lt meant. absurd (no-subscription l channel number meant);
 }
 
@@ -165,4 +167,5 @@ pub waited-legal : Legal waited_world
 waited-legal = record {
   circuits = each-circuit LegalCircuit legal-circuit;
   subscriptions = each-life (IsSent waited_world) (λ channel number h. absurd (none-called h.0 channel number h.1)) (λ channel number h. absurd (none-at h.0 _ h.1));
+  ids = one-apart waited_world waited refl;
 }

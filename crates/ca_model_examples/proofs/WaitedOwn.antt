@@ -7,7 +7,8 @@ use Rattle.ca_wire.specs.Fields.{Fields}
 use Rattle.ca_model.specs.Speech.{Cid, Gives, Id, Ioid, Speaks, Stored}
 use Rattle.ca_model.specs.History.{Entry, Sent, Told, Step, Removal, Applied, Waits, Finished}
 use Rattle.ca_model.specs.Channels.{AreSteps, IsBusyUntil, IsFinished, IsReply, Suits}
-use Rattle.ca_model.specs.Headline.{Answered, AnswersOwn, HasCause, TakesOwn}
+use Rattle.ca_model.specs.Headline.{Answered, AnswersOwn}
+use Rattle.ca_model.specs.Causes.{HasCause, TakesOwn}
 use Rattle.ca_requests.specs.Meaning.{Means}
 use Rattle.ca_model.specs.Updates.{Shows}
 use Rattle.ca_model_examples.specs.Worlds.{created_told, creating, long, put_told, putting, rights_told, step}

@@ -212,7 +212,7 @@ second-write = record {
   there = ((0, refl), (0, refl), λ h. first-only 4 0 h);
   value = refl;
   written = (record { seconds = 0; nanos = 0 }, refl);
-  came = inr (2, long 23, refl, omega arith, inl (step 2 2 3, refl, omega arith, omega arith), (λ h. no-withdrawal h.0 0 2 h.1));
+  came = inr (2, long 23, refl, omega arith, (step 2 2 3, refl, omega arith, omega arith), (λ h. no-withdrawal h.0 0 2 h.1));
 }
 
 owned : (n k l i r : ℕ) (v : Stored) → l ≡ 0 → IsEither n k i r v → IsOwnWrite waited_world n k l i r v
@@ -252,7 +252,7 @@ came-waiting n k l i r v a =
       (λ f. absurd cc),
       (
         (λ f. absurd cc),
-        ((λ f. subst (λ (m : ℕ × ℕ). CameIn waited_world m.0 m.1 0 2) (ap came-place f) (waited, refl, refl, inl (step 2 2 3, refl, omega arith, omega arith))), ((λ f. absurd cc), ((λ f. absurd cc), tt))),
+        ((λ f. subst (λ (m : ℕ × ℕ). CameIn waited_world m.0 m.1 0 2) (ap came-place f) (waited, refl, refl, (step 2 2 3, refl, omega arith, omega arith))), ((λ f. absurd cc), ((λ f. absurd cc), tt))),
       ),
     ) i _ at refl)
 

@@ -8,15 +8,15 @@ use Rattle.ca_dbr.specs.Conversion.{converted}
 use Rattle.ca_dbr.specs.declared.value.Meta.{Meta}
 use Rattle.ca_records.specs.Record.{RecordState}
 use Rattle.ca_model.specs.Speech.{In, IsWritten, Stored}
-use Rattle.ca_model.specs.History.{Request, Put, On, Circuit, Entry, Line, Added, Removed, Waits, Applied, Finished, Withdrawn, Opened, Called}
-use Rattle.ca_model.specs.Channels.{CameIn, IsBusyUntil, HasWaited, IsOwnWrite, IsTaken}
+use Rattle.ca_model.specs.History.{Request, Put, On, Circuit, Entry, Line, Added, Removed, Applied, Finished, Opened, Called}
+use Rattle.ca_model.specs.Channels.{IsBusyUntil, IsHandledIn, HasWaited, IsOwnWrite, IsTaken}
 use Rattle.ca_model_examples.specs.Worlds.{AnyDue, alarmed, long, putting, temp, temp_name, world}
 use Rattle.ca_model_examples.specs.Parts.{Part, Holds, BreaksOnly, IsSafeNow, InCircuit, InLife, InWorld}
 use Rattle.ca_model_examples.specs.Parts as part
-use Rattle.ca_model_examples.specs.Unsafe.{finished, dropped, made_gone, made_23, made_alarmed, made_twice, made_once, closing, made, opened, put_called, put_closing, unhandled, waiting}
+use Rattle.ca_model_examples.specs.Unsafe.{finished, made_gone, made_23, made_alarmed, made_twice, made_once, closing, made, opened, put_called, put_closing, unhandled}
 use Rattle.ca_model_examples.proofs.Lists.{each-at, none-at, one-at}
 use Rattle.ca_model_examples.proofs.Quiet.{none, few-same, quiet, holds, whole, is_called, is_finished, is_removed}
-use Rattle.ca_model_examples.proofs.Shown.{DroppedAt, OwnAt, SentAt, came-each, dropped-each, finished-each, own-each, sent-each}
+use Rattle.ca_model_examples.proofs.Shown.{OwnAt, SentAt, finished-each, own-each, sent-each}
 use Rattle.ca_model_examples.proofs.Names.{was-there}
 
 put-sent : (c : Circuit) (x : List Line) (y : List Entry) → c.client ≡ 0 → At c.up 0 (putting 0 8 22) → SentAt (world (c ∷ []) x y) 1 (Called (On 0 (Request Put 0)) (Some (longs (pos 22 ∷ []))))
@@ -168,55 +168,15 @@ not-handled o =
     ] in
     elim o.came [
       | inl t ↦ taken 1 (subst (λ (d : Circuit). IsTaken d 0 1) (sym is) t)
-      | inr h ↦ taken h.0 (subst (λ (d : Circuit). IsTaken d 0 h.0) (sym is) h.4)
+      | inr h ↦ taken h.0 (inl (subst (λ (d : Circuit). IsHandledIn d 0 h.0) (sym is) h.4))
     ]
 
 pub before-it-came : BreaksOnly part.OwnWrite (world (unhandled ∷ []) put_called made_once)
 before-it-came = (open-rest, λ h. not-handled (h.2 0 0 0 1 0 (long 22) (_, false, refl, refl)))
 
--- ---- dropped and finished
-
 abbrev busies-of : Entry → Bool
 busies-of (Applied n k r v b) = b
 busies-of e = true
-
-dropped-as : DroppedAt (put_closing dropped) dropped 2 (Withdrawn 0 0)
-dropped-as = record { c = closing; on = (refl, refl); e = 1; r = 0; v = long 22; waited = (refl, omega arith); s = putting 0 8 22; at = refl; why = inr (inr refl) }
-
-drop-each : (p : Part) → Holds AnyDue p (put_closing dropped)
-drop-each part.SentOnce = closing-sent dropped
-drop-each part.CameToWait = came-each closing put_called dropped refl refl (tt, ((closing, refl, refl, closed 1), (tt, tt)))
-drop-each part.Dropped = dropped-each closing put_called dropped refl refl (tt, (tt, (dropped-as, tt)))
-drop-each p = quiet AnyDue p closing put_called dropped refl refl refl refl refl
-
-pub dropped-safe : IsSafeNow (put_closing dropped)
-dropped-safe = whole AnyDue _ drop-each
-
--- ---- a put that waits
-
-wait-each : (p : Part) → Holds AnyDue p (put_closing waiting)
-wait-each part.SentOnce = closing-sent waiting
-wait-each part.CameToWait = came-each closing put_called waiting refl refl (tt, ((closing, refl, refl, closed 1), tt))
-wait-each p = quiet AnyDue p closing put_called waiting refl refl refl refl refl
-
-pub waits-safe : IsSafeNow (put_closing waiting)
-waits-safe = whole AnyDue _ wait-each
-
-unhandled-rest : (p : Part) → (p ≡ part.CameToWait → ⊥) → Holds AnyDue p (world (unhandled ∷ []) put_called waiting)
-unhandled-rest part.CameToWait ne = absurd (ne refl)
-unhandled-rest part.SentOnce ne = sent-each unhandled put_called waiting refl refl (tt, (put-sent unhandled put_called waiting refl refl, tt))
-unhandled-rest p ne = quiet AnyDue p unhandled put_called waiting refl refl refl refl refl
-
-not-come : (i : ℕ) → CameIn (world (unhandled ∷ []) put_called waiting) 0 0 0 i → ⊥
-not-come i came =
-    let is : unhandled ≡ came.0 = sym (one-at unhandled 0 came.0 came.1).1 in
-    elim came.3 [
-      | inl handles ↦ none-at 0 handles.0 (subst (λ (z : Circuit). At z.handled 0 handles.0) (sym is) handles.1)
-      | inr shut ↦ (let t : true ≡ false = subst (λ (z : Circuit). z.server_open ≡ false) (sym is) shut.1 in cc)
-    ]
-
-pub waits-unhandled : BreaksOnly part.CameToWait (world (unhandled ∷ []) put_called waiting)
-waits-unhandled = (unhandled-rest, λ h. not-come 1 (h.2 0 0 0 1 0 (long 22) (waiting, refl, refl)))
 
 -- ---- finishes
 

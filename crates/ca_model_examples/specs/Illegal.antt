@@ -1,15 +1,16 @@
 -- Vocabulary: small histories in which one part of what is legal is broken, and no other, beside
 -- legal ones that differ in one place.
-use Rattle.std.specs.Prelude.{ℕ, false, List, [], ◌∷◌, None}
+use Rattle.std.specs.Prelude.{ℕ, Bool, false, List, [], ◌∷◌, None, Some}
 use Rattle.std.specs.List.{flat_map}
 use Rattle.ca_text.specs.declared.command.Command.TheVariants as command
 use Rattle.ca_wire.specs.Messages.{cancel_reply, create_request, created_reply, event_add_request}
 use Rattle.ca_wire.specs.Messages.{put_request, rights_reply}
-use Rattle.ca_model.specs.History.{Cancel, Request, Write, Create, Subscribe, Intent, On, Sent}
-use Rattle.ca_model.specs.History.{Told}
+use Rattle.ca_model.specs.History.{Cancel, Request, Read, Write, Create, Subscribe, Intent, On}
+use Rattle.ca_model.specs.History.{OfCircuit, Sent, Told}
 use Rattle.ca_model.specs.History.{Step, Circuit, Line, Called, Opened, World}
-use Rattle.ca_model_examples.specs.Worlds.{adding, circuit, created_told, creating, reading, reply}
-use Rattle.ca_model_examples.specs.Worlds.{step, temp_name, wanted, world}
+use Rattle.ca_model_examples.specs.Worlds.{adding, circuit, clearing, created_told, creating}
+use Rattle.ca_model_examples.specs.Worlds.{disconnected, long, reading, reply, step, temp_name}
+use Rattle.ca_model_examples.specs.Worlds.{wanted, world}
 use Rattle.ca_model_examples.specs.Unsafe.{cancelling, echo, opened, temp_there, updated}
 
 -- the client read the creation's reply after it had sent its CREATE_CHAN
@@ -112,22 +113,45 @@ added_again =
       intent = On 0 (Subscribe 1);
     }
 
--- the call of a message that is meant so, if it uses a record
+-- the call of a message that is meant so: a write is of 22, and a channel is to TEMP
 abbrev pub call_of : Intent → List Line
-call_of (On channel (Request kind number)) = Called (On channel (Request kind number)) None ∷ []
-call_of (On channel (Subscribe number)) = Called (On channel (Subscribe number)) None ∷ []
-call_of intent = []
+call_of (On channel Create) = Opened channel temp_name ∷ []
+call_of (On channel (Request Read number)) =
+    Called (On channel (Request Read number)) None ∷ []
+call_of (On channel (Request kind number)) =
+    Called (On channel (Request kind number)) (Some (long 22).value) ∷ []
+call_of (On channel ask) = Called (On channel ask) None ∷ []
+call_of OfCircuit = []
 
--- The channel to TEMP was opened, and what uses it was called.
+-- What goes out was called.
 abbrev pub calls : List Sent → List Line
-calls up = Opened 0 temp_name ∷ flat_map (λ (s : Sent). call_of s.intent) up
+calls up = flat_map (λ (s : Sent). call_of s.intent) up
 
--- TEMP is there; what goes out was called, or nobody called anything.
+-- A plain write of this value was called, on a channel to TEMP.
+abbrev pub write_called : ℕ → List Line
+write_called n = Opened 0 temp_name ∷ Called (On 0 (Request Write 0)) (Some (long n).value) ∷ []
+
+-- A CLEAR_CHANNEL goes out, and a SERVER_DISCONN was sent; the client took these steps.
+abbrev pub clears_lost : List Step → Circuit
+clears_lost heard =
+    circuit (creating ∷ clearing ∷ []) (created_told ∷ disconnected ∷ []) [] heard
+
+-- TEMP is there; what goes out was called, or only the channel was opened, or these were called.
 abbrev pub sent_in : Circuit → World
 sent_in c = world (c ∷ []) (calls c.up) temp_there
 
 abbrev pub uncalled_in : Circuit → World
 uncalled_in c = world (c ∷ []) opened temp_there
+
+abbrev pub called_in : List Line → Circuit → World
+called_in x c = world (c ∷ []) x temp_there
+
+-- Two circuits, and on each a channel is asked for: by the CID 1, and by this one on the other,
+-- whose end at the client is open or not.
+abbrev pub two_circuits : ℕ → Bool → World
+two_circuits cid stays =
+    world (alone creating ∷ record (alone (asked_with cid)) { client_open = stays } ∷ [])
+    (calls (creating ∷ asked_with cid ∷ [])) temp_there
 
 -- Subscription 1 was called alone.
 abbrev pub subscribed_in : Circuit → World

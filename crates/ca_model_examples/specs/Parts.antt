@@ -6,9 +6,10 @@ use Rattle.ca_wire.specs.Messages.{mask_in}
 use Rattle.ca_requests.specs.Meaning.{Means}
 use Rattle.ca_model.specs.History.{Circuit, Entry, Line, Sent, Step, World}
 use Rattle.ca_model.specs.Channels.{OfCircuits, OfClients}
-use Rattle.ca_model.specs.Headline.{Accepted, ActsOnRecord, AnswersOwn, CompletesOnce, Follows}
+use Rattle.ca_model.specs.Headline.{ActsOnRecord, AnswersOwn, CompletesOnce, Follows}
+use Rattle.ca_model.specs.Causes.{Accepted}
 use Rattle.ca_model.specs.Headline.{NotTwice, Safe, Sees}
-use Rattle.ca_model.specs.Legal.{IsSent, LegalCircuit}
+use Rattle.ca_model.specs.Legal.{IdsAreApart, IsSent, LegalCircuit}
 use Rattle.ca_model.specs.Posts.{matching}
 use Rattle.ca_model.specs.Updates.{Shows}
 use Rattle.ca_model_examples.specs.Worlds.{AnyDue}
@@ -122,9 +123,9 @@ IsSafeNow w = Safe AnyDue Shows Means w
 -- The fields of `Legal`, down to those of `LegalClient` and `LegalServer`.
 pub data Sending : Type 0 where
   OnChannel Cancels Ids Sids Updates Confirmations Disconnects : Sending
-  HasCall ToldRemoved Apart Anew Ended HasAdd : Sending
+  HasCall ToldRemoved Apart Anew Ended HasAdd IdsApart : Sending
 
--- What a part says of each circuit, and of the log of each life of a client.
+-- What a part says of each circuit, of the log of each life of a client, and of the world.
 abbrev pub SentSo : Sending → ℕ → Circuit → List Line → List Entry → Type 0
 SentSo OnChannel n c x y = FieldOf (λ (p : LegalCircuit n c x y). p.client.on_channel)
 SentSo Cancels n c x y = FieldOf (λ (p : LegalCircuit n c x y). p.client.cancels)
@@ -136,16 +137,21 @@ SentSo Disconnects n c x y = FieldOf (λ (p : LegalCircuit n c x y). p.server.di
 SentSo HasCall n c x y = FieldOf (λ (p : LegalCircuit n c x y). p.called)
 SentSo ToldRemoved n c x y = FieldOf (λ (p : LegalCircuit n c x y). p.told)
 SentSo Apart n c x y = FieldOf (λ (p : LegalCircuit n c x y). p.apart)
-SentSo Anew n c x y = FieldOf (λ (p : LegalCircuit n c x y). p.anew)
+SentSo Anew n c x y = FieldOf (λ (p : LegalCircuit n c x y). p.renewed)
 SentSo Ended n c x y = FieldOf (λ (p : LegalCircuit n c x y). p.ended)
 SentSo HasAdd n c x y = Unit {0}
+SentSo IdsApart n c x y = Unit {0}
 
 abbrev pub CalledSo : Sending → World → ℕ → List Line → Type 0
 CalledSo HasAdd w life x = IsSent w life x
 CalledSo p w life x = Unit {0}
 
+abbrev pub HeldSo : Sending → World → Type 0
+HeldSo IdsApart w = IdsAreApart w
+HeldSo p w = Unit {0}
+
 abbrev pub MaySend : Sending → World → Type 0
-MaySend part w = OfCircuits w (SentSo part) × OfClients w (CalledSo part w)
+MaySend part w = OfCircuits w (SentSo part) × OfClients w (CalledSo part w) × HeldSo part w
 
 -- In a history this part of what is legal is broken, and no other.
 abbrev pub SendsWrong : Sending → World → Type 0

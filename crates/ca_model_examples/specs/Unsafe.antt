@@ -10,10 +10,13 @@ use Rattle.ca_dbr.specs.Elements.{longs}
 use Rattle.ca_wire.specs.Messages.{bare, cancel_reply, create_request, created_reply, disconnect}
 use Rattle.ca_wire.specs.Messages.{event_cancel_request, put_request, rights_reply, status_reply}
 use Rattle.ca_wire.specs.Messages.{update, value_reply}
+use Rattle.ca_model.specs.Events.{Event}
+use Rattle.ca_model.specs.Events as event
 use Rattle.ca_model.specs.History.{Cancel, Cause, Removal, Create, Posted, Request, Subscribe}
 use Rattle.ca_model.specs.History.{Update, Updated, Read, Put, On, OfCircuit, Sent, Told, Step}
 use Rattle.ca_model.specs.History.{Circuit, Entry, Added, Removed, Waits, Applied, Finished}
-use Rattle.ca_model.specs.History.{Withdrawn, Line, Opened, Called, Noticed, World}
+use Rattle.ca_model.specs.History.{Line, Opened, Called, Noticed, World}
+use Rattle.ca_model.specs.World.{ServerSetting, Setting}
 use Rattle.ca_model_examples.specs.Worlds.{adding, alarmed, circuit, created_told, creating, long}
 use Rattle.ca_model_examples.specs.Worlds.{putting, reading, reply, step, temp, temp_name, wanted}
 use Rattle.ca_model_examples.specs.Worlds.{world}
@@ -114,12 +117,6 @@ made_alarmed = Added 0 temp ∷ Applied 0 0 0 alarmed false ∷ []
 abbrev pub made_gone : List Entry
 made_gone = Added 0 temp ∷ Removed 0 ∷ made ∷ []
 
-abbrev pub dropped : List Entry
-dropped = Added 0 temp ∷ Waits 0 0 0 (long 22) ∷ Withdrawn 0 0 ∷ []
-
-abbrev pub waiting : List Entry
-waiting = Added 0 temp ∷ Waits 0 0 0 (long 22) ∷ []
-
 abbrev pub finished : Bool → List Entry → List Entry
 finished busies more = Added 0 temp ∷ Applied 0 0 0 (long 22) busies ∷ Finished 0 0 ∷ more
 
@@ -172,12 +169,23 @@ abbrev pub used : Sent → List Told → Step → Circuit
 used m down handled =
     circuit (creating ∷ m ∷ []) (created_told ∷ down) (step 0 1 1 ∷ handled ∷ []) []
 
--- A put is handled, and comes to wait; this follows in the server's log.
-abbrev pub waiting_put : Circuit
-waiting_put = used (putting 0 8 22) [] (step 1 1 2)
+-- A put is sent on the channel. The server's end is open or closed, and took these steps after that
+-- of the creation.
+abbrev pub put_sent : (is_open : Bool) → List Step → Circuit
+put_sent is_open steps =
+    record (circuit (creating ∷ putting 0 8 22 ∷ []) (created_told ∷ [])
+    (step 0 1 1 ∷ steps) []) { server_open = is_open }
 
-abbrev pub waiting_for : List Entry → List Entry
-waiting_for more = Added 0 temp ∷ Waits 0 1 0 (long 22) ∷ more
+-- the step in which the put came to wait
+abbrev pub its_step : List Step
+its_step = step 1 1 2 ∷ []
+
+-- It waits, by the server's log, in which these entries follow.
+abbrev pub waits_and : List Entry → List Entry
+waits_and more = Added 0 temp ∷ Waits 0 1 0 (long 22) ∷ more
+
+abbrev pub put_waits : (is_open : Bool) → List Step → List Entry → World
+put_waits is_open steps more = world (put_sent is_open steps ∷ []) put_called (waits_and more)
 
 -- no record has it
 abbrev pub other_name : List ℕ
@@ -264,6 +272,20 @@ saw o = Updated (On 0 (Subscribe 0)) o
 -- TEMP was posted as 22.
 abbrev pub posted : List Entry
 posted = Added 0 temp ∷ Posted 0 1 (long 22) ∷ []
+
+-- It was posted so once more.
+abbrev pub posted_again : List Entry
+posted_again = Added 0 temp ∷ Posted 0 1 (long 22) ∷ Posted 0 1 (long 22) ∷ []
+
+-- TEMP was given to a server, and an event posts this to it.
+abbrev pub given_temp : ServerSetting
+given_temp = record { address = record { host = 1; port = 5064 }; rules = []; records = temp ∷ [] }
+
+abbrev pub one_server : Setting
+one_server = record { clients = []; servers = given_temp ∷ [] }
+
+abbrev pub posting : ℕ → Event
+posting n = event.Post 0 temp_name (longs (pos n ∷ [])) 1
 
 -- Both updates of it are read.
 abbrev pub both_updated : Circuit

@@ -1,3 +1,5 @@
+//! Calls and events at the edge of what is allowed: the same moment again, all bytes that wait, the
+//! last priority, an update with count 0.
 ghost use Rattle.ca_model_examples.specs.Limits.{AcceptIsLast, AllBytes, CancelWaits};
 ghost use Rattle.ca_model_examples.specs.Limits.{CountsPresent, DatagramMoment, DisconnectsOnce};
 ghost use Rattle.ca_model_examples.specs.Limits.{LastPriority, LateReplyDrains, NameComesFirst};

@@ -1,3 +1,5 @@
+//! Worked events at a client: each call of its callers, bytes that move, a datagram, a cut, a
+//! restart and a tick, with what each leaves in its log.
 ghost use Rattle.ca_model_examples.specs.ClientCallEvents.{ClearLeaves, Collects, GivesUp};
 ghost use Rattle.ca_model_examples.specs.ClientCallEvents.{OpenLeaves, PutLeaves, ReadLeaves};
 ghost use Rattle.ca_model_examples.specs.ClientCallEvents.{SubscribeLeaves, UnsubscribeLeaves};

@@ -1,3 +1,5 @@
+//! Worked messages that a client reads, above all those that do not fit or that fail: what it does,
+//! and what it skips.
 ghost use Rattle.ca_model_examples.specs.ClientHears.{ClearedWhileWaiting, ConfirmedThere};
 ghost use Rattle.ca_model_examples.specs.ClientHears.{CreationFails, Errors, Found, LastFaults};
 ghost use Rattle.ca_model_examples.specs.ClientHears.{NoneFree, OutOfTurn, PauseIsSent};

@@ -1,3 +1,5 @@
+//! Worked sequences of a client's calls and messages, from the search for a name to a live channel,
+//! a loss and a new search, with the ids and bytes that they give.
 ghost use Rattle.ca_model_examples.specs.ClientRows.{BeaconBoosts, ClearedAfterLive};
 ghost use Rattle.ca_model_examples.specs.ClientRows.{ClearedBeforeLive, ConfirmationFrees};
 ghost use Rattle.ca_model_examples.specs.ClientRows.{CutLoses, DisconnectLeaves, EchoThenClose};

@@ -1,3 +1,5 @@
+//! Which reply is due for each command that a server reads, with examples that are due and others
+//! that are not.
 ghost use Rattle.ca_model_examples.specs.DueReplies.{AreDue, AreNotDue, RepliesLate, creations_due};
 ghost use Rattle.ca_model_examples.specs.DueReplies.{creations_not_due, greetings_due};
 ghost use Rattle.ca_model_examples.specs.DueReplies.{greetings_not_due, others_due, others_not_due};

@@ -1,17 +1,21 @@
-ghost use Rattle.std.specs.Prelude.{◌∷◌, []};
-ghost use Rattle.ca_model.specs.History.{World};
+//! What an end may not send: each history breaks one part of what is legal, beside a legal one that
+//! differs in one place (`specs/Illegal.antt`).
+ghost use Rattle.std.specs.Prelude.{◌∷◌, [], false, true};
+ghost use Rattle.ca_model.specs.History.{Opened, World};
 ghost use Rattle.ca_model.specs.Legal.{Legal};
 ghost use Rattle.ca_model_examples.specs.Worlds.{putting, clearing, adding, created_told};
-ghost use Rattle.ca_model_examples.specs.Worlds.{disconnected, step, world};
+ghost use Rattle.ca_model_examples.specs.Worlds.{creating, disconnected, step, world};
 ghost use Rattle.ca_model_examples.specs.Parts.{Anew, Apart, Cancels, Confirmations, Disconnects};
 ghost use Rattle.ca_model_examples.specs.Parts.{Ended, HasAdd, HasCall, Ids, MaySend, OnChannel};
-ghost use Rattle.ca_model_examples.specs.Parts.{Sending};
+ghost use Rattle.ca_model_examples.specs.Parts.{IdsApart, Sending};
 ghost use Rattle.ca_model_examples.specs.Parts.{SendsWrong, Sids, ToldRemoved, Updates};
 ghost use Rattle.ca_model_examples.specs.Unsafe.{cancelling, opened, temp_removed, temp_there};
 ghost use Rattle.ca_model_examples.specs.Illegal.{added_again, both_asked, both_created, called_at};
-ghost use Rattle.ca_model_examples.specs.Illegal.{cancel_called, confirm_out, created_read};
+ghost use Rattle.ca_model_examples.specs.Illegal.{called_in, calls, cancel_called, clears_lost};
+ghost use Rattle.ca_model_examples.specs.Illegal.{confirm_out, created_read, write_called};
 ghost use Rattle.ca_model_examples.specs.Illegal.{goes_out, live_again, read_out, reads_out, alone};
 ghost use Rattle.ca_model_examples.specs.Illegal.{writing, unasked, sent_in, subscribed_in};
+ghost use Rattle.ca_model_examples.specs.Illegal.{two_circuits};
 ghost use Rattle.ca_model_examples.specs.Illegal.{told_closed, told_so, uncalled_in, update_out};
 
 /// The parts are those of what is legal, and no more.
@@ -38,6 +42,32 @@ pub fn what_a_client_may_send()
     ensures reads { Legal (sent_in (reads_out 8)) }
     ensures id_reused { SendsWrong Ids (sent_in (reads_out 7)) }
     ensures id_shared { SendsWrong Ids (sent_in (both_asked 1)) }
+{}
+
+/// What goes out for a channel was called: a write with its value, a cancel, a clear, unless it
+/// answers a SERVER_DISCONN; and a channel is created under the name under which it was opened.
+pub fn what_goes_out_was_called()
+    ensures write { Legal (called_in (write_called 22) (goes_out (writing ∷ []))) }
+    ensures write_of_another_value { SendsWrong HasCall
+        (called_in (write_called 23) (goes_out (writing ∷ []))) }
+    ensures cancel { Legal (sent_in (goes_out (adding 0 9 ∷ cancelling ∷ []))) }
+    ensures cancel_uncalled { SendsWrong HasCall
+        (called_in (calls (creating ∷ adding 0 9 ∷ []))
+        (goes_out (adding 0 9 ∷ cancelling ∷ []))) }
+    ensures clear { Legal (sent_in (goes_out (clearing ∷ []))) }
+    ensures clear_uncalled { SendsWrong HasCall (uncalled_in (goes_out (clearing ∷ []))) }
+    ensures clear_answers { Legal (uncalled_in (clears_lost (created_read ∷ created_read ∷ []))) }
+    ensures clear_too_soon { SendsWrong HasCall (uncalled_in (clears_lost (created_read ∷ []))) }
+    ensures create { Legal (called_in opened (alone creating)) }
+    ensures create_under_another_name { SendsWrong HasCall
+        (called_in (Opened 0 (84 ∷ []) ∷ []) (alone creating)) }
+{}
+
+/// Two ids of one index are not in use on two circuits of one client whose ends there are open.
+pub fn ids_are_in_use_on_one_circuit()
+    ensures apart { Legal (two_circuits 2 true) }
+    ensures shared { SendsWrong IdsApart (two_circuits 1 true) }
+    ensures ended { Legal (two_circuits 1 false) }
 {}
 
 /// Two open channels have two SIDs; an update is for an EVENT_ADD that was read, and a

@@ -1,3 +1,5 @@
+//! Unsafe histories in which a reply or a log entry is missing, early, wrong or about another
+//! record, or a caller gets a result that no message gave.
 ghost use Rattle.std.specs.Prelude.{false};
 ghost use Rattle.ca_model.specs.History.{Applied, Waits};
 ghost use Rattle.ca_model.specs.Known.{IsSafe};

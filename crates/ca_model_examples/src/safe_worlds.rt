@@ -1,3 +1,5 @@
+//! Histories that are safe although they look odd: crossing updates, a record that comes back, a
+//! put that outlasts its client. Those that break a part are in `unsafe_worlds.rt`.
 ghost use Rattle.ca_dbr.specs.declared.value.Outcome.{Outcome};
 ghost use Rattle.ca_wire.specs.Fields.{Fields};
 ghost use Rattle.ca_model.specs.Known.{IsSafe};

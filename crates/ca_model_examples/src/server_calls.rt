@@ -1,3 +1,5 @@
+//! Worked calls of a server's core: circuits that it accepts, messages that it takes, the order in
+//! which updates leave, beacons and search replies.
 ghost use Rattle.ca_model_examples.specs.ServerAnswers.{AcceptsFirst, AcceptsNotSo, AddsNotSo};
 ghost use Rattle.ca_model_examples.specs.ServerAnswers.{AddsToFirst, AnnouncesItself};
 ghost use Rattle.ca_model_examples.specs.ServerAnswers.{AnswersSearches, AnswersVersions};

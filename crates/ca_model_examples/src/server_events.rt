@@ -1,3 +1,5 @@
+//! Worked events at a server: a write, a post, a finished put, a removed or added record, a cut and
+//! a restart, with what each leaves.
 ghost use Rattle.ca_model_examples.specs.ServerHappens.{AddHappens, AddsRefused, CannotBe};
 ghost use Rattle.ca_model_examples.specs.ServerHappens.{CutHappens, DatagramHappens, FinishHappens};
 ghost use Rattle.ca_model_examples.specs.ServerHappens.{FinishesRefused, LackHappens, PostHappens};

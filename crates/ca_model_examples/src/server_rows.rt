@@ -1,3 +1,5 @@
+//! Worked values of a server: payloads, conversions, which fault decides, access rights, waiting
+//! puts and queued posts; and its replies byte by byte.
 ghost use Rattle.ca_model_examples.specs.ServerRows.{BigSubscription, CancelSpelled};
 ghost use Rattle.ca_model_examples.specs.ServerRows.{CancelledEntries, ClearSpelled, Converts};
 ghost use Rattle.ca_model_examples.specs.ServerRows.{CreationSpelled, DisconnectSpelled};

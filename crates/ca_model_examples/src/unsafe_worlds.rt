@@ -1,3 +1,5 @@
+//! What may not happen: each history breaks one part of what is safe, beside a safe one that
+//! differs in one place (`specs/Unsafe.antt`).
 ghost use Rattle.std.specs.Prelude.{◌∷◌, [], None, false, true};
 ghost use Rattle.ca_text.specs.Status.{normal};
 ghost use Rattle.ca_dbr.specs.declared.value.Outcome.{Outcome};
@@ -5,6 +7,7 @@ ghost use Rattle.ca_dbr.specs.declared.value.Outcome.TheVariants as outcome;
 ghost use Rattle.ca_requests.specs.Meaning.{Means};
 ghost use Rattle.ca_model.specs.History.{GaveUp, Opened, Update, World};
 ghost use Rattle.ca_model.specs.History as history;
+ghost use Rattle.ca_model.specs.Origins.{ComeFromEvents};
 ghost use Rattle.ca_model_examples.specs.Worlds.{AnyDue, reading, reply, step, temp_name, world};
 ghost use Rattle.ca_model_examples.specs.Parts.{BreaksOnly, Holds, IsSafeNow, Part, Acts, Answered};
 ghost use Rattle.ca_model_examples.specs.Parts.{AppliedOnce, Asked, AtOne, CameToWait, Caused};
@@ -16,20 +19,20 @@ ghost use Rattle.ca_model_examples.specs.Parts.{Newest, OneAtOnce, OneCall, OneN
 ghost use Rattle.ca_model_examples.specs.Parts.{Own, OwnWrite, Refused, Retired, Rising};
 ghost use Rattle.ca_model_examples.specs.Parts.{SeesInOrder, SeesOwn, SentOnce, ShowsPost, Told};
 ghost use Rattle.ca_model_examples.specs.Parts.{WasThere};
-ghost use Rattle.ca_model_examples.specs.Unsafe.{sid_given_again, cancelled, added_again};
-ghost use Rattle.ca_model_examples.specs.Unsafe.{both_updated, called_again, closing, created};
-ghost use Rattle.ca_model_examples.specs.Unsafe.{created_closed, disconnected, dropped, echo};
-ghost use Rattle.ca_model_examples.specs.Unsafe.{echoed, echoes, fails, finished, gone, live, lost};
-ghost use Rattle.ca_model_examples.specs.Unsafe.{made_23, made_alarmed, made_gone, made_once};
-ghost use Rattle.ca_model_examples.specs.Unsafe.{made_twice, misasked, no_channel, of_created};
-ghost use Rattle.ca_model_examples.specs.Unsafe.{opened, other_name, posted, put_called};
-ghost use Rattle.ca_model_examples.specs.Unsafe.{put_closing, put_made, put_read, put_told};
-ghost use Rattle.ca_model_examples.specs.Unsafe.{read_at, read_called, read_lost, removed_again};
-ghost use Rattle.ca_model_examples.specs.Unsafe.{rights_for, saw, silent, status_of, subscribed};
+ghost use Rattle.ca_model_examples.specs.Unsafe.{added_again, both_updated, called_again};
+ghost use Rattle.ca_model_examples.specs.Unsafe.{cancelled, closing, created, created_closed};
+ghost use Rattle.ca_model_examples.specs.Unsafe.{disconnected, echo, echoed, echoes, fails};
+ghost use Rattle.ca_model_examples.specs.Unsafe.{finished, gone, its_step, live, lost, made_23};
+ghost use Rattle.ca_model_examples.specs.Unsafe.{made_alarmed, made_gone, made_once, made_twice};
+ghost use Rattle.ca_model_examples.specs.Unsafe.{misasked, no_channel, of_created, one_server};
+ghost use Rattle.ca_model_examples.specs.Unsafe.{opened, other_name, posted, posted_again, posting};
+ghost use Rattle.ca_model_examples.specs.Unsafe.{put_called, put_closing, put_made, put_read};
+ghost use Rattle.ca_model_examples.specs.Unsafe.{put_told, put_waits, read_at, read_called};
+ghost use Rattle.ca_model_examples.specs.Unsafe.{read_lost, removed_again, rights_for, saw};
+ghost use Rattle.ca_model_examples.specs.Unsafe.{sid_given_again, silent, status_of, subscribed};
 ghost use Rattle.ca_model_examples.specs.Unsafe.{subscriber, temp_removed, temp_there};
-ghost use Rattle.ca_model_examples.specs.Unsafe.{two_of_a_name, unhandled, unread, uncreated_read};
-ghost use Rattle.ca_model_examples.specs.Unsafe.{updated, value_21, waiting, waiting_for};
-ghost use Rattle.ca_model_examples.specs.Unsafe.{waiting_put};
+ghost use Rattle.ca_model_examples.specs.Unsafe.{two_of_a_name, uncreated_read, unhandled, unread};
+ghost use Rattle.ca_model_examples.specs.Unsafe.{updated, value_21};
 
 /// The parts are those of what is safe, and no more. That the server takes a step only for a
 /// message that came is in `Answered` already, so no history breaks it alone.
@@ -79,16 +82,17 @@ pub fn a_put_is_made_once()
     ensures not_handled { BreaksOnly OwnWrite (world (unhandled ∷ []) put_called made_once) }
 {}
 
-/// A put comes to wait when it is handled, or as its server's end closed on it. It is dropped if
-/// that end closed, and not while it is open. A put is finished once, and only if it made its
-/// record busy.
+/// A put comes to wait in its step, and not without one, also if its server's end closed. It is
+/// dropped if that end closed, and not while it is open. A put is finished once, and only if it
+/// made its record busy.
 pub fn a_put_ends_once()
-    ensures dropped { IsSafeNow (put_closing dropped) }
-    ensures waits { IsSafeNow (put_closing waiting) }
-    ensures waits_unhandled { BreaksOnly CameToWait (world (unhandled ∷ []) put_called waiting) }
-    ensures still_waits { IsSafeNow (world (waiting_put ∷ []) put_called (waiting_for [])) }
+    ensures waits { IsSafeNow (put_waits true its_step []) }
+    ensures waits_unhandled { BreaksOnly CameToWait (put_waits true [] []) }
+    ensures closed { IsSafeNow (put_waits false its_step []) }
+    ensures closed_unhandled { BreaksOnly CameToWait (put_waits false [] []) }
+    ensures dropped { IsSafeNow (put_waits false its_step (history.Withdrawn 0 1 ∷ [])) }
     ensures dropped_for_nothing { BreaksOnly Dropped
-        (world (waiting_put ∷ []) put_called (waiting_for (history.Withdrawn 0 1 ∷ []))) }
+        (put_waits true its_step (history.Withdrawn 0 1 ∷ [])) }
     ensures finished { IsSafeNow (put_closing (finished true [])) }
     ensures finished_twice { BreaksOnly Finished
         (put_closing (finished true (history.Finished 0 0 ∷ []))) }
@@ -216,4 +220,12 @@ pub fn a_subscriber_sees_each_update()
         (of_created both_updated (saw o ∷ saw p ∷ []) posted) }
     ensures passed_over { (p : Outcome) → Means (updated 1 22).message p → BreaksOnly SeesInOrder
         (of_created both_updated (GaveUp 0 None ∷ saw p ∷ []) posted) }
+{}
+
+/// A post in a server's log is from an event of its own, which posts that value.
+pub fn a_post_comes_from_an_event()
+    ensures posted { ComeFromEvents one_server (posting 22 ∷ []) (posted ∷ []) }
+    ensures unposted { ComeFromEvents one_server [] (posted ∷ []) → ⊥ }
+    ensures another_value { ComeFromEvents one_server (posting 23 ∷ []) (posted ∷ []) → ⊥ }
+    ensures twice { ComeFromEvents one_server (posting 22 ∷ []) (posted_again ∷ []) → ⊥ }
 {}

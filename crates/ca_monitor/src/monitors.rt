@@ -1,3 +1,5 @@
+//! All subscriptions of a client, found by handle, by wire id or by channel. Begin at `add`,
+//! `cancel` and `confirmed`: they follow a subscription from EVENT_ADD to the free id.
 ghost use Rattle.std.specs.Prelude.{◌≡◌, ◌≢◌, ◌<◌, ◌++◌, [], IfOk, OnErr, OnOk, filter, length};
 ghost use Rattle.ca_arena.specs.Arena.{place_at};
 ghost use Rattle.ca_ids.specs.Holding.{IsVacant};

@@ -1,3 +1,5 @@
+//! When a client sends EVENTS_OFF and EVENTS_ON: off after ten reads in a row that left bytes
+//! waiting, on again after a read that left none.
 ghost use Rattle.std.specs.Prelude.{◌≡◌};
 ghost use Rattle.ca_monitor.specs.ReadRun.{after_read, no_reads, sent_by_read};
 

@@ -1,3 +1,5 @@
+//! How far a subscription is: active, cancelled and waiting for the server's confirmation, or ended
+//! with its channel. Only an active one takes updates.
 ghost use Rattle.std.specs.Prelude.{◌≡◌};
 ghost use Rattle.ca_monitor.specs.Stages.{stage_of};
 ghost use Rattle.ca_ids.specs.Table.{same_handle};

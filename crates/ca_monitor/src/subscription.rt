@@ -1,3 +1,5 @@
+//! One subscription of a client: its channel, the type, count and mask that it asked for, and its
+//! stage.
 ghost use Rattle.std.specs.Prelude.{◌≡◌};
 ghost use Rattle.ca_monitor.specs.Stages.{stage_of};
 ghost use Rattle.ca_monitor.specs.Subscriptions.{is_to};

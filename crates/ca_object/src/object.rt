@@ -1,3 +1,5 @@
+//! A heap object as C code holds it, as a pointer that may be null, with its conversions from and
+//! to a box.
 ghost use Rattle.std.specs.Prelude.{◌≡◌, None, Option, Some, option_map};
 ghost use Rattle.ca_object.specs.Owning.{owns_object};
 

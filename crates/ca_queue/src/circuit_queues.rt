@@ -1,3 +1,5 @@
+//! The eight event queues of one circuit at a server. A subscription goes into the first queue with
+//! room; updates are taken from the first queue that has one to send.
 ghost use Rattle.std.specs.Prelude.{◌≡◌, ◌≤◌, IfOk, MatchOption, map, replicate};
 ghost use Rattle.ca_text.specs.Limits.{circuit_queues};
 ghost use Rattle.ca_queue.specs.Circuit.{AreFull, Begins, IsFirstWithRoom, HasAt, HasNone, Takes};

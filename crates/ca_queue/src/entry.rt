@@ -1,3 +1,5 @@
+//! What an event queue holds: a subscription's key on its circuit (SID and subscription id), and an
+//! update that waits to be sent.
 ghost use Rattle.std.specs.Prelude.{◌≡◌};
 ghost use Rattle.ca_queue.specs.Keys.{same};
 

@@ -1,3 +1,5 @@
+//! The event queue that servers use, as a ring buffer. Begin at `post` and `take`: neither searches
+//! the entries. What they must do is said by the trait in `queues.rt`.
 ghost use Rattle.std.specs.Prelude.{ℕ, ◌≡◌, ◌<◌, ◌≤◌, ◌+◌, ◌-◌, ◌^◌, [], true, Some, None, IsTrue};
 ghost use Rattle.std.specs.Prelude.{length, is_some, nat_le, slice_set, not, ◌||◌, if◌then◌else◌};
 ghost use Rattle.std.specs.Option.{option_map};

@@ -1,3 +1,5 @@
+//! The subscriptions of an event queue, each with the number of the last put of one of its entries.
+//! It tells `event_queue.rt` where the last entry of a subscription is without a search.
 ghost use Rattle.std.specs.Prelude.{◌≡◌, ◌<◌, ◌≤◌, ◌+◌, ◌++◌, ◌∷◌, [], true, false, Some, OnOk};
 ghost use Rattle.std.specs.Prelude.{OnErr, length, filter, not, position, slice_set, vec_capacity};
 ghost use Rattle.ca_text.specs.Limits.{queue_subscriptions};

@@ -1,3 +1,5 @@
+//! What the rules of event queues guarantee: a post always finds a place, the newest update of each
+//! subscription is kept, and subscriptions do not disturb each other.
 ghost use Rattle.std.specs.Prelude.{◌≡◌, ◌++◌, ◌∷◌, ◌≤◌, [], Bool, List, IsFalse, IsTrue, length};
 ghost use Rattle.ca_text.specs.Limits.{queue_places};
 ghost use Rattle.ca_queue.specs.declared.entry.SubKey.{SubKey};

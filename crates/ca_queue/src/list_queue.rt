@@ -1,3 +1,5 @@
+//! The simple event queue: a list of entries that is searched from the back. Tests compare it with
+//! the faster `event_queue.rt`, and simulated worlds use it.
 ghost use Rattle.std.specs.Prelude.{◌≡◌, ◌<◌, ◌≤◌, ◌++◌, ◌∷◌, [], IsTrue, OnOk, OnErr, length, map};
 ghost use Rattle.std.specs.Prelude.{filter, not, vec_capacity, nat_lt, nat_le, true, false, ◌-◌};
 ghost use Rattle.std.specs.Prelude.{◌&&◌, ◌||◌};

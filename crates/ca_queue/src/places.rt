@@ -1,3 +1,5 @@
+//! How a queue kept as a plain list replaces the last entry of a subscription, and how it removes
+//! all its entries.
 ghost use Rattle.std.specs.Prelude.{◌≡◌, ◌+◌, ◌<◌, IsTrue, IsFalse, length, drop};
 ghost use Rattle.std.specs.VecDeque.{deque_capacity};
 ghost use Rattle.ca_queue.specs.Waiting.{has_entry, with_last, after_cancel};

@@ -1,3 +1,5 @@
+//! The trait of an event queue: what a post, a take, a cancel and a pause of updates do, however
+//! the queue is kept. Begin here; `event_queue.rt` is the one that servers use.
 ghost use Rattle.std.specs.Prelude.{◌≡◌, Bool, IsTrue, IsFalse, MatchResult, length, nat_le};
 ghost use Rattle.ca_text.specs.Limits.{queue_subscriptions};
 ghost use Rattle.ca_queue.specs.Keys.{is_among};

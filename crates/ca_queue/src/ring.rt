@@ -1,3 +1,5 @@
+//! The ring buffer of an event queue: 144 places, allocated with the first subscription. What is
+//! put into which place `event_queue.rt` decides.
 ghost use Rattle.std.specs.Prelude.{◌≡◌, ◌<◌, true, None, OnOk, OnErr, is_some, length, slice_get};
 ghost use Rattle.std.specs.Option.{option_map};
 ghost use Rattle.ca_text.specs.Place.{At};

@@ -1,3 +1,5 @@
+//! Converts the elements of a write to the record's type. A write that does not convert, or that
+//! finds no place to wait, gets its ECA status here.
 ghost use Rattle.std.specs.Prelude.{◌≡◌, ◌≢◌, IfErr, IfOk, Ok, OnErr};
 ghost use Rattle.ca_dbr.specs.declared.data_type.BaseType.{BaseType};
 ghost use Rattle.ca_dbr.specs.Conversion.{Fails, converted};

@@ -1,3 +1,4 @@
+//! One law on withdrawn puts, for the crates whose proofs need it.
 ghost use Rattle.std.specs.Prelude.{◌≡◌, Bool, List};
 ghost use Rattle.ca_records.specs.Puts as puts;
 ghost use Rattle.ca_records.specs.Puts.{withdrawn};

@@ -1,3 +1,5 @@
+//! Records that are added to a server and removed from it while it runs. A place that became free
+//! is used again.
 ghost use Rattle.std.specs.Prelude.{◌≡◌, ◌≢◌, ◌++◌, ◌∷◌, [], IfOk, None, OnErr, OnOk, length, map};
 ghost use Rattle.ca_dbr.specs.Elements.{elements};
 ghost use Rattle.ca_records.specs.Puts.{new_record, record_named};

@@ -1,3 +1,5 @@
+//! A put with notification (WRITE_NOTIFY) that a record keeps until it is finished, the time stamp
+//! of writes, and the results of beginning and of finishing a write.
 ghost use Rattle.std.specs.Prelude.{◌≡◌, ◌≤◌};
 ghost use Rattle.ca_records.specs.Judging.{fewer_waiting, more_waiting};
 ghost use Rattle.ca_records.specs.Puts.{written_meta};

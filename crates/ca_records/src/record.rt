@@ -1,3 +1,5 @@
+//! A record's own state: name, greatest element count, value, alarm and time stamp, and whether a
+//! put takes it time. Puts that wait are kept in `served_record.rt`.
 ghost use Rattle.std.specs.Prelude.{◌≡◌, IfErr, IfOk, MatchResult, OnOk};
 ghost use Rattle.ca_text.specs.Limits.{record_name_limit};
 ghost use Rattle.ca_text.specs.Name.{IsName};

@@ -1,3 +1,5 @@
+//! The list of records with which a server starts, looked up by name. A running server keeps
+//! `ServedRecords` in its stead.
 ghost use Rattle.std.specs.Prelude.{◌≡◌, ◌<◌, ◌↔◌, ◌++◌, ◌∷◌, [], IfOk, IfSome, IsTrue};
 ghost use Rattle.std.specs.Prelude.{MatchOption, MatchResult, OnErr, OnOk, ◌≢◌, length};
 ghost use Rattle.ca_text.specs.Place.{At};

@@ -1,3 +1,5 @@
+//! Access rules by user, host and record name. The first rule that matches gives the rights to read
+//! and to write; without a match both are given.
 ghost use Rattle.std.specs.Prelude.{◌≡◌, option_map};
 ghost use Rattle.ca_records.specs.Rules.{meets, rights, rule_bits, rule_meets};
 

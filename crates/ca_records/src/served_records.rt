@@ -1,3 +1,5 @@
+//! All records of a running server, with the rules of access and the stamp of writes. Writes are in
+//! `writes.rt`, adding and removing in `membership.rt`.
 ghost use Rattle.std.specs.Prelude.{◌≡◌, ◌↔◌, [], IsTrue, MatchOption, None, Some, is_some, true};
 ghost use Rattle.ca_records.specs.Puts.{record_named, waiting_in};
 ghost use Rattle.ca_records.specs.Rules.{rights};

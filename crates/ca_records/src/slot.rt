@@ -1,3 +1,4 @@
+//! A place in a server's list of records: a record, or a link in the chain of free places.
 ghost use Rattle.std.specs.Prelude.{◌≡◌, IsNone, Some};
 ghost use Rattle.std.specs.Borrow.{sem};
 ghost use Rattle.ca_records.specs.declared.slot.RecordSlot.TheVariants.{Free, Full};

@@ -1,3 +1,5 @@
+//! Writes to the served records by place or name: put or plain write, the fast path for one
+//! element, the end of a busy put, withdrawal, and posts. `served_record.rt` does the work.
 ghost use Rattle.std.specs.Prelude.{◌≡◌, false, true};
 ghost use Rattle.ca_dbr.specs.Elements.{elements};
 ghost use Rattle.ca_records.specs.Store.{IsThere, TakesAt};

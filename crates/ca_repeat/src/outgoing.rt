@@ -1,3 +1,4 @@
+//! A datagram that the repeater wants sent: its destination and its bytes.
 ghost use Rattle.std.specs.Prelude.{◌≡◌};
 
 use crate::address::UdpAddress;

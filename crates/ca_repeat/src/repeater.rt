@@ -1,3 +1,5 @@
+//! The repeater's list of clients, and what it sends for each datagram. Begin at `receive`. It does
+//! no IO: whoever owns the UDP socket sends what is returned.
 ghost use Rattle.std.specs.Prelude.{◌≡◌, ◌≢◌, ◌++◌, ◌&&◌, ◌||◌, [], nat_lt, not, filter, IfOk};
 ghost use Rattle.std.specs.Prelude.{OnOk, OnErr};
 ghost use Rattle.ca_repeat.specs.Addresses.{is_member, loopback, same};

@@ -1,3 +1,5 @@
+//! Copies of the clients and servers of a script: drawing events needs a world of its own, before
+//! the world of the run.
 ghost use Rattle.std.specs.Prelude.{◌≡◌, IfOk, map, option_map};
 ghost use Rattle.ca_world_data.specs.Settings.{rule_of};
 

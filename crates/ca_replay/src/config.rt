@@ -1,3 +1,4 @@
+//! The configuration of a world from the clients and servers of a script.
 ghost use Rattle.std.specs.Prelude.{◌≡◌, IfErr, IfOk};
 ghost use Rattle.ca_text.specs.declared.refusal.Refusal.TheVariants.{OutOfMemory};
 ghost use Rattle.ca_replay.specs.Settings.{AreFresh};

@@ -1,3 +1,5 @@
+//! Adds events drawn from a seed to those of a script. A world is run along, so that each drawn
+//! event is one that can be done there.
 ghost use Rattle.std.specs.Prelude.{◌≡◌, IfErr, IfOk, map};
 ghost use Rattle.ca_text.specs.declared.refusal.Refusal.TheVariants.{OutOfMemory};
 ghost use Rattle.ca_world_script.specs.Drawn.{numbers};

@@ -1,3 +1,5 @@
+//! A replay from script to report. Begin at `replay`: it reads the script, draws events if there is
+//! a seed, and runs all of them.
 ghost use Rattle.std.specs.Prelude.{◌≡◌, IfErr, IfOk, map};
 ghost use Rattle.ca_text.specs.declared.refusal.Refusal.TheVariants.{OutOfMemory};
 ghost use Rattle.ca_events.specs.Events.{event_of};

@@ -1,3 +1,4 @@
+//! The progress line on standard error during a long replay, once every 100,000 events.
 use ca_world::Progress;
 use std::io::Write;
 

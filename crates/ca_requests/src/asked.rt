@@ -1,3 +1,5 @@
+//! What a request asks for: a read (READ_NOTIFY) or a put with notification (WRITE_NOTIFY); and
+//! whether it is open or only its IOID is still in use.
 ghost use Rattle.std.specs.Prelude.{◌≡◌};
 ghost use Rattle.ca_requests.specs.Forms.{asked_of, stage_of};
 ghost use Rattle.ca_requests.specs.Requests.{command_of, is_open_in};

@@ -1,3 +1,5 @@
+//! What a reply means to a request: a value, a completed put, a status of failure, or a payload
+//! that cannot be read. Updates are read in the same way.
 ghost use Rattle.std.specs.Prelude.{ℕ, IfOk, List, OnErr};
 ghost use Rattle.ca_requests.specs.Meaning.{ImageMeans, StatusMeans, message_of};
 ghost use Rattle.ca_requests.specs.Calls.{HasImage};

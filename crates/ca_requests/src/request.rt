@@ -1,3 +1,5 @@
+//! One request of a client: its channel, the circuit that carries it, what it asks for, and whether
+//! it is open.
 ghost use Rattle.std.specs.Prelude.{◌≡◌};
 ghost use Rattle.ca_ids.specs.Table.{same_handle};
 ghost use Rattle.ca_requests.specs.Requests.{asks_on, is_open_in, was_sent_on};

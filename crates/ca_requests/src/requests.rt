@@ -1,3 +1,5 @@
+//! All requests of a client that wait for a reply, found by IOID, by channel or by circuit. Begin
+//! at `issue` and `answer`.
 ghost use Rattle.std.specs.Prelude.{◌≡◌, [], OnErr, OnOk, true};
 ghost use Rattle.ca_ids.specs.Holding.{IsVacant};
 ghost use Rattle.ca_ids.specs.Table.{MayGive};

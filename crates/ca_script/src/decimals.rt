@@ -1,3 +1,4 @@
+//! Unsigned decimal numbers of 64 bits in scripts and record files.
 ghost use Rattle.std.specs.Prelude.{◌≡◌, ℕ, MatchOption};
 ghost use Rattle.ca_script.specs.Grammar.{IsNumber};
 

@@ -1,3 +1,5 @@
+//! Values as words of a line: the name of a base type, and each element of that type. Begin at
+//! `read_value`. Strings and floating-point numbers are given as hexadecimal digits of their bytes.
 ghost use Rattle.std.specs.Prelude.{◌≡◌, ℕ, ℤ, List, FitsSigned, IfErr, IfOk, OnOk, length};
 ghost use Rattle.std.specs.Int.{w64};
 ghost use Rattle.ca_text.specs.declared.refusal.Refusal.TheVariants.{BadText};

@@ -1,3 +1,5 @@
+//! The lines that name a server's address, define a record, or give an access rule, read into their
+//! parts. `record_file.rt` reads whole files of records and rules.
 ghost use Rattle.std.specs.Prelude.{◌≡◌, ◌↔◌, ◌<◌, ◌∷◌, ℕ, Bool, List, IfErr, IfOk, IsTrue, OnOk};
 ghost use Rattle.std.specs.Prelude.{option_map};
 ghost use Rattle.ca_text.specs.declared.refusal.Refusal.TheVariants.{BadText};

@@ -1,3 +1,4 @@
+//! Lines that consist of one, two or four decimal numbers and nothing more.
 ghost use Rattle.std.specs.Prelude.{◌≡◌, ◌∷◌, [], ℕ, IfErr, IfOk};
 ghost use Rattle.ca_text.specs.declared.refusal.Refusal.TheVariants.{BadText};
 ghost use Rattle.ca_script.specs.Grammar.{AreNumbers};

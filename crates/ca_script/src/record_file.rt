@@ -1,3 +1,5 @@
+//! A record file as a server reads it at its start: lines of records and of access rules, in any
+//! order. Begin at `read_records`.
 ghost use Rattle.std.specs.Prelude.{◌≢◌, IfErr, IfOk, OnErr, OnOk, length};
 ghost use Rattle.ca_script.specs.Grammar.{Refuses, parted};
 ghost use Rattle.ca_script.specs.RecordFiles.{SaysFile, TakesLine, file_reading};

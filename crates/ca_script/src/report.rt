@@ -1,3 +1,5 @@
+//! Parts of a report's lines: what became of a request, with a value in hexadecimal digits, and the
+//! last line, which gives the number of events.
 ghost use Rattle.std.specs.Prelude.{◌≡◌, ◌++◌, IfErr, OnOk, codes, decimal};
 ghost use Rattle.hex.specs.Hex.{encode_lower};
 ghost use Rattle.ca_text.specs.declared.refusal.Refusal.TheVariants.{OutOfMemory};

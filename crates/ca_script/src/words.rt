@@ -1,3 +1,5 @@
+//! A line cut into words at single spaces, or a text cut at another separator. An empty word is
+//! refused as BadText.
 ghost use Rattle.std.specs.Prelude.{◌≡◌, ◌↔◌, IsTrue, ◌<◌, ◌∷◌, [], ℕ, List, IfErr, IfOk, IfSome};
 ghost use Rattle.std.specs.Prelude.{MatchResult, length, option_map};
 ghost use Rattle.ca_text.specs.declared.refusal.Refusal.TheVariants.{BadText};

@@ -1,3 +1,5 @@
+//! When a channel is searched next: at once, then after 32 milliseconds, and after twice as long
+//! each time, up to five minutes.
 ghost use Rattle.std.specs.Prelude.{◌≡◌, nat_le};
 ghost use Rattle.ca_search.specs.Clock.{fresh, searched_at};
 

@@ -1,3 +1,5 @@
+//! How long a client waits between the searches for a channel: 32 milliseconds, doubled each time,
+//! up to five minutes.
 ghost use Rattle.std.specs.Prelude.{◌≡◌, ◌+◌, ◌*◌, ◌^◌, ◌++◌, ◌∷◌, [], ℕ, List, length, min};
 ghost use Rattle.ca_text.specs.Waits.{latest, wait};
 ghost use Rattle.ca_search.specs.Clock.{fresh, run};

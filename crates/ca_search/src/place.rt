@@ -1,3 +1,4 @@
+//! One channel of a client's searches: its name, and its clock while it is not found.
 ghost use Rattle.std.specs.Prelude.{◌≡◌, IfOk, Some};
 ghost use Rattle.ca_text.specs.Limits.{channel_name_limit};
 ghost use Rattle.ca_text.specs.Name.{IsName};

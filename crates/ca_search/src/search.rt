@@ -1,3 +1,4 @@
+//! A search to be sent: the client's id of a channel (CID) and the channel's name.
 ghost use Rattle.std.specs.Prelude.{◌≡◌};
 ghost use Rattle.ca_text.specs.Limits.{channel_name_limit};
 ghost use Rattle.ca_text.specs.Name.{IsName};

@@ -1,3 +1,5 @@
+//! All channels of a client that are searched or may be searched again. Begin at `due`: it gives
+//! the searches to send now. `ca_dgram` packs them into datagrams.
 ghost use Rattle.std.specs.Prelude.{◌≡◌, ◌≢◌, [], IfOk, OnErr, false};
 ghost use Rattle.ca_search.specs.Searches.{boosted, passed, paused, resumed, wanted_at};
 ghost use Rattle.ca_search.specs.Searcher.{Adds, Finds, at, holds, with_all, with_one, without};

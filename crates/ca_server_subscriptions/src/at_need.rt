@@ -1,3 +1,5 @@
+//! The subscriptions of a circuit as the server's core holds them: nothing is allocated before the
+//! first EVENT_ADD. Everything else is left to `subscriptions.rt`.
 ghost use Rattle.std.specs.Prelude.{None, Option, ◌≡◌, ◌<◌, ◌≤◌, ◌*◌, IfOk, IfSome, OnErr, OnOk};
 ghost use Rattle.std.specs.Prelude.{false, is_some, length, map, option_map, true};
 ghost use Rattle.std.specs.List.{list_any};

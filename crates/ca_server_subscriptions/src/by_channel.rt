@@ -1,3 +1,4 @@
+//! Index of a circuit's subscriptions by the SID of their channel, for CLEAR_CHANNEL.
 ghost use Rattle.std.specs.Prelude.{◌≡◌, ◌-◌, [], None, OnErr, OnOk, length, slice_get};
 ghost use Rattle.ca_text.specs.Place.{At};
 ghost use Rattle.ca_queue.specs.Keys.{AreApart};

@@ -1,3 +1,5 @@
+//! Index of a circuit's subscriptions by the name of their record, so that a post finds those that
+//! it concerns.
 ghost use Rattle.std.specs.Prelude.{ℕ, ◌≡◌, List, [], None, IfSome, OnErr, OnOk};
 ghost use Rattle.ca_text.specs.Place.{At};
 ghost use Rattle.ca_queue.specs.declared.entry.SubKey.{SubKey};

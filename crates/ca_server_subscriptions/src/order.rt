@@ -1,3 +1,5 @@
+//! Whether a subscription comes before a given place in the order of EVENT_ADDs. The indexes use it
+//! to search by halving.
 ghost use Rattle.std.specs.Prelude.{◌≡◌};
 ghost use Rattle.ca_server_subscriptions.specs.Order.{is_before};
 

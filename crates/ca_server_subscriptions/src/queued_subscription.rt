@@ -1,3 +1,5 @@
+//! One subscription: what its EVENT_ADD asks for, the name of its record, and which of the eight
+//! queues holds its updates.
 ghost use Rattle.std.specs.Prelude.{◌≡◌, IfSome};
 ghost use Rattle.ca_model.specs.Server.{concerns};
 ghost use Rattle.ca_model.specs.Speech.{share_bit};

@@ -1,3 +1,5 @@
+//! What a post needs to know of a subscription: its key, its event mask, its queue, and where it
+//! was found last.
 ghost use Rattle.std.specs.Prelude.{◌≡◌};
 ghost use Rattle.ca_server_subscriptions.specs.ByRecord.{is_masked};
 

@@ -1,3 +1,5 @@
+//! The subscriptions of one circuit on one record, in the order of their EVENT_ADDs: an entry of
+//! the index in `by_record.rt`.
 ghost use Rattle.std.specs.Prelude.{◌≡◌, ◌∷◌, ◌++◌, ◌<◌, ◌↔◌, [], true, IfOk, OnErr, OnOk, length};
 ghost use Rattle.std.specs.Prelude.{remove};
 ghost use Rattle.ca_server_subscriptions.specs.ByRecord.{IsInLine, LeavesLine};

@@ -1,3 +1,5 @@
+//! The subscriptions of one circuit with their indexes and queues. Begin at `begin`, `post` and
+//! `take`; the updates themselves wait in `waiting.rt`.
 ghost use Rattle.std.specs.Prelude.{Option, ◌≡◌, ◌∷◌, [], ◌<◌, ◌==◌, ◌≤◌, ◌*◌, IfOk, IfSome, OnErr};
 ghost use Rattle.std.specs.Prelude.{OnOk, Some, false, true, filter, map, length, option_map};
 ghost use Rattle.std.specs.List.{fold, list_any};

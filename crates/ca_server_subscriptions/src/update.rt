@@ -1,3 +1,5 @@
+//! A value with alarm and time stamp that waits to be sent as an EVENT_ADD update. Its memory is
+//! used again for the next one.
 ghost use Rattle.std.specs.Prelude.{◌≡◌, ◌≢◌, ◌≤◌, [], IfOk, OnErr, OnOk};
 ghost use Rattle.ca_text.specs.Limits.{element_limit};
 ghost use Rattle.ca_dbr.specs.Elements.{count_of, elements};

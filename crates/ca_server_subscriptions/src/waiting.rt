@@ -1,3 +1,5 @@
+//! The updates that wait on a circuit: eight queues, and one update in front of them that is stored
+//! once for all subscriptions it is for. Begin at `post` and `take`.
 ghost use Rattle.std.specs.Prelude.{ℕ, ◌≡◌, ◌≤◌, [], IfOk, IfSome, OnErr, OnOk, true, not, filter};
 ghost use Rattle.std.specs.Prelude.{if◌then◌else◌, length, map, replicate};
 ghost use Rattle.std.specs.List.{fold, list_any};

@@ -1,3 +1,5 @@
+//! The circuits that watch one record, at most one for each index of the server's table of
+//! circuits.
 ghost use Rattle.std.specs.Prelude.{◌≡◌, ◌-◌, OnErr, OnOk, [], length, slice_get};
 ghost use Rattle.ca_server_watchers.specs.Watching.{AreApart, Joins, Leaves};
 

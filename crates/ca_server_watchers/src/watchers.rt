@@ -1,3 +1,5 @@
+//! The circuits that watch each record, looked up by the record's name. Begin at `watch` and
+//! `last`. The record that was looked up last is found again without a hash of its name.
 ghost use Rattle.std.specs.Prelude.{◌≡◌, ◌-◌, ◌↔◌, true, IfSome, OnErr, OnOk, [], length};
 ghost use Rattle.std.specs.Prelude.{option_copied, slice_get, unwrap_or};
 ghost use Rattle.ca_server_watchers.specs.Watching.{AreApart, Clears, LeavesAt, Watches, watching};

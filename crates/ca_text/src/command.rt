@@ -1,3 +1,4 @@
+//! The commands of the protocol, each with its number in the header of a message.
 ghost use Rattle.std.specs.Prelude.{◌≡◌, ℕ, MatchOption};
 ghost use Rattle.ca_text.specs.declared.command.Command.{Command};
 ghost use Rattle.ca_text.specs.Command.{command_number};

@@ -1,3 +1,5 @@
+//! The limits of the protocol and of both ends: counts, bytes, ports and seconds.
+
 /// The minor version of the protocol that both ends speak.
 pub const MINOR_VERSION: u16 = 13;
 

@@ -1,3 +1,5 @@
+//! The event mask of a subscription (VALUE, LOG, ALARM, PROPERTY). A post concerns a subscription
+//! if their masks share an event.
 ghost use Rattle.std.specs.Prelude.{◌≡◌, ◌≢◌, ◌%◌, ◌↔◌, ◌<◌, ℕ, IsTrue, MatchOption, bit_and};
 ghost use Rattle.ca_text.specs.Mask.{HasEvent};
 

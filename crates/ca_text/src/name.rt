@@ -1,3 +1,5 @@
+//! Names of channels (up to 500 bytes) and of records (up to 60 bytes), checked for length and zero
+//! bytes before anything else sees them.
 ghost use Rattle.std.specs.Prelude.{◌≡◌, ◌≤◌, ◌↔◌, ℕ, IsTrue, MatchResult};
 ghost use Rattle.ca_text.specs.Name.{IsName};
 ghost use Rattle.ca_text.specs.declared.refusal.Refusal.TheVariants.{NameLength};

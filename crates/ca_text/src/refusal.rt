@@ -1,3 +1,5 @@
+//! The errors of all calls of the libraries. Each has a number and a name, which the programs
+//! print.
 ghost use Rattle.std.specs.Prelude.{◌≡◌, ℕ};
 ghost use Rattle.ca_text.specs.Refusal.{refusal_name, refusal_number};
 

@@ -1,3 +1,4 @@
+//! A fast comparison of names, for lookups that happen with each message.
 ghost use Rattle.std.specs.Prelude.{◌≡◌, ◌+◌, ◌≤◌, drop, length, take};
 ghost use Rattle.std.specs.Int.{from_le_bytes, w32, w64};
 ghost use Rattle.std.specs.Str.{bytes_eq};

@@ -1,3 +1,4 @@
+//! The status codes (ECA) that replies and updates carry, as numbers on the wire.
 use std::fmt;
 
 /// The status of a reply or an update: a message number times 8, plus a severity, which is 0

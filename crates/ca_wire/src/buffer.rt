@@ -1,3 +1,5 @@
+//! A queue of bytes: messages are written at its end, and bytes that were read or sent are dropped
+//! from its front. Both directions of a circuit use it.
 ghost use Rattle.std.specs.Prelude.{ℕ, List, ◌≡◌, ◌≢◌, ◌≤◌, ◌++◌, [], drop, length, take, IfOk};
 ghost use Rattle.std.specs.Prelude.{OnErr, OnOk, vec_capacity, vec_len};
 ghost use Rattle.ca_text.specs.Limits.{payload_limit};

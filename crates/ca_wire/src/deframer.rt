@@ -1,3 +1,4 @@
+//! From bytes that come in any pieces to messages. A bad header ends that for good.
 ghost use Rattle.std.specs.Prelude.{◌≡◌, ◌≢◌, ◌≤◌, [], drop, false, length, IfOk, OnErr};
 ghost use Rattle.ca_wire.specs.Reading.{FirstShort, Gives, Nexts, NextsBare};
 
@@ -82,7 +83,8 @@ impl Deframer {
     // bytes of it right after has to wait.
     /// Takes the message at the front, if a complete one is there.
     ///
-    /// After 2 or 3 every call answers 17. After 1 the message is still there.
+    /// After Misaligned or TooLarge every call answers CircuitClosed. After OutOfMemory the message
+    /// is still there.
     #[inline(always)]
     pub fn next_message(&mut self) -> Result<Option<Message>, Refusal>
         ensures { Nexts self.old result self.new }

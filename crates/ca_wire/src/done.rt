@@ -1,3 +1,5 @@
+//! The reply to a WRITE_NOTIFY of one element, written directly as 16 bytes without a `Message` in
+//! between.
 ghost use Rattle.std.specs.Prelude.{◌≡◌, ◌++◌, OnErr, OnOk};
 ghost use Rattle.std.specs.Int.{to_be_bytes, w64};
 ghost use Rattle.ca_text.specs.Command.{command_number};

@@ -1,3 +1,5 @@
+//! The header of a message as it is written: 16 bytes, or 24 in the extended form, for a payload
+//! size or an element count of 65,535 or more. `reading.rt` reads both.
 ghost use Rattle.std.specs.Prelude.{◌≡◌, ◌+◌, ◌<◌, ◌≤◌, ◌++◌, length, OnErr, OnOk, vec_capacity};
 ghost use Rattle.std.specs.Prelude.{vec_len};
 ghost use Rattle.ca_wire.specs.Header.{extended_header, header_spelling, short_header};

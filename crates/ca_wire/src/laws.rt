@@ -1,3 +1,5 @@
+//! What the wire format guarantees: bytes can be read in one way only, in whatever pieces they
+//! arrive, and a message that was written is read again unchanged.
 ghost use Rattle.std.specs.Prelude.{◌≡◌, ◌++◌, ℕ, List, None, Ok};
 ghost use Rattle.ca_wire.specs.declared.reading.One.{One};
 ghost use Rattle.ca_wire.specs.declared.reading.Head.{Head};

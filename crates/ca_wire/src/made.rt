@@ -1,3 +1,5 @@
+//! Messages whose payload is written straight into the output, for values that would otherwise be
+//! copied once more. `Payload` is the trait of what writes one.
 ghost use Rattle.std.specs.Prelude.{ℕ, List, Result, ◌≡◌, ◌-◌, ◌%◌, ◌≤◌, ◌++◌, IfOk, OnErr, OnOk};
 ghost use Rattle.std.specs.Prelude.{length, replicate};
 ghost use Rattle.ca_text.specs.declared.refusal.Refusal.{Refusal};

@@ -1,3 +1,5 @@
+//! A message of the protocol: the fields of its header and a payload padded to a multiple of 8
+//! bytes. Begin at `new` and `spell`; `requests.rt` and `replies.rt` make each kind.
 ghost use Rattle.std.specs.Prelude.{ℕ, List, ◌≡◌, ◌≢◌, ◌+◌, ◌%◌, ◌<◌, ◌≤◌, ◌++◌, [], length, IfOk};
 ghost use Rattle.std.specs.Prelude.{MatchResult, OnErr, OnOk, vec_capacity, vec_len};
 ghost use Rattle.ca_text.specs.Command.{command_number};

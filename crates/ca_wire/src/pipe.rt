@@ -1,3 +1,5 @@
+//! The output of a circuit: messages are put at its end, and bytes that the socket took leave its
+//! front.
 ghost use Rattle.std.specs.Prelude.{ℕ, List, ◌≡◌, ◌≢◌, ◌≤◌, ◌++◌, [], drop, length, take, IfOk};
 ghost use Rattle.std.specs.Prelude.{OnErr, OnOk};
 ghost use Rattle.ca_text.specs.Limits.{payload_limit};

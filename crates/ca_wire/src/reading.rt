@@ -1,3 +1,5 @@
+//! How bytes are read as a message: `read_one` finds a complete message, too few bytes, or a bad
+//! header. Two faster readers recognize frequent requests by their first bytes.
 ghost use Rattle.std.specs.Prelude.{◌≡◌, ◌+◌, ◌≤◌, ◌++◌, length, MatchOption};
 ghost use Rattle.ca_wire.specs.Header.{number16, number32};
 ghost use Rattle.ca_wire.specs.Reading.{BeginsBare, BeginsHeader, BeginsShort, IsOne, NoBare};

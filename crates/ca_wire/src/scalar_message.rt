@@ -1,3 +1,5 @@
+//! A reply to a read, or an update, of one element with a payload of eight bytes: the most frequent
+//! message of a server, written directly as 24 bytes.
 ghost use Rattle.std.specs.Prelude.{◌≡◌, ◌++◌, OnErr, OnOk};
 ghost use Rattle.std.specs.Int.{to_be_bytes, w64};
 ghost use Rattle.ca_text.specs.Command.{command_number};

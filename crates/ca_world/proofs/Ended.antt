@@ -25,10 +25,10 @@ use Rattle.ca_world.specs.Whole.{CameAbout}
 -- ---- what is promised
 
 pub came-promised : (w : World) → CameAbout w → IsSafeWorld w × IsLegalWorld w
-came-promised w (s, es, ok, are, folds) = promised s es None w ok are (w, folds, refl)
+came-promised w (s, es, ok, are, folds) = (let p = promised s es None w ok are (w, folds, refl) in (p.0, p.1))
 
 pub stopped-promised : (w : World) → HasStopped w → IsSafeWorld w × IsLegalWorld w
-stopped-promised w (s, es, stopped, ok, are, runs) = promised s es stopped w ok are runs
+stopped-promised w (s, es, stopped, ok, are, runs) = (let p = promised s es stopped w ok are runs in (p.0, p.1))
 
 -- the bytes on its circuits are messages
 pub stopped-streams : (w : World) → HasStopped w → AllStream w

@@ -2,12 +2,11 @@
 //! half-way, between two clients.
 ghost use Rattle.std.specs.Prelude.{◌≡◌, ◌↔◌, ℕ, IfOk, IsTrue, None};
 ghost use Rattle.ca_dbr.specs.Elements.{elements};
-ghost use Rattle.ca_events.specs.Events.{event_of, moment_of};
-ghost use Rattle.ca_records.specs.Record.{unset};
+ghost use Rattle.ca_events.specs.Events.{event_of, moment_of, record_of};
 ghost use Rattle.ca_model.specs.Events as event;
 ghost use Rattle.ca_model.specs.Runs.{IsServer};
 ghost use Rattle.ca_model.specs.World as model;
-ghost use Rattle.ca_world.specs.Stepping.{Steps};
+ghost use Rattle.ca_world.specs.Stepping.{IsClientCall, Steps};
 ghost use Rattle.ca_world.specs.Ticking.{Ticks};
 ghost use Rattle.ca_world_data.specs.Does.{Does};
 
@@ -15,8 +14,8 @@ use crate::stopped::Stopped;
 use crate::tick::AfterTick;
 use crate::world::World;
 use ca_dbr::Value;
-use ca_events::Event;
-use ca_text::{Mask, Refusal};
+use ca_events::{Addition, Event, Posting};
+use ca_text::Refusal;
 use ca_world_data::payloads::value_again;
 use std::alloc::AllocError;
 
@@ -60,51 +59,6 @@ impl World {
         ensures { Does self.old (event_of event.now) result self.new }
     {
         match event {
-            Event::Open {
-                client,
-                name,
-                priority,
-            } => self.open(*client as usize, name, *priority),
-            Event::Clear { client, channel } => self.clear(*client as usize, *channel as usize),
-            Event::Read {
-                client,
-                channel,
-                data_type,
-                count,
-            } => self.read(*client as usize, *channel as usize, *data_type, *count),
-            Event::Write {
-                client,
-                channel,
-                value,
-            } => self.write(*client as usize, *channel as usize, value),
-            Event::WriteNotify {
-                client,
-                channel,
-                value,
-            } => self.write_notify(*client as usize, *channel as usize, value),
-            Event::Subscribe {
-                client,
-                channel,
-                data_type,
-                count,
-                mask,
-            } => self.subscribe(
-                *client as usize,
-                *channel as usize,
-                *data_type,
-                *count,
-                *mask,
-            ),
-            Event::Unsubscribe {
-                client,
-                subscription,
-            } => self.unsubscribe(*client as usize, *subscription as usize),
-            Event::Collect { client, request } => {
-                self.collect(*client as usize, *request as usize)
-            }
-            Event::GiveUp { client, request } => {
-                self.give_up(*client as usize, *request as usize)
-            }
             Event::ClientDatagram {
                 client,
                 from,
@@ -125,74 +79,96 @@ impl World {
             Event::CutServer { circuit } => self.cut_server(*circuit as usize),
             Event::ClientRestart { client } => self.client_restart(*client as usize),
             Event::ServerRestart { server } => self.server_restart(*server as usize),
-            Event::Post(posting) => self.post_copy(
-                posting.server as usize,
-                &posting.name,
-                &posting.value,
-                posting.mask,
-            ),
+            Event::Post(posting) => self.post_copy(posting),
             Event::Finish { server, name } => self.finish(*server as usize, name),
             Event::Remove { server, name } => self.remove(*server as usize, name),
-            Event::Add(addition) => self.add_copy(
-                addition.server as usize,
-                &addition.name,
-                addition.count,
-                addition.slow,
-                &addition.value,
-            ),
+            Event::Add(addition) => self.add_copy(addition),
             Event::Tick { .. } => unreachable!(),
+            _ => self.call(event),
+        }
+    }
+
+    // A caller of a client makes this call, in place.
+    fn call(&mut self, event: &Event) -> Result<(), Refusal>
+        requires { IsClientCall (event_of event.now) }
+        ensures { Does self.old (event_of event.now) result self.new }
+    {
+        match *event {
+            Event::Open {
+                client,
+                ref name,
+                priority,
+            } => self.open(client as usize, name, priority),
+            Event::Clear { client, channel } => self.clear(client as usize, channel as usize),
+            Event::Read {
+                client,
+                channel,
+                data_type,
+                count,
+            } => self.read(client as usize, channel as usize, data_type, count),
+            Event::Write {
+                client,
+                channel,
+                ref value,
+            } => self.write(client as usize, channel as usize, value),
+            Event::WriteNotify {
+                client,
+                channel,
+                ref value,
+            } => self.write_notify(client as usize, channel as usize, value),
+            Event::Subscribe {
+                client,
+                channel,
+                data_type,
+                count,
+                mask,
+            } => self.subscribe(client as usize, channel as usize, data_type, count, mask),
+            Event::Unsubscribe {
+                client,
+                subscription,
+            } => self.unsubscribe(client as usize, subscription as usize),
+            Event::Collect { client, request } => self.collect(client as usize, request as usize),
+            Event::GiveUp { client, request } => self.give_up(client as usize, request as usize),
+            _ => unreachable!(),
         }
     }
 
     // A copy of a value is posted.
-    fn post_copy(
-        &mut self,
-        server: usize,
-        name: &[u8],
-        value: &Value,
-        mask: Mask,
-    ) -> Result<(), Refusal>
+    fn post_copy(&mut self, posting: &Posting) -> Result<(), Refusal>
         ensures { Does
             self.old
-            (event.Post server name.now (elements value.now) mask)
+            (event.Post
+            posting.now.server
+            posting.now.name.items
+            (elements posting.now.value)
+            posting.now.mask)
             result
             self.new }
     {
+        let server = posting.server as usize;
         if !self.has_server(server) {
             return Err(Refusal::BadEvent);
         }
-        match self.copy_value(value) {
-            Ok(copy) => self.post(server, name, copy, mask),
+        match self.copy_value(&posting.value) {
+            Ok(copy) => self.post(server, &posting.name, copy, posting.mask),
             Err(_) => Err(Refusal::OutOfMemory),
         }
     }
 
     // A record is added with a copy of a value.
-    fn add_copy(
-        &mut self,
-        server: usize,
-        name: &[u8],
-        count: u64,
-        slow: bool,
-        value: &Value,
-    ) -> Result<(), Refusal>
+    fn add_copy(&mut self, addition: &Addition) -> Result<(), Refusal>
         ensures { Does
             self.old
-            (event.Add server (record {
-              name = name.now;
-              count = count;
-              slow = slow;
-              value = elements value.now;
-              meta = unset;
-            }))
+            (event.Add addition.now.server (record_of addition.now))
             result
             self.new }
     {
+        let server = addition.server as usize;
         if !self.has_server(server) {
             return Err(Refusal::BadEvent);
         }
-        match self.copy_value(value) {
-            Ok(copy) => self.add(server, name, count, slow, copy),
+        match self.copy_value(&addition.value) {
+            Ok(copy) => self.add(server, &addition.name, addition.count, addition.slow, copy),
             Err(_) => Err(Refusal::OutOfMemory),
         }
     }

@@ -1,3 +1,5 @@
+//! A client in a world: its setting, its core, and the handles for the numbers of its channels,
+//! requests and subscriptions.
 use crate::history::Intent;
 use crate::settings::ClientSetting;
 use ca_arena::Handle;

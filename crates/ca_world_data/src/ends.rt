@@ -1,3 +1,5 @@
+//! Which client and server a circuit joins, their handles for it, and which of its ends are open.
+//! Looked up by the circuit's number.
 ghost use Rattle.std.specs.Prelude.{MatchOption};
 ghost use Rattle.ca_world_data.specs.Ends.{AreEnds, NoEnds};
 

@@ -1,3 +1,5 @@
+//! What histories consist of: messages with their intent or cause, steps of the two ends, and the
+//! entries of the logs of clients and servers.
 use ca_dbr::{Meta, Outcome, Value};
 use ca_text::Refusal;
 use ca_wire::Message;

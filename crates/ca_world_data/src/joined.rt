@@ -1,3 +1,5 @@
+//! A circuit between a client and a server: what each end sent and read, the bytes left by ends
+//! that have ended, and what the server's end keeps for it.
 use crate::history::{Cause, Sent, Step, Told};
 use ca_arena::Handle;
 use ca_queue::{ListQueue, SubKey};

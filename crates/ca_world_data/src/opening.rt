@@ -1,3 +1,5 @@
+//! How clients and servers begin, at the start of a world and after a restart: the core, the first
+//! log entries, and the records.
 ghost use Rattle.std.specs.Prelude.{◌≡◌, [], IfOk, OnOk, length, map, option_map};
 ghost use Rattle.ca_model.specs.World.{addresses, client_begun, no_names, numbered, record_begun};
 ghost use Rattle.ca_model.specs.World.{server_begun};

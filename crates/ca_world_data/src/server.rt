@@ -1,3 +1,5 @@
+//! A server in a world: its setting, its core, and its records with the places where their busy and
+//! waiting puts came from.
 use crate::settings::ServerSetting;
 use ca_server_core::ServerCore;
 

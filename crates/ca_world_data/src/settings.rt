@@ -1,3 +1,5 @@
+//! The settings of clients and servers from which a world begins: names, name servers, addresses,
+//! access rules and records.
 ghost use Rattle.std.specs.Prelude.{◌≡◌, map};
 ghost use Rattle.ca_records.specs.Records.{AreApart};
 ghost use Rattle.ca_world_data.specs.Settings.{AreRecords, IsClient, MakesClient, is_taken};

@@ -7,6 +7,7 @@ ghost use Rattle.ca_model.specs.Events as event;
 ghost use Rattle.ca_script.specs.Grammar.{Refuses};
 ghost use Rattle.ca_world_script.specs.Events.{Says, SaysNamed, SaysOpen, SaysSubscribe};
 ghost use Rattle.ca_world_script.specs.Events.{SaysWritten};
+ghost use Rattle.ca_world_script.specs.declared.verb.Verb.TheVariants.{Read, Write, WriteNotify};
 
 use crate::datagrams::{read_cut, read_datagram};
 use crate::values::{base_at, mask_of};
@@ -24,97 +25,36 @@ pub(crate) fn read_event(alloc: Global, verb: Verb, words: Words<'_>) -> Result<
 {
     match verb {
         Verb::Open => read_open(alloc, words),
-        Verb::Clear => {
-            let (client, channel) = two_numbers(words)?;
-            Ok(Event::Clear { client, channel })
-        }
-        Verb::Read => {
-            let (client, channel, data_type, count) = four_numbers(words)?;
-            Ok(Event::Read {
-                client,
-                channel,
-                data_type,
-                count,
-            })
-        }
-        Verb::Write => {
-            let (client, channel, value) = written(alloc, words)?;
-            Ok(Event::Write {
-                client,
-                channel,
-                value,
-            })
-        }
-        Verb::WriteNotify => {
-            let (client, channel, value) = written(alloc, words)?;
-            Ok(Event::WriteNotify {
-                client,
-                channel,
-                value,
-            })
-        }
+        Verb::Clear => two_numbers(words).map(|(client, channel)| Event::Clear { client, channel }),
+        Verb::Read => read_read(words),
+        Verb::Write => read_write(alloc, words),
+        Verb::WriteNotify => read_write_notify(alloc, words),
         Verb::Subscribe => read_subscribe(words),
-        Verb::Unsubscribe => {
-            let (client, subscription) = two_numbers(words)?;
-            Ok(Event::Unsubscribe {
-                client,
-                subscription,
-            })
-        }
-        Verb::Collect => {
-            let (client, request) = two_numbers(words)?;
-            Ok(Event::Collect { client, request })
-        }
-        Verb::GiveUp => {
-            let (client, request) = two_numbers(words)?;
-            Ok(Event::GiveUp { client, request })
-        }
+        Verb::Unsubscribe => two_numbers(words).map(|(client, subscription)| Event::Unsubscribe {
+            client,
+            subscription,
+        }),
+        Verb::Collect => two_numbers(words).map(|(client, request)| Event::Collect {
+            client,
+            request,
+        }),
+        Verb::GiveUp => two_numbers(words).map(|(client, request)| Event::GiveUp {
+            client,
+            request,
+        }),
         Verb::Datagram => read_datagram(alloc, words),
-        Verb::Accept => {
-            let client = one_number(words)?;
-            Ok(Event::Accept { client })
-        }
-        Verb::Up => {
-            let (circuit, bytes) = two_numbers(words)?;
-            Ok(Event::Up { circuit, bytes })
-        }
-        Verb::Down => {
-            let (circuit, bytes) = two_numbers(words)?;
-            Ok(Event::Down { circuit, bytes })
-        }
-        Verb::ServerStep => {
-            let circuit = one_number(words)?;
-            Ok(Event::ServerStep { circuit })
-        }
-        Verb::ClientStep => {
-            let circuit = one_number(words)?;
-            Ok(Event::ClientStep { circuit })
-        }
-        Verb::Pump => {
-            let circuit = one_number(words)?;
-            Ok(Event::Pump { circuit })
-        }
+        Verb::Accept => one_number(words).map(|client| Event::Accept { client }),
+        Verb::Up => two_numbers(words).map(|(circuit, bytes)| Event::Up { circuit, bytes }),
+        Verb::Down => two_numbers(words).map(|(circuit, bytes)| Event::Down { circuit, bytes }),
+        Verb::ServerStep => one_number(words).map(|circuit| Event::ServerStep { circuit }),
+        Verb::ClientStep => one_number(words).map(|circuit| Event::ClientStep { circuit }),
+        Verb::Pump => one_number(words).map(|circuit| Event::Pump { circuit }),
         Verb::Cut => read_cut(words),
-        Verb::ClientRestart => {
-            let client = one_number(words)?;
-            Ok(Event::ClientRestart { client })
-        }
-        Verb::ServerRestart => {
-            let server = one_number(words)?;
-            Ok(Event::ServerRestart { server })
-        }
-        Verb::Finish => {
-            let (server, name) = named(alloc, words)?;
-            Ok(Event::Finish { server, name })
-        }
-        Verb::Remove => {
-            let (server, name) = named(alloc, words)?;
-            Ok(Event::Remove { server, name })
-        }
-        Verb::Tick => {
-            let moment = one_number(words)?;
-            Ok(Event::Tick { moment })
-        }
+        Verb::ClientRestart => one_number(words).map(|client| Event::ClientRestart { client }),
+        Verb::ServerRestart => one_number(words).map(|server| Event::ServerRestart { server }),
+        Verb::Finish => named(alloc, words).map(|(server, name)| Event::Finish { server, name }),
+        Verb::Remove => named(alloc, words).map(|(server, name)| Event::Remove { server, name }),
+        Verb::Tick => one_number(words).map(|moment| Event::Tick { moment }),
     }
 }
 
@@ -132,6 +72,46 @@ fn read_open(alloc: Global, mut words: Words<'_>) -> Result<Event, Refusal>
         client,
         name,
         priority,
+    })
+}
+
+// `C CH TYPE COUNT`, after the verb.
+fn read_read(words: Words<'_>) -> Result<Event, Refusal>
+    ensures ok { IfOk result (λ e. Says Read words.entry (event_of e)) }
+    ensures err { IfErr result (λ e. Refuses (Says Read words.entry) e) }
+{
+    let (client, channel, data_type, count) = four_numbers(words)?;
+    Ok(Event::Read {
+        client,
+        channel,
+        data_type,
+        count,
+    })
+}
+
+// `C CH TYPE V..`, after the verb.
+fn read_write(alloc: Global, words: Words<'_>) -> Result<Event, Refusal>
+    ensures ok { IfOk result (λ e. Says Write words.entry (event_of e)) }
+    ensures err { IfErr result (λ e. Refuses (Says Write words.entry) e) }
+{
+    let (client, channel, value) = written(alloc, words)?;
+    Ok(Event::Write {
+        client,
+        channel,
+        value,
+    })
+}
+
+// `C CH TYPE V..`, after the verb.
+fn read_write_notify(alloc: Global, words: Words<'_>) -> Result<Event, Refusal>
+    ensures ok { IfOk result (λ e. Says WriteNotify words.entry (event_of e)) }
+    ensures err { IfErr result (λ e. Refuses (Says WriteNotify words.entry) e) }
+{
+    let (client, channel, value) = written(alloc, words)?;
+    Ok(Event::WriteNotify {
+        client,
+        channel,
+        value,
     })
 }
 

@@ -1,3 +1,4 @@
+//! How a sink with a limit of calls writes. A fault of its own leaves the inner sink unchanged.
 ghost use Rattle.std.specs.Prelude.{◌≡◌, ◌⊎◌, ◌+◌, ◌<◌, ◌^◌, ℕ, [], IsErr, OnErr, OnOk};
 ghost use Rattle.std.specs.Prelude.{if◌then◌else◌, is_ok, take};
 ghost use Rattle.ca_link.specs.Passing.{CanPass, IsPassed};

@@ -1,3 +1,5 @@
+//! How a source with a limit of calls reads. A fault of its own leaves the inner source and the
+//! buffer unchanged.
 ghost use Rattle.std.specs.Prelude.{◌≡◌, ◌+◌, ◌<◌, ◌≤◌, ◌^◌, IfOk, IsErr, if◌then◌else◌, is_ok};
 ghost use Rattle.std.specs.Prelude.{length, take};
 ghost use Rattle.ca_link.specs.Passing.{CanPass, IsPassed};

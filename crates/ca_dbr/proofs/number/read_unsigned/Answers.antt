@@ -12,9 +12,9 @@ pub returns-then-count-eq0 : goal.returns-then-count-eq0
 unfolding clip
 returns-then-count-eq0 c = sym (ap clip (unsigned_no_digit c.args.text.now c.leading_digits-count.result c.leading_digits-count.ensures.count (omega arith)))
 
-pub returns-then-leading_spaces-behind : goal.returns-then-leading_spaces-behind
+pub returns-then-leading_spaces-after : goal.returns-then-leading_spaces-after
 unfolding clip
-returns-then-leading_spaces-behind c = sym (ap clip (unsigned_more_behind c.args.text.now c.split_at.result.1.now c.leading_digits-count.result c.leading_digits-count.ensures.count c.split_at.ensures.back (omega arith)))
+returns-then-leading_spaces-after c = sym (ap clip (unsigned_more_behind c.args.text.now c.split_at.result.1.now c.leading_digits-count.result c.leading_digits-count.ensures.count c.split_at.ensures.back (omega arith)))
 
 pub clipped_number-requires : goal.clipped_number-requires
 clipped_number-requires c =
