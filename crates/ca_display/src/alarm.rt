@@ -19,7 +19,7 @@ const MINOR: u16 = 1;
 const MAJOR: u16 = 2;
 
 /// The status and severity of a value: HIHI and LOLO are MAJOR, HIGH and LOW are MINOR. A limit
-/// that is no number is none.
+/// that is no number is none, and a value that is no number has no alarm.
 pub fn alarm_of(limits: Limits, value: f64) -> (u16, u16)
     ensures { result ≡ alarm_of limits value }
 {

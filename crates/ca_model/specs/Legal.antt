@@ -52,7 +52,8 @@ pub record Carries (m : Fields) (e : Elements) : Type 0 where
 abbrev pub IsGiven : List Line → Intent → Fields → Type 0
 IsGiven x intent m = (given : Elements) × In x (Called intent (Some given)) × Carries m given
 
--- The client sent its message at place k as it read a SERVER_DISCONN for this CID.
+-- The message at place k is the first that the client sent from when it read a SERVER_DISCONN for
+-- this CID.
 abbrev pub AnswersDisconnect : Circuit → (k cid : ℕ) → Type 0
 AnswersDisconnect c k cid =
     (j : ℕ) × (t : Told) × (h : Step) × At c.down j t × At c.heard j h × (h.sent ≡ k)

@@ -1,4 +1,4 @@
-//! An address of the repeater's clients: IPv4 address and UDP port.
+//! The address of a member of the repeater: IPv4 address and UDP port.
 ghost use Rattle.std.specs.Prelude.{◌≡◌};
 ghost use Rattle.ca_repeat.specs.Addresses.{loopback, same};
 

@@ -1,5 +1,5 @@
-//! How the repeater treats a datagram by its first message: a registration is removed, a beacon
-//! without an address gets its sender's, anything else is passed on unchanged.
+//! How the repeater treats a datagram by its first message: a registration is taken off its front,
+//! a beacon without an address gets its sender's, anything else is passed on unchanged.
 ghost use Rattle.std.specs.Prelude.{◌≡◌, ℕ, IfOk, length, nat_eq};
 ghost use Rattle.ca_repeat.specs.First.{IsFirst, passed, registers};
 

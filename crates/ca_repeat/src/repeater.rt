@@ -1,4 +1,4 @@
-//! The repeater's list of clients, and what it sends for each datagram. Begin at `receive`. It does
+//! The repeater's members, and what it sends for each datagram. Begin at `receive`. It does
 //! no IO: whoever owns the UDP socket sends what is returned.
 ghost use Rattle.std.specs.Prelude.{◌≡◌, ◌≢◌, ◌++◌, ◌&&◌, ◌||◌, [], nat_lt, not, filter, IfOk};
 ghost use Rattle.std.specs.Prelude.{OnOk, OnErr};

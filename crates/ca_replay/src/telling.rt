@@ -1,4 +1,5 @@
-//! The progress line on standard error during a long replay, once every 100,000 events.
+//! The progress line on standard error during a long replay, once every 100,000 events, if that is
+//! a terminal.
 use ca_world::Progress;
 use std::io::Write;
 

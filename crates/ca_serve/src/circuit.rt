@@ -12,6 +12,7 @@ use crate::tally::Tally;
 use crate::work::ThreadWork;
 use ca_arena::Handle;
 use ca_server_core::CoreStep;
+use ca_text::OUTPUT_LIMIT;
 use ca_wire::Pipe;
 use indexmap::IndexSet;
 use std::net::{Net, TcpListener, TcpStream};
@@ -294,8 +295,9 @@ fn steps<L: Ledger, R: Clock>(
     Turn::Busy
 }
 
-// Hands bytes that wait over to the line. A circuit is idle if nothing more waits then; one that is
-// closed is counted, and has no bell any more.
+// Hands bytes that wait over to the socket. A circuit is idle if nothing more waits then: neither
+// bytes nor updates, which a pump leaves in the queues once so many bytes wait. One that is closed
+// is counted, and has no bell any more.
 fn take_out<L: Ledger>(
     locked: &mut LockedServer<L>,
     circuit: Handle,
@@ -307,9 +309,13 @@ fn take_out<L: Ledger>(
         locked.closed = locked.closed.saturating_add(1);
         return Turn::Closed(left);
     }
+    let is_pumped = locked.state.out_bytes(circuit).len() < OUTPUT_LIMIT;
     let is_all = line.take_out(&mut locked.state, circuit)
         || locked.state.out_bytes(circuit).is_empty();
-    let is_idle = matches!(turn, Turn::Idle) && is_all && locked.state.is_open(circuit);
+    let is_idle = matches!(turn, Turn::Idle)
+        && is_pumped
+        && is_all
+        && locked.state.is_open(circuit);
     locked.rest(circuit, is_idle);
     match turn {
         Turn::Idle if !is_idle => Turn::Busy,

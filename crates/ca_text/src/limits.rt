@@ -1,4 +1,4 @@
-//! The limits of the protocol and of both ends: counts, bytes, ports and seconds.
+//! The limits of the protocol and of both ends: counts, bytes, ports and milliseconds.
 
 /// The minor version of the protocol that both ends speak.
 pub const MINOR_VERSION: u16 = 13;

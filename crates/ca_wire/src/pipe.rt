@@ -1,5 +1,5 @@
-//! The output of a circuit: messages are put at its end, and bytes that the socket took leave its
-//! front.
+//! Bytes of messages on their way out: they are put at its end, and leave its front once they are
+//! sent. A circuit of a core has one, and so has the socket that takes a circuit's output over.
 ghost use Rattle.std.specs.Prelude.{ℕ, List, ◌≡◌, ◌≢◌, ◌≤◌, ◌++◌, [], drop, length, take, IfOk};
 ghost use Rattle.std.specs.Prelude.{OnErr, OnOk};
 ghost use Rattle.ca_text.specs.Limits.{payload_limit};
