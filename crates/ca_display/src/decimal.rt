@@ -40,8 +40,8 @@ fn double_units(x: f64, power: u64) -> u128
     let whole = saturating_f64_to_u64(x);
     let rest = x - nearest_u64_to_f64(whole);
     let tenths = rest * nearest_u64_to_f64(power) * nearest_u64_to_f64(10);
-    let behind = (u128::from(saturating_f64_to_u64(tenths)) + 5) / 10;
-    u128::from(whole) * u128::from(power) + behind
+    let fraction = (u128::from(saturating_f64_to_u64(tenths)) + 5) / 10;
+    u128::from(whole) * u128::from(power) + fraction
 }
 
 // A FLOAT from 0 on as units.
@@ -53,8 +53,8 @@ fn float_units(x: f32, power: u64) -> u128
     let whole = saturating_f32_to_u64(x);
     let rest = x - nearest_u64_to_f32(whole);
     let tenths = rest * nearest_u64_to_f32(power) * nearest_u64_to_f32(10);
-    let behind = (u128::from(saturating_f32_to_u64(tenths)) + 5) / 10;
-    u128::from(whole) * u128::from(power) + behind
+    let fraction = (u128::from(saturating_f32_to_u64(tenths)) + 5) / 10;
+    u128::from(whole) * u128::from(power) + fraction
 }
 
 /// The bit pattern of a FLOAT or DOUBLE.

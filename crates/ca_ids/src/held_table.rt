@@ -1,4 +1,4 @@
-//! The table behind channels, requests and subscriptions: values by handle and by wire id. A value
+//! The table of channels, requests and subscriptions: values by handle and by wire id. A value
 //! keeps its id until `free`, also while messages with that id may still arrive.
 ghost use Rattle.std.specs.Prelude.{◌≡◌, ◌<◌, ◌≤◌, [], IsSome, Some, length, option_copied};
 ghost use Rattle.std.specs.Prelude.{option_map};

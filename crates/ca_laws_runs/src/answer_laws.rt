@@ -1,5 +1,5 @@
-//! Why a server sends each message: every update has an accepted EVENT_ADD behind it, every
-//! SERVER_DISCONN a removed record. Also that the server's records agree with its log.
+//! Why a server sends each message: every update comes from an accepted EVENT_ADD, every
+//! SERVER_DISCONN from a removed record. Also that the server's records agree with its log.
 ghost use Rattle.std.specs.Prelude.{List, Option};
 ghost use Rattle.ca_model.specs.Events.{Event};
 ghost use Rattle.ca_model.specs.Runs.{Runs};

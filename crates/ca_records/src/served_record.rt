@@ -1,5 +1,5 @@
 //! One record as a server keeps it: its value, the put that makes it busy, and the puts that wait
-//! behind it. Begin at `begin`, which takes a write, and `finish`, which ends a put.
+//! for its end. Begin at `begin`, which takes a write, and `finish`, which ends a put.
 ghost use Rattle.std.specs.Prelude.{◌≡◌, ◌+◌, ◌<◌, ◌≤◌, IfOk, OnErr, Ok, false, if◌then◌else◌};
 ghost use Rattle.std.specs.Prelude.{is_some, length, map, nat_lt, not, true};
 ghost use Rattle.ca_text.specs.Limits.{waiting_puts};

@@ -296,7 +296,7 @@ fn steps<L: Ledger, R: Clock>(
 }
 
 // Hands bytes that wait over to the socket. A circuit is idle if nothing more waits then: neither
-// bytes nor updates, which a pump leaves in the queues once so many bytes wait. One that is closed
+// bytes nor updates, which a pump leaves in the queues once 262,144 bytes wait. One that is closed
 // is counted, and has no bell any more.
 fn take_out<L: Ledger>(
     locked: &mut LockedServer<L>,

@@ -79,12 +79,12 @@ impl Deframer {
         self.buffer.give_back(spare);
     }
 
+    // In line: a message that is handed back in memory is stored field by field, and a load of 16
+    // bytes of it right after has to wait.
     /// Takes the message at the front, if a complete one is there.
     ///
     /// After Misaligned or TooLarge every call answers CircuitClosed. After OutOfMemory the message
     /// is still there.
-    // In line: a message that is handed back in memory is stored field by field, and a load of 16
-    // bytes of it right after has to wait.
     #[inline(always)]
     pub fn next_message(&mut self) -> Result<Option<Message>, Refusal>
         ensures { Nexts self.old result self.new }
