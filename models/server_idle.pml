@@ -9,9 +9,9 @@
  * it is told by `edge` and `bell`. While it is parked its socket is among those of the polling thread (`joined`, `told`), and its thread waits for `token`. Either poll reports
  * at once what is there as a socket comes in. Where there is no descriptor for a poll the circuit stays parked. Without PARKS each circuit has its poll for ever.
  *
- * A circuit has `rx`, messages in its socket; `input`, messages in the core; `due`, updates that wait in the core for a pump; `output`, bytes in the core that wait
- * to be sent; `line`, bytes that the thread took out, all that there were, and has not written; `room`, whether the socket takes bytes. Edges (`edge`, `bell`) are kept until a poll takes
- * them. No wait of the server ends by time, but for the pauses of a thread without memory and of what a closed circuit left, which are left out,
+ * A circuit has `rx`, messages in its socket; `input`, messages in the core; `due`, updates that wait in the core for a pump, which leaves them there once the output is full;
+ * `output`, bytes in the core that wait to be sent; `line`, bytes that the thread took out, all that there were, and has not written; `room`, whether the socket takes bytes.
+ * Edges (`edge`, `bell`) are kept until a poll takes them. No wait of the server ends by time, but for the pauses of a thread without memory and of what a closed circuit left, which are left out,
  * and for that of PATIENCE.
  *
  * A message is a put. On a quick record it is applied at once, and is an update for each circuit that watches. On a slow one it makes the record busy, or waits for
@@ -26,6 +26,7 @@
  *   PUTS=1      messages of each client that sends
  *   SENDERS=1   how many clients send, from the first on; all, if it is not said
  *   WATCHERS=1  how many circuits watch, from the last on; all, if it is not said
+ *   LIMIT=2     the core's output is full with so much; with 1 more updates may wait than a pump puts into it at once
  *   SLOW        puts may be on the slow record
  *   FULL        a client may stop reading for a time
  *   DEAF        and the client of circuit 0 for ever
@@ -58,6 +59,7 @@
  *    18  a circuit that has a poll of its own again does not ring it (PARKS, FULL, DEAF, ENDS)
  *    19  a parked circuit has no limit of patience (PARKS, FULL, DEAF, PATIENCE)
  *    20  a circuit that is parked while its socket is full waits before it takes a turn (PARKS, FULL)
+ *    21  a circuit is idle once its output was taken out, although updates may be left (LIMIT=1)
  */
 #ifndef C
 #define C 2
@@ -70,6 +72,9 @@
 #endif
 #ifndef WATCHERS
 #define WATCHERS C
+#endif
+#ifndef LIMIT
+#define LIMIT 2
 #endif
 #ifndef P
 #define P 1
@@ -93,7 +98,6 @@
 #define POLLERS 0
 #endif
 #define HELPERS (PROCESSORS + RINGERS + POLLERS)
-#define OUTPUT 2        /* the core's output is full with so much */
 #define MOST_DUE 2      /* a newer update takes the place of the newest */
 
 mtype = { LATER, COUNT, OVER, BUSY, IDLE, CLOSED };
@@ -274,7 +278,7 @@ inline ring_all() {
 /* State::pump. */
 inline pump(c) {
     do
-    :: open[c] && due[c] != 0 && output[c] < OUTPUT -> due[c]--; output[c]++
+    :: open[c] && due[c] != 0 && output[c] < LIMIT -> due[c]--; output[c]++
     :: else -> break
     od;
     skip
@@ -354,13 +358,13 @@ proctype Circuit(byte c) {
             /* steps */
             if
             :: !open[c] -> turn = CLOSED
-            :: open[c] && output[c] >= OUTPUT -> turn = BUSY
-            :: open[c] && output[c] < OUTPUT && input[c] == 0 ->
+            :: open[c] && output[c] >= LIMIT -> turn = BUSY
+            :: open[c] && output[c] < LIMIT && input[c] == 0 ->
                 turn = IDLE;
 #if PLANT != 1
                 d_step { pump(c) }
 #endif
-            :: open[c] && output[c] < OUTPUT && input[c] != 0 ->
+            :: open[c] && output[c] < LIMIT && input[c] != 0 ->
                 input[c]--;
                 turn = BUSY;
 #ifdef PARKS
@@ -398,11 +402,14 @@ proctype Circuit(byte c) {
                 :: turn == CLOSED -> has_bell[c] = 0
                 :: else ->
                     all = 1;
+#if PLANT != 21
+                    all = output[c] < LIMIT;
+#endif
                     if
                     :: output[c] != 0 && line[c] == 0 -> line[c] = output[c]; output[c] = 0
                     :: else
                     fi;
-                    all = output[c] == 0;
+                    all = all && output[c] == 0;
                     if
                     :: turn == IDLE && !(all && open[c]) -> turn = BUSY
                     :: else
