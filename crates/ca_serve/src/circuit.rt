@@ -280,8 +280,10 @@ fn steps<L: Ledger, R: Clock>(
     ensures { share.new.parts ≡ share.old.parts }
 {
     locked.stamp(rt);
+    // The channel of the last write.
+    let mut reached = None;
     for _ in 0..STEPS {
-        match locked.step(slow, circuit, share, rings) {
+        match locked.step(slow, circuit, share, &mut reached, rings) {
             CoreStep::Handled(_) => {}
             CoreStep::NeedBytes => {
                 locked.state.pump(circuit);

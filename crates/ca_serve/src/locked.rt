@@ -170,12 +170,14 @@ impl<L: Ledger, D: Device> SharedServer<L, D> {
 
 impl<L: Ledger> LockedServer<L> {
     /// One step of a circuit. A record that it makes busy is handed on, and idle circuits that its
-    /// write may have reached are to be rung.
+    /// write may have reached are to be rung, unless this turn did so for another write on the same
+    /// channel: none of them is idle again before the turn ends.
     pub(crate) fn step(
         &mut self,
         slow: &IndexSet<Vec<u8>>,
         circuit: Handle,
         share: &mut Share<L>,
+        reached: &mut Option<u32>,
         rings: &mut Rings,
     ) -> CoreStep
         requires { 0 < share.old.parts }
@@ -183,10 +185,10 @@ impl<L: Ledger> LockedServer<L> {
     {
         let step = locked_step(&mut self.state, circuit, share);
         match &step {
-            CoreStep::Handled(Effect::Wrote(sid)) => self.reach_by(circuit, *sid, rings),
+            CoreStep::Handled(Effect::Wrote(sid)) => self.reach_by(circuit, *sid, reached, rings),
             CoreStep::Handled(Effect::Busied(sid)) => {
                 self.hand_on_of(slow, circuit, *sid);
-                self.reach_by(circuit, *sid, rings);
+                self.reach_by(circuit, *sid, reached, rings);
             }
             CoreStep::Closed(EndCause::OutOfMemory, _) => {
                 self.hand_on_all(slow);
@@ -209,8 +211,18 @@ impl<L: Ledger> LockedServer<L> {
 
     // A write was applied on this channel: the next one is to be later, and the other circuits that
     // may have updates of it are to be rung. The circuit that wrote is in its turn.
-    fn reach_by(&mut self, circuit: Handle, sid: u32, rings: &mut Rings) {
+    fn reach_by(
+        &mut self,
+        circuit: Handle,
+        sid: u32,
+        reached: &mut Option<u32>,
+        rings: &mut Rings,
+    ) {
         self.stamp_as(next_stamp(self.stamped));
+        if *reached == Some(sid) {
+            return;
+        }
+        *reached = Some(sid);
         let LockedServer { state, bells, .. } = self;
         if let Some(name) = state.served_name(circuit, Sid::new(sid)) {
             reach(state, bells, name, Some(circuit), rings);
