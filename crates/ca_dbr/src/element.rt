@@ -43,7 +43,7 @@ pub(crate) trait ImageElement: Copy + Drop {
 /// Puts these bytes at the end, where room was made for them: one by one, since no room is to be
 /// asked for again.
 #[inline(always)]
-fn put_bytes(bytes: &[u8], out: &mut Vec<u8>)
+pub fn put_bytes(bytes: &[u8], out: &mut Vec<u8>)
     requires { vec_len out.old + length bytes.now ≤ vec_capacity out.old }
     ensures after { out.new.items ≡ out.old.items ++ bytes.now }
     ensures len { vec_len out.new ≡ vec_len out.old + length bytes.now }

@@ -59,7 +59,7 @@ pub(crate) fn put_meta(form: Form, meta: Meta, out: &mut Vec<u8>)
 }
 
 /// Puts n zero bytes at the end, where room was made for them.
-pub(crate) fn put_zeros(count: usize, out: &mut Vec<u8>)
+pub fn put_zeros(count: usize, out: &mut Vec<u8>)
     requires { vec_len out.old + count ≤ vec_capacity out.old }
     ensures after { out.new.items ≡ out.old.items ++ replicate count 0 }
     ensures len { vec_len out.new ≡ vec_len out.old + count }

@@ -16,8 +16,10 @@ mod value;
 
 pub use conversion::{convert, convert_all, convert_to, has_conversion};
 pub use data_type::{BaseType, DataType, Form};
-pub use image::{image_size, write_value};
+pub use element::put_bytes;
+pub use image::{image_size, put_zeros, write_value};
 pub use laws::{one_number, one_reading, wanted_shown, why_not_shown};
+pub use number::{leading_spaces, text_of};
 pub use numeric::{Conversion, Target};
 pub use reading::{read_value, read_value_into};
 pub use shown::write_shown;

@@ -16,8 +16,9 @@ const MINUS: u8 = b'-';
 const FAR: u64 = 0x1_0000_0000;
 
 /// The bytes before the first zero.
-pub(crate) fn text_of(bytes: &[u8]) -> &[u8]
-    ensures { result.now ≡ text_of bytes.now }
+pub fn text_of(bytes: &[u8]) -> &[u8]
+    ensures text { result.now ≡ text_of bytes.now }
+    ensures within { length result.now ≤ length bytes.now }
 {
     for (i, byte) in bytes.iter().enumerate() {
         if *byte == 0 {
@@ -28,7 +29,7 @@ pub(crate) fn text_of(bytes: &[u8]) -> &[u8]
 }
 
 /// How many spaces are at the front.
-fn leading_spaces(bytes: &[u8]) -> usize
+pub fn leading_spaces(bytes: &[u8]) -> usize
     ensures count { result ≡ prefix_len is_space bytes.now }
     ensures within { result ≤ length bytes.now }
 {

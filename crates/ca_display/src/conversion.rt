@@ -13,8 +13,8 @@ ghost use Rattle.ca_display.specs.Conversion.{in_numbers, display_converted};
 use crate::decimal::real_text;
 use crate::display::Display;
 use crate::numeric::{Numeric, TextToFloat, ToDouble, ToFloat, ToWhole};
-use crate::states::{state_number, state_text, text_of};
-use ca_dbr::{BaseType, Value, convert_all, convert_to};
+use crate::states::{state_number, state_text};
+use ca_dbr::{BaseType, Value, convert_all, convert_to, text_of};
 use ca_text::Refusal;
 use std::alloc::Global;
 

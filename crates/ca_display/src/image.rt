@@ -14,9 +14,9 @@ ghost use Rattle.ca_display.specs.Image.{WritesDisplay};
 ghost use Rattle.ca_text.specs.declared.refusal.Refusal.TheVariants.{BadType, OutOfMemory};
 
 use crate::display::{Display, STATE_LIMIT};
-use crate::display_type::{DisplayForm, DisplayType};
-use crate::limits::{put_bytes, put_limits_in};
-use ca_dbr::{BaseType, Meta, Value, write_shown};
+use crate::display_type::DisplayType;
+use crate::limits::put_limits_in;
+use ca_dbr::{BaseType, Meta, Value, put_bytes, put_zeros, write_shown};
 use ca_text::Refusal;
 
 // How many bytes are between status and severity and the elements.
@@ -54,20 +54,6 @@ pub fn display_size(number: u16, count: u32) -> Result<usize, Refusal>
     match DisplayType::of(number) {
         None => Err(Refusal::BadType),
         Some(data_type) => Ok(size_for(data_type, count)),
-    }
-}
-
-// Puts n zero bytes at the end, where room was made for them.
-fn put_zeros(count: usize, out: &mut Vec<u8>)
-    requires { vec_len out.old + count ≤ vec_capacity out.old }
-    ensures after { out.new.items ≡ out.old.items ++ replicate count 0 }
-    ensures len { vec_len out.new ≡ vec_len out.old + count }
-    ensures capacity { vec_capacity out.old ≤ vec_capacity out.new }
-{
-    let len = out.len() + count;
-    match out.resize(len, 0) {
-        Ok(()) => {}
-        Err(_) => unreachable!(),
     }
 }
 

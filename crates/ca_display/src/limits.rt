@@ -9,25 +9,12 @@ ghost use Rattle.ca_display.specs.Limits.{int_limit, char_limit, long_limit, flo
 ghost use Rattle.ca_display.specs.Limits.{double_limit, limits_in, whole_as_double};
 ghost use Rattle.ca_display.specs.Limits.{natural_as_double, float_as_double, as_doubles};
 
-use ca_dbr::{BaseType, Value};
+use ca_dbr::{BaseType, Value, put_bytes};
 use std::alloc::{AllocError, Global};
 use std::num::{
     f32_from_bits_with_nan, f32_to_bits_with_nan, f32_to_f64_with_nan, f64_from_bits_with_nan,
     f64_to_bits_with_nan, nearest_f64_to_f32_with_nan, nearest_i64_to_f64, saturating_f64_to_i32,
 };
-
-// Puts these bytes at the end, where room was made for them.
-pub(crate) fn put_bytes(bytes: &[u8], out: &mut Vec<u8>)
-    requires { vec_len out.old + length bytes.now ≤ vec_capacity out.old }
-    ensures after { out.new.items ≡ out.old.items ++ bytes.now }
-    ensures len { vec_len out.new ≡ vec_len out.old + length bytes.now }
-    ensures capacity { vec_capacity out.old ≤ vec_capacity out.new }
-{
-    match out.extend_from_slice(bytes) {
-        Ok(()) => {}
-        Err(_) => unreachable!(),
-    }
-}
 
 // An element that a limit may be shown as.
 trait Limit: Copy + Drop {

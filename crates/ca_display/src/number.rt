@@ -1,12 +1,12 @@
 //! A number in each type, and the number that a text writes, as a record with display data converts
 //! them.
-ghost use Rattle.std.specs.Prelude.{◌≡◌, ◌≤◌, length, option_map};
-ghost use Rattle.std.specs.List.{list_all, prefix_len};
+ghost use Rattle.std.specs.Prelude.{◌≡◌, option_map};
+ghost use Rattle.std.specs.List.{list_all};
 ghost use Rattle.ca_dbr.specs.Number.{clipped, is_space};
 ghost use Rattle.ca_display.specs.Number.{whole_of, in_type, as_float, as_double, float_in};
 ghost use Rattle.ca_display.specs.Number.{float_text, text_number};
 
-use ca_dbr::Target;
+use ca_dbr::{Target, leading_spaces};
 use ca_text::Refusal;
 use fast_float::FastFloat;
 use std::num::{
@@ -78,19 +78,6 @@ impl Number {
             Number::Real(x) => f64_to_bits_with_nan(x),
         }
     }
-}
-
-// How many spaces are at the front.
-fn leading_spaces(bytes: &[u8]) -> usize
-    ensures count { result ≡ prefix_len is_space bytes.now }
-    ensures within { result ≤ length bytes.now }
-{
-    for (i, byte) in bytes.iter().enumerate() {
-        if *byte != SPACE {
-            return i;
-        }
-    }
-    bytes.len()
 }
 
 // Whether these are spaces alone.

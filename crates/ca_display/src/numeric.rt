@@ -8,8 +8,7 @@ ghost use Rattle.ca_display.specs.Conversion.{and_number, as_whole, of_text, of_
 ghost use Rattle.ca_display.specs.Conversion.{of_float, of_double};
 
 use crate::number::{Number, float_of_text, number_of_text};
-use crate::states::text_of;
-use ca_dbr::{Conversion, Target};
+use ca_dbr::{Conversion, Target, text_of};
 use ca_text::Refusal;
 use std::num::{f32_from_bits_with_nan, f32_to_f64_with_nan, f64_from_bits_with_nan};
 

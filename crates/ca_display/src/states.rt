@@ -1,26 +1,13 @@
 //! The names of an ENUM's states: an ENUM as a text, and a text as an ENUM.
 ghost use Rattle.std.specs.Prelude.{◌≡◌, ◌≤◌, length};
 ghost use Rattle.std.specs.List.{position_or_len};
-ghost use Rattle.ca_dbr.specs.Number.{text_of};
 ghost use Rattle.ca_display.specs.States.{is_named, state_text, state_number};
 
 use crate::display::field_of;
 use crate::number::{Number, number_of_text};
+use ca_dbr::text_of;
 use ca_text::{Refusal, is_same_name};
 use itoa::Buffer;
-
-/// The bytes before the first zero.
-pub(crate) fn text_of(bytes: &[u8]) -> &[u8]
-    ensures text { result.now ≡ text_of bytes.now }
-    ensures within { length result.now ≤ length bytes.now }
-{
-    for (i, byte) in bytes.iter().enumerate() {
-        if *byte == 0 {
-            return &bytes[..i];
-        }
-    }
-    bytes
-}
 
 /// An ENUM as a text: the name of its state, if it has one, else its number.
 pub(crate) fn state_text(states: &[[u8; 26]], state: u16) -> [u8; 40]
