@@ -12,7 +12,7 @@ use base.Fraction.{full_share}
 use base.Fml.{Lft, GName, Share, Fml, fsep, flt, flft, froom, fobs, fauth, fbor, fobor, fhide}
 use base.Logic.{ent, sep, id⊢, never}
 use base.Stored.{Gv}
-use mir.Raw.{raw as bare}
+use mir.Raw.{raw as header_only}
 use mir.Syntax.{ty_array}
 use mir.Val.{Val, vptr, vstruct, vcons, vnil, of_list, has_ty, WT}
 use seplogic.Ra.Ura.{Ura}
@@ -64,7 +64,7 @@ module _ (E : El) where
   room_after d b o = froom (ty_array (elτ E) (block_slots - length d.items)) b (o + length d.items * sz E)
 
   abbrev pub right_at : Held → ℕ → ℕ → Fml
-  right_at d b o = token E.al d.alloc (bare (ty_array (elτ E) block_slots)) (block_ptr b o)
+  right_at d b o = token E.al d.alloc (header_only (ty_array (elτ E) block_slots)) (block_ptr b o)
 
 pub value_good : (E : El) (p : Ptr) (b o : ℕ) → p ≡ block_ptr b o → T (has_ty (layout (Row E)) (value_of p)) × WT (value_of p)
 value_good E p b o at = subst (λ r. T (has_ty (layout (Row E)) (value_of r)) × WT (value_of r)) (sym at) (tt, (tt, (tt, tt)))

@@ -12,10 +12,10 @@ use Rattle.ca_model.specs.ClientCalls.{all_over, cleared, unsubscribed_all, unwa
 use Rattle.ca_model.specs.ClientEnds.{is_connecting}
 use Rattle.ca_model.specs.Placed.{IsPlaced, was_live}
 use Rattle.ca_model.proofs.Handles.{same-is}
-use Rattle.ca_model.proofs.Placed.{bare-never}
+use Rattle.ca_model.proofs.Placed.{header_only-never}
 use Rattle.ca_model.proofs.Standings.{fails-anywhere, fails-searched, found-standing}
 use Rattle.ca_model.proofs.Tables.{all-freed-back, one-value}
-use Rattle.ca_model.specs.Placed.{IsBare}
+use Rattle.ca_model.specs.Placed.{HasNoRequests}
 use Rattle.ca_client_core.specs.Notices.{completions}
 use Rattle.ca_client_core.proofs.Completing.{no-losses}
 use Rattle.ca_client.specs.Awaited.{IsListed, Waits}
@@ -122,14 +122,14 @@ pub told-clear : (h : Handle) (s : Standing) (x : Client) → IsPlaced x → IsL
 told-clear h s x placed l at = subst (λ (ns : List Notice). Told x ns (cleared h s x)) (append-none (disconnections (asks_on h) x)) (by s (found-standing x h s at))
   where
     -- no request is on a channel that was never live
-    never : IsBare h x → (q : Handle) → Waits x q → Waits x q × ¬ (is_open (asks_on h) x.requests q ≡ true)
-    never bare q w = (w, (λ e. (let r = open-back (asks_on h) x.requests q e in bare.requests q r.0 r.1 (same-is r.0.channel h r.2))))
+    never : HasNoRequests h x → (q : Handle) → Waits x q → Waits x q × ¬ (is_open (asks_on h) x.requests q ≡ true)
+    never header_only q w = (w, (λ e. (let r = open-back (asks_on h) x.requests q e in header_only.requests q r.0 r.1 (same-is r.0.channel h r.2))))
 
-    alike : (y : Client) → Same x y → IsBare h x → Told x (disconnections (asks_on h) x ++ []) y
-    alike y same bare = told-ended x y (asks_on h) [] l (listed-same x y same l) (λ q w. never bare q (waits-same x y q same w)) refl
+    alike : (y : Client) → Same x y → HasNoRequests h x → Told x (disconnections (asks_on h) x ++ []) y
+    alike y same header_only = told-ended x y (asks_on h) [] l (listed-same x y same l) (λ q w. never header_only q (waits-same x y q same w)) refl
 
-    bare-so : (ch : Channel) → under x.channels h ≡ Some ch → ((on : Handle) → client.is_on_in was_live on ch ≡ false) → IsBare h x
-    bare-so ch there none = bare-never h x placed (λ w on is. subst (λ (z : Channel). client.is_on_in was_live on z ≡ false) (one-value x.channels h ch w there is) (none on))
+    header_only-so : (ch : Channel) → under x.channels h ≡ Some ch → ((on : Handle) → client.is_on_in was_live on ch ≡ false) → HasNoRequests h x
+    header_only-so ch there none = header_only-never h x placed (λ w on is. subst (λ (z : Channel). client.is_on_in was_live on z ≡ false) (one-value x.channels h ch w there is) (none on))
 
     after : (c : Handle) → Told x (disconnections (asks_on h) x ++ []) (with_standing (On c Clearing) h (all_over c h x))
     after c =
@@ -141,14 +141,14 @@ told-clear h s x placed l at = subst (λ (ns : List Notice). Told x ns (cleared 
     by : (t : Standing) → (ch : Channel) × (under x.channels h ≡ Some ch) × (ch.standing ≡ t) → Told x (disconnections (asks_on h) x ++ []) (cleared h t x)
     by Searching found =
         alike (without_channel (unsubscribed_all h x) h) (record { requests = refl; issued = refl })
-        (bare-so found.0 found.1 (λ on. fails-searched was_live on found.0 found.2))
+        (header_only-so found.0 found.1 (λ on. fails-searched was_live on found.0 found.2))
     by (On c Connecting) found =
         let z : Client = without_channel (unsubscribed_all h x) h in
         alike (unwanted c z) (same-then x z (unwanted c z) (record { requests = refl; issued = refl }) (same-unwanted c z))
-        (bare-so found.0 found.1 (λ on. fails-anywhere was_live on c found.0 Connecting found.2 refl))
+        (header_only-so found.0 found.1 (λ on. fails-anywhere was_live on c found.0 Connecting found.2 refl))
     by (On c (Creating rights)) found =
         alike (with_standing (On c Doomed) h (unsubscribed_all h x)) (record { requests = refl; issued = refl })
-        (bare-so found.0 found.1 (λ on. fails-anywhere was_live on c found.0 (Creating rights) found.2 refl))
+        (header_only-so found.0 found.1 (λ on. fails-anywhere was_live on c found.0 (Creating rights) found.2 refl))
     by (On c (Live n rights)) found = after c
     by (On c Leaving) found = after c
     by (On c Clearing) found = after c

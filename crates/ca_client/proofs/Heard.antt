@@ -13,7 +13,7 @@ use Rattle.ca_model.specs.Answers.{Completed, Notice, Sending}
 use Rattle.ca_model.specs.Answers as notice
 use Rattle.ca_model.specs.Ends.{Address}
 use Rattle.ca_model.specs.Client.{Channel, Client, ClientCircuit, Clearing, Connecting, Connection, Creating, Doomed, Leaving, Live, On, Phase, channel_on, circuit_to, disconnections, found_on, searched_again, sending, with_requests, with_standing, without_channel}
-use Rattle.ca_model.specs.Hears.{Answers, Completes, Effect, Fails, FindsAt, Hears, PutsOn, Updates, any_failed, becomes, clear_answered, confirmed, created, doing, failed, failing, found_at, heard_by, left, put_on, request_failed, rights_told, searched_by, subscription_failed, with_circuit, without_drained, without_request, without_subscription, write_failed}
+use Rattle.ca_model.specs.Hears.{Answers, Completes, Effect, Fails, FindsAt, Hears, PutsOn, Updates, any_failed, becomes, clear_answered, confirmed, created, doing, failed, failing, found_at, subscription_on, left, put_on, request_failed, rights_told, searched_by, subscription_failed, with_circuit, without_drained, without_request, without_subscription, write_failed}
 use Rattle.ca_model.specs.Hears as hears
 use Rattle.ca_model.proofs.Tables.{all-freed-back}
 use Rattle.ca_client_core.specs.Notices.{completions}
@@ -151,9 +151,9 @@ module _ (c : Handle) (x : Client) (l : IsListed x) where
     | inl whole ↦ by whole.0 (eqb whole.0.command 4) (eqb whole.0.command 1) whole.2
   ]
     where
-      by : (h : Header) (a b : Bool) → e ≡ cond a (write_failed x m (channel_on x c m.p1)) (cond b (subscription_failed x m (heard_by x c h.p2)) (any_failed x m (answered_by c h.command h.p2 x.requests))) → Told x e.notices e.core
+      by : (h : Header) (a b : Bool) → e ≡ cond a (write_failed x m (channel_on x c m.p1)) (cond b (subscription_failed x m (subscription_on x c h.p2)) (any_failed x m (answered_by c h.command h.p2 x.requests))) → Told x e.notices e.core
       by h true b is = told-write m e (channel_on x c m.p1) is
-      by h false true is = told-refused m e (heard_by x c h.p2) is
+      by h false true is = told-refused m e (subscription_on x c h.p2) is
       by h false false is = told-any m e h.command h.p2 (answered_by c h.command h.p2 x.requests) refl is
 
 -- ---- search replies
@@ -184,6 +184,6 @@ told-heard x c m e l (hears.ClearChannel is does) = told-cleared c x l e (channe
 told-heard x c m e l (hears.ServerDisconnect is does) = told-left c x l e (channel_on x c m.p1) does
 told-heard x c m e l (hears.Reply is does) = told-reply c x l m e (answered_by c m.command m.p2 x.requests) refl does
 told-heard x c m e l (hears.Confirmation is empty does) = told-confirmed c x l e (confirmed_by c m.p2 x.subscriptions) does
-told-heard x c m e l (hears.Update is some does) = told-update c x l m e (heard_by x c m.p2) does
+told-heard x c m e l (hears.Update is some does) = told-update c x l m e (subscription_on x c m.p2) does
 told-heard x c m e l (hears.Error is does) = told-error c x l m e does
 told-heard x c m e l (hears.Other is does) = idle c x l [] [] e does refl

@@ -10,7 +10,7 @@ use Rattle.ca_link.specs.declared.keep.Keep.{Keep}
 use Rattle.ca_link.specs.declared.keep.Keep.TheVariants.{Close, Echo, Idle}
 use Rattle.ca_link.specs.Link.{kept}
 use Rattle.ca_search.specs.Searches as search
-use Rattle.ca_wire.specs.Messages.{bare, search_request}
+use Rattle.ca_wire.specs.Messages.{header_only, search_request}
 use Rattle.ca_model.specs.Answers.{Notice, Sending, Ticked}
 use Rattle.ca_model.specs.Client.{Client, Connection, connection_at, ended, farewell, later, on_connection, sending}
 use Rattle.ca_model.specs.ClientCalls.{is_over}
@@ -64,7 +64,7 @@ goes-as x Idle c t r = r
 goes-as x Echo c t r =
     let f : Connection → Connection = λ (e : Connection). record e { link = record e.link { echoed = true } } in
     let u : Ticking = record t { core = on_connection f c t.core } in
-    goes-sent x (of_circuit c (bare command.Echo)) u (stands-on x t.notices t.core u.core r (record { requests = refl; issued = refl }) (keeps-on f c t.core))
+    goes-sent x (of_circuit c (header_only command.Echo)) u (stands-on x t.notices t.core u.core r (record { requests = refl; issued = refl }) (keeps-on f c t.core))
 goes-as x Close c t r =
     stands-then x t.notices t.core (farewell c t.core) (ended c t.core) r (record { told = told-end c t.core r.placed r.told.listed; placed = (ends-ended c t.core).placed r.placed })
 

@@ -7,7 +7,7 @@ use Rattle.ca_arena.specs.declared.handle.Handle.{Handle}
 use Rattle.ca_ids.specs.Table.{Table, under}
 use Rattle.ca_link.specs.Link.{with_given, with_sent}
 use Rattle.ca_monitor.specs.ReadRun.{after_read, sent_by_read}
-use Rattle.ca_wire.specs.Messages.{bare}
+use Rattle.ca_wire.specs.Messages.{header_only}
 use Rattle.ca_model.specs.Answers.{Sending}
 use Rattle.ca_model.specs.Client.{Client, ClientCircuit, Connection, connection_at, sending}
 use Rattle.ca_model.specs.ClientEnds.{ClientGives, GivesOn, flow_sent, given, of_circuit}
@@ -16,19 +16,19 @@ use Rattle.ca_client_tables.specs.Ends as end
 use Rattle.ca_client_tables.proofs.Circuits.{changed-same, changed-twice, this-same, with_this}
 
 -- what a read sends and leaves, whatever it sends
-sent-given : (x : Client) (c : Handle) (bytes : List ℕ) (more : Bool) (d : ClientCircuit) (e : Connection) (k : Option Command) → under x.circuits c ≡ Some d → d.connection ≡ Some e → with_this x c (record d { connection = Some (record { link = with_command k (with_given x.moment bytes e.link); run = after_read more e.run }) }) ≡ sending (map (λ (j : Command). of_circuit c (bare j)) (option_to_list k)) (given c bytes more x)
+sent-given : (x : Client) (c : Handle) (bytes : List ℕ) (more : Bool) (d : ClientCircuit) (e : Connection) (k : Option Command) → under x.circuits c ≡ Some d → d.connection ≡ Some e → with_this x c (record d { connection = Some (record { link = with_command k (with_given x.moment bytes e.link); run = after_read more e.run }) }) ≡ sending (map (λ (j : Command). of_circuit c (header_only j)) (option_to_list k)) (given c bytes more x)
 sent-given x c bytes more d e None found connected =
     let f = λ (w : ClientCircuit). record w { connection = option_map (λ (y : Connection). record { link = with_given x.moment bytes y.link; run = after_read more y.run }) w.connection } in
     ap (λ (t : Table ClientCircuit). record x { circuits = t })
     (changed-same x.circuits (λ (w : ClientCircuit). record d { connection = Some (record { link = with_given x.moment bytes e.link; run = after_read more e.run }) }) f c d found (rw connected refl))
 sent-given x c bytes more d e (Some k) found connected =
     let f = λ (w : ClientCircuit). record w { connection = option_map (λ (y : Connection). record { link = with_given x.moment bytes y.link; run = after_read more y.run }) w.connection } in
-    let g = λ (w : ClientCircuit). record w { connection = option_map (λ (y : Connection). record y { link = with_sent (bare k ∷ []) y.link }) w.connection } in
+    let g = λ (w : ClientCircuit). record w { connection = option_map (λ (y : Connection). record y { link = with_sent (header_only k ∷ []) y.link }) w.connection } in
     ap (λ (t : Table ClientCircuit). record x { circuits = t })
-    (changed-same x.circuits (λ (w : ClientCircuit). record d { connection = Some (record { link = with_sent (bare k ∷ []) (with_given x.moment bytes e.link); run = after_read more e.run }) }) (λ (w : ClientCircuit). g (f w)) c d found (rw connected refl)
+    (changed-same x.circuits (λ (w : ClientCircuit). record d { connection = Some (record { link = with_sent (header_only k ∷ []) (with_given x.moment bytes e.link); run = after_read more e.run }) }) (λ (w : ClientCircuit). g (f w)) c d found (rw connected refl)
     ∙ sym (changed-twice x.circuits f g c d found))
 
-none-sent : (c : Handle) (k : Option Command) → map (λ (j : Command). of_circuit c (bare j)) (option_to_list k) ≡ [] → k ≡ None
+none-sent : (c : Handle) (k : Option Command) → map (λ (j : Command). of_circuit c (header_only j)) (option_to_list k) ≡ [] → k ≡ None
 none-sent c None none = refl
 none-sent c (Some k) none = absurd cc
 

@@ -14,9 +14,9 @@ use Rattle.ca_model.specs.Client.{Channel, Client, ClientCircuit, Native, On, Ph
 use Rattle.ca_model.specs.Client as phase
 use Rattle.ca_model.specs.ClientCalls.{ClientClears, LiveChannel, cleared, clearing_sent, unsubscribed_all, unwanted}
 use Rattle.ca_model.specs.ClientEnds.{is_connecting}
-use Rattle.ca_model.specs.Placed.{IsBare, IsPlaced, was_live}
+use Rattle.ca_model.specs.Placed.{HasNoRequests, IsPlaced, was_live}
 use Rattle.ca_model.proofs.Handles.{same-is}
-use Rattle.ca_model.proofs.Placed.{bare-never}
+use Rattle.ca_model.proofs.Placed.{header_only-never}
 use Rattle.ca_model.proofs.Standings.{fails-anywhere, fails-searched, found-standing, never-cleared}
 use Rattle.ca_model.proofs.Tables.{all-freed-back, one-value}
 use Rattle.ca_client_core.specs.Clearing.{ClearsLive}
@@ -25,33 +25,33 @@ use Rattle.ca_client_core.proofs.Endings.{circuits_left, order_left}
 
 -- ---- nothing is attached to a channel that was not live
 
-pub bare-searched : (x : Client) (h : Handle) → standing_at x h ≡ Some Searching → IsPlaced x → IsBare h x
-bare-searched x h at placed =
+pub header_only-searched : (x : Client) (h : Handle) → standing_at x h ≡ Some Searching → IsPlaced x → HasNoRequests h x
+header_only-searched x h at placed =
     let found = found-standing x h Searching at in
-    bare-never h x placed (λ ch on is. subst (λ (z : Channel). is_on_in was_live on z ≡ false) (one-value x.channels h found.0 ch found.1 is) (fails-searched was_live on found.0 found.2))
+    header_only-never h x placed (λ ch on is. subst (λ (z : Channel). is_on_in was_live on z ≡ false) (one-value x.channels h found.0 ch found.1 is) (fails-searched was_live on found.0 found.2))
 
-pub bare-early : (x : Client) (h c : Handle) (p : Phase) → standing_at x h ≡ Some (On c p) → was_live p ≡ false → IsPlaced x → IsBare h x
-bare-early x h c p at never placed =
+pub header_only-early : (x : Client) (h c : Handle) (p : Phase) → standing_at x h ≡ Some (On c p) → was_live p ≡ false → IsPlaced x → HasNoRequests h x
+header_only-early x h c p at never placed =
     let found = found-standing x h (On c p) at in
-    bare-never h x placed (λ ch on is. subst (λ (z : Channel). is_on_in was_live on z ≡ false) (one-value x.channels h found.0 ch found.1 is) (fails-anywhere was_live on c found.0 p found.2 never))
+    header_only-never h x placed (λ ch on is. subst (λ (z : Channel). is_on_in was_live on z ≡ false) (one-value x.channels h found.0 ch found.1 is) (fails-anywhere was_live on c found.0 p found.2 never))
 
 -- nor after its subscriptions were freed
-pub bare-freed : (h g : Handle) (x : Client) → IsBare h x → IsBare h (unsubscribed_all g x)
-bare-freed h g x bare = record {
-  requests = bare.requests;
-  subscriptions = λ k d on is drains same. bare.subscriptions k d on (all-freed-back (is_to g) x.subscriptions k d is).0 drains same;
+pub header_only-freed : (h g : Handle) (x : Client) → HasNoRequests h x → HasNoRequests h (unsubscribed_all g x)
+header_only-freed h g x header_only = record {
+  requests = header_only.requests;
+  subscriptions = λ k d on is drains same. header_only.subscriptions k d on (all-freed-back (is_to g) x.subscriptions k d is).0 drains same;
 }
 
 -- and no request of it is open
-pub none-open : (h : Handle) (x : Client) → IsBare h x → disconnections (asks_on h) x ≡ []
-none-open h x bare = ap (map (λ (q : Handle). notice.Completed q outcome.Disconnected)) (go x.issued)
+pub none-open : (h : Handle) (x : Client) → HasNoRequests h x → disconnections (asks_on h) x ≡ []
+none-open h x header_only = ap (map (λ (q : Handle). notice.Completed q outcome.Disconnected)) (go x.issued)
   where
     closed : (q : Handle) (o : Option Request) → under x.requests q ≡ o → unwrap_or (option_map (λ (r : Request). asks_on h r && is_open_in r.stage) o) false ≡ false
     closed q None at = refl
     closed q (Some r) at = by (asks_on h r) refl
       where
         by : (b : Bool) → asks_on h r ≡ b → (b && is_open_in r.stage) ≡ false
-        by true is = absurd (bare.requests q r at (same-is r.channel h is))
+        by true is = absurd (header_only.requests q r at (same-is r.channel h is))
         by false is = refl
 
     go : (qs : List Handle) → filter (is_open (asks_on h) x.requests) qs ≡ []
@@ -78,9 +78,9 @@ waits-there x h c at placed =
 
 -- ---- what `clear` answers
 
-pub cleared-bare : (x new : Client) (h : Handle) (s : Standing) (told : List Notice) → told ≡ [] → standing_at x h ≡ Some s → clearing_sent h s ≡ [] → IsBare h x → new ≡ cleared h s x → (sent : List Sending) × ClientClears x h (Ok told) sent new
-cleared-bare x new h s told empty at none bare is =
-    ([], (s, at, empty ∙ sym (none-open h x bare), (sym none, is ∙ ap (λ (sends : List Sending). sending sends (cleared h s x)) (sym none))))
+pub cleared-header_only : (x new : Client) (h : Handle) (s : Standing) (told : List Notice) → told ≡ [] → standing_at x h ≡ Some s → clearing_sent h s ≡ [] → HasNoRequests h x → new ≡ cleared h s x → (sent : List Sending) × ClientClears x h (Ok told) sent new
+cleared-header_only x new h s told empty at none header_only is =
+    ([], (s, at, empty ∙ sym (none-open h x header_only), (sym none, is ∙ ap (λ (sends : List Sending). sending sends (cleared h s x)) (sym none))))
 
 pub cleared-left : (x new : Client) (h c : Handle) (told : List Notice) → standing_at x h ≡ Some (On c phase.Leaving) → told ≡ disconnections (asks_on h) x → new ≡ cleared h (On c phase.Leaving) x → (sent : List Sending) × ClientClears x h (Ok told) sent new
 cleared-left x new h c told at same is = ([], (On c phase.Leaving, at, same, (refl, is)))

@@ -19,7 +19,7 @@ use Rattle.ca_model.specs.Answers as notice
 use Rattle.ca_model.specs.Client.{Client, ClientCircuit}
 use Rattle.ca_model.specs.ClientEnds.{TakesMemory}
 use Rattle.ca_model.specs.Ends.{Address}
-use Rattle.ca_model.specs.Hears.{Answers, Completes, Effect, Finds, Hears, Updates, becomes, created, doing, heard_by, rights_told, understood, without_request}
+use Rattle.ca_model.specs.Hears.{Answers, Completes, Effect, Finds, Hears, Updates, becomes, created, doing, subscription_on, rights_told, understood, without_request}
 use Rattle.ca_model.specs.Hears as hears
 use Rattle.ca_model.specs.Speech.{Is}
 use Rattle.ca_wire.specs.declared.header.Header.{Header}
@@ -103,23 +103,23 @@ heard-first x c head (Err u) mid new is (e, hears, memory, same) =
     (e, subst (λ (y : Client). Hears y c m e) is hears, subst (λ (y : Client). TakesMemory y m e) is memory, inr (same ∙ is))
 
 -- what its header says does not depend on its payload
-pub rights-bare : (x : Client) (c : Handle) (h : Header) (p : List ℕ) (there : Option (Handle × Phase)) → rights_told x c (message_of h []) there ≡ rights_told x c (message_of h p) there
-rights-bare x c h p None = refl
-rights-bare x c h p (Some (q, phase.Connecting)) = refl
-rights-bare x c h p (Some (q, phase.Creating rights)) = refl
-rights-bare x c h p (Some (q, phase.Live n rights)) = refl
-rights-bare x c h p (Some (q, phase.Leaving)) = refl
-rights-bare x c h p (Some (q, phase.Clearing)) = refl
-rights-bare x c h p (Some (q, phase.Doomed)) = refl
+pub rights-header_only : (x : Client) (c : Handle) (h : Header) (p : List ℕ) (there : Option (Handle × Phase)) → rights_told x c (message_of h []) there ≡ rights_told x c (message_of h p) there
+rights-header_only x c h p None = refl
+rights-header_only x c h p (Some (q, phase.Connecting)) = refl
+rights-header_only x c h p (Some (q, phase.Creating rights)) = refl
+rights-header_only x c h p (Some (q, phase.Live n rights)) = refl
+rights-header_only x c h p (Some (q, phase.Leaving)) = refl
+rights-header_only x c h p (Some (q, phase.Clearing)) = refl
+rights-header_only x c h p (Some (q, phase.Doomed)) = refl
 
-pub created-bare : (x : Client) (c : Handle) (h : Header) (p : List ℕ) (there : Option (Handle × Phase)) → created x c (message_of h []) there ≡ created x c (message_of h p) there
-created-bare x c h p None = refl
-created-bare x c h p (Some (q, phase.Connecting)) = refl
-created-bare x c h p (Some (q, phase.Creating rights)) = refl
-created-bare x c h p (Some (q, phase.Live n rights)) = refl
-created-bare x c h p (Some (q, phase.Leaving)) = refl
-created-bare x c h p (Some (q, phase.Clearing)) = refl
-created-bare x c h p (Some (q, phase.Doomed)) = refl
+pub created-header_only : (x : Client) (c : Handle) (h : Header) (p : List ℕ) (there : Option (Handle × Phase)) → created x c (message_of h []) there ≡ created x c (message_of h p) there
+created-header_only x c h p None = refl
+created-header_only x c h p (Some (q, phase.Connecting)) = refl
+created-header_only x c h p (Some (q, phase.Creating rights)) = refl
+created-header_only x c h p (Some (q, phase.Live n rights)) = refl
+created-header_only x c h p (Some (q, phase.Leaving)) = refl
+created-header_only x c h p (Some (q, phase.Clearing)) = refl
+created-header_only x c h p (Some (q, phase.Doomed)) = refl
 
 -- there was no memory for the value of a reply
 out-for : {Y : Type 0} (w : Vec Y Global) (x : Client) (m : Fields) (about : Option (Handle × Request)) (u : AllocError) (new : Client) → IsReply m.command → m.count < 2 ^ 32 → AreBytes m.payload → HearsReplyTo x m about (Err u) new → (y : Client) → (e : Effect) × Answers y m about e × TakesMemory x m e × (new ≡ x)
@@ -146,5 +146,5 @@ update-out w x c head (Ok told) is h some err =
 update-out w x c head (Err f) is h some err =
     let y = without_first c head x in
     let m = first_on x c head in
-    let u = updates w y m is some (first-count x c head h) (first-bytes x c head h) (heard_by y c m.p2) in
+    let u = updates w y m is some (first-count x c head h) (first-bytes x c head h) (subscription_on y c m.p2) in
     (u.0, hears.Update is some u.1, inl some, inl refl)

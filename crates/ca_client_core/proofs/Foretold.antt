@@ -28,7 +28,7 @@ use Rattle.ca_model.specs.Client.{Channel, Client, ClientCircuit, Clearing, Conn
 use Rattle.ca_model.specs.ClientCalls.{event_add_sent}
 use Rattle.ca_model.specs.ClientEnds.{ClientSteps, StepsOn, after_taking}
 use Rattle.ca_model.specs.Ends.{Address}
-use Rattle.ca_model.specs.Hears.{Answers, Completes, Effect, Fails, FindsAt, Hears, PutsOn, Updates, any_failed, clear_answered, confirmed, created, failed, failing, found_at, heard_by, left, put_on, rights_told, searched_by, subscription_failed, understood, write_failed}
+use Rattle.ca_model.specs.Hears.{Answers, Completes, Effect, Fails, FindsAt, Hears, PutsOn, Updates, any_failed, clear_answered, confirmed, created, failed, failing, found_at, subscription_on, left, put_on, rights_told, searched_by, subscription_failed, understood, write_failed}
 use Rattle.ca_model.specs.Hears as hears
 use Rattle.ca_client_tables.specs.Finding.{as_found, circuit_in, goes_there, goes_to}
 use Rattle.ca_client_tables.specs.Foretelling.{HeadsFirst, creation_at, creation_on, head_of}
@@ -199,8 +199,8 @@ module _ (x : Client) (c : Handle) (m : Fields) where
   failing-quiet : (h : Header) → (failing x c m h).sent ≡ []
   failing-quiet h =
       go (h.command == command_number command.Write) (h.command == command_number command.EventAdd)
-      (write_failed x m (channel_on x c m.p1)) (subscription_failed x m (heard_by x c h.p2)) (any_failed x m (answered_by c h.command h.p2 x.requests))
-      (write-quiet (channel_on x c m.p1)) (subscription-quiet (heard_by x c h.p2)) (any-quiet (answered_by c h.command h.p2 x.requests))
+      (write_failed x m (channel_on x c m.p1)) (subscription_failed x m (subscription_on x c h.p2)) (any_failed x m (answered_by c h.command h.p2 x.requests))
+      (write-quiet (channel_on x c m.p1)) (subscription-quiet (subscription_on x c h.p2)) (any-quiet (answered_by c h.command h.p2 x.requests))
     where
       go : (a b : Bool) (f g k : Effect) → f.sent ≡ [] → g.sent ≡ [] → k.sent ≡ [] → (if a then f else if b then g else k).sent ≡ []
       go true b f g k p q r = p
@@ -272,7 +272,7 @@ heard-sent x c rest d m e there heard = go heard
     go (hears.Reply (inl is) answers) = quiet 15 is refl (answers-quiet y c m (answered_by c m.command m.p2 y.requests) e answers)
     go (hears.Reply (inr is) answers) = quiet 19 is refl (answers-quiet y c m (answered_by c m.command m.p2 y.requests) e answers)
     go (hears.Confirmation is none effect) = quiet 1 is refl (ap (λ (z : Effect). z.sent) effect ∙ confirmed-quiet y c m (confirmed_by c m.p2 y.subscriptions))
-    go (hears.Update is some updates) = quiet 1 is refl (updates-quiet y c m (heard_by y c m.p2) e updates)
+    go (hears.Update is some updates) = quiet 1 is refl (updates-quiet y c m (subscription_on y c m.p2) e updates)
     go (hears.Error is fails) = quiet 11 is refl (fails-quiet y c m e fails)
     go (hears.Other other effect) = ap (λ (z : Effect). z.sent) effect ∙ sym (others-quiet m.command a b k other)
 

@@ -22,7 +22,7 @@ use Rattle.ca_model.proofs.Standings.{channel-on, is-on, on-circuit, on-one}
 use Rattle.ca_model.proofs.Tables.{changed-back, freed-back, handle-is, held-back, one-value}
 use Rattle.ca_client_tables.specs.Ending.{EndsAll, Sought, named_in, sought}
 use Rattle.ca_client_tables.specs.Listed.{AreListed, Has, KeepsAll, is_live_in, list_at, lives_in}
-use Rattle.ca_client_core.specs.Notices.{told_by}
+use Rattle.ca_client_core.specs.Notices.{as_notices}
 use Rattle.ca_client_core.specs.Turns.{TurnsIn}
 use Rattle.ca_client_tables.proofs.Ended.{all-ended, with_sought}
 use Rattle.ca_client_tables.proofs.Listing.{few-from}
@@ -232,8 +232,8 @@ closing-gone why x c placed none k same told left = λ i. record {
 pub listed-noted : (t : Table Channel) (old new : List (List Handle)) → KeepsAll t old new → AreListed t old → AreListed t new
 listed-noted t old new keeps listed h ch c there on = keeps c.index h (live-is t h c ch there on) (listed h ch c there on)
 
-pub closing-told : (why : Why) (x : Client) (c : Handle) (told lost : List Handle) (ns : List notice.Notice) (left : List ℕ) → told ≡ in_order_of_issue (was_sent_on c) x.requests x.issued → lost ≡ channels_on is_live c x → ns ≡ told_by told lost None → left ≡ out_bytes x c → ◌≡◌ {A = Closing} (record { why = why; notices = ns; left = left }) (closing why c x)
+pub closing-told : (why : Why) (x : Client) (c : Handle) (told lost : List Handle) (ns : List notice.Notice) (left : List ℕ) → told ≡ in_order_of_issue (was_sent_on c) x.requests x.issued → lost ≡ channels_on is_live c x → ns ≡ as_notices told lost None → left ≡ out_bytes x c → ◌≡◌ {A = Closing} (record { why = why; notices = ns; left = left }) (closing why c x)
 closing-told why x c told lost ns left t l is bytes =
     let all : ns ≡ farewell c x =
-    is ∙ (λ i. told_by (t i) (l i) None) ∙ ap (λ (more : List notice.Notice). disconnections (was_sent_on c) x ++ more) (append-nil (map notice.Lost (channels_on is_live c x))) in
+    is ∙ (λ i. as_notices (t i) (l i) None) ∙ ap (λ (more : List notice.Notice). disconnections (was_sent_on c) x ++ more) (append-nil (map notice.Lost (channels_on is_live c x))) in
     λ i. record { why = why; notices = all i; left = bytes i }

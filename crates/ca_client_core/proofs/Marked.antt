@@ -12,7 +12,7 @@ use Rattle.ca_link.specs.Link.{LinkState, kept, mark_of, noted, restored, with_s
 use Rattle.ca_search.specs.Searches.{Wanted}
 use Rattle.ca_wire.specs.Fields.{Fields}
 use Rattle.ca_wire.specs.Message.{spelled}
-use Rattle.ca_wire.specs.Messages.{bare, search_request}
+use Rattle.ca_wire.specs.Messages.{header_only, search_request}
 use Rattle.ca_model.specs.Client.{Client, ClientCircuit, Connection, on_connection}
 use Rattle.ca_model.specs.ClientCalls.{is_over}
 use Rattle.ca_model.specs.ClientEnds.{Ticking, all_searched_on, echoes, of_circuit, searches_on, with_sending}
@@ -86,14 +86,14 @@ restored-messages x c ms = restored-on (λ (e : Connection). record e { link = w
 pub restored-echo : (x : Client) (c : Handle) → circuit_restored (mark_at x c) (echoed c x) ≡ x
 restored-echo x c = restored-on (echo_end x.moment) x c back
   where
-    by : (e : Connection) (k : Keep) → restored (mark_of e.link) (noted k (with_sent (bare command.Echo ∷ []) e.link)) ≡ restored (mark_of e.link) (with_sent (bare command.Echo ∷ []) e.link)
+    by : (e : Connection) (k : Keep) → restored (mark_of e.link) (noted k (with_sent (header_only command.Echo ∷ []) e.link)) ≡ restored (mark_of e.link) (with_sent (header_only command.Echo ∷ []) e.link)
     by e Idle = refl
     by e Echo = refl
     by e Close = refl
 
     back : (e : Connection) → end_restored (mark_of e.link) (echo_end x.moment e) ≡ e
     back e =
-        ap (λ (l : LinkState). let d : Connection = record e { link = l } in d) (by e (kept x.moment e.link)) ∙ sent-back (bare command.Echo ∷ []) e
+        ap (λ (l : LinkState). let d : Connection = record e { link = l } in d) (by e (kept x.moment e.link)) ∙ sent-back (header_only command.Echo ∷ []) e
 
 -- ---- an ECHO that is due is the one of a tick
 
@@ -106,13 +106,13 @@ is-echo Echo e = refl
 is-echo Idle e = absurd cc
 is-echo Close e = absurd cc
 
-echo-in-one : (moment : ℕ) (d : ClientCircuit) (o : Option Connection) → d.connection ≡ o → asks_in is_echo moment o ≡ true → queue (bare command.Echo ∷ []) (note d) ≡ echo_in moment d
+echo-in-one : (moment : ℕ) (d : ClientCircuit) (o : Option Connection) → d.connection ≡ o → asks_in is_echo moment o ≡ true → queue (header_only command.Echo ∷ []) (note d) ≡ echo_in moment d
 echo-in-one moment d None there asks = absurd cc
 echo-in-one moment d (Some e) there asks =
-    let waits : LinkState = with_sent (bare command.Echo ∷ []) e.link in
+    let waits : LinkState = with_sent (header_only command.Echo ∷ []) e.link in
     let one : ◌≡◌ {A = Option Connection} (Some (record e { link = noted Echo waits })) (Some (echo_end moment e)) =
     ap (λ (k : Keep). let f : Option Connection = Some (record e { link = noted k waits }) in f) (sym (is-echo (kept moment e.link) asks)) in
-    ap (λ (o : Option Connection). queue (bare command.Echo ∷ []) (note (record d { connection = o }))) there
+    ap (λ (o : Option Connection). queue (header_only command.Echo ∷ []) (note (record d { connection = o }))) there
     ∙ ap (λ (o : Option Connection). let w : ClientCircuit = record d { connection = o } in w) one
     ∙ ap (λ (o : Option Connection). echo_in moment (record d { connection = o })) (sym there)
 
@@ -127,8 +127,8 @@ echoes-is c t due = go (under t.core.circuits c) refl
         let asks : asks_in is_echo t.core.moment d.connection ≡ true =
         sym (ap (λ (o : Option ClientCircuit). asks_in is_echo t.core.moment (option_and_then (λ (w : ClientCircuit). w.connection) o)) found) ∙ due in
         ap (λ (cs : Table ClientCircuit). let y : Client = record t.core { circuits = cs } in y)
-        (changed-twice t.core.circuits note (queue (bare command.Echo ∷ [])) c d found
-        ∙ changed-same t.core.circuits (λ (w : ClientCircuit). queue (bare command.Echo ∷ []) (note w)) (echo_in t.core.moment) c d found (echo-in-one t.core.moment d d.connection refl asks))
+        (changed-twice t.core.circuits note (queue (header_only command.Echo ∷ [])) c d found
+        ∙ changed-same t.core.circuits (λ (w : ClientCircuit). queue (header_only command.Echo ∷ []) (note w)) (echo_in t.core.moment) c d found (echo-in-one t.core.moment d d.connection refl asks))
 
 -- ---- searches on a circuit are those of a tick
 

@@ -11,7 +11,7 @@ use Rattle.ca_link.specs.declared.keep.Keep.{Keep}
 use Rattle.ca_link.specs.declared.keep.Keep.TheVariants.{Close, Echo, Idle}
 use Rattle.ca_link.specs.Link.{LinkState, kept, silence, with_sent}
 use Rattle.ca_search.specs.Searches.{Wanted}
-use Rattle.ca_wire.specs.Messages.{bare, search_request}
+use Rattle.ca_wire.specs.Messages.{header_only, search_request}
 use Rattle.ca_model.specs.Answers.{Sending}
 use Rattle.ca_model.specs.Client.{Client, ClientCircuit, Connection, connection_at, disconnected, ended, farewell, on_connection, out_bytes, without_circuit}
 use Rattle.ca_model.specs.ClientCalls.{is_over}
@@ -132,7 +132,7 @@ note e = record e { link = record e.link { echoed = true } }
 
 echo-past : (c d : Handle) (t : Ticking) → (c ≡ d → ⊥) → falls_silent c (echoes d t) ≡ echoes d (falls_silent c t)
 echo-past c d t other =
-    let s : Sending = of_circuit d (bare command.Echo) in
+    let s : Sending = of_circuit d (header_only command.Echo) in
     falls-sent s c (record t { core = on_connection note d t.core }) other ∙ ap (with_sending s) (falls-on note c d t other)
 
 search-past : (c d : Handle) (t : Ticking) (w : Wanted) → (c ≡ d → ⊥) → falls_silent c (searches_on d t w) ≡ searches_on d (falls_silent c t) w
@@ -167,7 +167,7 @@ record Speaks (does : Ticking → Handle → Ticking) : Type 0 where
 pub echo-heard : (t : Ticking) (c d : Handle) (b : Bool) → is_silent (cond b (echoes d t) t).core c ≡ is_silent t.core c
 echo-heard t c d false = refl
 echo-heard t c d true =
-    silent-on (λ (e : Connection). record e { link = with_sent (bare command.Echo ∷ []) e.link }) (λ e. refl) (on_connection note d t.core) d c
+    silent-on (λ (e : Connection). record e { link = with_sent (header_only command.Echo ∷ []) e.link }) (λ e. refl) (on_connection note d t.core) d c
     ∙ silent-on note (λ e. refl) t.core d c
 
 speaks-echo : Speaks echo_step
@@ -553,14 +553,14 @@ echo-still [] t some = some
 echo-still (c ∷ cs) t some = echo-still cs (echo_step t c) (go (is_echo_due t.core c))
   where
     go : (b : Bool) → (cond b (echoes c t) t).sent ≢ []
-    go true = last-some t.sent (of_circuit c (bare command.Echo))
+    go true = last-some t.sent (of_circuit c (header_only command.Echo))
     go false = some
 
 -- one that is due after the first of them
 pub echo-some : (cs ds : List Handle) (c : Handle) (t : Ticking) → is_echo_due (all_echoed cs t).core c ≡ true → (all_echoed (cs ++ c ∷ ds) t).sent ≢ []
 echo-some [] ds c t due =
     echo-still ds (echo_step t c)
-    (subst (λ (b : Bool). (cond b (echoes c t) t).sent ≢ []) (sym due) (last-some t.sent (of_circuit c (bare command.Echo))))
+    (subst (λ (b : Bool). (cond b (echoes c t) t).sent ≢ []) (sym due) (last-some t.sent (of_circuit c (header_only command.Echo))))
 echo-some (d ∷ cs) ds c t due = echo-some cs ds c (echo_step t d) due
 
 closed-still : (cs : List Handle) (t : Ticking) → t.closings ≢ [] → (all_ended cs t).closings ≢ []

@@ -8,7 +8,7 @@ use Rattle.ca_ids.specs.Wire.{wire_of}
 use Rattle.ca_requests.specs.Calls.{Issued, with_table}
 use Rattle.ca_requests.specs.Requests as request
 use Rattle.ca_client_core.specs.declared.notice.Notice.TheVariants as told
-use Rattle.ca_client_core.specs.Notices.{told_by}
+use Rattle.ca_client_core.specs.Notices.{as_notices}
 use Rattle.ca_monitor.specs.Subscriptions.{Subscription, standing_to}
 use Rattle.ca_model.specs.Answers as aim
 use Rattle.ca_model.specs.Client.{Client, Leaving, Live, Native, On, disconnections, with_requests, with_standing}
@@ -35,8 +35,8 @@ left-behind x y c sid h m n is says over =
     ap (λ (k : Issued). with_standing (On c Leaving) h (record y { requests = k.table; issued = k.order })) over
     ∙ ap (λ (z : Client). with_standing (On c Leaving) h (with_requests (request.channel_over h z.requests) z)) (is ∙ ap (λ (f : Fields). with_message c f x) says)
 
-pub told-left : (x y : Client) (c h : Handle) (m : Fields) (over lost : List Handle) → y ≡ with_message c m x → over ≡ request.in_order_of_issue (request.asks_on h) y.requests y.issued → lost ≡ [] → told_by over lost (Some (told.Lost h)) ≡ disconnections (request.asks_on h) x ++ aim.Lost h ∷ []
+pub told-left : (x y : Client) (c h : Handle) (m : Fields) (over lost : List Handle) → y ≡ with_message c m x → over ≡ request.in_order_of_issue (request.asks_on h) y.requests y.issued → lost ≡ [] → as_notices over lost (Some (told.Lost h)) ≡ disconnections (request.asks_on h) x ++ aim.Lost h ∷ []
 told-left x y c h m over lost is asked none =
-    ap (λ (gs : List Handle). told_by over gs (Some (told.Lost h))) none
-    ∙ ap (λ (gs : List Handle). told_by gs [] (Some (told.Lost h))) asked
-    ∙ ap (λ (z : Client). told_by (request.in_order_of_issue (request.asks_on h) z.requests z.issued) [] (Some (told.Lost h))) is
+    ap (λ (gs : List Handle). as_notices over gs (Some (told.Lost h))) none
+    ∙ ap (λ (gs : List Handle). as_notices gs [] (Some (told.Lost h))) asked
+    ∙ ap (λ (z : Client). as_notices (request.in_order_of_issue (request.asks_on h) z.requests z.issued) [] (Some (told.Lost h))) is

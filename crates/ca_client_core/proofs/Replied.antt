@@ -22,7 +22,7 @@ use Rattle.ca_client_tables.specs.First.{FirstAt}
 use Rattle.ca_client_core.specs.Dispatch.{HearsFirst, HearsFirstReply, IsReply}
 use Rattle.ca_client_core.specs.First.{FirstOn, without_first}
 use Rattle.ca_client_core.specs.Hearing.{HearsReply, HearsReplyTo, completed}
-use Rattle.ca_client_core.specs.Replying.{ReadsReply, told_by}
+use Rattle.ca_client_core.specs.Replying.{ReadsReply, as_reply}
 use Rattle.ca_client_core.proofs.Walked.{steps-bad, steps-heard, steps-out}
 
 -- ---- the circuit, and its end
@@ -100,7 +100,7 @@ out-same x c m u new did = go (answered_by c m.command m.p2 x.requests) did
     go None h = absurd h
     go (Some (q, r)) h = h.2
 
-pub reads-reply : (x : Client) (c : Handle) (head : Head) (told : Result (Option (Handle × Outcome)) AllocError) (new : Client) → FirstOn x c (first.Message head) → IsReply head.header.command → HearsFirstReply x c head told new → ReadsReply x c (told_by told) new
+pub reads-reply : (x : Client) (c : Handle) (head : Head) (told : Result (Option (Handle × Outcome)) AllocError) (new : Client) → FirstOn x c (first.Message head) → IsReply head.header.command → HearsFirstReply x c head told new → ReadsReply x c (as_reply told) new
 reads-reply x c head (Ok (Some (q, o))) new h is did = stepped x c head (Some (q, o)) new h is did
 reads-reply x c head (Ok None) new h is did = stepped x c head None new h is did
 reads-reply x c head (Err u) new h is did = out-same x c _ u new did

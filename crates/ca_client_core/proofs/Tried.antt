@@ -8,7 +8,7 @@ use Rattle.ca_text.specs.declared.command.Command.TheVariants as command
 use Rattle.ca_arena.specs.declared.handle.Handle.{Handle}
 use Rattle.ca_search.specs.Searches.{Wanted}
 use Rattle.ca_wire.specs.Fields.{Fields}
-use Rattle.ca_wire.specs.Messages.{bare, search_request}
+use Rattle.ca_wire.specs.Messages.{header_only, search_request}
 use Rattle.ca_model.specs.Answers as answer
 use Rattle.ca_model.specs.Client.{Client, later}
 use Rattle.ca_model.specs.ClientCalls.{is_over}
@@ -55,12 +55,12 @@ pub noted-echo-not : (x : Client) (c : Handle) (ss : List Sending) → is_echo_d
 noted-echo-not x c ss off t far =
     (sym (echo-not x c t off far.0), ap (λ (b : Bool). (cond b (echoes c t) t).sent) (ap (λ (y : Client). is_echo_due y c) far.0 ∙ off) ∙ far.1)
 
-pub noted-echo : (x y : Client) (c : Handle) (ss zs : List Sending) (s : Sending) → is_echo_due x c ≡ true → ((t : Ticking) → t.core ≡ x → y ≡ (echo_step t c).core) → sending_of s ≡ of_circuit c (bare command.Echo) → zs ≡ ss ++ s ∷ []
+pub noted-echo : (x y : Client) (c : Handle) (ss zs : List Sending) (s : Sending) → is_echo_due x c ≡ true → ((t : Ticking) → t.core ≡ x → y ≡ (echo_step t c).core) → sending_of s ≡ of_circuit c (header_only command.Echo) → zs ≡ ss ++ s ∷ []
     → Notes (λ (t : Ticking). echo_step t c) x ss y zs
 noted-echo x y c ss zs s due does is more t far = (
   sym (does t far.0),
   ap (λ (b : Bool). (cond b (echoes c t) t).sent) (ap (λ (z : Client). is_echo_due z c) far.0 ∙ due)
-      ∙ noted-more ss zs s (of_circuit c (bare command.Echo)) t.sent far.1 is more,
+      ∙ noted-more ss zs s (of_circuit c (header_only command.Echo)) t.sent far.1 is more,
 )
 
 -- ---- searches

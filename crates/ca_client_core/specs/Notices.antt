@@ -22,8 +22,8 @@ noticed None = []
 noticed (Some n) = notice_of n ∷ []
 
 -- these requests are complete with Disconnected, these channels are lost, and then this one
-abbrev pub told_by : List Handle → List Handle → Option Notice → List notice.Notice
-told_by requests channels last =
+abbrev pub as_notices : List Handle → List Handle → Option Notice → List notice.Notice
+as_notices requests channels last =
     map (λ (q : Handle). notice.Completed q outcome.Disconnected) requests
     ++ (map notice.Lost channels ++ noticed last)
 

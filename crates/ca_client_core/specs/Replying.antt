@@ -21,7 +21,7 @@ ReadsReply old c reply.NeedBytes new =
 ReadsReply old c reply.Other new = new ≡ old
 
 -- what became of a reply that came to this
-abbrev pub told_by : Result (Option (Handle × Outcome)) AllocError → Reply
-told_by (Ok (Some (q, o))) = reply.Completed q o
-told_by (Ok None) = reply.Unawaited
-told_by (Err e) = reply.Other
+abbrev pub as_reply : Result (Option (Handle × Outcome)) AllocError → Reply
+as_reply (Ok (Some (q, o))) = reply.Completed q o
+as_reply (Ok None) = reply.Unawaited
+as_reply (Err e) = reply.Other

@@ -4,7 +4,7 @@ ghost use Rattle.ca_wire.specs.Reading.{BeginsHeader, NoHeader};
 ghost use Rattle.ca_requests.specs.Meaning.{message_of};
 ghost use Rattle.ca_requests.specs.Requests.{answered_by};
 ghost use Rattle.ca_model.specs.Client.{channel_on};
-ghost use Rattle.ca_model.specs.Hears.{Fails, any_failed, doing, failing, heard_by};
+ghost use Rattle.ca_model.specs.Hears.{Fails, any_failed, doing, failing, subscription_on};
 ghost use Rattle.ca_model.specs.Hears.{subscription_failed, write_failed};
 ghost use Rattle.ca_client_tables.specs.declared.first.First.TheVariants.{Message};
 ghost use Rattle.ca_client_core.specs.First.{FirstOn, first_on, without_first};
@@ -105,9 +105,9 @@ impl ClientCore {
     ) -> Option<Handle>
         ensures { doing [] (subscription_over (message_of error.now []) result) self.new
             ≡ subscription_failed self.old (message_of error.now [])
-            (heard_by self.old circuit id) }
+            (subscription_on self.old circuit id) }
     {
-        let Some(subscription) = self.heard_by(circuit, id) else {
+        let Some(subscription) = self.subscription_on(circuit, id) else {
             return None;
         };
         self.monitors.free(subscription);

@@ -5,7 +5,8 @@ ghost use Rattle.ca_text.specs.declared.command.Command.TheVariants.{EventAdd};
 ghost use Rattle.ca_monitor.specs.Subscriptions.{confirmed_by};
 ghost use Rattle.ca_requests.specs.Calls.{HasImage};
 ghost use Rattle.ca_model.specs.Client.{Client};
-ghost use Rattle.ca_model.specs.Hears.{Updates, becomes, confirmed, doing, heard_by, is_live_on};
+ghost use Rattle.ca_model.specs.Hears.{Updates, becomes, confirmed, doing, subscription_on};
+ghost use Rattle.ca_model.specs.Hears.{is_live_on};
 ghost use Rattle.ca_client_tables.specs.declared.first.First.TheVariants.{Message};
 ghost use Rattle.ca_client_core.specs.Dispatch.{HearsFirst};
 ghost use Rattle.ca_client_core.specs.First.{FirstOn, first_on};
@@ -63,11 +64,11 @@ impl ClientCore {
         ensures ok { IfOk result (λ told. (x : Client) → Updates
             x
             (first_on self.now circuit head.now)
-            (heard_by self.now circuit head.now.header.p2)
+            (subscription_on self.now circuit head.now.header.p2)
             (doing [] (updated told) x)) }
         ensures err { OnErr result (HasImage (first_on self.now circuit head.now)) }
     {
-        let Some(subscription) = self.heard_by(circuit, head.header.p2) else {
+        let Some(subscription) = self.subscription_on(circuit, head.header.p2) else {
             return Ok(None);
         };
         let Some(found) = self.circuits.by_handle(circuit) else {
@@ -78,8 +79,8 @@ impl ClientCore {
     }
 
     // The subscription of this id, if it is not over and its channel is live on this circuit.
-    pub(crate) fn heard_by(&self, circuit: Handle, id: u32) -> Option<Handle>
-        ensures { result ≡ heard_by self.now circuit id }
+    pub(crate) fn subscription_on(&self, circuit: Handle, id: u32) -> Option<Handle>
+        ensures { result ≡ subscription_on self.now circuit id }
     {
         let Some((subscription, found)) = self.monitors.standing_by(id) else {
             return None;

@@ -19,7 +19,7 @@ use crate::name_searches::search_message;
 use ca_arena::Handle;
 use ca_search::Search;
 use ca_text::Command;
-use ca_wire::{Message, bare};
+use ca_wire::{Message, header_only};
 use std::alloc::AllocError;
 
 /// What a moment will make a client send, in order, and whether ends will end by it.
@@ -109,7 +109,7 @@ impl ClientCore {
         if !self.is_echo_due(circuit) {
             return Ok(());
         }
-        sent.push(of_circuit(circuit, bare(self.alloc, Command::Echo)))?;
+        sent.push(of_circuit(circuit, header_only(self.alloc, Command::Echo)))?;
         self.echo_on(circuit, marks)
     }
 

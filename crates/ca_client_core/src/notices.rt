@@ -1,6 +1,6 @@
 //! The notices of one call, in order, without a list when there is one alone.
 ghost use Rattle.std.specs.Prelude.{◌≡◌, [], None, Some};
-ghost use Rattle.ca_client_core.specs.Notices.{Parts, TakesCompletion, TakesNotice, told_by};
+ghost use Rattle.ca_client_core.specs.Notices.{Parts, TakesCompletion, TakesNotice, as_notices};
 ghost use Rattle.ca_model.specs.Answers as notice;
 
 use crate::notice::Notice;
@@ -26,13 +26,13 @@ pub struct Notices {
 
 impl Model for Notices {
     ghost use Rattle.std.specs.Prelude.{List, drop};
-    ghost use Rattle.ca_client_core.specs.Notices.{told_by};
+    ghost use Rattle.ca_client_core.specs.Notices.{as_notices};
     ghost use Rattle.ca_model.specs.Answers as notice;
 
     ghost Value = { List notice.Notice };
 
     ghost view = { λ n.
-        told_by (drop n.disconnected_told n.disconnected.items)
+        as_notices (drop n.disconnected_told n.disconnected.items)
         (drop n.lost_told n.lost.items) n.last };
 }
 
@@ -46,14 +46,14 @@ impl Notices {
 
     /// This notice, if there is one.
     pub(crate) fn one(alloc: Global, last: Option<Notice>) -> Notices
-        ensures { result ≡ told_by [] [] last }
+        ensures { result ≡ as_notices [] [] last }
     {
         Notices::of(Vec::new(alloc), Vec::new(alloc), last)
     }
 
     /// These requests are complete with Disconnected, these channels are lost, and then this one.
     pub(crate) fn of(disconnected: Vec<Handle>, lost: Vec<Handle>, last: Option<Notice>) -> Notices
-        ensures { result ≡ told_by disconnected.items lost.items last }
+        ensures { result ≡ as_notices disconnected.items lost.items last }
     {
         Notices {
             disconnected,

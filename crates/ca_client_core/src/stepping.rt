@@ -2,7 +2,7 @@
 ghost use Rattle.std.specs.Prelude.{◌≡◌, List, true};
 ghost use Rattle.ca_model.specs.Answers.{Sending};
 ghost use Rattle.ca_model.specs.ClientEnds.{ClientConnects, ClientSteps, gone};
-ghost use Rattle.ca_client_core.specs.Replying.{ReadsReply, told_by};
+ghost use Rattle.ca_client_core.specs.Replying.{ReadsReply, as_reply};
 ghost use Rattle.ca_client_core.specs.Dispatch.{IsReply};
 ghost use Rattle.ca_client_core.specs.Stepping.{stepped_as};
 
@@ -71,7 +71,7 @@ impl ClientCore {
     {
         match self.first(circuit) {
             First::Message(head) if is_reply(&head.header) => {
-                told_by(self.complete(circuit, &head))
+                as_reply(self.complete(circuit, &head))
             }
             First::NeedBytes => Reply::NeedBytes,
             _ => Reply::Other,
@@ -108,8 +108,8 @@ fn is_reply(header: &Header) -> bool
 
 // What became of a reply with this result.
 #[inline(always)]
-fn told_by(told: Result<Option<(Handle, Outcome)>, AllocError>) -> Reply
-    ensures { result ≡ told_by told }
+fn as_reply(told: Result<Option<(Handle, Outcome)>, AllocError>) -> Reply
+    ensures { result ≡ as_reply told }
 {
     match told {
         Ok(Some((request, outcome))) => Reply::Completed(request, outcome),

@@ -19,7 +19,7 @@ use Rattle.ca_model.specs.Ends.{Address}
 use Rattle.ca_model.specs.Hears.{Effect, FindsAt, PutsOn, becomes, found_at, put_on, searched_by}
 use Rattle.ca_client_tables.specs.Finding.{as_found}
 use Rattle.ca_client_tables.specs.Foretelling.{creation_at, creation_by, creation_on}
-use Rattle.ca_client_tables.specs.Noting.{HaveSent, NotesAll, NotesOne, as_sent, told_by}
+use Rattle.ca_client_tables.specs.Noting.{HaveSent, NotesAll, NotesOne, as_sent, creation_in}
 use Rattle.ca_client_tables.specs.Receiving.{HalfParts, HasReceived, OpensOrUndoes, Parts, all_settled, all_undone, opened_parts, parts_of, unopened_parts, with_parts}
 use Rattle.ca_client_tables.specs.Opening.{AreOpening}
 use Rattle.ca_client_tables.specs.declared.foretelling.Creation.{Creation}
@@ -58,7 +58,7 @@ module _ (x : Client) where
         | inr g ↦ rw (ne_eqb m.command 6 g) refl
       ]
 
-  pub receives-so : (from : Address) (m : Fields) (e : Effect) → Receives from x m e → e.sent ≡ sent_if (told_by x.channels x.circuits from m)
+  pub receives-so : (from : Address) (m : Fields) (e : Effect) → Receives from x m e → e.sent ≡ sent_if (creation_in x.channels x.circuits from m)
   receives-so from m e (receives.Search is finds) = finds-so (found_at from m) (searched_by m.p2 x) e finds ∙ sym (ap (told_as from m) is)
   receives-so from m e (receives.Beacon is port effect) = ap (λ (z : Effect). z.sent) effect ∙ sym (none-told from m (λ search. not-both m.command search is))
     where
@@ -87,17 +87,17 @@ left-from ms i m within is =
     ∙ ap (λ (n : ℕ). m ∷ drop n ms) (sym (add-one i))
 
 noted-more : (old mid final : Parts) (from : Address) (m : Fields) (rest : List Fields) (d : Received) (ds : List Received) (cs : List Creation) → HasReceived old from m d mid → HaveSent mid from rest ds cs final
-    → HaveSent old from (m ∷ rest) (d ∷ ds) (option_to_list (told_by old.channels old.circuits from m) ++ cs) final
+    → HaveSent old from (m ∷ rest) (d ∷ ds) (option_to_list (creation_in old.channels old.circuits from m) ++ cs) final
 noted-more old mid final from m rest d ds cs one others =
     λ x at.
     (let a = one x at in
     let b = others a.0.core (ap parts_of a.3) in
     let e : Effect = record { core = b.0.core; sent = a.0.sent ++ b.0.sent; notices = a.0.notices ++ b.0.notices } in
-    let here : a.0.sent ≡ sent_if (told_by old.channels old.circuits from m) = receives-so x from m a.0 a.1 ∙ ap (λ (p : Parts). sent_if (told_by p.channels p.circuits from m)) at in
-    let all : a.0.sent ++ b.0.sent ≡ map as_sent (option_to_list (told_by old.channels old.circuits from m) ++ cs) =
+    let here : a.0.sent ≡ sent_if (creation_in old.channels old.circuits from m) = receives-so x from m a.0 a.1 ∙ ap (λ (p : Parts). sent_if (creation_in p.channels p.circuits from m)) at in
+    let all : a.0.sent ++ b.0.sent ≡ map as_sent (option_to_list (creation_in old.channels old.circuits from m) ++ cs) =
     ap (λ (ss : List Sending). ss ++ b.0.sent) here
-    ∙ ap (λ (ss : List Sending). sent_if (told_by old.channels old.circuits from m) ++ ss) b.3
-    ∙ sym (map-append as_sent (option_to_list (told_by old.channels old.circuits from m)) cs) in
+    ∙ ap (λ (ss : List Sending). sent_if (creation_in old.channels old.circuits from m) ++ ss) b.3
+    ∙ sym (map-append as_sent (option_to_list (creation_in old.channels old.circuits from m)) cs) in
     (e, (a.0, b.0, a.1, b.1, refl), ap (λ (ns : List Notice). ns ++ b.0.notices) a.2 ∙ b.2, all, b.4 ∙ ap (λ (y : Client). all_settled ds (with_parts final y)) a.3))
 
 one-at-most : (o : Option Creation) → length (option_to_list o) ≤ 1
@@ -118,14 +118,14 @@ so-noted-more first now next from ms i m done d told told' within is did opening
       back = undone-last done d next ∙ ap (all_undone done) did.0.1 ∙ far.back;
       few =
           (let all = length-append told here in
-          let one = one-at-most (told_by now.channels (opened_parts now).circuits from m) in
+          let one = one-at-most (creation_in now.channels (opened_parts now).circuits from m) in
           omega (arith, all, one, far.few));
       some = λ other. some-of ms i within;
       opening = opening;
     })
   where
     here : List Creation
-    here = option_to_list (told_by now.channels (opened_parts now).circuits from m)
+    here = option_to_list (creation_in now.channels (opened_parts now).circuits from m)
 
 sent-none : (p : Parts) (from : Address) → HaveSent p from [] [] [] p
 sent-none p from = λ x at. (becomes x, refl, refl, refl, ap (λ (q : Parts). with_parts q x) at)

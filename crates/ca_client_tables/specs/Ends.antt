@@ -9,7 +9,7 @@ use Rattle.ca_text.specs.declared.refusal.Refusal.TheVariants as refusal
 use Rattle.ca_link.specs.Link.{LinkState, with_given, with_handed, with_sent}
 use Rattle.ca_monitor.specs.ReadRun.{after_read, sent_by_read}
 use Rattle.ca_wire.specs.Fields.{Fields}
-use Rattle.ca_wire.specs.Messages.{bare}
+use Rattle.ca_wire.specs.Messages.{header_only}
 use Rattle.ca_model.specs.Client.{ClientCircuit, Connection, Client, on_connection}
 
 -- the bytes that wait on a circuit
@@ -44,7 +44,7 @@ cut_in n d =
 -- the link, with this command waiting after the others, if there is one
 abbrev pub with_command : Option Command → LinkState → LinkState
 with_command None l = l
-with_command (Some k) l = with_sent (bare k ∷ []) l
+with_command (Some k) l = with_sent (header_only k ∷ []) l
 
 -- an end to which these bytes came at this moment, while more wait or none
 abbrev pub read_given : ℕ → List ℕ → Bool → Connection → Connection

@@ -25,8 +25,8 @@ abbrev pub as_sent : Creation → Sending
 as_sent o = record { circuit = o.circuit; message = o.message; aim = answer.Create o.channel }
 
 -- the CREATE_CHAN that a message of a datagram from this address makes a client send
-abbrev pub told_by : Table Channel → Table ClientCircuit → Address → Fields → Option Creation
-told_by channels circuits from m =
+abbrev pub creation_in : Table Channel → Table ClientCircuit → Address → Fields → Option Creation
+creation_in channels circuits from m =
     if m.command == command_number command.Search then creation_by channels circuits from m
     else None
 
@@ -36,7 +36,7 @@ abbrev pub NotesOne : HalfParts → Address → Fields → List Creation → Res
     → List Creation → HalfParts → Type 0
 NotesOne old from m cs (Ok d) cs' new =
     ReceivesIn old from m (Ok d) new
-    × (cs' ≡ cs ++ option_to_list (told_by old.channels (opened_parts old).circuits from m))
+    × (cs' ≡ cs ++ option_to_list (creation_in old.channels (opened_parts old).circuits from m))
 NotesOne old from m cs (Err _) cs' new = (new ≡ old) × (cs' ≡ cs)
 
 -- These messages had their effects, one after another, and sent these; the searches

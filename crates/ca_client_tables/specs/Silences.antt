@@ -5,7 +5,7 @@ use Rattle.ca_link.specs.declared.keep.Keep.TheVariants.{Idle}
 use Rattle.ca_link.specs.Link.{kept, noted, with_sent}
 use Rattle.ca_model.specs.Client.{Connection, ClientCircuit}
 use Rattle.ca_text.specs.declared.command.Command.TheVariants as command
-use Rattle.ca_wire.specs.Messages.{bare}
+use Rattle.ca_wire.specs.Messages.{header_only}
 
 -- what a moment asks of an end that may be there
 abbrev pub asked_in : ℕ → Option Connection → Keep
@@ -14,7 +14,9 @@ asked_in moment o = unwrap_or (option_map (λ (e : Connection). kept moment e.li
 -- an end on which an ECHO waits; if its silence asked for one this is noted
 abbrev pub echo_end : ℕ → Connection → Connection
 echo_end moment e =
-    record e { link = noted (kept moment e.link) (with_sent (bare command.Echo ∷ []) e.link) }
+    record e {
+      link = noted (kept moment e.link) (with_sent (header_only command.Echo ∷ []) e.link);
+    }
 
 -- the same of a circuit, if it is connected
 abbrev pub echo_in : ℕ → ClientCircuit → ClientCircuit

@@ -6,7 +6,7 @@ ghost use Rattle.ca_client_tables.specs.Ends.{GivesAt, read_given};
 
 use crate::circuit::{ClientCircuit, Connection};
 use ca_text::{Command, Refusal};
-use ca_wire::bare;
+use ca_wire::header_only;
 use std::alloc::{AllocError, Global};
 
 impl ClientCircuit {
@@ -72,7 +72,7 @@ impl Connection {
             return Ok(());
         };
         let before = self.link.out_bytes().len();
-        if self.link.queue_own(&bare(alloc, command)).is_err() {
+        if self.link.queue_own(&header_only(alloc, command)).is_err() {
             return Err(AllocError);
         }
         if self.link.give(moment, bytes).is_err() {

@@ -2,7 +2,7 @@
 //! client send are noted.
 ghost use Rattle.std.specs.Prelude.{◌≡◌, ◌+◌, ◌≤◌, IfOk, vec_capacity, vec_len};
 ghost use Rattle.ca_ids.specs.Table.{with_all_held};
-ghost use Rattle.ca_client_tables.specs.Noting.{NotesAll, NotesOne, told_by};
+ghost use Rattle.ca_client_tables.specs.Noting.{NotesAll, NotesOne, creation_in};
 ghost use Rattle.ca_client_tables.specs.Opening.{AreOpening};
 
 use crate::channels::Channels;
@@ -144,7 +144,7 @@ fn sent_by(
 ) -> Result<Option<Creation>, AllocError>
     requires { AreOpening opening.now circuits.now }
     ensures { IfOk result (λ o. o
-        ≡ told_by channels.now (with_all_held opening.now circuits.now) from message.now) }
+        ≡ creation_in channels.now (with_all_held opening.now circuits.now) from message.now) }
 {
     if message.command() == Command::Search.number() {
         return creation_by(alloc, channels, circuits, opening, from, message);

@@ -6,7 +6,7 @@ ghost use Rattle.ca_client_tables.specs.Silences.{asked_in, echo_end, echo_in};
 use crate::circuit::{ClientCircuit, Connection};
 use ca_link::Keep;
 use ca_text::Command;
-use ca_wire::bare;
+use ca_wire::header_only;
 use std::alloc::{AllocError, Global};
 
 impl ClientCircuit {
@@ -48,7 +48,11 @@ impl Connection {
         ensures ok { OnOk result (self.new ≡ echo_end moment self.old) }
         ensures err { OnErr result (self.new ≡ self.old) }
     {
-        if self.link.queue_own(&bare(alloc, Command::Echo)).is_err() {
+        if self
+            .link
+            .queue_own(&header_only(alloc, Command::Echo))
+            .is_err()
+        {
             return Err(AllocError);
         }
         let _asked = self.link.tick(moment);

@@ -6,4 +6,4 @@ pub mod Number
 pub mod Conversion
 pub mod Shown
 pub mod Octets
-pub mod Alone
+pub mod Scalar

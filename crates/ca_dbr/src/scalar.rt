@@ -1,7 +1,7 @@
 //! The fast path for a value of one element in its own type: its payload as one 64-bit number. It
 //! does not apply to STRING.
 ghost use Rattle.std.specs.Prelude.{◌≡◌, ◌≢◌, ◌⊎◌, IfNone, IfSome, MatchOption, length};
-ghost use Rattle.ca_dbr.specs.Alone.{IsAlone, IsOneWord, IsNotAlone};
+ghost use Rattle.ca_dbr.specs.Scalar.{IsScalar, IsOneWord, IsNotScalar};
 ghost use Rattle.ca_dbr.specs.Elements.{elements};
 
 use crate::data_type::BaseType;
@@ -12,9 +12,9 @@ impl Value {
     /// The eight bytes of a payload that has its one element alone, in the plain type of this
     /// number, as one number, the first byte the highest: if that is its own type, and not STRING.
     #[inline(always)]
-    pub fn alone(&self, number: u16) -> Option<u64>
-        ensures some { IfSome result (λ n. IsAlone (elements self.now) number n) }
-        ensures none { IfNone result (IsNotAlone (elements self.now) number) }
+    pub fn scalar(&self, number: u16) -> Option<u64>
+        ensures some { IfSome result (λ n. IsScalar (elements self.now) number n) }
+        ensures none { IfNone result (IsNotScalar (elements self.now) number) }
     {
         match self {
             Value::Strings(_) => None,

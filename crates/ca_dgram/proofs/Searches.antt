@@ -13,10 +13,10 @@ use Rattle.ca_text.specs.declared.refusal.Refusal.{Refusal}
 use Rattle.ca_text.specs.declared.refusal.Refusal.TheVariants.{OutOfMemory}
 use Rattle.ca_dgram.specs.Search.{Searches, begun, searched}
 use Rattle.ca_text.specs.Limits.{datagram_limit}
-use Rattle.ca_dgram.proofs.Spellings.{spelling-bare, spelling-small}
+use Rattle.ca_dgram.proofs.Spellings.{spelling-header_only, spelling-small}
 
 pub version-bytes : spelling version_reply ≡ short_header (header_of version_reply)
-version-bytes = spelling-bare version_reply refl (omega arith)
+version-bytes = spelling-header_only version_reply refl (omega arith)
 
 pub length-version : length (spelling version_reply) ≡ 16
 length-version = ap length version-bytes ∙ length-short (header_of version_reply)

@@ -12,8 +12,8 @@ unfolding spelling
 spelling-small m size count = ap (λ (t : List ℕ). t ++ m.payload) (spelling-short (header_of m) size count)
 
 -- a message with no payload is its header
-pub spelling-bare : (m : Fields) → m.payload ≡ [] → m.count < 65535 → spelling m ≡ short_header (header_of m)
-spelling-bare m none count =
+pub spelling-header_only : (m : Fields) → m.payload ≡ [] → m.count < 65535 → spelling m ≡ short_header (header_of m)
+spelling-header_only m none count =
     spelling-small m (omega (arith, ap length none)) count ∙ ap (λ (t : List ℕ). short_header (header_of m) ++ t) none ∙ append-nil (short_header (header_of m))
 
 -- the short form is read as the message, also at the count that it is not written with

@@ -17,7 +17,7 @@ use Rattle.ca_model.specs.Hears.{create_sent}
 use Rattle.ca_model.specs.History.{Circuit, Sent}
 use Rattle.ca_model.specs.History as history
 use Rattle.ca_model.specs.Channels.{Suits}
-use Rattle.ca_model.specs.ClientEvents.{HappensAccept, Outcomes, WantsFirst, connected_as, lines_of, new_circuit, told_by}
+use Rattle.ca_model.specs.ClientEvents.{HappensAccept, Outcomes, WantsFirst, connected_as, lines_of, new_circuit, closing_notices}
 use Rattle.ca_model.specs.World.{ClientSide, Joined, Names, World, with_server}
 use Rattle.ca_laws_parts.specs.Flows.{Awaits, Flows}
 use Rattle.ca_laws_parts.specs.Held.{HoldAlike, Holds, NoneAsked, create_of, is_asked, is_subscribed, waiting_on}
@@ -206,7 +206,7 @@ keeps-accept kept w new c l x v at s happens held = elim happens.leaves [
       let there = wanted-there x.core v.place v.v v.at in
       let n : Joined = connected_as did.1 (new_circuit c x v.v.circuit v.i v.y did.0) in
       let made : World = record (with_server v.i (record v.y { core = happens.server }) w) { circuits = w.circuits ++ n ∷ [] } in
-      let o : Outcomes = record { core = did.3; names = x.names; lines = lines_of history.OfCircuit x.names (told_by did.1); sent = did.2 } in
+      let o : Outcomes = record { core = did.3; names = x.names; lines = lines_of history.OfCircuit x.names (closing_notices did.1); sent = did.2 } in
       let stands : At made.circuits l held.0 = At-append w.circuits (n ∷ []) l held.0 held.2 in
       subst (λ (u : World). HeldAt kept u l) (sym did.6)
       (after-call kept made c l x x.names o at

@@ -22,7 +22,7 @@ use Rattle.ca_text.specs.Place.{At}
 use Rattle.ca_text.proofs.Places.{At-mapped, At-parts, At-snoc, some_is}
 use Rattle.ca_wire.specs.declared.header.Header.{Header}
 use Rattle.ca_wire.specs.Fields.{Fields}
-use Rattle.ca_wire.specs.Messages.{bare, name_request, search_request, version_request}
+use Rattle.ca_wire.specs.Messages.{header_only, name_request, search_request, version_request}
 use Rattle.ca_model.specs.Answers.{Closed, Closing, Left, NeedBytes, Notice, Notices, Sending, Stepped}
 use Rattle.ca_model.specs.Client.{Channel, Client, ClientCircuit, Clearing, Connecting, Connection, Creating, Doomed, Leaving, Live, On, Phase, Searching, Standing, channel_on, circuit_to, connection_at, later, out_bytes, standing_at}
 use Rattle.ca_model.specs.ClientCalls.{cancel_sent, clear_sent, clearing_sent, event_add_sent, event_cancel_sent, is_over, new_subscription, put_sent, read_sent, write_sent}
@@ -30,7 +30,7 @@ use Rattle.ca_model.specs.ClientEnds.{ConnectsOn, GivesOn, Receives, ReceivesAll
 use Rattle.ca_model.specs.ClientEnds as ends
 use Rattle.ca_model.specs.Client as client
 use Rattle.ca_model.specs.Ends.{Address}
-use Rattle.ca_model.specs.Hears.{Answers, Completes, Effect, FindsAt, Hears, PutsOn, Updates, any_failed, clear_answered, confirmed, create_sent, created, doing, event_adds, failed, failing, heard_by, left, put_on, request_failed, rights_told, searched_by, subscription_failed, write_failed}
+use Rattle.ca_model.specs.Hears.{Answers, Completes, Effect, FindsAt, Hears, PutsOn, Updates, any_failed, clear_answered, confirmed, create_sent, created, doing, event_adds, failed, failing, subscription_on, left, put_on, request_failed, rights_told, searched_by, subscription_failed, write_failed}
 use Rattle.ca_model.specs.Hears as hears
 use Rattle.ca_model.specs.History.{Cancel, Clear, Create, Intent, Line, OfCircuit, Put, Read, Sent, Step, Subscribe, Write}
 use Rattle.ca_model.specs.History as history
@@ -225,9 +225,9 @@ module _ (n : Names) (x : Client) (meant : MeanToSubscribe n x.subscriptions) (c
   failing-quiet : (h : Header) → (failing x c m h).sent ≡ []
   failing-quiet h = go (eqb h.command (command_number command.Write)) (eqb h.command (command_number command.EventAdd))
     where
-      go : (a b : Bool) → (cond a (write_failed x m (channel_on x c m.p1)) (cond b (subscription_failed x m (heard_by x c h.p2)) (any_failed x m (answered_by c h.command h.p2 x.requests)))).sent ≡ []
+      go : (a b : Bool) → (cond a (write_failed x m (channel_on x c m.p1)) (cond b (subscription_failed x m (subscription_on x c h.p2)) (any_failed x m (answered_by c h.command h.p2 x.requests)))).sent ≡ []
       go true b = write-failed-quiet (channel_on x c m.p1)
-      go false true = subscription-failed-quiet (heard_by x c h.p2)
+      go false true = subscription-failed-quiet (subscription_on x c h.p2)
       go false false = any-failed-quiet (answered_by c h.command h.p2 x.requests)
 
   hears-suits : Hears x c m e → AllSuit n e.sent
@@ -255,9 +255,9 @@ gives-suit : (n : Names) (x y : Client) (c : Handle) (bytes : List ℕ) (more : 
 gives-suit n x y c bytes more None sent gives = absurd gives
 gives-suit n x y c bytes more (Some d) sent gives = subst (λ (l : List Sending). AllSuit n l) (sym gives.0) (go d.run.events_off (after_read more d.run).events_off)
   where
-    go : (a b : Bool) → AllSuit n (map (λ (k : Command). of_circuit c (bare k)) (option_to_list (asked_between a b)))
-    go false true = one-suits n (of_circuit c (bare command.EventsOff)) (serves (bare command.EventsOff) 8 refl serves-8)
-    go true false = one-suits n (of_circuit c (bare command.EventsOn)) (serves (bare command.EventsOn) 9 refl serves-9)
+    go : (a b : Bool) → AllSuit n (map (λ (k : Command). of_circuit c (header_only k)) (option_to_list (asked_between a b)))
+    go false true = one-suits n (of_circuit c (header_only command.EventsOff)) (serves (header_only command.EventsOff) 8 refl serves-8)
+    go true false = one-suits n (of_circuit c (header_only command.EventsOn)) (serves (header_only command.EventsOn) 9 refl serves-9)
     go false false = none-suit n
     go true true = none-suit n
 
@@ -288,7 +288,7 @@ module _ (n : Names) where
       by : (k : Keep) → AllSuit n (ticks_as k c t).sent
       by Idle = all
       by Close = all
-      by Echo = both-suit n t.sent (of_circuit c (bare command.Echo) ∷ []) all (one-suits n (of_circuit c (bare command.Echo)) (serves (bare command.Echo) 23 refl serves-23))
+      by Echo = both-suit n t.sent (of_circuit c (header_only command.Echo) ∷ []) all (one-suits n (of_circuit c (header_only command.Echo)) (serves (header_only command.Echo) 23 refl serves-23))
 
       go : (o : Option Connection) → AllSuit n (unwrap_or (option_map (λ (e : Connection). ticks_as (kept t.core.moment e.link) c t) o) t).sent
       go None = all
@@ -442,7 +442,7 @@ accept-asked w new c x v happens asked = elim happens.leaves [
       let n : Joined = connected_as k (event.new_circuit c x v.v.circuit v.i v.y did.0) in
       let made : World = record (with_server v.i (record v.y { core = happens.server }) w) { circuits = w.circuits ++ n ∷ [] } in
       subst (λ (u : World). AllAsked u) (sym did.6)
-      (asked-called made c x x.names (record { core = did.3; names = x.names; lines = lines_of OfCircuit x.names (event.told_by k); sent = did.2 })
+      (asked-called made c x x.names (record { core = did.3; names = x.names; lines = lines_of OfCircuit x.names (event.closing_notices k); sent = did.2 })
       (connects-suit x.names x.core did.3 v.v.circuit wanted.0 k did.2
       (subst (λ (o : Option ClientCircuit). ConnectsOn x.core v.v.circuit o k did.2 did.3) (unconnected-is x.core v.v.circuit wanted.0 wanted.1 wanted.2) did.5))
       (λ l q d s at there. elim (At-snoc w.circuits n l d at) [

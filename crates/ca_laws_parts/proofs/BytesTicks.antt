@@ -15,7 +15,7 @@ use Rattle.ca_text.specs.Place.{At}
 use Rattle.ca_text.proofs.Places.{some_is}
 use Rattle.ca_wire.specs.Fields.{Fields}
 use Rattle.ca_wire.specs.Message.{spelled}
-use Rattle.ca_wire.specs.Messages.{bare, search_request}
+use Rattle.ca_wire.specs.Messages.{header_only, search_request}
 use Rattle.ca_model.specs.Answers.{Left, Sending}
 use Rattle.ca_model.specs.Answers as answer
 use Rattle.ca_model.specs.Client.{Client, ClientCircuit, Connection, channels_ended, connection_at, disconnected, ended, later, let_go, on_connection, out_bytes, sending, without_circuit, without_ids}
@@ -149,7 +149,7 @@ module _ (h : Handle) (d : Connection) where
       echo : (e : Connection) → connection_at t.core c ≡ Some e → So (ticks_as Echo c t)
       echo e is =
           let noted : Client = on_connection (λ (e : Connection). record e { link = record e.link { echoed = true } }) c t.core in
-          let s : Sending = of_circuit c (bare command.Echo) in
+          let s : Sending = of_circuit c (header_only command.Echo) in
           elim so [
             | inl alive ↦ inl (alive-sends t (ticks_as Echo c t) noted s refl refl refl (noted-goes t.core c) alive)
             | inr over ↦

@@ -16,7 +16,7 @@ use Rattle.ca_monitor.specs.Subscriptions as monitor
 use Rattle.ca_requests.specs.Calls.{new_request}
 use Rattle.ca_requests.specs.Requests.{Asked, Request, was_sent_on}
 use Rattle.ca_search.specs.Searches as search
-use Rattle.ca_wire.specs.Messages.{bare, search_request}
+use Rattle.ca_wire.specs.Messages.{header_only, search_request}
 use Rattle.ca_model.specs.Answers.{Closing, Left, Sending}
 use Rattle.ca_model.specs.Client.{Channel, Client, ClientCircuit, Clearing, Connecting, Connection, Creating, Doomed, Leaving, Live, Native, On, Phase, Searching, Standing, channels_ended, connection_at, ended, is_cleared, is_on_in, later, let_go, on_connection, out_bytes, phase_on, sending, standing_at, standing_unless_cleared, without_channel, without_ids}
 use Rattle.ca_model.specs.ClientCalls.{LiveChannel, Opening, cancel_sent, cleared, clearing_sent, is_over, issued, opened, unsubscribed, unsubscribed_all}
@@ -322,7 +322,7 @@ module _ (on : Handle) (x : Client) where
           rests-then on x t.core (ended c t.core) m (rests-ended on c t.core (λ e. far (length t.closings) new (At-last t.closings new) e))
       by Echo far =
           let noted : Client = on_connection (λ (e : Connection). record e { link = record e.link { echoed = true } }) c t.core in
-          rests-then on x noted (sending (of_circuit c (bare command.Echo) ∷ []) noted) (rests-then on x t.core noted m (rests-same on t.core noted refl refl refl)) (rests-sending on (of_circuit c (bare command.Echo) ∷ []) noted)
+          rests-then on x noted (sending (of_circuit c (header_only command.Echo) ∷ []) noted) (rests-then on x t.core noted m (rests-same on t.core noted refl refl refl)) (rests-sending on (of_circuit c (header_only command.Echo) ∷ []) noted)
 
       go : (o : Option Connection) → Away (unwrap_or (option_map (λ (e : Connection). ticks_as (kept t.core.moment e.link) c t) o) t).closings
           → Rests on x (unwrap_or (option_map (λ (e : Connection). ticks_as (kept t.core.moment e.link) c t) o) t).core

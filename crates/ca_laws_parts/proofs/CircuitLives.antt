@@ -35,7 +35,7 @@ use Rattle.ca_laws_parts.proofs.Subscribes.{adds-concerns, adds-gives, no-cid, n
 use Rattle.ca_model.proofs.Tables.{AreApart, changed-back, changed-other, changed-own, held-apart, held-under, one-value, under-held}
 
 module _ (Awaits : ℕ → Type 0) (on : Handle) (n : ClientNames) (x : Client) (c : Circuit) (h : Handle) (sid : ℕ) (native : Native) (rights : ℕ)
-    (ch : Channel) (there : under x.channels h ≡ Some ch) (asked : is_on_in is_asked on ch ≡ true) (bare : is_on_in is_subscribed on ch ≡ false)
+    (ch : Channel) (there : under x.channels h ≡ Some ch) (asked : is_on_in is_asked on ch ≡ true) (header_only : is_on_in is_subscribed on ch ≡ false)
     (meant : MeanToSubscribe n x.subscriptions) (holds : Holds Awaits on n x c) where
   abbrev lives : Channel → Channel
   lives here = record here { standing = On on (Live native rights) }
@@ -56,7 +56,7 @@ module _ (Awaits : ℕ → Type 0) (on : Handle) (n : ClientNames) (x : Client) 
   there-not : (d : Subscription) → is_to h d ≡ true → unwrap_or (option_map (is_on_in is_subscribed on) (under x.channels d.channel)) false ≡ false
   there-not d to =
       ap (λ (g : Handle). unwrap_or (option_map (is_on_in is_subscribed on) (under x.channels g)) false) (same-is d.channel h to)
-      ∙ ap (λ (o : Option Channel). unwrap_or (option_map (is_on_in is_subscribed on) o) false) there ∙ bare
+      ∙ ap (λ (o : Option Channel). unwrap_or (option_map (is_on_in is_subscribed on) o) false) there ∙ header_only
 
   not-yet : (d : Subscription) → is_to h d ≡ true → stands_in d.stage ≡ true → has_id x.channels on d ≡ false
   not-yet d to stands = go d.stage stands
@@ -138,7 +138,7 @@ module _ (Awaits : ℕ → Type 0) (on : Handle) (n : ClientNames) (x : Client) 
   -- a channel that passes is another
   other-channel : (w : Channel) (g : Handle) → under x.channels g ≡ Some w → is_on_in is_subscribed on w ≡ true → g ≡ h → ⊥
   other-channel w g is pass same =
-      both_ways (is_on_in is_subscribed on ch) bare
+      both_ways (is_on_in is_subscribed on ch) header_only
       (subst (λ (z : Channel). is_on_in is_subscribed on z ≡ true) (one-value x.channels h w ch (subst (λ (k : Handle). under x.channels k ≡ Some w) same is) there) pass)
 
   marked-has : (g : Handle) (d : Subscription) → under x.subscriptions g ≡ Some d → marked here es g d ≡ true → has_id after on d ≡ true
@@ -193,9 +193,9 @@ live-heard Awaits on n x c g cid h sid native rights was meant holds finds =
     let found = channel-on x on cid h (Creating was) finds in
     let heard : Holds Awaits on n x (with_heard g c) = holds-heard Awaits on n x c g holds in
     let asked : is_on_in is_asked on found.0 ≡ true = is-on is_asked on found.0 (Creating was) found.3 in
-    let bare : is_on_in is_subscribed on found.0 ≡ false = is-on is_subscribed on found.0 (Creating was) found.3 in (
-      lives-may Awaits on n x (with_heard g c) h sid native rights found.0 found.1 asked bare meant heard,
-      lives-holds Awaits on n x (with_heard g c) h sid native rights found.0 found.1 asked bare meant heard (event_adds on sid h x),
+    let header_only : is_on_in is_subscribed on found.0 ≡ false = is-on is_subscribed on found.0 (Creating was) found.3 in (
+      lives-may Awaits on n x (with_heard g c) h sid native rights found.0 found.1 asked header_only meant heard,
+      lives-holds Awaits on n x (with_heard g c) h sid native rights found.0 found.1 asked header_only meant heard (event_adds on sid h x),
     )
 
 -- its caller cleared it meanwhile
@@ -206,11 +206,11 @@ doomed-heard Awaits on n x c g cid h sid holds finds =
     let found = channel-on x on cid h Doomed finds in
     let heard : Holds Awaits on n x (with_heard g c) = holds-heard Awaits on n x c g holds in
     let asked : is_on_in is_asked on found.0 ≡ true = is-on is_asked on found.0 Doomed found.3 in
-    let bare : is_on_in is_subscribed on found.0 ≡ false = is-on is_subscribed on found.0 Doomed found.3 in
+    let header_only : is_on_in is_subscribed on found.0 ≡ false = is-on is_subscribed on found.0 Doomed found.3 in
     let d : Circuit = with_sent (clear_of n sid h) (with_heard g c) in
     let y : Client = with_standing (On on Clearing) h x in
     let gone : Holds Awaits on n x d = clear-gone Awaits on n x (with_heard g c) h sid found.0 found.1 asked heard in (
       clear-goes Awaits on n x (with_heard g c) h sid found.0 found.1 asked heard,
       holds-alike Awaits on n y (sending (clear_sent on sid h ∷ []) y) d (sending-alike on (clear_sent on sid h ∷ []) y)
-          (phase-kept Awaits on n x d h found.0 Doomed Clearing found.1 asked bare refl refl gone),
+          (phase-kept Awaits on n x d h found.0 Doomed Clearing found.1 asked header_only refl refl gone),
     )

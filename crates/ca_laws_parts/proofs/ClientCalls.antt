@@ -20,7 +20,7 @@ use Rattle.ca_monitor.specs.ReadRun.{after_read, asked_between, sent_by_read}
 use Rattle.ca_requests.specs.Requests as request
 use Rattle.ca_search.specs.Searches as search
 use Rattle.ca_wire.specs.Fields.{Fields}
-use Rattle.ca_wire.specs.Messages.{bare, search_request}
+use Rattle.ca_wire.specs.Messages.{header_only, search_request}
 use Rattle.ca_model.specs.Answers.{Closed, Closing, NeedBytes, Notice, Notices, Sending, Stepped}
 use Rattle.ca_model.specs.Answers as answers
 use Rattle.ca_model.specs.Client.{Channel, Clearing, Client, ClientCircuit, Connecting, Connection, Creating, Doomed, Leaving, Live, On, Phase, is_live, connection_at, ended, later, on_connection, sending}
@@ -39,7 +39,7 @@ use Rattle.ca_model.proofs.Tables.{place, under-at}
 use Rattle.ca_arena.specs.Arena.{Place}
 use Rattle.ca_ids.specs.Wire.{wire_of}
 use Rattle.ca_text.proofs.Places.{At-within, some_is}
-use Rattle.ca_laws_parts.specs.ClientRows.{Alone, Call, ClientsSendLegally, Does, Leads, Reads, before_sending, sent_on}
+use Rattle.ca_laws_parts.specs.ClientRows.{ClientAndConduct, Call, ClientsSendLegally, Does, ByCall, Reads, before_sending, sent_on}
 use Rattle.ca_laws_parts.specs.ClientRows as call
 use Rattle.ca_laws_parts.specs.Conduct.{nothing_done, with_all_sent, with_read}
 use Rattle.ca_laws_parts.proofs.CallsAsking.{few-thins, sound-cleared, sound-issued, sound-opened, sound-subscribed, sound-unsubscribed, sound-written}
@@ -181,12 +181,12 @@ module _ (on : Handle) (x y : Client) (e : Conduct) (sent : List Sending) (sound
       t : ((sending (flow_sent c more k) z).channels ≡ x.channels) × ((sending (flow_sent c more k) z).requests ≡ x.requests) × ((sending (flow_sent c more k) z).subscriptions ≡ x.subscriptions)
       t = sent-tables (flow_sent c more k) z
 
-      flow-plain : (c : Handle) (o : Option Command) (a b : Bool) → o ≡ asked_between a b → ArePlain (map (λ (k : Command). of_circuit c (bare k)) (option_to_list o))
-      flow-plain c o a b is = subst (λ (v : Option Command). ArePlain (map (λ (k : Command). of_circuit c (bare k)) (option_to_list v))) (sym is) (go a b)
+      flow-plain : (c : Handle) (o : Option Command) (a b : Bool) → o ≡ asked_between a b → ArePlain (map (λ (k : Command). of_circuit c (header_only k)) (option_to_list o))
+      flow-plain c o a b is = subst (λ (v : Option Command). ArePlain (map (λ (k : Command). of_circuit c (header_only k)) (option_to_list v))) (sym is) (go a b)
         where
-          go : (a b : Bool) → ArePlain (map (λ (k : Command). of_circuit c (bare k)) (option_to_list (asked_between a b)))
-          go false true = plain-one (of_circuit c (bare command.EventsOff)) refl
-          go true false = plain-one (of_circuit c (bare command.EventsOn)) refl
+          go : (a b : Bool) → ArePlain (map (λ (k : Command). of_circuit c (header_only k)) (option_to_list (asked_between a b)))
+          go false true = plain-one (of_circuit c (header_only command.EventsOff)) refl
+          go true false = plain-one (of_circuit c (header_only command.EventsOn)) refl
           go false false = none-plain
           go true true = none-plain
   give-then c bytes more (Some k) (Err refusal.OutOfMemory) does = unchanged on x y e sent sound does.1
@@ -416,7 +416,7 @@ module _ (on : Handle) (e : Conduct) where
       by Echo =
           let noted : Client = on_connection (λ (k : Connection). record k { link = record k.link { echoed = true } }) c t.core in
           let f : Conduct = with_all_sent (sent_on on t.sent) e in
-          more-plain (record t { core = noted }) (of_circuit c (bare command.Echo)) refl
+          more-plain (record t { core = noted }) (of_circuit c (header_only command.Echo)) refl
           (subst (λ (g : Conduct). Sound on noted g) (sent-nothing on f) (sound-plain on t.core noted f [] refl refl refl (keeps-on _ c t.core).links none-plain known))
 
       go : (o : Option Connection) → Ticked (unwrap_or (option_map (λ (k : Connection). ticks_as (kept t.core.moment k.link) c t) o) t)
@@ -505,8 +505,8 @@ does-then on x y e sent (call.Close c answer) sound does = ended-then on x y e s
 does-then on x y e sent (call.Tick now answer) sound does = tick-then on x y e sent sound now answer does
 does-then on x y e sent (call.Datagram a answer) sound does = datagram-then on x y e sent sound a answer does
 
-row-then : (on : Handle) (calls : List Call) (old new : Alone) → Sound on old.core old.conduct → FoldsTo (Leads on) old calls new → Sound on new.core new.conduct
-row-then on [] old new sound is = subst (λ (v : Alone). Sound on v.core v.conduct) is sound
+row-then : (on : Handle) (calls : List Call) (old new : ClientAndConduct) → Sound on old.core old.conduct → FoldsTo (ByCall on) old calls new → Sound on new.core new.conduct
+row-then on [] old new sound is = subst (λ (v : ClientAndConduct). Sound on v.core v.conduct) is sound
 row-then on (it ∷ calls) old new sound (mid, one, rest) =
     row-then on calls mid new
     (subst (λ (f : Conduct). Sound on mid.core f) (sym one.2) (does-then on old.core mid.core old.conduct one.0 it sound one.1)) rest

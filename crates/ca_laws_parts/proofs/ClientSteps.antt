@@ -12,7 +12,7 @@ use Rattle.ca_wire.specs.Fields.{Fields}
 use Rattle.ca_model.specs.Answers.{Closed, NeedBytes, Notice, Notices, Sending, Stepped}
 use Rattle.ca_model.specs.Client.{Client, Connection, channel_on, connection_at}
 use Rattle.ca_model.specs.ClientEnds.{StepsOn, Takes, after_taking}
-use Rattle.ca_model.specs.Hears.{AccessRights, ClearChannel, Confirmation, CreateChannel, CreateChannelFail, Effect, Error, Finds, Hears, Other, Reply, Search, ServerDisconnect, Update, found_at, heard_by, searched_by}
+use Rattle.ca_model.specs.Hears.{AccessRights, ClearChannel, Confirmation, CreateChannel, CreateChannelFail, Effect, Error, Finds, Hears, Other, Reply, Search, ServerDisconnect, Update, found_at, subscription_on, searched_by}
 use Rattle.ca_model.specs.History.{Circuit, Line, Step}
 use Rattle.ca_model.specs.ClientEvents.{HappensClientStep, Outcomes, about_at, client_ended, client_stepped, heard_in, lines_of}
 use Rattle.ca_model.specs.World.{ClientSide, Joined, Names, World, log_length}
@@ -44,7 +44,7 @@ done kept on n x c g m e attached meant k (ClearChannel is does) = inl (answered
 done kept on n x c g m e attached meant k (ServerDisconnect is does) = inl (left-did kept on n x c g m e (channel_on x on m.p1) refl does)
 done kept on n x c g m e attached meant k (Reply is does) = inl (reply-did kept on n x c g m e (answered_by on m.command m.p2 x.requests) is k refl does)
 done kept on n x c g m e attached meant k (Confirmation is empty does) = inl (confirmed-did kept on n x c g m e (confirmed_by on m.p2 x.subscriptions) is empty k refl does)
-done kept on n x c g m e attached meant k (Update is some does) = inl (update-did kept on n x c g m e (heard_by x on m.p2) does)
+done kept on n x c g m e attached meant k (Update is some does) = inl (update-did kept on n x c g m e (subscription_on x on m.p2) does)
 done kept on n x c g m e attached meant k (Error is does) = inl (error-did kept on n x c g m e is k does)
 done kept on n x c g m e attached meant k (Other is does) = inl (nothing kept on n x c g [] e does)
 

@@ -12,7 +12,7 @@ use Rattle.ca_link.specs.declared.keep.Keep.TheVariants.{Close, Echo, Idle}
 use Rattle.ca_link.specs.Link.{kept}
 use Rattle.ca_search.specs.Searches as search
 use Rattle.ca_text.specs.declared.command.Command.TheVariants as command
-use Rattle.ca_wire.specs.Messages.{bare, search_request}
+use Rattle.ca_wire.specs.Messages.{header_only, search_request}
 use Rattle.ca_model.specs.Answers.{Closing, Left, Sending}
 use Rattle.ca_model.specs.Answers as answer
 use Rattle.ca_model.specs.Client.{Client, ClientCircuit, Connection, connection_at, ended, later, on_connection, out_bytes, sending}
@@ -21,7 +21,7 @@ use Rattle.ca_model.specs.ClientEnds.{ConnectsOn, Ticking, all_searched_on, begu
 use Rattle.ca_model.specs.ClientEnds as ends
 use Rattle.ca_model.specs.Ends.{Address}
 use Rattle.ca_model.specs.History as history
-use Rattle.ca_model.specs.ClientEvents.{HappensAccept, HappensClientDatagram, Outcomes, TicksOne, WantsFirst, after_tick, client_after, client_closed, connected_as, left_silent, lines_of, new_circuit, told_by}
+use Rattle.ca_model.specs.ClientEvents.{HappensAccept, HappensClientDatagram, Outcomes, TicksOne, WantsFirst, after_tick, client_after, client_closed, connected_as, left_silent, lines_of, new_circuit, closing_notices}
 use Rattle.ca_model.specs.World.{ClientSide, Joined, Names, ServerSide, World}
 use Rattle.ca_model.proofs.Standings.{at-filter-map}
 use Rattle.ca_model.proofs.Handles.{same-is, same-itself}
@@ -180,7 +180,7 @@ stands-accept w new c x v at s happens = elim happens.leaves [
       let there = wanted-there x.core v.place v.v v.at in
       let r = connects x.core core on there.0 k did.2 there.1 there.2 (subst (λ (o : Option ClientCircuit). ConnectsOn x.core on o k did.2 core) (unconnected-is x.core on there.0 there.1 there.2) did.5) in
       let n : Joined = connected_as k (new_circuit c x on v.i v.y did.0) in
-      let o : Outcomes = record { core = core; names = x.names; lines = lines_of history.OfCircuit x.names (told_by k); sent = did.2 } in
+      let o : Outcomes = record { core = core; names = x.names; lines = lines_of history.OfCircuit x.names (closing_notices k); sent = did.2 } in
       let handle : n.at_client ≡ on = same-there k (new_circuit c x on v.i v.y did.0) in
       let none : is_none (connection_at x.core on) ≡ true = ap (λ (w : Option ClientCircuit). is_none (connection-of w)) there.1 ∙ ap is_none there.2 in
       subst (λ (u : World). ClientsStand u) (sym did.6)
@@ -223,7 +223,7 @@ ticks-one x t c d = go (connection_at t.core c)
     by Close = ticked-silent x t c d
     by Echo =
         let noted : Client = on_connection (λ (e : Connection). record e { link = record e.link { echoed = true } }) c t.core in
-        ticked-kept x t (echoes c t) (keeps-then t.core noted _ (keeps-on _ c t.core) (keeps-sending (of_circuit c (bare command.Echo) ∷ []) noted)) refl d
+        ticked-kept x t (echoes c t) (keeps-then t.core noted _ (keeps-on _ c t.core) (keeps-sending (of_circuit c (header_only command.Echo) ∷ []) noted)) refl d
 
     go : (o : Option Connection) → Ticked x (unwrap_or (option_map (λ (e : Connection). ticks_as (kept t.core.moment e.link) c t) o) t)
     go None = d

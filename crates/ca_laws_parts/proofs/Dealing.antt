@@ -8,7 +8,7 @@ use Rattle.ca_text.specs.Status.{bad_channel, normal}
 use Rattle.ca_text.specs.Place.{At}
 use Rattle.ca_text.proofs.Places.{some_is}
 use Rattle.ca_wire.specs.Fields.{Fields}
-use Rattle.ca_wire.specs.Messages.{bare, cancel_reply, cleared_reply, error_reply, failed_reply, not_found_reply, search_reply, status_reply, text_in, version_reply}
+use Rattle.ca_wire.specs.Messages.{header_only, cancel_reply, cleared_reply, error_reply, failed_reply, not_found_reply, search_reply, status_reply, text_in, version_reply}
 use Rattle.ca_model.specs.Due.{Action, Due, IsCreated, Knows, Serves, is_known, key_in, must_wait, subscription_in}
 use Rattle.ca_model.specs.Due as action
 use Rattle.ca_model.specs.Ends.{Peer}
@@ -151,7 +151,7 @@ module _ (k : Knows) (m : Fields) (replies : List Fields) (did : Action) (due : 
                             (
                               (λ e. quiet 21 e (λ n. omega (arith, n)) (λ n. omega (arith, n)) [] (due.host e).0 none-mute _ (due.host e).1 (names k.settled _)),
                               (
-                                (λ e. quiet 23 e (λ n. omega (arith, n)) (λ n. omega (arith, n)) _ (due.echo e).0 (one-mute (bare command.Echo) refl) action.Nothing (due.echo e).1 tt),
+                                (λ e. quiet 23 e (λ n. omega (arith, n)) (λ n. omega (arith, n)) _ (due.echo e).0 (one-mute (header_only command.Echo) refl) action.Nothing (due.echo e).1 tt),
                                 tt,
                               ),
                             ),

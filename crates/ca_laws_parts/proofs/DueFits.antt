@@ -30,7 +30,7 @@ use Rattle.ca_text.proofs.Places.{some_is}
 use Rattle.ca_wire.specs.Fields.{Fields, IsPayload}
 use Rattle.ca_wire.specs.Header.{header_spelling, number16}
 use Rattle.ca_wire.specs.Message.{IsMessage, header_of}
-use Rattle.ca_wire.specs.Messages.{bare, cancel_reply, clear_request, created_reply, error_reply, failed_reply, mask_in, not_found_reply, rights_reply, search_reply, status_reply, text_in, value_reply, version_reply}
+use Rattle.ca_wire.specs.Messages.{header_only, cancel_reply, clear_request, created_reply, error_reply, failed_reply, mask_in, not_found_reply, rights_reply, search_reply, status_reply, text_in, value_reply, version_reply}
 use Rattle.ca_wire.proofs.Headers.{length-header_spelling}
 use Rattle.ca_wire.proofs.Padding.{message-of, padded-payload}
 use Rattle.ca_model.specs.Due.{Action, Adds, Applies, Clears, Drops, Due, Greets, KnownChannel, KnownRecord, Knows, Names, Nothing, Opens, PutRefused, PutTaken, Serves, StrayDue, Switches, Waits, fault_of_read, is_known, must_wait, named, rights_at}
@@ -41,7 +41,7 @@ use Rattle.ca_laws_parts.proofs.Replies.{any-of, commands, each-at}
 use Rattle.ca_laws_parts.specs.ServerFits.{ValueFits, WantedFits}
 use Rattle.ca_laws_parts.specs.Streams.{AreMessages}
 use Rattle.ca_laws_parts.proofs.Fits.{empty-payload}
-use Rattle.ca_laws_parts.proofs.Speaks.{bare-good, clear-good, none-each}
+use Rattle.ca_laws_parts.proofs.Speaks.{header_only-good, clear-good, none-each}
 
 -- What a server knows fits messages.
 pub record KnowsFits (k : Knows) : Type 0 where
@@ -423,7 +423,7 @@ module _ (k : Knows) (m : Fields) (replies : List Fields) (did : Action) (f : Kn
                               (λ e. (let d = due.user e in (none-are replies d.0, name-fits _ d.1))),
                               (
                                 (λ e. (let d = due.host e in (none-are replies d.0, name-fits _ d.1))),
-                                ((λ e. one (bare command.Echo) Nothing (bare-good command.Echo (omega arith)) tt (due.echo e)), tt),
+                                ((λ e. one (header_only command.Echo) Nothing (header_only-good command.Echo (omega arith)) tt (due.echo e)), tt),
                               ),
                             ),
                           ),

@@ -98,7 +98,7 @@ module _ (Awaits : ℕ → Type 0) (on : Handle) (n : Names) (x : Client) (c : C
     (f : Flows Awaits c) (holds : Holds Awaits on n x c) (at : At c.down (length c.heard) t) (cause : t.cause ≡ Reply) (there : At c.up t.place s)
     (last : IsLast t.message s.intent) (gives : Gives s.message (Cid (wire_of h))) (speaks : Speaks t.message (Cid (wire_of h)))
     (quiet : (p : ℕ) (r : Sent) (ask : Ask) → t.place < p → At c.up p r → r.intent ≡ history.On (channel_number n h) ask → ⊥)
-    (ch : Channel) (stands : under x.channels h ≡ Some ch) (asked : is_on_in is_asked on ch ≡ true) (bare : is_on_in is_subscribed on ch ≡ false) where
+    (ch : Channel) (stands : under x.channels h ≡ Some ch) (asked : is_on_in is_asked on ch ≡ true) (header_only : is_on_in is_subscribed on ch ≡ false) where
   heard : Holds Awaits on n x (with_heard g c)
   heard = holds-heard Awaits on n x c g holds
 
@@ -141,7 +141,7 @@ module _ (Awaits : ℕ → Type 0) (on : Handle) (n : Names) (x : Client) (c : C
           has-too on x.channels u was.1 (λ w is pass. (
             w,
             keeps was.1.channel w is (λ e.
-                both_ways (is_on_in is_subscribed on ch) bare (subst (λ (z : Channel). is_on_in is_subscribed on z ≡ true) (one-value x.channels h w ch (subst (λ (k : Handle). under x.channels k ≡ Some w) e is) stands) pass)),
+                both_ways (is_on_in is_subscribed on ch) header_only (subst (λ (z : Channel). is_on_in is_subscribed on z ≡ true) (one-value x.channels h w ch (subst (λ (k : Handle). under x.channels k ≡ Some w) e is) stands) pass)),
             pass,
           )) was.4,
         ))
@@ -279,7 +279,7 @@ creating c place z id is concerns = elim concerns [
 pub failure-heard : (Awaits : ℕ → Type 0) (on : Handle) (n : Names) (x : Client) (c : Circuit) (g : Step) (t : Told) (s : Sent) (h : Handle) (p : Phase) → Flows Awaits c → Holds Awaits on n x c → At c.down (length c.heard) t → t.cause ≡ Reply → Is command.CreateChannelFail t.message → At c.up t.place s
     → s.intent ≡ history.On (channel_number n h) Create → ((l : ℕ) (r : Sent) (ask : Ask) → t.place < l → At c.up l r → r.intent ≡ history.On (channel_number n h) ask → ⊥) → channel_on x on t.message.p1 ≡ Some (h, p) → is_asked p ≡ true → is_subscribed p ≡ false
     → Holds Awaits on n (without_channel x h) (with_heard g c) × Holds Awaits on n (searched_again x h) (with_heard g c)
-failure-heard Awaits on n x c g t s h p f holds at cause fails there creates quiet finds asked bare =
+failure-heard Awaits on n x c g t s h p f holds at cause fails there creates quiet finds asked header_only =
     let found = channel-on x on t.message.p1 h p finds in
     let speaks : Speaks t.message (Cid (wire_of h)) = inl (inl (inr (inl fails), sym found.2)) in
     let last : IsLast t.message s.intent = subst (λ (i : Intent). IsLast t.message i) (sym creates) fails in
@@ -288,7 +288,7 @@ failure-heard Awaits on n x c g t s h p f holds at cause fails there creates qui
     let is_create : Is command.CreateChannel s.message = subst (λ (i : Intent). Suits i s.message) creates (f.asked t.place s there) in
     let gives : Gives s.message (Cid (wire_of h)) = creating c t.place s (Cid (wire_of h)) is_create (subst (λ (z : Sent). Of c t.place z (Cid (wire_of h))) same concerns.2) in
     let passes : is_on_in is_asked on found.0 ≡ true = is-on is_asked on found.0 p found.3 ∙ asked in
-    let none : is_on_in is_subscribed on found.0 ≡ false = is-on is_subscribed on found.0 p found.3 ∙ bare in (
+    let none : is_on_in is_subscribed on found.0 ≡ false = is-on is_subscribed on found.0 p found.3 ∙ header_only in (
       doomed-failed Awaits on n x c g t s h f holds at cause there last gives speaks quiet found.0 found.1 passes none,
       searched-failed Awaits on n x c g t s h f holds at cause there last gives speaks quiet found.0 found.1 passes none,
     )

@@ -24,7 +24,7 @@ use Rattle.ca_requests.specs.Requests as request
 use Rattle.ca_search.specs.Searches as search
 use Rattle.ca_wire.specs.declared.header.Header.{Header}
 use Rattle.ca_wire.specs.Fields.{Fields}
-use Rattle.ca_wire.specs.Messages.{bare, name_request, search_request, version_request}
+use Rattle.ca_wire.specs.Messages.{header_only, name_request, search_request, version_request}
 use Rattle.ca_model.specs.Answers.{Closing, Notice, Sending}
 use Rattle.ca_model.specs.Client.{Channel, Client, ClientCircuit, Clearing, Connecting, Connection, Creating, Doomed, Leaving, Live, On, Phase, Searching, Standing, channel_on, circuit_to, connection_at, found_on, is_on_in, later, phase_on, sending, with_standing}
 use Rattle.ca_model.specs.Client as phase
@@ -32,7 +32,7 @@ use Rattle.ca_model.specs.ClientCalls.{LiveChannel, cancel_sent, clear_sent, cle
 use Rattle.ca_model.specs.ClientEnds.{ConnectsOn, GivesOn, Receives, ReceivesAll, Ticking, all_searched_on, begun, circuits_ticked, creating, creations, due, flow_sent, is_connecting, is_name_connected, of_circuit, searches_made, searches_on, set_up, ticks, ticks_as, with_sending}
 use Rattle.ca_model.specs.ClientEnds as ends
 use Rattle.ca_model.specs.Ends.{Address}
-use Rattle.ca_model.specs.Hears.{Answers, Completes, Effect, Fails, FindsAt, Hears, PutsOn, Updates, any_failed, becomes, clear_answered, confirmed, create_sent, created, doing, event_adds, failed, failing, found_at, heard_by, left, put_on, request_failed, rights_told, searched_by, subscription_failed, with_circuit, write_failed}
+use Rattle.ca_model.specs.Hears.{Answers, Completes, Effect, Fails, FindsAt, Hears, PutsOn, Updates, any_failed, becomes, clear_answered, confirmed, create_sent, created, doing, event_adds, failed, failing, found_at, subscription_on, left, put_on, request_failed, rights_told, searched_by, subscription_failed, with_circuit, write_failed}
 use Rattle.ca_model.specs.Hears as hears
 use Rattle.ca_model.specs.Sends.{SameIndex}
 use Rattle.ca_model.specs.Speech.{Cid, Gives, Id, Ioid, SubId}
@@ -81,12 +81,12 @@ pub none-written : (h : Handle) (l : LiveChannel) (v : Elements) → GivesNone (
 none-written h l v = none-one (write_sent h l v) 4 refl (λ e. absurd (omega (arith, e))) (λ e. absurd (omega (arith, e))) (λ e. absurd (omega (arith, e))) (λ e. absurd (omega (arith, e)))
 
 none-flow : (c : Handle) (o : Option Command) (a b : Bool) → o ≡ asked_between a b
-    → GivesNone (map (λ (k : Command). of_circuit c (bare k)) (option_to_list o))
-none-flow c o a b is = subst (λ (v : Option Command). GivesNone (map (λ (k : Command). of_circuit c (bare k)) (option_to_list v))) (sym is) (go a b)
+    → GivesNone (map (λ (k : Command). of_circuit c (header_only k)) (option_to_list o))
+none-flow c o a b is = subst (λ (v : Option Command). GivesNone (map (λ (k : Command). of_circuit c (header_only k)) (option_to_list v))) (sym is) (go a b)
   where
-    go : (a b : Bool) → GivesNone (map (λ (k : Command). of_circuit c (bare k)) (option_to_list (asked_between a b)))
-    go false true = none-one (of_circuit c (bare command.EventsOff)) 8 refl (λ e. absurd (omega (arith, e))) (λ e. absurd (omega (arith, e))) (λ e. absurd (omega (arith, e))) (λ e. absurd (omega (arith, e)))
-    go true false = none-one (of_circuit c (bare command.EventsOn)) 9 refl (λ e. absurd (omega (arith, e))) (λ e. absurd (omega (arith, e))) (λ e. absurd (omega (arith, e))) (λ e. absurd (omega (arith, e)))
+    go : (a b : Bool) → GivesNone (map (λ (k : Command). of_circuit c (header_only k)) (option_to_list (asked_between a b)))
+    go false true = none-one (of_circuit c (header_only command.EventsOff)) 8 refl (λ e. absurd (omega (arith, e))) (λ e. absurd (omega (arith, e))) (λ e. absurd (omega (arith, e))) (λ e. absurd (omega (arith, e)))
+    go true false = none-one (of_circuit c (header_only command.EventsOn)) 9 refl (λ e. absurd (omega (arith, e))) (λ e. absurd (omega (arith, e))) (λ e. absurd (omega (arith, e))) (λ e. absurd (omega (arith, e)))
     go false false = none-given
     go true true = none-given
 
@@ -110,8 +110,8 @@ ticks-none t c none = go (connection_at t.core c)
     by : (k : Keep) → GivesNone (ticks_as k c t).sent
     by Idle = none
     by Close = none
-    by Echo = gives-both t.sent (of_circuit c (bare command.Echo) ∷ []) none
-        (none-one (of_circuit c (bare command.Echo)) 23 refl (λ e. absurd (omega (arith, e))) (λ e. absurd (omega (arith, e))) (λ e. absurd (omega (arith, e))) (λ e. absurd (omega (arith, e))))
+    by Echo = gives-both t.sent (of_circuit c (header_only command.Echo) ∷ []) none
+        (none-one (of_circuit c (header_only command.Echo)) 23 refl (λ e. absurd (omega (arith, e))) (λ e. absurd (omega (arith, e))) (λ e. absurd (omega (arith, e))) (λ e. absurd (omega (arith, e))))
 
     go : (o : Option Connection) → GivesNone (unwrap_or (option_map (λ (e : Connection). ticks_as (kept t.core.moment e.link) c t) o) t).sent
     go None = none
@@ -364,9 +364,9 @@ module _ (on : Handle) (x : Client) (e : Effect) (few : AreFew x) where
     any-none (Some (q, r)) = request-none q r.stage
 
     failing-none : (h : Header) (a b : Bool)
-        → (cond a (write_failed x m (channel_on x c m.p1)) (cond b (subscription_failed x m (heard_by x c h.p2)) (any_failed x m (answered_by c h.command h.p2 x.requests)))).sent ≡ []
+        → (cond a (write_failed x m (channel_on x c m.p1)) (cond b (subscription_failed x m (subscription_on x c h.p2)) (any_failed x m (answered_by c h.command h.p2 x.requests)))).sent ≡ []
     failing-none h true b = write-none (channel_on x c m.p1)
-    failing-none h false true = refused-none (heard_by x c h.p2)
+    failing-none h false true = refused-none (subscription_on x c h.p2)
     failing-none h false false = any-none (answered_by c h.command h.p2 x.requests)
 
     given-error : Fails x c m e → Given on x e.core e.sent
@@ -384,7 +384,7 @@ given-heard on x c m e few (hears.ClearChannel is does) = none-so on x e few (cl
 given-heard on x c m e few (hears.ServerDisconnect is does) = given-left on x e few c m (channel_on x c m.p1) does
 given-heard on x c m e few (hears.Reply is does) = given-reply on x e few c m (answered_by c m.command m.p2 x.requests) does
 given-heard on x c m e few (hears.Confirmation is empty does) = none-so on x e few (confirmed x (confirmed_by c m.p2 x.subscriptions)) does (confirmed-none on x e few c m (confirmed_by c m.p2 x.subscriptions))
-given-heard on x c m e few (hears.Update is some does) = given-update on x e few c m (heard_by x c m.p2) does
+given-heard on x c m e few (hears.Update is some does) = given-update on x e few c m (subscription_on x c m.p2) does
 given-heard on x c m e few (hears.Error is does) = given-error on x e few c m does
 given-heard on x c m e few (hears.Other is does) = none-so on x e few (becomes x) does refl
 

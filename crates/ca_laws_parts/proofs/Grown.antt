@@ -19,7 +19,7 @@ use Rattle.ca_model.specs.Due as action
 use Rattle.ca_model.specs.Server.{OpenChannel, Server}
 use Rattle.ca_model.specs.History.{Added, Entry, Removal, Reply, Told}
 use Rattle.ca_model.specs.History as history
-use Rattle.ca_model.specs.ClientEvents.{HappensAccept, HappensDown, HappensUp, WantsFirst, client_after, connected_as, lines_of, new_circuit, sent_on, told_by, up_taken}
+use Rattle.ca_model.specs.ClientEvents.{HappensAccept, HappensDown, HappensUp, WantsFirst, client_after, connected_as, lines_of, new_circuit, sent_on, closing_notices, up_taken}
 use Rattle.ca_model.specs.ServerEvents.{HappensAdd, HappensCutServer, HappensPost, HappensPump, HappensRemove, HappensServerRestart, disconnected_at, ending, ends_at, ends_by, ends_untold, keys_concerned, next_numbers, numbers_after, numbers_posted, posted_entry, removal_entries, removed_at, server_after, server_closed, stamped, with_number, withdrawals, without_standing, write_numbers}
 use Rattle.ca_model.specs.ServerEvents as event
 use Rattle.ca_model.specs.World.{ClientSide, Joined, RecordSide, ServerSide, World, log_begun, with_circuit, with_server}
@@ -252,7 +252,7 @@ accept-grew w new c x v f = elim f.leaves [
   | inr made ↦ inr (joined made.0 made.1 made.2 made.3 made.6)
 ]
   where
-    joined : (g : Handle) (k : Option Closing) (sent : List Sending) (core : Client) → new ≡ client_after c x x.names (record { core = core; names = x.names; lines = lines_of history.OfCircuit x.names (told_by k); sent = sent }) (record (with_server v.i (record v.y { core = f.server }) w) { circuits = w.circuits ++ connected_as k (new_circuit c x v.v.circuit v.i v.y g) ∷ [] }) → Grew w new
+    joined : (g : Handle) (k : Option Closing) (sent : List Sending) (core : Client) → new ≡ client_after c x x.names (record { core = core; names = x.names; lines = lines_of history.OfCircuit x.names (closing_notices k); sent = sent }) (record (with_server v.i (record v.y { core = f.server }) w) { circuits = w.circuits ++ connected_as k (new_circuit c x v.v.circuit v.i v.y g) ∷ [] }) → Grew w new
     joined g k sent core is =
         let f : Joined → Joined = λ (z : Joined). record z { lists = record z.lists { up = z.lists.up ++ sent_on c x.names sent z } } in
         let one : Joined = connected_as k (new_circuit c x v.v.circuit v.i v.y g) in

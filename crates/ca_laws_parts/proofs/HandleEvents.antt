@@ -21,7 +21,7 @@ use Rattle.ca_model.specs.History as history
 use Rattle.ca_model.specs.Server.{OpenChannel, Server, ServerCircuit}
 use Rattle.ca_model.specs.ServerSteps.{Accepts, Next, Stepped, closed, output_of}
 use Rattle.ca_model.specs.ServerSteps as stepped
-use Rattle.ca_model.specs.ClientEvents.{HappensAccept, HappensDown, HappensUp, Outcomes, WantsFirst, connected_as, lines_of, new_circuit, told_by}
+use Rattle.ca_model.specs.ClientEvents.{HappensAccept, HappensDown, HappensUp, Outcomes, WantsFirst, connected_as, lines_of, new_circuit, closing_notices}
 use Rattle.ca_model.specs.ServerEvents.{HappensAdd, HappensCutServer, HappensPost, HappensPump, HappensRemove, HappensServerRestart, ServerStepped, StepHandles, StepLacks, acted, disconnected_at, ending, ends_by, ends_here, ends_untold, handled_at, logged, numbers_after, numbers_posted, records_after, removal_told, removed_at, reported, server_after, server_closed, side_of, stamped, unsaid, without_standing, write_numbers}
 use Rattle.ca_model.specs.World.{ClientSide, Joined, RecordSide, ServerSide, Setting, World, server_begun, with_circuit, with_client, with_server}
 use Rattle.ca_model.proofs.Tables.{freed-back, held-back}
@@ -251,7 +251,7 @@ pub accept-handles : (w new : World) (c : ℕ) (x : ClientSide) (v : WantsFirst 
 accept-handles w new c x v happens hs = elim happens.leaves [
   | inl refusal ↦ subst (λ (u : World). HandlesStand u) (sym refusal.1) hs
   | inr did ↦
-      let o : Outcomes = record { core = did.3; names = x.names; lines = lines_of history.OfCircuit x.names (told_by did.1); sent = did.2 } in
+      let o : Outcomes = record { core = did.3; names = x.names; lines = lines_of history.OfCircuit x.names (closing_notices did.1); sent = did.2 } in
       let made : World = record (with_server v.i (record v.y { core = happens.server }) w) { circuits = w.circuits ++ connected_as did.1 (new_circuit c x v.v.circuit v.i v.y did.0) ∷ [] } in
       subst (λ (u : World). HandlesStand u) (sym did.6)
       (frame-handles made _ (frame-after c x x.names o made) (stands did.0 did.1 (subst (λ (a : Result Handle Refusal). Accepts v.y.core a happens.server) did.4 happens.accepts)))

@@ -15,7 +15,7 @@ use Rattle.ca_model.specs.History.{Intent, Line, On, Step}
 use Rattle.ca_model.specs.History as history
 use Rattle.ca_model.specs.Server.{Open, Server, new_end}
 use Rattle.ca_model.specs.ServerSteps.{Accepts, HasEnd}
-use Rattle.ca_model.specs.ClientEvents.{DownTaken, HappensAccept, HappensClear, HappensClientDatagram, HappensClientRestart, HappensClientStep, HappensCutClient, HappensDown, HappensHandingOut, HappensOpen, HappensRead, HappensSubscribe, HappensUnsubscribe, HappensUp, HappensWrite, HappensWriteNotify, TicksOne, WantsFirst, about_at, after_tick, client_after, client_closed, client_ended, client_stepped, lines_of, told_by, client_gone, connected_as, heard_in, left_silent, new_circuit, sent_on, up_taken, with_request, with_sent}
+use Rattle.ca_model.specs.ClientEvents.{DownTaken, HappensAccept, HappensClear, HappensClientDatagram, HappensClientRestart, HappensClientStep, HappensCutClient, HappensDown, HappensHandingOut, HappensOpen, HappensRead, HappensSubscribe, HappensUnsubscribe, HappensUp, HappensWrite, HappensWriteNotify, TicksOne, WantsFirst, about_at, after_tick, client_after, client_closed, client_ended, client_stepped, lines_of, closing_notices, client_gone, connected_as, heard_in, left_silent, new_circuit, sent_on, up_taken, with_request, with_sent}
 use Rattle.ca_model.specs.World.{ClientSide, Joined, Names, ServerSide, Setting, World, log_length, with_circuit, with_client, with_server}
 use Rattle.ca_laws_parts.specs.Seats.{Sound}
 use Rattle.ca_laws_parts.proofs.Cores.{accepts-stay, gives-stay, sends-stay}
@@ -194,6 +194,6 @@ accept-keeps s w new c x v f h = elim f.leaves [
         go None one = circuit-keeps s (with_server v.i (record v.y { core = f.server }) w) (circuit g None) refl (record { y = record v.y { core = f.server }; at = set-here w.servers v.i v.y (record v.y { core = f.server }) v.there.0; joins = refl; e = new_end v.y.core.moment; has = has }) fresh one
         go (Some k) one = circuit-keeps s (with_server v.i (record v.y { core = f.server }) w) (circuit g (Some k)) refl (record { y = record v.y { core = f.server }; at = set-here w.servers v.i v.y (record v.y { core = f.server }) v.there.0; joins = refl; e = new_end v.y.core.moment; has = has }) fresh one
 
-    joined : (g : Handle) (k : Option Closing) (sent : List Sending) (core : Client) → Accepts v.y.core (Ok g) f.server → new ≡ client_after c x x.names (record { core = core; names = x.names; lines = lines_of history.OfCircuit x.names (told_by k); sent = sent }) (record (with_server v.i (record v.y { core = f.server }) w) { circuits = w.circuits ++ connected_as k (new_circuit c x v.v.circuit v.i v.y g) ∷ [] }) → Sound s new
+    joined : (g : Handle) (k : Option Closing) (sent : List Sending) (core : Client) → Accepts v.y.core (Ok g) f.server → new ≡ client_after c x x.names (record { core = core; names = x.names; lines = lines_of history.OfCircuit x.names (closing_notices k); sent = sent }) (record (with_server v.i (record v.y { core = f.server }) w) { circuits = w.circuits ++ connected_as k (new_circuit c x v.v.circuit v.i v.y g) ∷ [] }) → Sound s new
     joined g k sent core accepts is =
         frame-keeps s (made_by g k) new (sent-frame (made_by g k) new c x.names sent (ap (λ (z : World). z.servers) is) (ap (λ (z : World). z.server_logs) is) (ap (λ (z : World). z.circuits) is)) (made-sound g k accepts)

@@ -26,7 +26,7 @@ use Rattle.ca_laws_parts.proofs.Fits.{fits-circuits, fits-like, fits-sending, fo
 use Rattle.ca_laws_parts.proofs.Speaks.{add-good, clear-good, create-good}
 use Rattle.ca_model.proofs.Tables as circuit
 use Rattle.ca_model.specs.Ends.{Address}
-use Rattle.ca_model.specs.Hears.{Answers, Completes, Effect, FindsAt, Hears, PutsOn, Updates, any_failed, clear_answered, confirmed, create_sent, created, doing, event_adds, failed, failing, heard_by, is_searched, left, native_in, put_on, request_failed, rights_told, searched_by, subscription_failed, with_circuit, without_drained, without_request, without_subscription, write_failed}
+use Rattle.ca_model.specs.Hears.{Answers, Completes, Effect, FindsAt, Hears, PutsOn, Updates, any_failed, clear_answered, confirmed, create_sent, created, doing, event_adds, failed, failing, subscription_on, is_searched, left, native_in, put_on, request_failed, rights_told, searched_by, subscription_failed, with_circuit, without_drained, without_request, without_subscription, write_failed}
 use Rattle.ca_model.specs.Hears as hears
 use Rattle.ca_model.specs.ClientCalls.{event_add_sent}
 
@@ -234,9 +234,9 @@ module _ (x : Client) (few : AreFew x) (f : ClientFits x) where
     failing-speaks : (h : Header) → e ≡ failing x c m h → SpeaksWell e.core e.sent
     failing-speaks h is = go (h.command == command_number command.Write) (h.command == command_number command.EventAdd) is
       where
-        go : (a b : Bool) → e ≡ cond a (write_failed x m (channel_on x c m.p1)) (cond b (subscription_failed x m (heard_by x c h.p2)) (any_failed x m (answered_by c h.command h.p2 x.requests))) → SpeaksWell e.core e.sent
+        go : (a b : Bool) → e ≡ cond a (write_failed x m (channel_on x c m.p1)) (cond b (subscription_failed x m (subscription_on x c h.p2)) (any_failed x m (answered_by c h.command h.p2 x.requests))) → SpeaksWell e.core e.sent
         go true b is = write-failed-speaks (channel_on x c m.p1) is
-        go false true is = subscription-failed-speaks (heard_by x c h.p2) is
+        go false true is = subscription-failed-speaks (subscription_on x c h.p2) is
         go false false is = any-failed-speaks (answered_by c h.command h.p2 x.requests) is
 
     pub hears-speaks : Hears x c m e → SpeaksWell e.core e.sent

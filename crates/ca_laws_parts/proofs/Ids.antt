@@ -14,7 +14,7 @@ use Rattle.ca_requests.specs.Meaning.{QuotesHeader}
 use Rattle.ca_wire.specs.Fields.{Fields}
 use Rattle.ca_wire.specs.declared.header.Header.{Header}
 use Rattle.ca_model.specs.Client.{Channel, Client, Clearing, Connecting, Creating, Doomed, Leaving, Live, Phase, channel_on, is_on_in}
-use Rattle.ca_model.specs.Hears.{Answers, Completes, Effect, Fails, Updates, any_failed, confirmed, doing, heard_by, request_failed, subscription_failed, without_request, without_subscription, write_failed}
+use Rattle.ca_model.specs.Hears.{Answers, Completes, Effect, Fails, Updates, any_failed, confirmed, doing, subscription_on, request_failed, subscription_failed, without_request, without_subscription, write_failed}
 use Rattle.ca_model.specs.History.{Circuit, Step}
 use Rattle.ca_model.specs.History as history
 use Rattle.ca_model.specs.Speech.{Ioid, SubId, Is, Speaks}
@@ -119,7 +119,7 @@ module _ (kept : List ℕ) (on : Handle) (n : Names) (x : Client) (c : Circuit) 
   error-cause m is k =
       k.reply (λ e. (let f : ◌≡◌ {A = ℕ} 11 22 = sym is ∙ e in omega (arith, f))) (λ e. (let f : ◌≡◌ {A = ℕ} 11 27 = sym is ∙ e in omega (arith, f))) (λ e. (let f : ◌≡◌ {A = ℕ} 11 1 = sym is ∙ e in absurd (omega (arith, f))))
 
-  refused-did : (m : Fields) (h : Header) (e : Effect) (o : Option Handle) → Is command.Error m → QuotesHeader m h → h.command ≡ 1 → IsKnown n x on c m → heard_by x on h.p2 ≡ o → e ≡ subscription_failed x m o → Did kept on n x c g e
+  refused-did : (m : Fields) (h : Header) (e : Effect) (o : Option Handle) → Is command.Error m → QuotesHeader m h → h.command ≡ 1 → IsKnown n x on c m → subscription_on x on h.p2 ≡ o → e ≡ subscription_failed x m o → Did kept on n x c g e
   refused-did m h e None is quotes adds k at does = nothing kept on n x c g [] e does
   refused-did m h e (Some q) is quotes adds k at does =
       let found = heard-is x on h.p2 q at in
@@ -153,7 +153,7 @@ module _ (kept : List ℕ) (on : Handle) (n : Names) (x : Client) (c : Circuit) 
   ]
     where
       by : (h : Header) → QuotesHeader m h → (a b : Bool) → eqb h.command 1 ≡ b
-          → e ≡ cond a (write_failed x m (channel_on x on m.p1)) (cond b (subscription_failed x m (heard_by x on h.p2)) (any_failed x m (answered_by on h.command h.p2 x.requests))) → Did kept on n x c g e
+          → e ≡ cond a (write_failed x m (channel_on x on m.p1)) (cond b (subscription_failed x m (subscription_on x on h.p2)) (any_failed x m (answered_by on h.command h.p2 x.requests))) → Did kept on n x c g e
       by h quotes true b adds does = write-did m e (channel_on x on m.p1) does
-      by h quotes false true adds does = refused-did m h e (heard_by x on h.p2) is quotes (eqb-true h.command 1 adds) k refl does
+      by h quotes false true adds does = refused-did m h e (subscription_on x on h.p2) is quotes (eqb-true h.command 1 adds) k refl does
       by h quotes false false adds does = any-did m h e (answered_by on h.command h.p2 x.requests) is quotes k refl does

@@ -18,7 +18,7 @@ use Rattle.ca_model.specs.Answers.{Notice, Sending}
 use Rattle.ca_model.specs.Client.{Channel, Client, ClientCircuit, Connection, Clearing, Connecting, Creating, Doomed, Leaving, Live, On, Phase, Searching, Standing, channel_on, channels_ended, channels_on, connection_at, disconnected, ended, found_on, is_cleared, let_go, on_connection, searched_again, sending, standing_at, with_one_sent, without_channel, without_circuit, without_ids}
 use Rattle.ca_model.specs.ClientCalls.{ClientClears, ClientOpens, ClientPuts, ClientReads, ClientSubscribes, ClientUnsubscribes, ClientWrites, Does, Opening, Shape, cleared, unsubscribed, unsubscribed_all, unwanted}
 use Rattle.ca_model.specs.Ends.{Address}
-use Rattle.ca_model.specs.Hears.{Answers, Completes, Effect, FindsAt, Hears, PutsOn, Updates, any_failed, clear_answered, confirmed, create_sent, created, doing, failed, failing, heard_by, left, put_on, request_failed, rights_told, subscription_failed, with_circuit, write_failed}
+use Rattle.ca_model.specs.Hears.{Answers, Completes, Effect, FindsAt, Hears, PutsOn, Updates, any_failed, clear_answered, confirmed, create_sent, created, doing, failed, failing, subscription_on, left, put_on, request_failed, rights_told, subscription_failed, with_circuit, write_failed}
 use Rattle.ca_model.specs.Hears as hears
 use Rattle.ca_model.proofs.Standings.{found-standing}
 use Rattle.ca_model.proofs.Handles.{not-same, same-is}
@@ -321,9 +321,9 @@ module _ (x : Client) (c : Handle) (m : Fields) (e : Effect) where
   failing-goes : (h : Header) → e ≡ failing x c m h → AllGoOn x e.core e.sent
   failing-goes h is = go (h.command == command_number command.Write) (h.command == command_number command.EventAdd) is
     where
-      go : (a b : Bool) → e ≡ cond a (write_failed x m (channel_on x c m.p1)) (cond b (subscription_failed x m (heard_by x c h.p2)) (any_failed x m (request.answered_by c h.command h.p2 x.requests))) → AllGoOn x e.core e.sent
+      go : (a b : Bool) → e ≡ cond a (write_failed x m (channel_on x c m.p1)) (cond b (subscription_failed x m (subscription_on x c h.p2)) (any_failed x m (request.answered_by c h.command h.p2 x.requests))) → AllGoOn x e.core e.sent
       go true b is = write-failed-goes (channel_on x c m.p1) is
-      go false true is = subscription-failed-goes (heard_by x c h.p2) is
+      go false true is = subscription-failed-goes (subscription_on x c h.p2) is
       go false false is = any-failed-goes (request.answered_by c h.command h.p2 x.requests) is
 
   pub hears-goes : Hears x c m e → AllGoOn x e.core e.sent

@@ -14,7 +14,7 @@ use Rattle.ca_model.specs.ClientEnds.{ClientConnects, ConnectsOn, begun, new_con
 use Rattle.ca_model.specs.History as history
 use Rattle.ca_model.specs.Server.{Open, Server, new_end}
 use Rattle.ca_model.specs.ServerSteps.{Accepts, HasEnd}
-use Rattle.ca_model.specs.ClientEvents.{HappensAccept, WantsFirst, client_after, client_closed, connected_as, lines_of, new_circuit, told_by}
+use Rattle.ca_model.specs.ClientEvents.{HappensAccept, WantsFirst, client_after, client_closed, connected_as, lines_of, new_circuit, closing_notices}
 use Rattle.ca_model.specs.World.{ClientSide, Joined, ServerSide, World, with_server}
 use Rattle.ca_model.proofs.Handles.{handle-or}
 use Rattle.ca_model.proofs.Tables.{changed-other, changed-own, held-other, held-own}
@@ -89,7 +89,7 @@ accept-streams w new c x v at s seated happens all = elim happens.leaves [
 ]
   where
     made : (h : Handle) (k : Option Closing) (sent : List Sending) (core : Client) → happens.answer ≡ Ok h → ClientConnects x.core v.v.circuit k sent core
-        → new ≡ client_after c x x.names (record { core = core; names = x.names; lines = lines_of history.OfCircuit x.names (told_by k); sent = sent }) (record (with_server v.i (record v.y { core = happens.server }) w) { circuits = w.circuits ++ connected_as k (new_circuit c x v.v.circuit v.i v.y h) ∷ [] })
+        → new ≡ client_after c x x.names (record { core = core; names = x.names; lines = lines_of history.OfCircuit x.names (closing_notices k); sent = sent }) (record (with_server v.i (record v.y { core = happens.server }) w) { circuits = w.circuits ++ connected_as k (new_circuit c x v.v.circuit v.i v.y h) ∷ [] })
         → AllStream new
     made h k sent core is connects same = subst (λ (u : World). AllStream u) (sym same) streams
       where
@@ -103,7 +103,7 @@ accept-streams w new c x v at s seated happens all = elim happens.leaves [
         n = connected_as k (new_circuit c x v.v.circuit v.i v.y h)
 
         after : World
-        after = client_after c x x.names (record { core = core; names = x.names; lines = lines_of history.OfCircuit x.names (told_by k); sent = sent }) (record (with_server v.i side w) { circuits = w.circuits ++ n ∷ [] })
+        after = client_after c x x.names (record { core = core; names = x.names; lines = lines_of history.OfCircuit x.names (closing_notices k); sent = sent }) (record (with_server v.i side w) { circuits = w.circuits ++ n ∷ [] })
 
         f : Joined → Joined
         f a = sent_to c x.names sent a

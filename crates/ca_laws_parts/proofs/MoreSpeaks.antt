@@ -16,7 +16,7 @@ use Rattle.ca_text.specs.Limits.{channel_name_limit, payload_limit, priority_lim
 use Rattle.ca_text.specs.Place.{At}
 use Rattle.ca_text.proofs.Places.{At-mapped, some_is}
 use Rattle.ca_wire.specs.Message.{IsMessage}
-use Rattle.ca_wire.specs.Messages.{bare, name_request, search_request, version_request}
+use Rattle.ca_wire.specs.Messages.{header_only, name_request, search_request, version_request}
 use Rattle.ca_wire.proofs.Padding.{message-of}
 use Rattle.ca_model.specs.Answers.{Closing, Sending}
 use Rattle.ca_model.specs.Client.{Channel, Client, ClientCircuit, Connection, Creating, Live, Native, On, connection_at, is_on_in, later, on_connection, sending}
@@ -29,16 +29,16 @@ use Rattle.ca_model.proofs.Tables.{held-under}
 use Rattle.ca_laws_parts.specs.Speaks.{SendsMessages, ChannelFits, CircuitFits, ClientFits, SpeaksWell}
 use Rattle.ca_laws_parts.proofs.Fits.{all-fit, both-sent, empty-payload, ended-fits, fits-like, fits-on, fits-sending, holds-all, holds-changed, none-sent, one-more, text-fits, wire-under}
 use Rattle.ca_laws_parts.proofs.HearSpeaks.{filtered-at}
-use Rattle.ca_laws_parts.proofs.Speaks.{bare-good, create-good, does-speak}
+use Rattle.ca_laws_parts.proofs.Speaks.{header_only-good, create-good, does-speak}
 
 -- ---- bytes come
 
 flow-good : (c : Handle) (more : Bool) (d : Connection) → SendsMessages (flow_sent c more d)
 flow-good c more d = go d.run.events_off (after_read more d.run).events_off
   where
-    go : (a b : Bool) → SendsMessages (map (λ (k : Command). of_circuit c (bare k)) (option_to_list (asked_between a b)))
-    go false true = one-more _ [] (bare-good command.EventsOff (omega arith)) none-sent
-    go true false = one-more _ [] (bare-good command.EventsOn (omega arith)) none-sent
+    go : (a b : Bool) → SendsMessages (map (λ (k : Command). of_circuit c (header_only k)) (option_to_list (asked_between a b)))
+    go false true = one-more _ [] (header_only-good command.EventsOff (omega arith)) none-sent
+    go true false = one-more _ [] (header_only-good command.EventsOn (omega arith)) none-sent
     go false false = none-sent
     go true true = none-sent
 
@@ -110,7 +110,7 @@ ticks-speak t c h = go (connection_at t.core c)
     by Close = (ended-fits c t.core h.0, h.1)
     by Echo =
         let noted : Client = on_connection (λ (e : Connection). record e { link = record e.link { echoed = true } }) c t.core in
-        one-sends t noted (of_circuit c (bare command.Echo)) (fits-on _ c t.core h.0) (bare-good command.Echo (omega arith)) h.1
+        one-sends t noted (of_circuit c (header_only command.Echo)) (fits-on _ c t.core h.0) (header_only-good command.Echo (omega arith)) h.1
 
     go : (o : Option Connection) → TicksSpeak (unwrap_or (option_map (λ (e : Connection). ticks_as (kept t.core.moment e.link) c t) o) t)
     go None = h

@@ -15,7 +15,7 @@ use Rattle.ca_model.specs.Client.{Channel, Client, ClientCircuit, connection_at,
 use Rattle.ca_model.specs.ClientEnds.{ConnectsOn, begun, creations, is_connecting, of_circuit, set_up}
 use Rattle.ca_model.specs.History.{Circuit, Sent}
 use Rattle.ca_model.specs.History as history
-use Rattle.ca_model.specs.ClientEvents.{HappensAccept, WantsFirst, channel_number, client_after, connected_as, lines_of, new_circuit, told_by}
+use Rattle.ca_model.specs.ClientEvents.{HappensAccept, WantsFirst, channel_number, client_after, connected_as, lines_of, new_circuit, closing_notices}
 use Rattle.ca_model.specs.World.{ClientSide, Joined, Names, ServerSide, World, with_server}
 use Rattle.ca_laws_parts.specs.Flows.{Awaits, Flows, with_all_sent, with_sent}
 use Rattle.ca_laws_parts.specs.Held.{Holds, NoneAsked, create_of, waiting_on}
@@ -131,7 +131,7 @@ keeps-accepted kept w new c x v at s happens more = elim happens.leaves [
     same-length u is lt = (let e : length u.circuits ≡ length w.circuits = ap (λ (z : World). length z.circuits) is in omega (arith, e, lt))
 
     by : (d : ClientCircuit) → under x.core.circuits v.v.circuit ≡ Some d → d.connection ≡ None → (k : Option Closing) (sent : List Sending) (core : Client) (h : Handle) → ConnectsOn x.core v.v.circuit (Some d) k sent core
-        → HeldAt kept (client_after c x x.names (record { core = core; names = x.names; lines = lines_of history.OfCircuit x.names (told_by k); sent = sent }) (record (with_server v.i (record v.y { core = happens.server }) w) { circuits = w.circuits ++ connected_as k (new_circuit c x v.v.circuit v.i v.y h) ∷ [] })) (length w.circuits)
+        → HeldAt kept (client_after c x x.names (record { core = core; names = x.names; lines = lines_of history.OfCircuit x.names (closing_notices k); sent = sent }) (record (with_server v.i (record v.y { core = happens.server }) w) { circuits = w.circuits ++ connected_as k (new_circuit c x v.v.circuit v.i v.y h) ∷ [] })) (length w.circuits)
     by d there none None sent core h does =
         let n : Joined = new_circuit c x v.v.circuit v.i v.y h in
         let made : World = record (with_server v.i (record v.y { core = happens.server }) w) { circuits = w.circuits ++ n ∷ [] } in

@@ -56,7 +56,7 @@ unwanted-alike on c x = go (length (channels_on (λ (p : Phase). true) c x) == 0
 -- ids of a channel that was not live drain nowhere, and none is had here
 none-had : (on o : Handle) (x : Client) (h : Handle) (ch : Channel) → Attached x → under x.channels h ≡ Some ch → is_on_in is_subscribed on ch ≡ false → is_on_in was_live on ch ≡ false
     → (g : Handle) (v : Subscription) → under x.subscriptions g ≡ Some v → has_id x.channels on v ≡ true → is_to h v ≡ false
-none-had on o x h ch attached there bare never g v is has = elim (cases_Bool (is_to h v)) [
+none-had on o x h ch attached there header_only never g v is has = elim (cases_Bool (is_to h v)) [
   | inr other ↦ other
   | inl to ↦
       let same : v.channel ≡ h = same-is v.channel h to in
@@ -69,15 +69,15 @@ none-had on o x h ch attached there bare never g v is has = elim (cases_Bool (is
             let parts = and_parts (stands_in v.stage) (unwrap_or (option_map (is_on_in is_subscribed on) (under x.channels v.channel)) false) stands in
             let none : unwrap_or (option_map (is_on_in is_subscribed on) (under x.channels v.channel)) false ≡ false =
             ap (λ (k : Handle). unwrap_or (option_map (is_on_in is_subscribed on) (under x.channels k)) false) same
-            ∙ ap (λ (o : Option Channel). unwrap_or (option_map (is_on_in is_subscribed on) o) false) there ∙ bare in
+            ∙ ap (λ (o : Option Channel). unwrap_or (option_map (is_on_in is_subscribed on) o) false) there ∙ header_only in
             both_ways (unwrap_or (option_map (is_on_in is_subscribed on) (under x.channels v.channel)) false) none parts.1
       ])
 ]
 
 unsubscribed-alike : (on : Handle) (x : Client) (h : Handle) (ch : Channel) → Attached x → under x.channels h ≡ Some ch → is_on_in is_subscribed on ch ≡ false → is_on_in was_live on ch ≡ false → HoldAlike on x (unsubscribed_all h x)
-unsubscribed-alike on x h ch attached there bare never =
+unsubscribed-alike on x h ch attached there header_only never =
     with-others on x (unsubscribed_all h x) refl (alike-itself (was_sent_on on) x.requests)
-    (all-freed-alike (has_id x.channels on) (is_to h) x.subscriptions (none-had on on x h ch attached there bare never))
+    (all-freed-alike (has_id x.channels on) (is_to h) x.subscriptions (none-had on on x h ch attached there header_only never))
 
 -- one that is not on a connected circuit is gone
 pub cleared-away : (on : Handle) (x : Client) (h : Handle) (s : Standing) → Attached x → standing_at x h ≡ Some s → (s ≡ Searching) ⊎ ((o : Handle) × (s ≡ On o Connecting)) → HoldAlike on x (cleared h s x)
@@ -125,7 +125,7 @@ over-alike on h x = all-alike (was_sent_on on) (was_sent_on on) (request.over_on
 -- subscriptions to a channel that is on another circuit are over there
 ended-alike : (on o h : Handle) (x : Client) → same_handle o on ≡ false → (ch : Channel) → under x.channels h ≡ Some ch → is_on_in is_subscribed on ch ≡ false
     → IsAlike (has_id x.channels on) (has_id x.channels on) x.subscriptions (monitor.channel_over o h x.subscriptions)
-ended-alike on o h x other ch there bare = all-alike (has_id x.channels on) (has_id x.channels on) (monitor.over_on o h) x.subscriptions (λ g v is. stays v)
+ended-alike on o h x other ch there header_only = all-alike (has_id x.channels on) (has_id x.channels on) (monitor.over_on o h) x.subscriptions (λ g v is. stays v)
   where
     stays : (v : Subscription) → has_id x.channels on v ≡ has_id x.channels on (monitor.over_on o h v)
     stays v = go (is_to h v) refl
@@ -133,7 +133,7 @@ ended-alike on o h x other ch there bare = all-alike (has_id x.channels on) (has
         none : is_to h v ≡ true → unwrap_or (option_map (is_on_in is_subscribed on) (under x.channels v.channel)) false ≡ false
         none to =
             ap (λ (k : Handle). unwrap_or (option_map (is_on_in is_subscribed on) (under x.channels k)) false) (same-is v.channel h to)
-            ∙ ap (λ (w : Option Channel). unwrap_or (option_map (is_on_in is_subscribed on) w) false) there ∙ bare
+            ∙ ap (λ (w : Option Channel). unwrap_or (option_map (is_on_in is_subscribed on) w) false) there ∙ header_only
 
         by : is_to h v ≡ true → (s : Stage) → (drains_in on s || (stands_in s && unwrap_or (option_map (is_on_in is_subscribed on) (under x.channels v.channel)) false))
             ≡ (drains_in on (stage_over o s) || (stands_in (stage_over o s) && unwrap_or (option_map (is_on_in is_subscribed on) (under x.channels v.channel)) false))
@@ -149,13 +149,13 @@ ended-alike on o h x other ch there bare = all-alike (has_id x.channels on) (has
 pub cleared-elsewhere : (on : Handle) (x : Client) (h o : Handle) (native : Native) (rights : ℕ) → standing_at x h ≡ Some (On o (Live native rights)) → same_handle o on ≡ false → HoldAlike on x (cleared h (On o (Live native rights)) x)
 cleared-elsewhere on x h o native rights at other =
     let found = found-standing x h (On o (Live native rights)) at in
-    let bare : is_on_in is_subscribed on found.0 ≡ false = fails-elsewhere is_subscribed on o found.0 (Live native rights) found.2 other in
+    let header_only : is_on_in is_subscribed on found.0 ≡ false = fails-elsewhere is_subscribed on o found.0 (Live native rights) found.2 other in
     let away : is_on_in is_asked on found.0 ≡ false = fails-elsewhere is_asked on o found.0 (Live native rights) found.2 other in
     let y : Client = all_over o h x in
     client-then on x y (with_standing (On o Clearing) h y)
-    (with-others on x y refl (over-alike on h x) (ended-alike on o h x other found.0 found.1 bare))
+    (with-others on x y refl (over-alike on h x) (ended-alike on o h x other found.0 found.1 header_only))
     (restood on y h (On o Clearing) found.0 found.1 (away ∙ sym (fails-elsewhere is_asked on o (record found.0 { standing = On o Clearing }) Clearing refl other))
-    (bare ∙ sym (fails-elsewhere is_subscribed on o (record found.0 { standing = On o Clearing }) Clearing refl other)))
+    (header_only ∙ sym (fails-elsewhere is_subscribed on o (record found.0 { standing = On o Clearing }) Clearing refl other)))
 
 -- its record left it there
 pub left-elsewhere : (on : Handle) (x : Client) (h o : Handle) (ch : Channel) (p : Phase) → under x.channels h ≡ Some ch → ch.standing ≡ On o p → same_handle o on ≡ false
@@ -218,13 +218,13 @@ module _ (on : Handle) (x : Client) (h : Handle) (ch : Channel) (there : under x
 pub left-cleared-elsewhere : (on : Handle) (x : Client) (h o : Handle) → standing_at x h ≡ Some (On o Leaving) → same_handle o on ≡ false → HoldAlike on x (cleared h (On o Leaving) x)
 left-cleared-elsewhere on x h o at other =
     let found = found-standing x h (On o Leaving) at in
-    let bare : is_on_in is_subscribed on found.0 ≡ false = fails-elsewhere is_subscribed on o found.0 Leaving found.2 other in
+    let header_only : is_on_in is_subscribed on found.0 ≡ false = fails-elsewhere is_subscribed on o found.0 Leaving found.2 other in
     let away : is_on_in is_asked on found.0 ≡ false = fails-elsewhere is_asked on o found.0 Leaving found.2 other in
     let y : Client = all_over o h x in
     client-then on x y (with_standing (On o Clearing) h y)
-    (with-others on x y refl (over-alike on h x) (ended-alike on o h x other found.0 found.1 bare))
+    (with-others on x y refl (over-alike on h x) (ended-alike on o h x other found.0 found.1 header_only))
     (restood on y h (On o Clearing) found.0 found.1 (away ∙ sym (fails-elsewhere is_asked on o (record found.0 { standing = On o Clearing }) Clearing refl other))
-    (bare ∙ sym (fails-elsewhere is_subscribed on o (record found.0 { standing = On o Clearing }) Clearing refl other)))
+    (header_only ∙ sym (fails-elsewhere is_subscribed on o (record found.0 { standing = On o Clearing }) Clearing refl other)))
 
 pub cleared-left : (on : Handle) (x : Client) (h o : Handle) → standing_at x h ≡ Some (On o Leaving) → HoldAlike on x (cleared h (On o Leaving) x)
 cleared-left on x h o at = elim (cases_Bool (same_handle o on)) [

@@ -20,7 +20,7 @@ use Rattle.ca_wire.specs.Fields.{Fields}
 use Rattle.ca_model.specs.Answers.{Sending}
 use Rattle.ca_model.specs.Client.{Channel, Clearing, Client, Connecting, Creating, Doomed, Leaving, Live, Native, On, Phase, Standing, channel_on, is_live, phase_on, searched_again, sending, with_requests, with_standing, without_channel}
 use Rattle.ca_model.specs.ClientCalls.{clear_sent, event_add_sent}
-use Rattle.ca_model.specs.Hears.{Answers, Completes, Effect, Fails, Hears, Updates, any_failed, becomes, clear_answered, confirmed, created, event_adds, failed, heard_by, left, native_in, request_failed, rights_told, subscription_failed, understood, without_drained, without_request, without_subscription, write_failed}
+use Rattle.ca_model.specs.Hears.{Answers, Completes, Effect, Fails, Hears, Updates, any_failed, becomes, clear_answered, confirmed, created, event_adds, failed, subscription_on, left, native_in, request_failed, rights_told, subscription_failed, understood, without_drained, without_request, without_subscription, write_failed}
 use Rattle.ca_model.specs.Hears as hears
 use Rattle.ca_model.specs.Sends.{Conduct, HasChannel, IsDisconnect, IsFree}
 use Rattle.ca_model.specs.Speech.{Creates, Gives, Id, Is}
@@ -245,9 +245,9 @@ module _ (on : Handle) (x : Client) (c : Handle) (m : Fields) (e : Conduct) (hea
   read-any known (Some (q, r)) is = read-request known q r.stage is
 
   read-failing : Known on x e → (h : Header) (a b : Bool)
-      → f ≡ cond a (write_failed x m (channel_on x c m.p1)) (cond b (subscription_failed x m (heard_by x c h.p2)) (any_failed x m (answered_by c h.command h.p2 x.requests))) → Then
+      → f ≡ cond a (write_failed x m (channel_on x c m.p1)) (cond b (subscription_failed x m (subscription_on x c h.p2)) (any_failed x m (answered_by c h.command h.p2 x.requests))) → Then
   read-failing known h true b is = read-write known (channel_on x c m.p1) is
-  read-failing known h false true is = read-refused known (heard_by x c h.p2) is
+  read-failing known h false true is = read-refused known (subscription_on x c h.p2) is
   read-failing known h false false is = read-any known (answered_by c h.command h.p2 x.requests) is
 
   read-error : Known on x e → Fails x c m f → Then
@@ -523,7 +523,7 @@ module _ (on : Handle) (x : Client) (c : Handle) (m : Fields) (e : Conduct) (hea
     | inr puts ↦ read-reply (known-else 19 puts (λ n. omega (arith, n))) (answered_by c m.command m.p2 x.requests) does
   ]
   read-any-message (hears.Confirmation is empty does) = read-confirmed (known-else 1 is (λ n. omega (arith, n))) (confirmed_by c m.p2 x.subscriptions) does
-  read-any-message (hears.Update is some does) = read-update (known-else 1 is (λ n. omega (arith, n))) (heard_by x c m.p2) does
+  read-any-message (hears.Update is some does) = read-update (known-else 1 is (λ n. omega (arith, n))) (subscription_on x c m.p2) does
   read-any-message (hears.Error is does) = read-error (known-else 11 is (λ n. omega (arith, n))) does
   read-any-message (hears.Other is does) =
       nothing (λ h ch p there stands. heard.known h ch p there stands (λ live here lost. both_ways (understands m.command) is (ap understands lost.0))) (becomes x) does refl refl

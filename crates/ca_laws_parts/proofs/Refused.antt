@@ -11,7 +11,7 @@ use Rattle.ca_ids.specs.Table.{by_wire, same_handle, under, with_freed}
 use Rattle.ca_ids.specs.Wire.{wire_of}
 use Rattle.ca_monitor.specs.Subscriptions.{Subscription, drains_in, stands_in}
 use Rattle.ca_model.specs.Client.{Channel, Client, Clearing, Connecting, Creating, Doomed, Leaving, Live, On, Phase, Searching, Standing, is_live, is_on_in}
-use Rattle.ca_model.specs.Hears.{heard_by, is_live_on, without_subscription}
+use Rattle.ca_model.specs.Hears.{subscription_on, is_live_on, without_subscription}
 use Rattle.ca_model.specs.Speech.{Id, SubId, Gives, Is, Speaks}
 use Rattle.ca_model.specs.History.{Circuit, Intent, Reply, Sent, Step, Told}
 use Rattle.ca_model.specs.History as history
@@ -52,7 +52,7 @@ live-subscribed on ch is = go ch.standing is
         by false k = k
 
 -- what it finds stands, and has its id here
-pub heard-is : (x : Client) (on : Handle) (id : ℕ) (q : Handle) → heard_by x on id ≡ Some q → (d : Subscription) × (under x.subscriptions q ≡ Some d) × (wire_of q ≡ id) × (stands_in d.stage ≡ true) × (has_id x.channels on d ≡ true)
+pub heard-is : (x : Client) (on : Handle) (id : ℕ) (q : Handle) → subscription_on x on id ≡ Some q → (d : Subscription) × (under x.subscriptions q ≡ Some d) × (wire_of q ≡ id) × (stands_in d.stage ≡ true) × (has_id x.channels on d ≡ true)
 heard-is x on id q is = go (by_wire x.subscriptions id) refl is
   where
     live : (d : Subscription) → is_live_on x on d.channel ≡ true → unwrap_or (option_map (is_on_in is_subscribed on) (under x.channels d.channel)) false ≡ true
@@ -188,7 +188,7 @@ module _ (Awaits : ℕ → Type 0) (on : Handle) (n : Names) (x : Client) (c : C
 
 -- the same by the subscription that the ERROR found
 pub refusal-heard : (Awaits : ℕ → Type 0) (on : Handle) (n : Names) (x : Client) (c : Circuit) (g : Step) (t : Told) (s : Sent) (q : Handle) (id number : ℕ) → Flows Awaits c → Holds Awaits on n x c → At c.down (length c.heard) t → t.cause ≡ Reply → At c.up t.place s → Is command.EventAdd s.message
-    → Speaks t.message (SubId id) → heard_by x on id ≡ Some q → named (SubId (wire_of q)) (meant_by n.subscriptions q) ≡ Some number
+    → Speaks t.message (SubId id) → subscription_on x on id ≡ Some q → named (SubId (wire_of q)) (meant_by n.subscriptions q) ≡ Some number
     → ((p : ℕ) (r : Sent) (a : ℕ) → At c.up p r → r.intent ≡ history.On a (history.Cancel number) → ⊥)
     → Holds Awaits on n (without_subscription q x) (with_heard g c) × (named (SubId (wire_of q)) s.intent ≡ named (SubId (wire_of q)) (meant_by n.subscriptions q))
 refusal-heard Awaits on n x c g t s q id number f holds at cause there adds spoken finds means stood =

@@ -15,7 +15,7 @@ use Rattle.ca_wire.specs.declared.header.Header.{Header}
 use Rattle.ca_wire.specs.Fields.{Fields}
 use Rattle.ca_wire.specs.Header.{HeaderFits, HeaderSpells, header_spelling}
 use Rattle.ca_wire.specs.Message.{header_of}
-use Rattle.ca_wire.specs.Messages.{bare, cancel_reply, cleared_reply, created_reply, error_reply, failed_reply, not_found_reply, rights_reply, search_reply, status_reply, text_in, version_reply}
+use Rattle.ca_wire.specs.Messages.{header_only, cancel_reply, cleared_reply, created_reply, error_reply, failed_reply, not_found_reply, rights_reply, search_reply, status_reply, text_in, version_reply}
 use Rattle.ca_wire.proofs.Headers.{header-front, header-spells}
 use Rattle.ca_model.specs.Due.{Action, Due, IsRetired, IsUnknown, Knows, Serves, is_known, rights_at}
 use Rattle.ca_model.specs.Speech.{Id, Cid, Ioid, SubId, Heads, Quotes, Speaks}
@@ -415,7 +415,7 @@ module _ (k : Knows) (m : Fields) (fits : HeaderFits (header_of m)) (replies : L
                             speaks-put due,
                             (
                               (λ e. none-speak (due.user e).0),
-                              ((λ e. none-speak (due.host e).0), ((λ e. one-speaks (bare command.Echo) (mute-own (bare command.Echo) (mute-from 23 refl)) (due.echo e).0), tt)),
+                              ((λ e. none-speak (due.host e).0), ((λ e. one-speaks (header_only command.Echo) (mute-own (header_only command.Echo) (mute-from 23 refl)) (due.echo e).0), tt)),
                             ),
                           ),
                         ),
@@ -534,7 +534,7 @@ module _ (k : Knows) (m : Fields) (replies : List Fields) (action : Action) wher
                             few-put due,
                             (
                               (λ e. inl (due.user e).0),
-                              ((λ e. inl (due.host e).0), ((λ e. inr (inl (bare command.Echo, (due.echo e).0))), tt)),
+                              ((λ e. inl (due.host e).0), ((λ e. inr (inl (header_only command.Echo, (due.echo e).0))), tt)),
                             ),
                           ),
                         ),

@@ -15,14 +15,14 @@ use Rattle.ca_requests.specs.Requests as request
 use Rattle.ca_text.specs.declared.command.Command.TheVariants as command
 use Rattle.ca_wire.specs.declared.header.Header.{Header}
 use Rattle.ca_wire.specs.Fields.{Fields}
-use Rattle.ca_wire.specs.Messages.{bare}
+use Rattle.ca_wire.specs.Messages.{header_only}
 use Rattle.ca_model.specs.Answers.{Notice, Sending}
 use Rattle.ca_model.specs.Client.{Channel, Client, ClientCircuit, Clearing, Connecting, Connection, Creating, Doomed, Leaving, Live, On, Phase, Searching, Standing, channel_on, circuit_to, found_on, is_on_in, searched_again, sending, with_one_sent, with_requests, with_standing, without_channel}
 use Rattle.ca_model.specs.Client as phase
 use Rattle.ca_model.specs.ClientEnds.{Receives, ReceivesAll, beacon_heard}
 use Rattle.ca_model.specs.ClientEnds as ends
 use Rattle.ca_model.specs.Ends.{Address}
-use Rattle.ca_model.specs.Hears.{Answers, Completes, Effect, Fails, FindsAt, Hears, PutsOn, Updates, any_failed, clear_answered, confirmed, created, doing, failed, found_at, heard_by, left, put_on, request_failed, rights_told, searched_by, subscription_failed, with_circuit, without_drained, without_request, without_subscription, write_failed}
+use Rattle.ca_model.specs.Hears.{Answers, Completes, Effect, Fails, FindsAt, Hears, PutsOn, Updates, any_failed, clear_answered, confirmed, created, doing, failed, found_at, subscription_on, left, put_on, request_failed, rights_told, searched_by, subscription_failed, with_circuit, without_drained, without_request, without_subscription, write_failed}
 use Rattle.ca_model.specs.Hears as hears
 use Rattle.ca_model.specs.Speech.{Is}
 use Rattle.ca_model.specs.Placed.{Attached, was_live}
@@ -255,11 +255,11 @@ module _ (on : Handle) (x : Client) (e : Effect) (c : Handle) (m : Fields) where
           absurd (away same (subst (λ (z : Channel). is_on_in is_subscribed on z ≡ true) one pass_w))
     ]) pass
 
-    gone-bare : is_subscribed p ≡ false → (u : Table Channel)
+    gone-header_only : is_subscribed p ≡ false → (u : Table Channel)
         → ((k : Handle) (w : Channel) → under x.channels k ≡ Some w → (k ≡ h → ⊥) → under u k ≡ Some w) → (z : Client) → z.channels ≡ u
         → z.requests ≡ x.requests → z.subscriptions ≡ x.subscriptions → RestsBut on c m x z
-    gone-bare bare u keeps z channels requests subscriptions =
-        let none : is_on_in is_subscribed on ch ≡ false = fails-anywhere is_subscribed on c ch p stands bare in
+    gone-header_only header_only u keeps z channels requests subscriptions =
+        let none : is_on_in is_subscribed on ch ≡ false = fails-anywhere is_subscribed on c ch p stands header_only in
         record {
           channels = λ k v is pass. subst (λ (t : Table Channel). ((w : Channel) × (under t k ≡ Some w) × (is_on_in is_asked on w ≡ true)) ⊎ ((c ≡ on) × FreesCid m k)) (sym channels) (gone-row u keeps k v is pass);
           requests = λ q r is pass. inl (asks-same on x.requests z.requests requests q r is pass);
@@ -280,11 +280,11 @@ module _ (on : Handle) (x : Client) (e : Effect) (c : Handle) (m : Fields) where
   rests-failed fails (Some (h, Creating rights)) at is =
       let f = channel-on x c m.p1 h (Creating rights) at in
       frees-so [] (searched_again x h) is
-      (gone-bare h (Creating rights) f.0 f.1 f.3 (inl (fails, sym f.2)) refl (with_standing Searching h x).channels (λ k w there other. changed-other (λ (v : Channel). record v { standing = Searching }) x.channels k h w there other) (searched_again x h) refl refl refl)
+      (gone-header_only h (Creating rights) f.0 f.1 f.3 (inl (fails, sym f.2)) refl (with_standing Searching h x).channels (λ k w there other. changed-other (λ (v : Channel). record v { standing = Searching }) x.channels k h w there other) (searched_again x h) refl refl refl)
   rests-failed fails (Some (h, Doomed)) at is =
       let f = channel-on x c m.p1 h Doomed at in
       frees-so [] (without_channel x h) is
-      (gone-bare h Doomed f.0 f.1 f.3 (inl (fails, sym f.2)) refl (with_freed h x.channels) (λ k w there other. freed-other x.channels k h w there other) (without_channel x h) refl refl refl)
+      (gone-header_only h Doomed f.0 f.1 f.3 (inl (fails, sym f.2)) refl (with_freed h x.channels) (λ k w there other. freed-other x.channels k h w there other) (without_channel x h) refl refl refl)
 
   -- what was live on a circuit is there
   was-there : (h : Handle) (p : Phase) (ch : Channel) → under x.channels h ≡ Some ch → ch.standing ≡ On c p → (g o : Handle) (v : Channel)
@@ -445,7 +445,7 @@ module _ (on : Handle) (x : Client) (e : Effect) (c : Handle) (m : Fields) where
       go None is f g = absurd (both_ways false refl f)
 
   rests-refused : Is command.Error m → (h : Header) → QuotesHeader m h → h.command ≡ command_number command.EventAdd → (o : Option Handle)
-      → heard_by x c h.p2 ≡ o → e ≡ subscription_failed x m o → RestsBut on c m x e.core
+      → subscription_on x c h.p2 ≡ o → e ≡ subscription_failed x m o → RestsBut on c m x e.core
   rests-refused errs h quotes adds None at is = nothing [] is
   rests-refused errs h quotes adds (Some g) at is =
       let f = heard-is x c h.p2 g at in
@@ -469,9 +469,9 @@ module _ (on : Handle) (x : Client) (e : Effect) (c : Handle) (m : Fields) where
   ]
     where
       by : (h : Header) → QuotesHeader m h → (a b : Bool) → eqb h.command 1 ≡ b
-          → e ≡ cond a (write_failed x m (channel_on x c m.p1)) (cond b (subscription_failed x m (heard_by x c h.p2)) (any_failed x m (answered_by c h.command h.p2 x.requests))) → RestsBut on c m x e.core
+          → e ≡ cond a (write_failed x m (channel_on x c m.p1)) (cond b (subscription_failed x m (subscription_on x c h.p2)) (any_failed x m (answered_by c h.command h.p2 x.requests))) → RestsBut on c m x e.core
       by h quotes true b adds is = rests-write (channel_on x c m.p1) is
-      by h quotes false true adds is = rests-refused errs h quotes (eqb-true h.command 1 adds) (heard_by x c h.p2) refl is
+      by h quotes false true adds is = rests-refused errs h quotes (eqb-true h.command 1 adds) (subscription_on x c h.p2) refl is
       by h quotes false false adds is = rests-any errs h quotes (answered_by c h.command h.p2 x.requests) refl is
 
 -- ---- a channel was found
@@ -516,7 +516,7 @@ rests-heard on x c m e attached (hears.ClearChannel is does) = rests-answered on
 rests-heard on x c m e attached (hears.ServerDisconnect is does) = rests-left on x e c m (channel_on x c m.p1) refl does
 rests-heard on x c m e attached (hears.Reply is does) = rests-reply on x e c m (answered_by c m.command m.p2 x.requests) refl does
 rests-heard on x c m e attached (hears.Confirmation is empty does) = rests-confirmed on x e c m is empty (confirmed_by c m.p2 x.subscriptions) refl does
-rests-heard on x c m e attached (hears.Update is some does) = rests-update on x e c m (heard_by x c m.p2) does
+rests-heard on x c m e attached (hears.Update is some does) = rests-update on x e c m (subscription_on x c m.p2) does
 rests-heard on x c m e attached (hears.Error is does) = rests-error on x e c m is does
 rests-heard on x c m e attached (hears.Other is does) = nothing on x e c m [] does
 

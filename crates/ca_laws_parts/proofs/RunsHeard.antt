@@ -187,10 +187,10 @@ module _ (kept : List ℕ) (on : Handle) (n : Names) (x : Client) (c : Circuit) 
 
   failure-of : (m : Fields) (h : Handle) (p : Phase) → Is command.CreateChannelFail m → IsKnown n x on c m → channel_on x on m.p1 ≡ Some (h, p) → is_asked p ≡ true → is_subscribed p ≡ false → Flows (Awaits c kept) c → Holds (Awaits c kept) on n x c
       → Holds (Awaits c kept) on n (without_channel x h) (with_heard g c) × Holds (Awaits c kept) on n (searched_again x h) (with_heard g c)
-  failure-of m h p fails k at asked bare f holds =
+  failure-of m h p fails k at asked header_only f holds =
       let own = k.failed h p fails at in
       failure-heard (Awaits c kept) on n x c g k.t k.s h p f holds k.at (replies m k 26 fails (λ e. omega (arith, e)) (λ e. omega (arith, e)) (λ e. omega (arith, e)))
-      (subst (λ (w : Fields). Is command.CreateChannelFail w) (sym k.is) fails) k.there own.0 own.1 (subst (λ (w : Fields). channel_on x on w.p1 ≡ Some (h, p)) (sym k.is) at) asked bare
+      (subst (λ (w : Fields). Is command.CreateChannelFail w) (sym k.is) fails) k.there own.0 own.1 (subst (λ (w : Fields). channel_on x on w.p1 ≡ Some (h, p)) (sym k.is) at) asked header_only
 
   answer-of : (m : Fields) (h : Handle) (p : Phase) → Is command.ClearChannel m → IsKnown n x on c m → channel_on x on m.p2 ≡ Some (h, p) → is_asked p ≡ true → Flows (Awaits c kept) c → Holds (Awaits c kept) on n x c
       → Holds (Awaits c kept) on n (without_channel (without_drained on h x) h) (with_heard g c) × Holds (Awaits c kept) on n (searched_again (without_drained on h x) h) (with_heard g c)

@@ -14,7 +14,7 @@ use Rattle.ca_model.specs.ClientEnds.{ClientGives, GivesOn, given, handed_over, 
 use Rattle.ca_model.specs.History.{Circuit}
 use Rattle.ca_model.specs.History as history
 use Rattle.ca_wire.specs.Fields.{Fields}
-use Rattle.ca_wire.specs.Messages.{bare}
+use Rattle.ca_wire.specs.Messages.{header_only}
 use Rattle.ca_model.specs.Channels.{Suits}
 use Rattle.ca_model.specs.ClientEvents.{client_closed}
 use Rattle.ca_model.specs.World.{Joined, Names}
@@ -48,7 +48,7 @@ served-held kept i n x z j c m alike serves held mine =
 
 -- ---- bytes reach the client
 
-serves-off : Suits history.OfCircuit (bare command.EventsOff)
+serves-off : Suits history.OfCircuit (header_only command.EventsOff)
 serves-off history.Create e = (let f : ◌≡◌ {A = ℕ} 8 18 = e in omega (arith, f))
 serves-off history.Clear e = (let f : ◌≡◌ {A = ℕ} 8 12 = e in omega (arith, f))
 serves-off (history.Request history.Read n) e = (let f : ◌≡◌ {A = ℕ} 8 15 = e in omega (arith, f))
@@ -57,7 +57,7 @@ serves-off (history.Request history.Write n) e = (let f : ◌≡◌ {A = ℕ} 8 
 serves-off (history.Subscribe n) e = (let f : ◌≡◌ {A = ℕ} 8 1 = e in omega (arith, f))
 serves-off (history.Cancel n) e = (let f : ◌≡◌ {A = ℕ} 8 2 = e in omega (arith, f))
 
-serves-on : Suits history.OfCircuit (bare command.EventsOn)
+serves-on : Suits history.OfCircuit (header_only command.EventsOn)
 serves-on history.Create e = (let f : ◌≡◌ {A = ℕ} 9 18 = e in omega (arith, f))
 serves-on history.Clear e = (let f : ◌≡◌ {A = ℕ} 9 12 = e in omega (arith, f))
 serves-on (history.Request history.Read n) e = (let f : ◌≡◌ {A = ℕ} 9 15 = e in omega (arith, f))
@@ -79,14 +79,14 @@ down-held kept i n x y j c bytes more sent gives held mine = go (connection_at x
     alike : HoldAlike j.at_client x (given c bytes more x)
     alike = on-connection-alike j.at_client c _ x
 
-    by : (o : Option Command) → (a b : Bool) → o ≡ asked_between a b → HeldOn kept n (sending (map (λ (k : Command). of_circuit c (bare k)) (option_to_list o)) (given c bytes more x)) (sent_to i n (map (λ (k : Command). of_circuit c (bare k)) (option_to_list o)) j)
-    by o false true is = subst (λ (o : Option Command). HeldOn kept n (sending (map (λ (k : Command). of_circuit c (bare k)) (option_to_list o)) (given c bytes more x)) (sent_to i n (map (λ (k : Command). of_circuit c (bare k)) (option_to_list o)) j)) (sym is)
-        (served-held kept i n x (given c bytes more x) j c (bare command.EventsOff) alike serves-off held mine)
-    by o true false is = subst (λ (o : Option Command). HeldOn kept n (sending (map (λ (k : Command). of_circuit c (bare k)) (option_to_list o)) (given c bytes more x)) (sent_to i n (map (λ (k : Command). of_circuit c (bare k)) (option_to_list o)) j)) (sym is)
-        (served-held kept i n x (given c bytes more x) j c (bare command.EventsOn) alike serves-on held mine)
-    by o false false is = subst (λ (o : Option Command). HeldOn kept n (sending (map (λ (k : Command). of_circuit c (bare k)) (option_to_list o)) (given c bytes more x)) (sent_to i n (map (λ (k : Command). of_circuit c (bare k)) (option_to_list o)) j)) (sym is)
+    by : (o : Option Command) → (a b : Bool) → o ≡ asked_between a b → HeldOn kept n (sending (map (λ (k : Command). of_circuit c (header_only k)) (option_to_list o)) (given c bytes more x)) (sent_to i n (map (λ (k : Command). of_circuit c (header_only k)) (option_to_list o)) j)
+    by o false true is = subst (λ (o : Option Command). HeldOn kept n (sending (map (λ (k : Command). of_circuit c (header_only k)) (option_to_list o)) (given c bytes more x)) (sent_to i n (map (λ (k : Command). of_circuit c (header_only k)) (option_to_list o)) j)) (sym is)
+        (served-held kept i n x (given c bytes more x) j c (header_only command.EventsOff) alike serves-off held mine)
+    by o true false is = subst (λ (o : Option Command). HeldOn kept n (sending (map (λ (k : Command). of_circuit c (header_only k)) (option_to_list o)) (given c bytes more x)) (sent_to i n (map (λ (k : Command). of_circuit c (header_only k)) (option_to_list o)) j)) (sym is)
+        (served-held kept i n x (given c bytes more x) j c (header_only command.EventsOn) alike serves-on held mine)
+    by o false false is = subst (λ (o : Option Command). HeldOn kept n (sending (map (λ (k : Command). of_circuit c (header_only k)) (option_to_list o)) (given c bytes more x)) (sent_to i n (map (λ (k : Command). of_circuit c (header_only k)) (option_to_list o)) j)) (sym is)
         (none-sent-to kept i n n x (given c bytes more x) j held (λ a h at. at) (λ o holds. holds-alike (Awaits j.lists kept) j.at_client n x (given c bytes more x) j.lists alike holds))
-    by o true true is = subst (λ (o : Option Command). HeldOn kept n (sending (map (λ (k : Command). of_circuit c (bare k)) (option_to_list o)) (given c bytes more x)) (sent_to i n (map (λ (k : Command). of_circuit c (bare k)) (option_to_list o)) j)) (sym is)
+    by o true true is = subst (λ (o : Option Command). HeldOn kept n (sending (map (λ (k : Command). of_circuit c (header_only k)) (option_to_list o)) (given c bytes more x)) (sent_to i n (map (λ (k : Command). of_circuit c (header_only k)) (option_to_list o)) j)) (sym is)
         (none-sent-to kept i n n x (given c bytes more x) j held (λ a h at. at) (λ o holds. holds-alike (Awaits j.lists kept) j.at_client n x (given c bytes more x) j.lists alike holds))
 
     go : (o : Option Connection) → GivesOn x c bytes more o (Ok tt) sent y → HeldOn kept n y (sent_to i n sent j)

@@ -15,7 +15,7 @@ use Rattle.ca_link.specs.declared.keep.Keep.TheVariants.{Close, Echo, Idle}
 use Rattle.ca_link.specs.Link.{kept}
 use Rattle.ca_search.specs.Searches as search
 use Rattle.ca_wire.specs.Fields.{Fields}
-use Rattle.ca_wire.specs.Messages.{bare, search_request}
+use Rattle.ca_wire.specs.Messages.{header_only, search_request}
 use Rattle.ca_model.specs.Answers.{Left, Sending}
 use Rattle.ca_model.specs.Answers as answer
 use Rattle.ca_model.specs.Client.{Client, Connection, connection_at, later, on_connection, out_bytes, sending}
@@ -41,7 +41,7 @@ use Rattle.ca_laws_parts.proofs.RunsSending.{with_up}
 use Rattle.ca_laws_parts.proofs.Worlds.{other-client}
 use Rattle.ca_model.proofs.Thinner.{number-or, set-there}
 
-serves-echo : Suits history.OfCircuit (bare command.Echo)
+serves-echo : Suits history.OfCircuit (header_only command.Echo)
 serves-echo history.Create e = (let f : ◌≡◌ {A = ℕ} 23 18 = e in omega (arith, f))
 serves-echo history.Clear e = (let f : ◌≡◌ {A = ℕ} 23 12 = e in omega (arith, f))
 serves-echo (history.Request history.Read n) e = (let f : ◌≡◌ {A = ℕ} 23 15 = e in omega (arith, f))
@@ -98,7 +98,7 @@ module _ (kept_at : List ℕ) (i : ℕ) (n : Names) (a : Joined) (mine : a.clien
       by : (k : Keep) → FlowsSo (ticks_as k c t).sent
       by Idle = f
       by Close = f
-      by Echo = flows-one c (bare command.Echo) t.sent serves-echo f
+      by Echo = flows-one c (header_only command.Echo) t.sent serves-echo f
 
       go : (o : Option Connection) → FlowsSo (unwrap_or (option_map (λ (e : Connection). ticks_as (kept t.core.moment e.link) c t) o) t).sent
       go None = f
@@ -130,7 +130,7 @@ module _ (kept_at : List ℕ) (i : ℕ) (n : Names) (a : Joined) (mine : a.clien
           others-held kept_at n t.core (sent_to i n t.sent a) c (λ o. same-not c a.at_client (λ e. far (length t.closings) new (At-last t.closings new) e)) h
       by Echo far =
           let noted : Client = on_connection (λ (e : Connection). record e { link = record e.link { echoed = true } }) c t.core in
-          held-one c (bare command.Echo) t noted (on-connection-alike a.at_client c _ t.core) serves-echo h
+          held-one c (header_only command.Echo) t noted (on-connection-alike a.at_client c _ t.core) serves-echo h
 
       go : (o : Option Connection) → Away (unwrap_or (option_map (λ (e : Connection). ticks_as (kept t.core.moment e.link) c t) o) t).closings
           → HeldSo (unwrap_or (option_map (λ (e : Connection). ticks_as (kept t.core.moment e.link) c t) o) t)

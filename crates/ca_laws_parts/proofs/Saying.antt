@@ -22,14 +22,14 @@ use Rattle.ca_requests.specs.Requests as request
 use Rattle.ca_search.specs.Searches as search
 use Rattle.ca_wire.specs.declared.header.Header.{Header}
 use Rattle.ca_wire.specs.Fields.{Fields}
-use Rattle.ca_wire.specs.Messages.{bare, search_request}
+use Rattle.ca_wire.specs.Messages.{header_only, search_request}
 use Rattle.ca_model.specs.Answers.{Closed, Closing, NeedBytes, Notices, Sending, Stepped}
 use Rattle.ca_model.specs.Client.{Channel, Clearing, Client, ClientCircuit, Connecting, Connection, Creating, Doomed, Leaving, Live, On, Phase, Searching, Standing, channel_on, circuit_to, connection_at, later, new_circuit}
 use Rattle.ca_model.specs.ClientCalls.{IsUnchanged, Shape, StandsAs, cancel_sent, clear_sent, clearing_sent, event_add_sent, event_cancel_sent, is_over}
 use Rattle.ca_model.specs.ClientEnds.{ConnectsOn, GivesOn, Receives, ReceivesAll, StepsOn, Ticking, all_searched_on, circuits_ticked, due, flow_sent, is_name_connected, of_circuit, searches_made, searches_on, ticks, ticks_as, unconnected, with_sending}
 use Rattle.ca_model.specs.ClientEnds as ends
 use Rattle.ca_model.specs.Ends.{Address}
-use Rattle.ca_model.specs.Hears.{Answers, Completes, Effect, Fails, FindsAt, Hears, PutsOn, Updates, any_failed, becomes, clear_answered, confirmed, create_sent, created, event_adds, failed, found_at, heard_by, left, put_on, request_failed, rights_told, searched_by, subscription_failed, with_circuit, write_failed}
+use Rattle.ca_model.specs.Hears.{Answers, Completes, Effect, Fails, FindsAt, Hears, PutsOn, Updates, any_failed, becomes, clear_answered, confirmed, create_sent, created, event_adds, failed, found_at, subscription_on, left, put_on, request_failed, rights_told, searched_by, subscription_failed, with_circuit, write_failed}
 use Rattle.ca_model.specs.Hears as hears
 use Rattle.ca_model.specs.Speech.{In, Is}
 use Rattle.ca_model.proofs.Handles.{same-is, same-itself}
@@ -135,12 +135,12 @@ gives-other : (x : Client) (c : Handle) (bytes : List ℕ) (more : Bool) (o : Op
 gives-other x c bytes more (Some k) (Ok _) sent y does =
     other-is sent (flow_sent c more k) does.0 (flow (sent_by_read more k.run) k.run.events_off (after_read more k.run).events_off refl)
   where
-    flow : (o : Option Command) (a b : Bool) → o ≡ asked_between a b → AreOther (map (λ (v : Command). of_circuit c (bare v)) (option_to_list o))
-    flow o a b is = subst (λ (v : Option Command). AreOther (map (λ (w : Command). of_circuit c (bare w)) (option_to_list v))) (sym is) (go a b)
+    flow : (o : Option Command) (a b : Bool) → o ≡ asked_between a b → AreOther (map (λ (v : Command). of_circuit c (header_only v)) (option_to_list o))
+    flow o a b is = subst (λ (v : Option Command). AreOther (map (λ (w : Command). of_circuit c (header_only w)) (option_to_list v))) (sym is) (go a b)
       where
-        go : (a b : Bool) → AreOther (map (λ (v : Command). of_circuit c (bare v)) (option_to_list (asked_between a b)))
-        go false true = plain-other (of_circuit c (bare command.EventsOff)) refl
-        go true false = plain-other (of_circuit c (bare command.EventsOn)) refl
+        go : (a b : Bool) → AreOther (map (λ (v : Command). of_circuit c (header_only v)) (option_to_list (asked_between a b)))
+        go false true = plain-other (of_circuit c (header_only command.EventsOff)) refl
+        go true false = plain-other (of_circuit c (header_only command.EventsOn)) refl
         go false false = none-other
         go true true = none-other
 gives-other x c bytes more (Some k) (Err refusal.OutOfMemory) sent y does = other-is sent [] does.1.0 none-other
@@ -158,7 +158,7 @@ ticks-other t c other = go (connection_at t.core c)
     by : (k : Keep) → AreOther (ticks_as k c t).sent
     by Idle = other
     by Close = other
-    by Echo = both-other t.sent (of_circuit c (bare command.Echo) ∷ []) other (plain-other (of_circuit c (bare command.Echo)) refl)
+    by Echo = both-other t.sent (of_circuit c (header_only command.Echo) ∷ []) other (plain-other (of_circuit c (header_only command.Echo)) refl)
 
     go : (o : Option Connection) → AreOther (unwrap_or (option_map (λ (e : Connection). ticks_as (kept t.core.moment e.link) c t) o) t).sent
     go None = other
@@ -300,9 +300,9 @@ module _ (x : Client) (c : Handle) (m : Fields) (e : Effect) where
   hear-update (Some g) does = sends _ does.2 none-other
 
   hear-failing : (h : Header) (a b : Bool)
-      → AreOther (cond a (write_failed x m (channel_on x c m.p1)) (cond b (subscription_failed x m (heard_by x c h.p2)) (any_failed x m (answered_by c h.command h.p2 x.requests)))).sent
+      → AreOther (cond a (write_failed x m (channel_on x c m.p1)) (cond b (subscription_failed x m (subscription_on x c h.p2)) (any_failed x m (answered_by c h.command h.p2 x.requests)))).sent
   hear-failing h true b = hear-write (channel_on x c m.p1)
-  hear-failing h false true = hear-refused (heard_by x c h.p2)
+  hear-failing h false true = hear-refused (subscription_on x c h.p2)
   hear-failing h false false = hear-any (answered_by c h.command h.p2 x.requests)
 
   hear-error : Fails x c m e → AreOther e.sent
@@ -329,7 +329,7 @@ module _ (x : Client) (c : Handle) (m : Fields) (e : Effect) where
   hears-so (hears.ServerDisconnect is does) = inl (sends _ does (hear-left (channel_on x c m.p1)))
   hears-so (hears.Reply is does) = inl (hear-reply (answered_by c m.command m.p2 x.requests) does)
   hears-so (hears.Confirmation is empty does) = inl (sends _ does (hear-confirmed _))
-  hears-so (hears.Update is some does) = inl (hear-update (heard_by x c m.p2) does)
+  hears-so (hears.Update is some does) = inl (hear-update (subscription_on x c m.p2) does)
   hears-so (hears.Error is does) = inl (hear-error does)
   hears-so (hears.Other is does) = inl (sends (becomes x) does none-other)
 

@@ -39,7 +39,7 @@ use Rattle.ca_laws_parts.proofs.ServerFits.{changed-fits, each-changed, post-fit
 use Rattle.ca_laws_parts.proofs.Marks.{at-filter}
 use Rattle.ca_laws_parts.specs.Conduct.{nothing_done, with_all_sent, with_read}
 use Rattle.ca_laws_parts.proofs.Growing.{IsTold, told-read, told-sent}
-use Rattle.ca_laws_parts.specs.ServerRows.{Alone, Call, Did, Does, IsCall, Leads, ServersSendLegally, StepDoes, before, nothing, of_ok, on_circuit, only_sent, removal_sent}
+use Rattle.ca_laws_parts.specs.ServerRows.{ServerAndConduct, Call, Did, Does, IsCall, ByCall, ServersSendLegally, StepDoes, before, nothing, of_ok, on_circuit, only_sent, removal_sent}
 use Rattle.ca_laws_parts.specs.ServerRows as call
 use Rattle.ca_laws_parts.proofs.Carried.{Carries, carries-closed, carries-end, carries-ended, carries-itself, carries-next, carries-post, carries-reaches, carries-same, carries-then, records-circuits}
 use Rattle.ca_laws_parts.proofs.Dealing.{AreMute, deal, marks}
@@ -500,9 +500,9 @@ does-then c y new k d (call.SetStamp s) known fine does =
     alike-then c y new k known d does.1 (ap (λ (z : Server). z.port) does.0) (ap (λ (z : Server). z.records) does.0) (ap (λ (z : Server). z.circuits) does.0)
 does-then c y new k d (call.Beacon now answer) known fine does = beacon-then c y new k known now answer d does.0 does.1
 
-row-then : (c : Handle) (calls : List Call) (old now : Alone) → ((i : ℕ) (it : Call) → At calls i it → IsCall it) → Known c old.core old.conduct → FoldsTo (Leads c) old calls now
+row-then : (c : Handle) (calls : List Call) (old now : ServerAndConduct) → ((i : ℕ) (it : Call) → At calls i it → IsCall it) → Known c old.core old.conduct → FoldsTo (ByCall c) old calls now
     → Known c now.core now.conduct
-row-then c [] old now fine known is = subst (λ (v : Alone). Known c v.core v.conduct) is known
+row-then c [] old now fine known is = subst (λ (v : ServerAndConduct). Known c v.core v.conduct) is known
 row-then c (it ∷ calls) old now fine known (mid, one, rest) =
     row-then c calls mid now (λ i z at. fine (suc i) z at)
     (subst (λ (f : Conduct). Known c mid.core f) (sym one.2) (does-then c old.core mid.core old.conduct one.0 it known (fine 0 it refl) one.1)) rest

@@ -24,7 +24,7 @@ use Rattle.ca_model.specs.Ends.{Address, NamesFit}
 use Rattle.ca_model.specs.Hears.{Effect}
 use Rattle.ca_model.specs.History.{Intent, Line, Sent, Step}
 use Rattle.ca_model.specs.History as history
-use Rattle.ca_model.specs.ClientEvents.{DownTaken, HappensAccept, HappensClear, HappensClientDatagram, HappensClientRestart, HappensClientStep, HappensCutClient, HappensDown, HappensOpen, HappensRead, HappensSubscribe, HappensUnsubscribe, HappensUp, HappensWrite, HappensWriteNotify, Outcomes, TicksOne, WantsFirst, about_at, after_tick, client_after, client_closed, client_ended, client_gone, client_stepped, connected_as, heard_in, left_silent, lines_of, refused, sent_on, told_by}
+use Rattle.ca_model.specs.ClientEvents.{DownTaken, HappensAccept, HappensClear, HappensClientDatagram, HappensClientRestart, HappensClientStep, HappensCutClient, HappensDown, HappensOpen, HappensRead, HappensSubscribe, HappensUnsubscribe, HappensUp, HappensWrite, HappensWriteNotify, Outcomes, TicksOne, WantsFirst, about_at, after_tick, client_after, client_closed, client_ended, client_gone, client_stepped, connected_as, heard_in, left_silent, lines_of, refused, sent_on, closing_notices}
 use Rattle.ca_model.specs.ClientEvents as event
 use Rattle.ca_model.specs.World.{ClientSide, Joined, Names, ServerSide, World, addresses, client_begun, log_length, with_circuit, with_client, with_server}
 use Rattle.ca_model.proofs.Hearing.{received-keeps}
@@ -227,7 +227,7 @@ accept-fit w new c x v at s happens f = elim happens.leaves [
   | inr did ↦
       let wanted = wanted-there x.core v.place v.v v.at in
       let k : Option Closing = did.1 in
-      let o : Outcomes = record { core = did.3; names = x.names; lines = lines_of history.OfCircuit x.names (told_by k); sent = did.2 } in
+      let o : Outcomes = record { core = did.3; names = x.names; lines = lines_of history.OfCircuit x.names (closing_notices k); sent = did.2 } in
       let n : Joined = connected_as k (event.new_circuit c x v.v.circuit v.i v.y did.0) in
       let made : World = record (with_server v.i (record v.y { core = happens.server }) w) { circuits = w.circuits ++ n ∷ [] } in
       subst (λ (u : World). AllFit u) (sym did.6)

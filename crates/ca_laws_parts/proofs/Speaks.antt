@@ -24,7 +24,7 @@ use Rattle.ca_text.proofs.Places.{At-snoc, some_is}
 use Rattle.ca_wire.specs.declared.requests.Wanted.{Wanted}
 use Rattle.ca_wire.specs.Header.{number16}
 use Rattle.ca_wire.specs.Message.{IsMessage}
-use Rattle.ca_wire.specs.Messages.{bare, clear_request, create_request, event_add_request, event_cancel_request, mask_payload, put_request, read_request}
+use Rattle.ca_wire.specs.Messages.{header_only, clear_request, create_request, event_add_request, event_cancel_request, mask_payload, put_request, read_request}
 use Rattle.ca_wire.proofs.Padding.{message-of, padded-payload}
 use Rattle.ca_model.specs.Answers.{Notice, Sending}
 use Rattle.ca_model.specs.Client.{Client, Clearing, Connecting, Creating, Doomed, Leaving, Live, Native, On, Searching, Standing, later, standing_at}
@@ -44,8 +44,8 @@ does-speak z y sends sent fits good does =
 
 -- ---- single messages
 
-pub bare-good : (k : Command) → command_number k < 65536 → IsMessage (bare k)
-bare-good k lt = message-of (bare k) lt (omega arith) (omega arith) (omega arith) (omega arith) empty-payload
+pub header_only-good : (k : Command) → command_number k < 65536 → IsMessage (header_only k)
+header_only-good k lt = message-of (header_only k) lt (omega arith) (omega arith) (omega arith) (omega arith) empty-payload
 
 pub clear-good : (sid cid : ℕ) → sid < 2 ^ 32 → cid < 2 ^ 32 → IsMessage (clear_request sid cid)
 clear-good sid cid a b = message-of (clear_request sid cid) (omega arith) (omega arith) (omega arith) a b empty-payload

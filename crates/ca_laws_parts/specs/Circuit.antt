@@ -8,7 +8,7 @@ use Rattle.ca_ids.specs.Table.{Table, same_handle, under}
 use Rattle.ca_ids.specs.Wire.{wire_of}
 use Rattle.ca_model.specs.Answers.{Sending}
 use Rattle.ca_model.specs.Client.{Channel, Client, Phase, channel_on}
-use Rattle.ca_model.specs.Hears.{heard_by}
+use Rattle.ca_model.specs.Hears.{subscription_on}
 use Rattle.ca_model.specs.Speech.{Id, In, Is, SubId}
 use Rattle.ca_model.specs.History.{Ask, Cancel, Circuit, Clear, Create, Intent, On, Reply, Sent}
 use Rattle.ca_model.specs.History.{Subscribe, Told}
@@ -99,7 +99,7 @@ pub record IsKnown (n : Names) (x : Client) (on : Handle) (c : Circuit) (m : Fie
       × IsLastCancel c t.place (SubId (wire_of q)) number
   pub refuses : (h : Header) (q : Handle) → Is command.Error m → QuotesHeader m h
       → h.command ≡ command_number command.EventAdd
-      → heard_by x on h.p2 ≡ Some q
+      → subscription_on x on h.p2 ≡ Some q
       → (number : ℕ) × Is command.EventAdd s.message
       × (named (SubId (wire_of q)) (meant_by n.subscriptions q) ≡ Some number)
       × ((p : ℕ) (r : Sent) (a : ℕ) → At c.up p r → r.intent ≡ On a (Cancel number) → ⊥)

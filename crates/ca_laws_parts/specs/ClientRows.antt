@@ -80,26 +80,26 @@ before_sending c (Step d read answer) e = if same_handle d c then with_read read
 before_sending c call e = e
 
 -- a client's core, and what it did on one circuit
-pub record Alone : Type 0 where
+pub record ClientAndConduct : Type 0 where
   pub core : Client
   pub conduct : Conduct
 
 -- One call leads from old to new.
-abbrev pub Leads : Handle → Alone → Call → Alone → Type 0
-Leads c old call new =
+abbrev pub ByCall : Handle → ClientAndConduct → Call → ClientAndConduct → Type 0
+ByCall c old call new =
     (sent : List Sending) × Does old.core call sent new.core
     × (new.conduct ≡ with_all_sent (sent_on c sent) (before_sending c call old.conduct))
 
 -- A row of calls, from a new client's core on, leads here: to this core, and to what it did on
 -- circuit c since that was connected last.
-abbrev pub Rows : Handle → ClientSetting → List Call → Alone → Type 0
+abbrev pub Rows : Handle → ClientSetting → List Call → ClientAndConduct → Type 0
 Rows c a calls now =
     (x : Client) × ClientBegins a (Ok x)
-    × FoldsTo (Leads c) (record { core = x; conduct = nothing_done }) calls now
+    × FoldsTo (ByCall c) (record { core = x; conduct = nothing_done }) calls now
 
 -- After any row of calls, what the client sent on any circuit is legal: whatever was called,
 -- whatever its peers sent.
 abbrev pub ClientsSendLegally : Type 0
 ClientsSendLegally =
-    (c : Handle) (a : ClientSetting) (calls : List Call) (now : Alone) → Rows c a calls now
-    → LegalClient now.conduct
+    (c : Handle) (a : ClientSetting) (calls : List Call) (now : ClientAndConduct)
+    → Rows c a calls now → LegalClient now.conduct

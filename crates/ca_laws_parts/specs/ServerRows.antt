@@ -112,13 +112,13 @@ before c (Accept (Ok h)) e = if same_handle h c then nothing_done else e
 before c call e = e
 
 -- a server's core, and what it did on one circuit
-pub record Alone : Type 0 where
+pub record ServerAndConduct : Type 0 where
   pub core : Server
   pub conduct : Conduct
 
 -- One call leads from old to new.
-abbrev pub Leads : Handle → Alone → Call → Alone → Type 0
-Leads c old call new =
+abbrev pub ByCall : Handle → ServerAndConduct → Call → ServerAndConduct → Type 0
+ByCall c old call new =
     (d : Did) × Does c old.core call d new.core
     × (new.conduct ≡ with_all_sent d.sent (with_read d.read (before c call old.conduct)))
 
@@ -142,15 +142,15 @@ pub record IsSetting (a : ServerSetting) : Type 0 where
 
 -- A row of calls, from a new server's core on, leads here: to this core, and to what
 -- it did on circuit c.
-abbrev pub Rows : Handle → ServerSetting → List Call → Alone → Type 0
+abbrev pub Rows : Handle → ServerSetting → List Call → ServerAndConduct → Type 0
 Rows c a calls now =
-    FoldsTo (Leads c)
+    FoldsTo (ByCall c)
     (record { core = new_server a.port a.now a.rules a.states; conduct = nothing_done }) calls now
 
 -- After any row of calls, what the server sent on any circuit is legal: whatever was called,
 -- whatever its peers sent.
 abbrev pub ServersSendLegally : Type 0
 ServersSendLegally =
-    (c : Handle) (a : ServerSetting) (calls : List Call) (now : Alone) → IsSetting a
+    (c : Handle) (a : ServerSetting) (calls : List Call) (now : ServerAndConduct) → IsSetting a
     → ((i : ℕ) (it : Call) → At calls i it → IsCall it)
     → Rows c a calls now → LegalServer now.conduct

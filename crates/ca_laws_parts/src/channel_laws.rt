@@ -26,7 +26,8 @@ ghost use Rattle.ca_model.specs.Client.{standing_at, with_standing, without_chan
 ghost use Rattle.ca_model.specs.Client as standing;
 ghost use Rattle.ca_model.specs.ClientCalls.{clear_sent, cleared};
 ghost use Rattle.ca_model.specs.ClientEnds.{begun};
-ghost use Rattle.ca_model.specs.Hears.{event_adds, heard_by, without_drained, without_request};
+ghost use Rattle.ca_model.specs.Hears.{event_adds, subscription_on, without_drained};
+ghost use Rattle.ca_model.specs.Hears.{without_request};
 ghost use Rattle.ca_model.specs.Hears.{without_subscription};
 ghost use Rattle.ca_model.specs.History.{Cancel, Circuit, Create, Intent, OfCircuit, On, Reply};
 ghost use Rattle.ca_model.specs.History.{Request, Sent, Step, Told};
@@ -100,7 +101,7 @@ pub fn a_refusal_keeps_what_is_held()
         (g : Step) (t : Told) (s : Sent) (q : Handle) (id number : ℕ) → Flows (Awaits c kept) c
         → Holds (Awaits c kept) on n x c → At c.down (length c.heard) t → t.cause ≡ Reply
         → At c.up t.place s → Is EventAdd s.message → Speaks t.message (SubId id)
-        → heard_by x on id ≡ Some q
+        → subscription_on x on id ≡ Some q
         → named (SubId (wire_of q)) (meant_by n.subscriptions q) ≡ Some number
         → ((p : ℕ) (r : Sent) (a : ℕ) → At c.up p r → r.intent ≡ On a (Cancel number) → ⊥)
         → Holds (Awaits c kept) on n (without_subscription q x) (with_heard g c)

@@ -20,7 +20,7 @@ use Rattle.ca_model.specs.Ends.{Address}
 use Rattle.ca_model.specs.History.{Called, Intent, Line, Opened, Sent, Step}
 use Rattle.ca_model.specs.History as history
 use Rattle.ca_model.specs.Speech.{In, Is}
-use Rattle.ca_model.specs.ClientEvents.{DownTaken, HappensAccept, HappensClear, HappensClientDatagram, HappensClientRestart, HappensClientStep, HappensCutClient, HappensDown, HappensHandingOut, HappensOpen, HappensRead, HappensSubscribe, HappensUnsubscribe, HappensUp, HappensWrite, HappensWriteNotify, Outcomes, TicksOne, WantsFirst, about_at, after_tick, cancelled, channel_number, client_after, client_closed, client_ended, client_gone, client_stepped, connected_as, heard_in, left_silent, lines_of, new_circuit, refused, sent_on, told_by}
+use Rattle.ca_model.specs.ClientEvents.{DownTaken, HappensAccept, HappensClear, HappensClientDatagram, HappensClientRestart, HappensClientStep, HappensCutClient, HappensDown, HappensHandingOut, HappensOpen, HappensRead, HappensSubscribe, HappensUnsubscribe, HappensUp, HappensWrite, HappensWriteNotify, Outcomes, TicksOne, WantsFirst, about_at, after_tick, cancelled, channel_number, client_after, client_closed, client_ended, client_gone, client_stepped, connected_as, heard_in, left_silent, lines_of, new_circuit, refused, sent_on, closing_notices}
 use Rattle.ca_model.specs.World.{ClientSide, Joined, Names, ServerSide, World, addresses, client_begun, log_length, with_circuit, with_client, with_lines, with_server}
 use Rattle.ca_laws_parts.specs.Held.{with_request, with_subscription}
 use Rattle.ca_laws_parts.specs.Clients.{ClientsStand}
@@ -393,10 +393,10 @@ names-accept w new c x v at q once s happens = elim happens.leaves [
       let n : Joined = connected_as k first in
       let made : World = record (with_server v.i (record v.y { core = happens.server }) w) { circuits = w.circuits ++ n ∷ [] } in
       let m : Titled nobody nobody x.core did.2 core = titled-connected nobody nobody no-one x.core on there.0 k did.2 core (subst (λ (o : Option ClientCircuit). ConnectsOn x.core on o k did.2 core) (unconnected-is x.core on there.0 there.1 there.2) did.5) in
-      let o : Outcomes = record { core = core; names = x.names; lines = lines_of history.OfCircuit x.names (told_by k); sent = did.2 } in
+      let o : Outcomes = record { core = core; names = x.names; lines = lines_of history.OfCircuit x.names (closing_notices k); sent = did.2 } in
       let z =
-      (own (TakesLeaving w) nobody nobody made c x x.names (record { core = core; names = x.names; lines = lines_of history.OfCircuit x.names (told_by k); sent = did.2 }) x.core at (q.tidy c x at) refl refl m (notices-no-opened history.OfCircuit x.names (told_by k))
-      (none-cleared (lines_of history.OfCircuit x.names (told_by k)) x.names) (no-why (TakesLeaving w) made (client_after c x x.names o made) c x x.names did.2)
+      (own (TakesLeaving w) nobody nobody made c x x.names (record { core = core; names = x.names; lines = lines_of history.OfCircuit x.names (closing_notices k); sent = did.2 }) x.core at (q.tidy c x at) refl refl m (notices-no-opened history.OfCircuit x.names (closing_notices k))
+      (none-cleared (lines_of history.OfCircuit x.names (closing_notices k)) x.names) (no-why (TakesLeaving w) made (client_after c x x.names o made) c x x.names did.2)
       (once-joined w made c x n at refl refl refl (same-client k first) (same-life k first) (same-up k first) once)
       (names-joined w made n refl refl refl (same-up k first) s)) in
       subst (λ (u : World). NamesGo w u) (sym did.6) (

@@ -21,7 +21,7 @@ use Rattle.ca_monitor.specs.Subscriptions.{Subscription, confirmed_by, standing_
 use Rattle.ca_requests.specs.Requests.{Request, answered_by}
 use Rattle.ca_requests.specs.Requests as request
 use Rattle.ca_wire.specs.Fields.{Fields}
-use Rattle.ca_wire.specs.Messages.{bare, create_request, name_request, search_request, version_request}
+use Rattle.ca_wire.specs.Messages.{header_only, create_request, name_request, search_request, version_request}
 use Rattle.ca_wire.specs.declared.header.Header.{Header}
 use Rattle.ca_model.specs.Answers.{Aim, Closing, Notice, Sending}
 use Rattle.ca_model.specs.Answers as aim
@@ -32,7 +32,7 @@ use Rattle.ca_model.specs.Client as client
 use Rattle.ca_model.specs.ClientCalls.{ClientClears, ClientPuts, ClientReads, ClientSubscribes, ClientUnsubscribes, ClientWrites, Shape, all_over, cancel_sent, clear_sent, cleared, clearing_sent, event_add_sent, event_cancel_sent, is_over, issued, new_subscription, put_sent, read_sent, write_sent, unsubscribed, unsubscribed_all, unwanted}
 use Rattle.ca_model.specs.ClientEnds.{ConnectsOn, GivesOn, Receives, ReceivesAll, Ticking, all_searched_on, beacon_heard, begun, circuits_ticked, creating, creations, due, falls_silent, flow_sent, given, handed_over, is_connecting, is_name_connected, of_circuit, searches_made, searches_on, set_up, ticks, ticks_as, with_sending}
 use Rattle.ca_model.specs.ClientEnds as ends
-use Rattle.ca_model.specs.Hears.{Answers, Completes, Effect, Fails, FindsAt, Hears, PutsOn, Updates, any_failed, clear_answered, confirmed, create_sent, created, doing, event_adds, failed, found_at, heard_by, left, native_in, put_on, request_failed, rights_told, searched_by, subscription_failed, with_circuit, without_drained, without_request, without_subscription, write_failed}
+use Rattle.ca_model.specs.Hears.{Answers, Completes, Effect, Fails, FindsAt, Hears, PutsOn, Updates, any_failed, clear_answered, confirmed, create_sent, created, doing, event_adds, failed, found_at, subscription_on, left, native_in, put_on, request_failed, rights_told, searched_by, subscription_failed, with_circuit, without_drained, without_request, without_subscription, write_failed}
 use Rattle.ca_model.specs.Hears as hears
 use Rattle.ca_model.proofs.Standings.{at-filter-map, channel-on, searched-is}
 use Rattle.ca_model.proofs.Tables.{all-back, changed-back, freed-back, held-under, one-value}
@@ -354,9 +354,9 @@ module _ (gone may : Handle → Type 0) (so : (h : Handle) → gone h → may h)
         | inl whole ↦ by whole.0 (eqb whole.0.command 4) (eqb whole.0.command 1) whole.2
       ]
         where
-          by : (h : Header) (a b : Bool) → e ≡ cond a (write_failed x m (channel_on x c m.p1)) (cond b (subscription_failed x m (heard_by x c h.p2)) (any_failed x m (answered_by c h.command h.p2 x.requests))) → Titled gone may x e.sent e.core
+          by : (h : Header) (a b : Bool) → e ≡ cond a (write_failed x m (channel_on x c m.p1)) (cond b (subscription_failed x m (subscription_on x c h.p2)) (any_failed x m (answered_by c h.command h.p2 x.requests))) → Titled gone may x e.sent e.core
           by h true b is = titled-write m e (channel_on x c m.p1) is
-          by h false true is = titled-refused m e (heard_by x c h.p2) is
+          by h false true is = titled-refused m e (subscription_on x c h.p2) is
           by h false false is = titled-any m e (answered_by c h.command h.p2 x.requests) is
 
     titled-put-on : (c : Handle) (o : Option Connection) (h : Handle) (here : Channel) (e : Effect) → under x.channels h ≡ Some here → e ≡ put_on c o h here x → Titled gone may x e.sent e.core
@@ -389,7 +389,7 @@ module _ (gone may : Handle → Type 0) (so : (h : Handle) → gone h → may h)
   titled-heard x c m e leaves (hears.ServerDisconnect is does) = titled-left x c m e (channel_on x c m.p1) (leaves is) does
   titled-heard x c m e leaves (hears.Reply is does) = titled-reply x c m e (answered_by c m.command m.p2 x.requests) does
   titled-heard x c m e leaves (hears.Confirmation is empty does) = titled-confirmed x c e (confirmed_by c m.p2 x.subscriptions) does
-  titled-heard x c m e leaves (hears.Update is some does) = titled-update x c m e (heard_by x c m.p2) does
+  titled-heard x c m e leaves (hears.Update is some does) = titled-update x c m e (subscription_on x c m.p2) does
   titled-heard x c m e leaves (hears.Error is does) = titled-error x c m e does
   titled-heard x c m e leaves (hears.Other is does) = nothing x [] e does
 
@@ -433,7 +433,7 @@ module _ (gone may : Handle → Type 0) (so : (h : Handle) → gone h → may h)
       by Echo =
           let noted : Client = on_connection (λ (e : Connection). record e { link = record e.link { echoed = true } }) c t.core in
           let u : Ticking = record t { core = noted } in
-          ticked-sending x u c (bare command.Echo) (ticked-stay x t u (stay-same t.core noted refl) refl m)
+          ticked-sending x u c (header_only command.Echo) (ticked-stay x t u (stay-same t.core noted refl) refl m)
 
       go : (o : Option Connection) → Ticked x (unwrap_or (option_map (λ (e : Connection). ticks_as (kept t.core.moment e.link) c t) o) t)
       go None = m
@@ -473,7 +473,7 @@ module _ (gone may : Handle → Type 0) (so : (h : Handle) → gone h → may h)
   titled-given x c bytes more (Some e) sent y gives =
       let z : Client = given c bytes more x in
       subst (λ (v : List Sending × Client). Titled gone may x v.0 v.1) (λ i. (sym gives.0 i, sym gives.1 i))
-      (titled-sending x z (flow_sent c more e) (stay-same x z refl) (map-named x (λ (k : Command). of_circuit c (bare k)) (option_to_list (sent_by_read more e.run)) (λ k. refl)))
+      (titled-sending x z (flow_sent c more e) (stay-same x z refl) (map-named x (λ (k : Command). of_circuit c (header_only k)) (option_to_list (sent_by_read more e.run)) (λ k. refl)))
   titled-given x c bytes more None sent y gives = absurd gives
 
   creations-named : (c : Handle) (x : Client) → AreNamed may x (creations c x)

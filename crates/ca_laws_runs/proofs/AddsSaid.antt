@@ -23,7 +23,7 @@ use Rattle.ca_model.specs.ClientCalls.{ClientSubscribes, LiveChannel, Shape, can
 use Rattle.ca_model.specs.ClientEnds.{ConnectsOn, GivesOn, Receives, ReceivesAll, StepsOn, after_taking, creations, flow_sent, handed_over, is_connecting, of_circuit, set_up}
 use Rattle.ca_model.specs.ClientEnds as ends
 use Rattle.ca_model.specs.Ends.{Address}
-use Rattle.ca_model.specs.Hears.{Answers, Completes, Effect, Fails, FindsAt, Hears, PutsOn, Updates, any_failed, becomes, clear_answered, confirmed, create_sent, created, doing, event_adds, failed, failing, found_at, heard_by, left, native_in, put_on, request_failed, rights_told, searched_by, subscription_failed, write_failed}
+use Rattle.ca_model.specs.Hears.{Answers, Completes, Effect, Fails, FindsAt, Hears, PutsOn, Updates, any_failed, becomes, clear_answered, confirmed, create_sent, created, doing, event_adds, failed, failing, found_at, subscription_on, left, native_in, put_on, request_failed, rights_told, searched_by, subscription_failed, write_failed}
 use Rattle.ca_model.specs.Hears as hears
 use Rattle.ca_model.specs.History.{Intent, Line, Sent, Step}
 use Rattle.ca_model.specs.History as history
@@ -303,9 +303,9 @@ module _ (x : Client) (e : Effect) where
     any-none None = refl
     any-none (Some (q, r)) = request-none q r.stage
 
-    failing-none : (h : Header) (a b : Bool) → (cond a (write_failed x m (channel_on x c m.p1)) (cond b (subscription_failed x m (heard_by x c h.p2)) (any_failed x m (answered_by c h.command h.p2 x.requests)))).sent ≡ []
+    failing-none : (h : Header) (a b : Bool) → (cond a (write_failed x m (channel_on x c m.p1)) (cond b (subscription_failed x m (subscription_on x c h.p2)) (any_failed x m (answered_by c h.command h.p2 x.requests)))).sent ≡ []
     failing-none h true b = write-none (channel_on x c m.p1)
-    failing-none h false true = refused-none (heard_by x c h.p2)
+    failing-none h false true = refused-none (subscription_on x c h.p2)
     failing-none h false false = any-none (answered_by c h.command h.p2 x.requests)
 
     plain-error : Fails x c m e → AllPlain e.sent
@@ -338,7 +338,7 @@ stood-heard x c m e (hears.ClearChannel is does) = plain-stood e.core e.sent (no
 stood-heard x c m e (hears.ServerDisconnect is does) = plain-stood e.core e.sent (plain-left x e c m (channel_on x c m.p1) does)
 stood-heard x c m e (hears.Reply is does) = plain-stood e.core e.sent (plain-reply x e c m (answered_by c m.command m.p2 x.requests) does)
 stood-heard x c m e (hears.Confirmation is empty does) = plain-stood e.core e.sent (none x e (confirmed x (confirmed_by c m.p2 x.subscriptions)) does (confirmed-none x e c m (confirmed_by c m.p2 x.subscriptions)))
-stood-heard x c m e (hears.Update is some does) = plain-stood e.core e.sent (plain-update x e c m (heard_by x c m.p2) does)
+stood-heard x c m e (hears.Update is some does) = plain-stood e.core e.sent (plain-update x e c m (subscription_on x c m.p2) does)
 stood-heard x c m e (hears.Error is does) = plain-stood e.core e.sent (plain-error x e c m does)
 stood-heard x c m e (hears.Other is does) = plain-stood e.core e.sent (none x e (becomes x) does refl)
 

@@ -7,7 +7,7 @@ use Rattle.ca_text.specs.Place.{At}
 use Rattle.ca_text.specs.Status.{normal}
 use Rattle.ca_text.proofs.Places.{some_is}
 use Rattle.ca_wire.specs.Fields.{Fields}
-use Rattle.ca_wire.specs.Messages.{bare, cancel_reply, cleared_reply, error_reply, failed_reply, not_found_reply, search_reply, status_reply, text_in, version_reply}
+use Rattle.ca_wire.specs.Messages.{header_only, cancel_reply, cleared_reply, error_reply, failed_reply, not_found_reply, search_reply, status_reply, text_in, version_reply}
 use Rattle.ca_model.specs.Due.{Action, Due, Knows, is_known}
 use Rattle.ca_model.specs.Speech.{In, Is}
 use Rattle.ca_laws_parts.proofs.Doing.{any-of, commands, each-at, known-or}
@@ -88,7 +88,7 @@ due-answer-at k m replies did due r there =
                             ]),
                             (
                               (λ e. none (due.user e).0),
-                              ((λ e. none (due.host e).0), ((λ e. one (bare command.Echo) (due.echo e).0 (answers-other m _ 23 refl refl)), tt)),
+                              ((λ e. none (due.host e).0), ((λ e. one (header_only command.Echo) (due.echo e).0 (answers-other m _ 23 refl refl)), tt)),
                             ),
                           ),
                         ),

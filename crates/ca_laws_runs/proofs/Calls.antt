@@ -10,7 +10,7 @@ use Rattle.ca_ids.specs.Table.{MayGive, same_handle, under}
 use Rattle.ca_monitor.specs.Subscriptions.{Subscription}
 use Rattle.ca_text.specs.declared.command.Command.{Command}
 use Rattle.ca_wire.specs.Fields.{Fields}
-use Rattle.ca_wire.specs.Messages.{bare}
+use Rattle.ca_wire.specs.Messages.{header_only}
 use Rattle.ca_model.specs.Answers.{Notice, Sending}
 use Rattle.ca_model.specs.Client.{Channel, Client, ClientCircuit, Clearing, Connecting, Connection, Creating, Doomed, Leaving, Live, Native, On, Phase, Searching, Standing, circuit_to, found_on, sending, standing_at, with_standing, without_channel}
 use Rattle.ca_model.specs.Client as phase
@@ -254,7 +254,7 @@ ways-given n x c bytes more (Some e) sent y gives on =
     subst (λ (v : List Sending × Client). Way on n x (said n on v.0) v.1) (λ i. (sym gives.0 i, sym gives.1 i))
     (inl (record {
       same = live-as on x.channels (sending (flow_sent c more e) z).channels (channels-sending (flow_sent c more e) z);
-      opens = λ i s at. inl (serving n on (flow_sent c more e) (λ k r there. (let m = At-mapped (λ (k : Command). of_circuit c (bare k)) _ k r there in ap (λ (v : Sending). (stamped n v).intent) m.2)) i s at);
+      opens = λ i s at. inl (serving n on (flow_sent c more e) (λ k r there. (let m = At-mapped (λ (k : Command). of_circuit c (header_only k)) _ k r there in ap (λ (v : Sending). (stamped n v).intent) m.2)) i s at);
     }))
 
 -- ---- search replies

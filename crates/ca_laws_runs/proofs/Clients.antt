@@ -11,7 +11,7 @@ use Rattle.ca_dbr.specs.Elements.{Elements}
 use Rattle.ca_ids.specs.Table.{same_handle}
 use Rattle.ca_link.specs.Link.{with_handed}
 use Rattle.ca_text.specs.declared.command.Command.{Command}
-use Rattle.ca_wire.specs.Messages.{bare}
+use Rattle.ca_wire.specs.Messages.{header_only}
 use Rattle.ca_model.specs.Answers.{Closing, Sending}
 use Rattle.ca_model.specs.Client.{Client, Connection, On, connection_at, ended, on_connection}
 use Rattle.ca_model.specs.Client as client
@@ -181,7 +181,7 @@ module _ (w new : World) (k : ℕ) (j : Joined) (x : ClientSide) (at : At w.circ
       serves : (o : Option Connection) → GivesOn x.core j.at_client (take n (waiting_down y j)) (nat_lt n (length (waiting_down y j))) o (Ok tt) happens.1 happens.2 → (on : Handle) (p : ℕ) (m : Sent) → At (said x.names on happens.1) p m → m.intent ≡ history.OfCircuit
       serves None gives on p m in_it = absurd gives
       serves (Some e) gives on p m in_it =
-          serving x.names on (flow_sent j.at_client (nat_lt n (length (waiting_down y j))) e) (λ k r there. (let q = At-mapped (λ (v : Command). of_circuit j.at_client (bare v)) _ k r there in ap (λ (v : Sending). (stamped x.names v).intent) q.2)) p m
+          serving x.names on (flow_sent j.at_client (nat_lt n (length (waiting_down y j))) e) (λ k r there. (let q = At-mapped (λ (v : Command). of_circuit j.at_client (header_only v)) _ k r there in ap (λ (v : Sending). (stamped x.names v).intent) q.2)) p m
           (subst (λ (l : List Sending). At (said x.names on l) p m) gives.0 in_it)
 
       taken : (n : ℕ) (y : ServerSide) (mid : World) → DownTaken w k n j y mid → AllSided mid × (mid.clients ≡ w.clients)

@@ -15,7 +15,7 @@ use Rattle.ca_text.specs.Place.{At}
 use Rattle.ca_text.specs.Status.{normal}
 use Rattle.ca_text.proofs.Places.{some_is, At-append, At-last, At-map, At-mapped, At-one, At-parts, At-snoc, At-within}
 use Rattle.ca_wire.specs.Fields.{Fields}
-use Rattle.ca_wire.specs.Messages.{bare, cancel_reply, cleared_reply, error_reply, created_reply, failed_reply, not_found_reply, rights_reply, search_reply, status_reply, text_in, version_reply}
+use Rattle.ca_wire.specs.Messages.{header_only, cancel_reply, cleared_reply, error_reply, created_reply, failed_reply, not_found_reply, rights_reply, search_reply, status_reply, text_in, version_reply}
 use Rattle.ca_model.specs.Answers.{Closing}
 use Rattle.ca_model.specs.Due.{Action, Due, IsCreated, KnownChannel, Knows, is_known, rights_at}
 use Rattle.ca_model.specs.Due as action
@@ -116,7 +116,7 @@ due-creates k m replies did due l r there creates =
                             ]),
                             (
                               (λ e. none (due.user e).0),
-                              ((λ e. none (due.host e).0), ((λ e. one (bare command.Echo) (due.echo e).0 (differs _ 23 refl refl)), tt)),
+                              ((λ e. none (due.host e).0), ((λ e. one (header_only command.Echo) (due.echo e).0 (differs _ 23 refl refl)), tt)),
                             ),
                           ),
                         ),

@@ -10,7 +10,7 @@ use Rattle.ca_text.specs.Place.{At}
 use Rattle.ca_text.specs.Status.{normal}
 use Rattle.ca_text.proofs.Places.{some_is}
 use Rattle.ca_wire.specs.Fields.{Fields}
-use Rattle.ca_wire.specs.Messages.{bare, cancel_reply, cleared_reply, created_reply, error_reply, failed_reply, not_found_reply, search_reply, status_reply, text_in, version_reply}
+use Rattle.ca_wire.specs.Messages.{header_only, cancel_reply, cleared_reply, created_reply, error_reply, failed_reply, not_found_reply, search_reply, status_reply, text_in, version_reply}
 use Rattle.ca_model.specs.Due.{Action, Adds, Applies, Clears, Drops, Due, KnownChannel, Knows, Names, Nothing, Opens, Switches, is_known, must_wait, named}
 use Rattle.ca_model.specs.Due as action
 use Rattle.ca_model.specs.Speech.{In, Is}
@@ -145,7 +145,7 @@ module _ (k : Knows) (m : Fields) (replies : List Fields) (did : Action) (due : 
                             (λ e. Naming e (due.user e).1 (none (due.user e).0)),
                             (
                               (λ e. Hosting e (due.host e).1 (none (due.host e).0)),
-                              ((λ e. rests 23 e refl Nothing (due.echo e).1 tt (one (bare command.Echo) 23 (due.echo e).0 refl refl)), tt),
+                              ((λ e. rests 23 e refl Nothing (due.echo e).1 tt (one (header_only command.Echo) 23 (due.echo e).0 refl refl)), tt),
                             ),
                           ),
                         ),

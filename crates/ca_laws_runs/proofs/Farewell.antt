@@ -14,7 +14,7 @@ use Rattle.ca_requests.specs.Requests.{was_sent_on}
 use Rattle.ca_text.specs.declared.command.Command.TheVariants as command
 use Rattle.ca_text.specs.Place.{At}
 use Rattle.ca_text.proofs.Places.{At-append, At-last, At-mapped, At-parts, At-within, some_is}
-use Rattle.ca_wire.specs.Messages.{bare}
+use Rattle.ca_wire.specs.Messages.{header_only}
 use Rattle.ca_model.specs.Answers.{Left, Notice}
 use Rattle.ca_model.specs.Answers as notice
 use Rattle.ca_model.specs.Client.{Channel, Client, ClientCircuit, Clearing, Connecting, Connection, Creating, Doomed, Leaving, Live, Native, On, Phase, Searching, Standing, channels_ended, channels_on, connection_at, disconnections, ended, farewell, is_cleared, is_live, is_on_in, later, let_go, on_connection, out_bytes, phase_on, searched_again, sending, without_channel, without_ids}
@@ -235,7 +235,7 @@ ticks-so x t c m = go (connection_at t.core c) refl
     by linked Idle = m
     by linked Echo =
         let noted : Client = on_connection (λ (e : Connection). record e { link = record e.link { echoed = true } }) c t.core in
-        let sends : List notice.Sending = of_circuit c (bare command.Echo) ∷ [] in
+        let sends : List notice.Sending = of_circuit c (header_only command.Echo) ∷ [] in
         record {
           opens = opens-then x noted (sending sends noted) (opens-then x t.core noted m.opens (opens-same t.core noted refl refl)) (opens-sending sends noted);
           lives = lives-then x t.core (sending sends noted) m.lives (lives-then t.core noted (sending sends noted) (lives-same t.core noted refl) (lives-same noted (sending sends noted) (channels-sending sends noted)));

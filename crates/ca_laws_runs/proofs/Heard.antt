@@ -14,7 +14,7 @@ use Rattle.ca_requests.specs.Meaning.{QuotesHeader}
 use Rattle.ca_wire.specs.declared.header.Header.{Header}
 use Rattle.ca_wire.specs.Fields.{Fields}
 use Rattle.ca_model.specs.Client.{Clearing, Client, Connecting, Creating, Doomed, Leaving, Live, Phase, channel_on, is_on_in}
-use Rattle.ca_model.specs.Hears.{heard_by}
+use Rattle.ca_model.specs.Hears.{subscription_on}
 use Rattle.ca_model.specs.History.{Cancel, Circuit, Clear, Create, Intent, On, Put, Read, Sent, Subscribe, Told, Write}
 use Rattle.ca_model.specs.History as history
 use Rattle.ca_model.specs.Speech.{Cid, Gives, Ioid, Is, Speaks, SubId}
@@ -150,15 +150,15 @@ module _ (kept : List ℕ) (n : Names) (x : Client) (on : Handle) (c : Circuit) 
 
   -- a CREATE_CH_FAIL, of a channel that was not created there
   pub failed-so : (cid : ℕ) (h : Handle) (p : Phase) → (let a : Phase = p in let b : Phase = Connecting in a ≡ b → ⊥) → was_live p ≡ false → channel_on x on cid ≡ Some (h, p) → Speaks t.message (Cid cid) → IsQuiet c t.place (channel_number n h)
-  failed-so cid h p other bare found speaks = by p other bare found (phase-so cid h p found)
+  failed-so cid h p other header_only found speaks = by p other header_only found (phase-so cid h p found)
     where
       by : (p : Phase) → (let a : Phase = p in let b : Phase = Connecting in a ≡ b → ⊥) → was_live p ≡ false → channel_on x on cid ≡ Some (h, p) → PhaseIn c.up (channel_number n h) p → IsQuiet c t.place (channel_number n h)
-      by Connecting other bare found b = absurd (other refl)
-      by (Creating rights) other bare found b = quiet-from b.0 (channel_number n h) (created-before cid h (Creating rights) b.0 found speaks b.1) b.2
-      by Doomed other bare found b = quiet-from b.0 (channel_number n h) (created-before cid h Doomed b.0 found speaks b.1) b.2
-      by (Live native rights) other bare found b = absurd (both_ways true bare refl)
-      by Leaving other bare found b = absurd (both_ways true bare refl)
-      by Clearing other bare found b = absurd (both_ways true bare refl)
+      by Connecting other header_only found b = absurd (other refl)
+      by (Creating rights) other header_only found b = quiet-from b.0 (channel_number n h) (created-before cid h (Creating rights) b.0 found speaks b.1) b.2
+      by Doomed other header_only found b = quiet-from b.0 (channel_number n h) (created-before cid h Doomed b.0 found speaks b.1) b.2
+      by (Live native rights) other header_only found b = absurd (both_ways true header_only refl)
+      by Leaving other header_only found b = absurd (both_ways true header_only refl)
+      by Clearing other header_only found b = absurd (both_ways true header_only refl)
 
   -- what it says of a subscription is of that number
   pub number-so : (g : Handle) (d : Subscription) (number : ℕ) → under x.subscriptions g ≡ Some d → has_id x.channels on d ≡ true → Speaks t.message (SubId (wire_of g)) → meant_by n.subscriptions g ≡ On (channel_number n d.channel) (Subscribe number) → named (SubId (wire_of g)) s.intent ≡ Some number
@@ -199,7 +199,7 @@ module _ (kept : List ℕ) (n : Names) (x : Client) (on : Handle) (c : Circuit) 
       ]
 
   -- an ERROR that refuses a subscription
-  pub refuses-so : (h : Header) (q : Handle) → Is command.Error t.message → QuotesHeader t.message h → h.command ≡ command_number command.EventAdd → heard_by x on h.p2 ≡ Some q
+  pub refuses-so : (h : Header) (q : Handle) → Is command.Error t.message → QuotesHeader t.message h → h.command ≡ command_number command.EventAdd → subscription_on x on h.p2 ≡ Some q
       → (number : ℕ) × Is command.EventAdd s.message × (named (SubId (wire_of q)) (meant_by n.subscriptions q) ≡ Some number) × ((p : ℕ) (r : Sent) (a : ℕ) → At c.up p r → r.intent ≡ On a (Cancel number) → ⊥)
   refuses-so h q is quotes adds finds =
       let found = heard-is x on h.p2 q finds in

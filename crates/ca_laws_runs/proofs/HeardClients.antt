@@ -11,7 +11,7 @@ use Rattle.ca_text.proofs.Places.{At-mapped, At-set, At-snoc}
 use Rattle.ca_arena.specs.declared.handle.Handle.{Handle}
 use Rattle.ca_dbr.specs.Elements.{Elements}
 use Rattle.ca_link.specs.Link.{with_handed}
-use Rattle.ca_wire.specs.Messages.{bare}
+use Rattle.ca_wire.specs.Messages.{header_only}
 use Rattle.ca_ids.specs.Table.{same_handle}
 use Rattle.ca_model.specs.Answers.{Closed, Closing, Left, NeedBytes, Notices, Sending, Stepped}
 use Rattle.ca_model.specs.Answers as answer
@@ -24,7 +24,7 @@ use Rattle.ca_model.specs.History as history
 use Rattle.ca_model.specs.Client as client
 use Rattle.ca_model.proofs.Standings.{stands-as}
 use Rattle.ca_model.proofs.Thinner.{number-or}
-use Rattle.ca_model.specs.ClientEvents.{DownTaken, HappensAccept, HappensClear, HappensClientDatagram, HappensClientRestart, HappensClientStep, HappensCutClient, HappensDown, HappensOpen, HappensRead, HappensSubscribe, HappensUnsubscribe, HappensUp, HappensWrite, HappensWriteNotify, Outcomes, TicksOne, WantsFirst, about_at, after_tick, cancelled, client_after, client_closed, client_ended, client_gone, client_stepped, connected_as, heard_in, left_silent, lines_of, new_circuit, refused, sent_on, told_by}
+use Rattle.ca_model.specs.ClientEvents.{DownTaken, HappensAccept, HappensClear, HappensClientDatagram, HappensClientRestart, HappensClientStep, HappensCutClient, HappensDown, HappensOpen, HappensRead, HappensSubscribe, HappensUnsubscribe, HappensUp, HappensWrite, HappensWriteNotify, Outcomes, TicksOne, WantsFirst, about_at, after_tick, cancelled, client_after, client_closed, client_ended, client_gone, client_stepped, connected_as, heard_in, left_silent, lines_of, new_circuit, refused, sent_on, closing_notices}
 use Rattle.ca_model.specs.World.{ClientSide, Joined, Names, ServerSide, World, addresses, client_begun, log_length, with_circuit, with_client, with_server}
 use Rattle.ca_laws_parts.specs.Held.{with_request, with_subscription}
 use Rattle.ca_laws_parts.specs.Circuit.{sent_to, stamped}
@@ -137,7 +137,7 @@ moved-given n x c bytes more (Some e) sent y gives t =
     let z : Client = given c bytes more x in
     subst (λ (v : List Sending × Client). Moved n x n v.0 n v.1) (λ i. (sym gives.0 i, sym gives.1 i))
     (moved-before n x z (sending (flow_sent c more e) z) (flow_sent c more e) (less-on _ c x) t (λ u. moved-serving n z (flow_sent c more e) u (λ i s at.
-    let m = At-mapped (λ (k : Command). of_circuit c (bare k)) _ i s at in ap (λ (v : Sending). (stamped n v).intent) m.2)))
+    let m = At-mapped (λ (k : Command). of_circuit c (header_only k)) _ i s at in ap (λ (v : Sending). (stamped n v).intent) m.2)))
 moved-given n x c bytes more None sent y gives t = absurd gives
 
 less-handed : (c : Handle) (k : ℕ) (x : Client) → Less x (handed_over c k x)
@@ -459,7 +459,7 @@ quiet-accept w new c x v at stands s happens = elim happens.leaves [
       let handle : n.at_client ≡ on = same-handle-of k first in
       let none : is_none (connection_at x.core on) ≡ true = ap (λ (w : Option ClientCircuit). is_none (connection-of w)) there.1 ∙ ap is_none there.2 in
       subst (λ (u : World). ClientsQuiet u) (sym did.6)
-      (quiet-joined w c x core did.2 (lines_of history.OfCircuit x.names (told_by k)) n (slice_set w.servers v.i (record v.y { core = happens.server })) at (same-client k first) (same-up k first)
+      (quiet-joined w c x core did.2 (lines_of history.OfCircuit x.names (closing_notices k)) n (slice_set w.servers v.i (record v.y { core = happens.server })) at (same-client k first) (same-up k first)
       (subst (λ (h : Handle). is_none (connection_at x.core h) ≡ true) (sym handle) none) stands (subst (λ (h : Handle). Connected x.names x.core h did.2 core) (sym handle) r.0)
       (λ open_it. subst (λ (h : Handle). Quiet x.names core h (said x.names h did.2)) (sym handle) (r.1 (open-or k first open_it))) s)
 ]

@@ -20,7 +20,7 @@ use Rattle.ca_model.specs.Answers.{Notice}
 use Rattle.ca_model.specs.Answers as notice
 use Rattle.ca_model.specs.Client.{Channel, Clearing, Client, ClientCircuit, Connecting, Connection, Creating, Doomed, Leaving, Live, Phase, channel_on, circuit_to, disconnections}
 use Rattle.ca_model.specs.Ends.{Address}
-use Rattle.ca_model.specs.Hears.{Answers, Completes, Effect, Fails, FindsAt, Hears, PutsOn, Updates, any_failed, clear_answered, confirmed, created, failed, found_at, heard_by, left, put_on, request_failed, rights_told, searched_by, subscription_failed, write_failed}
+use Rattle.ca_model.specs.Hears.{Answers, Completes, Effect, Fails, FindsAt, Hears, PutsOn, Updates, any_failed, clear_answered, confirmed, created, failed, found_at, subscription_on, left, put_on, request_failed, rights_told, searched_by, subscription_failed, write_failed}
 use Rattle.ca_model.specs.Hears as hears
 use Rattle.ca_model.specs.History.{Circuit, Create, Intent, On, Sent, Subscribe, Told}
 use Rattle.ca_model.specs.History as history
@@ -207,7 +207,7 @@ module _ (kept : List ℕ) (n : Names) (x : Client) (on : Handle) (c : Circuit) 
   tells-confirmed e None is = silent e (made-of e _ is)
   tells-confirmed e (Some g) is = silent e (made-of e _ is)
 
-  tells-update : (e : Effect) (o : Option Handle) → Is command.EventAdd m → heard_by x on m.p2 ≡ o → Updates x m o e → Tells e
+  tells-update : (e : Effect) (o : Option Handle) → Is command.EventAdd m → subscription_on x on m.p2 ≡ o → Updates x m o e → Tells e
   tells-update e None adds found does = silent e (made-of e _ does)
   tells-update e (Some g) adds found does =
       let f = heard-is x on m.p2 g found in
@@ -229,7 +229,7 @@ module _ (kept : List ℕ) (n : Names) (x : Client) (on : Handle) (c : Circuit) 
       one-told e (notice.WriteRefused g (record { number = m.p2 })) (made-of e _ is)
       (channel-of m.p1 g (Live native rights) found (inr (errs, (h, quotes.head, quotes.text, quotes.spells, quotes.parts, (writes, refl)))), error-means errs)
 
-  tells-refused : (h : Header) (e : Effect) (o : Option Handle) → Is command.Error m → QuotesHeader m h → h.command ≡ 1 → heard_by x on h.p2 ≡ o → e ≡ subscription_failed x m o → Tells e
+  tells-refused : (h : Header) (e : Effect) (o : Option Handle) → Is command.Error m → QuotesHeader m h → h.command ≡ 1 → subscription_on x on h.p2 ≡ o → e ≡ subscription_failed x m o → Tells e
   tells-refused h e None errs quotes adds found is = silent e (made-of e _ is)
   tells-refused h e (Some g) errs quotes adds found is =
       let f = heard-is x on h.p2 g found in
@@ -254,9 +254,9 @@ module _ (kept : List ℕ) (n : Names) (x : Client) (on : Handle) (c : Circuit) 
   ]
     where
       by : (h : Header) → QuotesHeader m h → (a b : Bool) → eqb h.command 4 ≡ a → eqb h.command 1 ≡ b
-          → e ≡ cond a (write_failed x m (channel_on x on m.p1)) (cond b (subscription_failed x m (heard_by x on h.p2)) (any_failed x m (answered_by on h.command h.p2 x.requests))) → Tells e
+          → e ≡ cond a (write_failed x m (channel_on x on m.p1)) (cond b (subscription_failed x m (subscription_on x on h.p2)) (any_failed x m (answered_by on h.command h.p2 x.requests))) → Tells e
       by h quotes true b writes adds does = tells-write h e (channel_on x on m.p1) errs quotes (eqb-true h.command 4 writes) refl does
-      by h quotes false true writes adds does = tells-refused h e (heard_by x on h.p2) errs quotes (eqb-true h.command 1 adds) refl does
+      by h quotes false true writes adds does = tells-refused h e (subscription_on x on h.p2) errs quotes (eqb-true h.command 1 adds) refl does
       by h quotes false false writes adds does = tells-any h e (answered_by on h.command h.p2 x.requests) errs quotes refl does
 
   pub tells-so : (e : Effect) → Hears x on m e → Tells e
@@ -268,6 +268,6 @@ module _ (kept : List ℕ) (n : Names) (x : Client) (on : Handle) (c : Circuit) 
   tells-so e (hears.ServerDisconnect is does) = tells-left e (channel_on x on m.p1) is refl does
   tells-so e (hears.Reply is does) = tells-reply e (answered_by on m.command m.p2 x.requests) is refl does
   tells-so e (hears.Confirmation is empty does) = tells-confirmed e (confirmed_by on m.p2 x.subscriptions) does
-  tells-so e (hears.Update is some does) = tells-update e (heard_by x on m.p2) is refl does
+  tells-so e (hears.Update is some does) = tells-update e (subscription_on x on m.p2) is refl does
   tells-so e (hears.Error is does) = tells-error e is does
   tells-so e (hears.Other is does) = silent e (made-of e _ does)

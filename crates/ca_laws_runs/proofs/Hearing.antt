@@ -21,7 +21,7 @@ use Rattle.ca_wire.specs.declared.header.Header.{Header}
 use Rattle.ca_model.specs.Answers.{Notice, Sending}
 use Rattle.ca_model.specs.Client.{Channel, Client, Clearing, Connecting, Creating, Doomed, Leaving, Live, Native, On, Phase, channel_on, is_live, phase_on, searched_again, sending, with_standing, without_channel}
 use Rattle.ca_model.specs.ClientCalls.{clear_sent, event_add_sent}
-use Rattle.ca_model.specs.Hears.{Answers, Completes, Effect, Fails, Hears, Updates, any_failed, clear_answered, confirmed, created, doing, event_adds, failed, found_at, heard_by, left, native_in, request_failed, rights_told, searched_by, subscription_failed, understood, without_drained, without_request, without_subscription, write_failed}
+use Rattle.ca_model.specs.Hears.{Answers, Completes, Effect, Fails, Hears, Updates, any_failed, clear_answered, confirmed, created, doing, event_adds, failed, found_at, subscription_on, left, native_in, request_failed, rights_told, searched_by, subscription_failed, understood, without_drained, without_request, without_subscription, write_failed}
 use Rattle.ca_model.specs.Hears as hears
 use Rattle.ca_model.specs.History.{Ask, Circuit, Clear, Create, Reply, Sent, Step, Subscribe, Told}
 use Rattle.ca_model.specs.History as history
@@ -153,9 +153,9 @@ module _ (n : Names) (x : Client) (numbered : AreNumbered n x) (on : Handle) whe
       | inl whole ↦ by whole.0 (eqb whole.0.command 4) (eqb whole.0.command 1) whole.2
     ]
       where
-        by : (h : Header) (a b : Bool) → e ≡ cond a (write_failed x m (channel_on x c m.p1)) (cond b (subscription_failed x m (heard_by x c h.p2)) (any_failed x m (answered_by c h.command h.p2 x.requests))) → Spoken e
+        by : (h : Header) (a b : Bool) → e ≡ cond a (write_failed x m (channel_on x c m.p1)) (cond b (subscription_failed x m (subscription_on x c h.p2)) (any_failed x m (answered_by c h.command h.p2 x.requests))) → Spoken e
         by h true b is = spoken-write m e (channel_on x c m.p1) is
-        by h false true is = spoken-refused m e (heard_by x c h.p2) is
+        by h false true is = spoken-refused m e (subscription_on x c h.p2) is
         by h false false is = spoken-any m e (answered_by c h.command h.p2 x.requests) is
 
     -- the message creates no channel, or this is its effect
@@ -168,7 +168,7 @@ module _ (n : Names) (x : Client) (numbered : AreNumbered n x) (on : Handle) whe
     spoken m e (hears.ServerDisconnect is does) = inr (λ z. unlike m 27 refl is z, spoken-left m e (channel_on x c m.p1) refl does)
     spoken m e (hears.Reply is does) = inr (λ z. elim is [ inl reads ↦ unlike m 15 refl reads z | inr puts ↦ unlike m 19 refl puts z ], spoken-reply m e (answered_by c m.command m.p2 x.requests) does)
     spoken m e (hears.Confirmation is empty does) = inr (λ z. unlike m 1 refl is z, spoken-confirmed e (confirmed_by c m.p2 x.subscriptions) does)
-    spoken m e (hears.Update is some does) = inr (λ z. unlike m 1 refl is z, spoken-update m e (heard_by x c m.p2) does)
+    spoken m e (hears.Update is some does) = inr (λ z. unlike m 1 refl is z, spoken-update m e (subscription_on x c m.p2) does)
     spoken m e (hears.Error is does) = inr (λ z. unlike m 11 refl is z, spoken-error m e does)
     spoken m e (hears.Other is does) = inr (λ z. others m is z, nothing [] e does)
 

@@ -23,7 +23,7 @@ use Rattle.ca_model.specs.History.{Circuit, Line, OfCircuit, Step}
 use Rattle.ca_model.specs.Server.{OpenChannel, Server}
 use Rattle.ca_model.specs.ServerSteps.{Stepped, closed}
 use Rattle.ca_model.specs.ServerSteps as stepped
-use Rattle.ca_model.specs.ClientEvents.{about_at, DownTaken, HappensAccept, HappensClientRestart, HappensClientStep, Outcomes, TicksOne, WantsFirst, after_tick, client_after, client_closed, client_ended, client_gone, client_stepped, connected_as, heard_in, left_silent, lines_of, new_circuit, sent_on, told_by, up_taken}
+use Rattle.ca_model.specs.ClientEvents.{about_at, DownTaken, HappensAccept, HappensClientRestart, HappensClientStep, Outcomes, TicksOne, WantsFirst, after_tick, client_after, client_closed, client_ended, client_gone, client_stepped, connected_as, heard_in, left_silent, lines_of, new_circuit, sent_on, closing_notices, up_taken}
 use Rattle.ca_model.specs.Events.{Event}
 use Rattle.ca_model.specs.Events as event
 use Rattle.ca_model.specs.Runs.{CanBe, Happens, Leaves, TicksAll, clients_below}
@@ -259,7 +259,7 @@ accept-lines w new i x v at f h = elim f.leaves [
   | inr made ↦
       let c : Joined = connected_as made.1 (new_circuit i x v.v.circuit v.i v.y made.0) in
       let mid : World = record w { servers = slice_set w.servers v.i (record v.y { core = f.server }); circuits = w.circuits ++ c ∷ [] } in
-      subst (λ (z : World). HaveLines z) (sym made.6) (lines-left mid i x x.names x.names made.3 (lines_of OfCircuit x.names (told_by made.1)) made.2 at (record {
+      subst (λ (z : World). HaveLines z) (sym made.6) (lines-left mid i x x.names x.names made.3 (lines_of OfCircuit x.names (closing_notices made.1)) made.2 at (record {
         lives = h.lives;
         joins = λ n d there. elim (At-snoc w.circuits c n d there) [
           | inl old ↦ h.joins n d old

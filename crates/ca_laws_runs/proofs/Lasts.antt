@@ -18,7 +18,7 @@ use Rattle.ca_search.specs.Searches as search
 use Rattle.ca_text.specs.declared.command.Command.TheVariants as command
 use Rattle.ca_wire.specs.declared.header.Header.{Header}
 use Rattle.ca_wire.specs.Fields.{Fields}
-use Rattle.ca_wire.specs.Messages.{bare, search_request}
+use Rattle.ca_wire.specs.Messages.{header_only, search_request}
 use Rattle.ca_model.specs.Answers.{Closing, Notice, Sending}
 use Rattle.ca_model.specs.Answers as notice
 use Rattle.ca_model.specs.Client.{Channel, Client, ClientCircuit, Clearing, Connecting, Connection, Creating, Doomed, Leaving, Live, On, Phase, Searching, Standing, channel_on, channels_ended, channels_on, circuit_to, connection_at, disconnected, ended, found_on, is_cleared, is_on_in, later, let_go, on_connection, phase_on, searched_again, sending, with_one_sent, with_requests, with_standing, without_channel, without_circuit, without_ids}
@@ -27,7 +27,7 @@ use Rattle.ca_model.specs.ClientCalls.{ClientOpens, ClientSubscribes, LiveChanne
 use Rattle.ca_model.specs.ClientEnds.{ConnectsOn, GivesOn, Receives, ReceivesAll, Ticking, all_searched_on, beacon_heard, begun, circuits_ticked, creating, creations, due, flow_sent, given, handed_over, is_connecting, is_name_connected, of_circuit, searches_made, searches_on, set_up, ticks, ticks_as, with_sending}
 use Rattle.ca_model.specs.ClientEnds as ends
 use Rattle.ca_model.specs.Ends.{Address}
-use Rattle.ca_model.specs.Hears.{Answers, Completes, Effect, Fails, FindsAt, Hears, PutsOn, Updates, any_failed, becomes, clear_answered, confirmed, created, doing, event_adds, failed, found_at, heard_by, left, native_in, put_on, request_failed, rights_told, searched_by, subscription_failed, with_circuit, without_drained, without_request, without_subscription, write_failed}
+use Rattle.ca_model.specs.Hears.{Answers, Completes, Effect, Fails, FindsAt, Hears, PutsOn, Updates, any_failed, becomes, clear_answered, confirmed, created, doing, event_adds, failed, found_at, subscription_on, left, native_in, put_on, request_failed, rights_told, searched_by, subscription_failed, with_circuit, without_drained, without_request, without_subscription, write_failed}
 use Rattle.ca_model.specs.Hears as hears
 use Rattle.ca_model.proofs.Handles.{handle-or, same-not}
 use Rattle.ca_model.proofs.Standings.{channel-on, found-standing, on-circuit}
@@ -377,10 +377,10 @@ module _ (x : Client) (e : Effect) where
     ]
       where
         by : (h : Header) (a b : Bool)
-            → e ≡ cond a (write_failed x m (channel_on x c m.p1)) (cond b (subscription_failed x m (heard_by x c h.p2)) (any_failed x m (answered_by c h.command h.p2 x.requests)))
+            → e ≡ cond a (write_failed x m (channel_on x c m.p1)) (cond b (subscription_failed x m (subscription_on x c h.p2)) (any_failed x m (answered_by c h.command h.p2 x.requests)))
             → LastsIn x e.notices e.core
         by h true b is = lasts-write (channel_on x c m.p1) is
-        by h false true is = lasts-refused (heard_by x c h.p2) is
+        by h false true is = lasts-refused (subscription_on x c h.p2) is
         by h false false is = lasts-any (answered_by c h.command h.p2 x.requests) is
 
   -- ---- a channel was found
@@ -420,7 +420,7 @@ lasts-heard x c m e (hears.ClearChannel is does) = lasts-answered x e c m (chann
 lasts-heard x c m e (hears.ServerDisconnect is does) = lasts-left x e c m (channel_on x c m.p1) does
 lasts-heard x c m e (hears.Reply is does) = lasts-reply x e c m (answered_by c m.command m.p2 x.requests) does
 lasts-heard x c m e (hears.Confirmation is empty does) = lasts-confirmed x e c m (confirmed_by c m.p2 x.subscriptions) refl does
-lasts-heard x c m e (hears.Update is some does) = lasts-update x e c m (heard_by x c m.p2) does
+lasts-heard x c m e (hears.Update is some does) = lasts-update x e c m (subscription_on x c m.p2) does
 lasts-heard x c m e (hears.Error is does) = lasts-error x e c m does
 lasts-heard x c m e (hears.Other is does) = nothing x e [] does
 
@@ -581,7 +581,7 @@ ticks-one x t c m = go (connection_at t.core c)
     by Close = lasts-then x t.core (ended c t.core) m (lasts-ended c t.core)
     by Echo =
         let noted : Client = on_connection (λ (e : Connection). record e { link = record e.link { echoed = true } }) c t.core in
-        lasts-then x noted (sending (of_circuit c (bare command.Echo) ∷ []) noted) (lasts-then x t.core noted m (lasts-same t.core noted refl refl)) (lasts-sending (of_circuit c (bare command.Echo) ∷ []) noted)
+        lasts-then x noted (sending (of_circuit c (header_only command.Echo) ∷ []) noted) (lasts-then x t.core noted m (lasts-same t.core noted refl refl)) (lasts-sending (of_circuit c (header_only command.Echo) ∷ []) noted)
 
     go : (o : Option Connection) → Lasts x (unwrap_or (option_map (λ (e : Connection). ticks_as (kept t.core.moment e.link) c t) o) t).core
     go None = m

@@ -40,10 +40,10 @@ creates-reply t (inl reply) is = reply
 creates-reply t (inr (inl ends)) is = absurd (let e : ◌≡◌ {A = ℕ} 18 27 = sym is ∙ ends in omega (arith, e))
 creates-reply t (inr (inr adds)) is = absurd (let e : ◌≡◌ {A = ℕ} 18 1 = sym is ∙ adds.0 in omega (arith, e))
 
-pub bare-reply : (t : Told) → IsCaused t → Is command.EventAdd t.message → t.message.payload ≡ [] → t.cause ≡ Reply
-bare-reply t (inl reply) is bare = reply
-bare-reply t (inr (inl ends)) is bare = absurd (let e : ◌≡◌ {A = ℕ} 1 27 = sym is ∙ ends in omega (arith, e))
-bare-reply t (inr (inr adds)) is bare = absurd (adds.1 bare)
+pub header_only-reply : (t : Told) → IsCaused t → Is command.EventAdd t.message → t.message.payload ≡ [] → t.cause ≡ Reply
+header_only-reply t (inl reply) is header_only = reply
+header_only-reply t (inr (inl ends)) is header_only = absurd (let e : ◌≡◌ {A = ℕ} 1 27 = sym is ∙ ends in omega (arith, e))
+header_only-reply t (inr (inr adds)) is header_only = absurd (adds.1 header_only)
 
 module _ (c : Joined) (log : ℕ) (created : CreatedOn c) (after : ComeAfter c.lists) (order : InOrder c.lists.handled (length c.lists.up) (length c.lists.down) log)
     (caused : (i : ℕ) (t : Told) → At c.lists.down i t → IsCaused t) where
@@ -73,10 +73,10 @@ module _ (c : Joined) (log : ℕ) (created : CreatedOn c) (after : ComeAfter c.l
   pub legal-confirmations : ((i : ℕ) (t : Told) → At c.lists.down i t → t.cause ≡ Reply → (s : Sent) × At c.lists.up t.place s × Answers s.message t.message)
       → (k : ℕ) (m : Fields) → At did.sent k m → Is command.EventAdd m → m.payload ≡ []
       → (j : ℕ) × (r : Fields) × At did.came j r × At did.read j k × Is command.EventCancel r × (r.p1 ≡ m.p1) × (r.p2 ≡ m.p2)
-  legal-confirmations answers k m at adds bare =
+  legal-confirmations answers k m at adds header_only =
       let t = sent-at c.lists k m at in
       let is : Is command.EventAdd t.0.message = subst (λ (x : Fields). Is command.EventAdd x) t.2 adds in
-      let said = bare-reply t.0 (caused k t.0 t.1) is (subst (λ (x : Fields). x.payload ≡ []) t.2 bare) in
+      let said = header_only-reply t.0 (caused k t.0 t.1) is (subst (λ (x : Fields). x.payload ≡ []) t.2 header_only) in
       let h = created.confirms k t.0 t.1 said is in
       let a = answers k t.0 t.1 said in
       let copy = t.2 ∙ a.2.copies is in (

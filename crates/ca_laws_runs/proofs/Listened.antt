@@ -15,7 +15,7 @@ use Rattle.ca_monitor.specs.Subscriptions.{Subscription, confirmed_by, is_to, st
 use Rattle.ca_requests.specs.Requests.{Request, answered_by}
 use Rattle.ca_requests.specs.Requests as request
 use Rattle.ca_wire.specs.Fields.{Fields}
-use Rattle.ca_wire.specs.Messages.{bare, search_request}
+use Rattle.ca_wire.specs.Messages.{header_only, search_request}
 use Rattle.ca_wire.specs.declared.header.Header.{Header}
 use Rattle.ca_model.specs.Answers.{Notice, Sending}
 use Rattle.ca_model.specs.Ends.{Address}
@@ -23,7 +23,7 @@ use Rattle.ca_model.specs.Client.{Channel, Client, ClientCircuit, Clearing, Conn
 use Rattle.ca_model.specs.ClientCalls.{clear_sent, event_add_sent, is_over}
 use Rattle.ca_model.specs.ClientEnds.{Receives, ReceivesAll, Ticking, all_searched_on, beacon_heard, circuits_ticked, due, falls_silent, is_name_connected, of_circuit, searches_made, searches_on, ticks, ticks_as, with_sending}
 use Rattle.ca_model.specs.ClientEnds as ends
-use Rattle.ca_model.specs.Hears.{Answers, Completes, Effect, Fails, FindsAt, Hears, PutsOn, Updates, any_failed, clear_answered, confirmed, create_sent, created, doing, event_adds, failed, found_at, heard_by, left, native_in, put_on, request_failed, rights_told, searched_by, subscription_failed, with_circuit, without_drained, without_request, without_subscription, write_failed}
+use Rattle.ca_model.specs.Hears.{Answers, Completes, Effect, Fails, FindsAt, Hears, PutsOn, Updates, any_failed, clear_answered, confirmed, create_sent, created, doing, event_adds, failed, found_at, subscription_on, left, native_in, put_on, request_failed, rights_told, searched_by, subscription_failed, with_circuit, without_drained, without_request, without_subscription, write_failed}
 use Rattle.ca_model.specs.Hears as hears
 use Rattle.ca_model.specs.History.{Clear, Create, Sent, Subscribe}
 use Rattle.ca_model.specs.History as history
@@ -266,9 +266,9 @@ module _ (n : Names) (x : Client) (t : Tidy n x) where
       | inl whole ↦ by whole.0 (eqb whole.0.command 4) (eqb whole.0.command 1) whole.2
     ]
       where
-        by : (h : Header) (a b : Bool) → e ≡ cond a (write_failed x m (channel_on x c m.p1)) (cond b (subscription_failed x m (heard_by x c h.p2)) (any_failed x m (answered_by c h.command h.p2 x.requests))) → Moved n x n e.sent n e.core
+        by : (h : Header) (a b : Bool) → e ≡ cond a (write_failed x m (channel_on x c m.p1)) (cond b (subscription_failed x m (subscription_on x c h.p2)) (any_failed x m (answered_by c h.command h.p2 x.requests))) → Moved n x n e.sent n e.core
         by h true b is = moved-write m e (channel_on x c m.p1) is
-        by h false true is = moved-refused m e (heard_by x c h.p2) is
+        by h false true is = moved-refused m e (subscription_on x c h.p2) is
         by h false false is = moved-any m e (answered_by c h.command h.p2 x.requests) is
 
   -- ---- search replies
@@ -306,7 +306,7 @@ moved-heard n x t c m e (hears.ClearChannel is does) = moved-answered n x t c e 
 moved-heard n x t c m e (hears.ServerDisconnect is does) = moved-left n x t c m e (channel_on x c m.p1) refl does
 moved-heard n x t c m e (hears.Reply is does) = moved-reply n x t c m e (answered_by c m.command m.p2 x.requests) does
 moved-heard n x t c m e (hears.Confirmation is empty does) = moved-confirmed n x t c e (confirmed_by c m.p2 x.subscriptions) does
-moved-heard n x t c m e (hears.Update is some does) = moved-update n x t c m e (heard_by x c m.p2) does
+moved-heard n x t c m e (hears.Update is some does) = moved-update n x t c m e (subscription_on x c m.p2) does
 moved-heard n x t c m e (hears.Error is does) = moved-error n x t c m e does
 moved-heard n x t c m e (hears.Other is does) = nothing n x t [] e does
 
@@ -358,7 +358,7 @@ ticks-one n x t c m = go (connection_at t.core c)
     by Echo =
         let noted : Client = on_connection (λ (e : Connection). record e { link = record e.link { echoed = true } }) c t.core in
         let u : Ticking = record t { core = noted } in
-        ticked-sending n x u (of_circuit c (bare command.Echo)) refl (ticked-less n x t u (less-on _ c t.core) refl m)
+        ticked-sending n x u (of_circuit c (header_only command.Echo)) refl (ticked-less n x t u (less-on _ c t.core) refl m)
 
     go : (o : Option Connection) → Ticked n x (unwrap_or (option_map (λ (e : Connection). ticks_as (kept t.core.moment e.link) c t) o) t)
     go None = m

@@ -24,7 +24,7 @@ use Rattle.ca_model.specs.Server.{Ended, Open, OpenChannel, Server, ServerCircui
 use Rattle.ca_model.specs.ServerCalls.{channels_of, circuit_without, disconnects, end_without}
 use Rattle.ca_model.specs.ServerSteps.{Accepts, Cuts, Gives, HasEnd, Pumps, Sends, after_post, ended, output_of, reached, with_end}
 use Rattle.ca_model.specs.Speech.{In, Stored}
-use Rattle.ca_model.specs.ClientEvents.{DownTaken, HappensAccept, HappensDown, HappensUp, WantsFirst, client_after, connected_as, lines_of, new_circuit, told_by, up_taken}
+use Rattle.ca_model.specs.ClientEvents.{DownTaken, HappensAccept, HappensDown, HappensUp, WantsFirst, client_after, connected_as, lines_of, new_circuit, closing_notices, up_taken}
 use Rattle.ca_model.specs.ServerEvents.{HappensAdd, HappensCutServer, HappensPost, HappensPump, HappensRemove, HappensServerRestart, disconnected_at, ending, ends_by, ends_untold, keys_concerned, number_of, numbers_posted, posted_entry, removal_entries, removed_at, stamped, with_number}
 use Rattle.ca_model.specs.World.{ClientSide, Joined, RecordSide, ServerSide, World, log_begun, grown, record_begun, server_begun, with_circuit, with_entries, with_server}
 use Rattle.ca_laws_parts.specs.Agrees.{Agrees, AreOthers}
@@ -420,6 +420,6 @@ module _ (P : ℕ → List Entry → List RecordSide → ServerEnd → Joined �
             ]
           ]
 
-      joined : (g : Handle) (o : Option Closing) (sent : List Sending) (core : Client) → Accepts v.y.core (Ok g) f.server → new ≡ client_after c x x.names (record { core = core; names = x.names; lines = lines_of history.OfCircuit x.names (told_by o); sent = sent }) (record (with_server v.i (record v.y { core = f.server }) w) { circuits = w.circuits ++ connected_as o (new_circuit c x v.v.circuit v.i v.y g) ∷ [] }) → AllEnds P new
+      joined : (g : Handle) (o : Option Closing) (sent : List Sending) (core : Client) → Accepts v.y.core (Ok g) f.server → new ≡ client_after c x x.names (record { core = core; names = x.names; lines = lines_of history.OfCircuit x.names (closing_notices o); sent = sent }) (record (with_server v.i (record v.y { core = f.server }) w) { circuits = w.circuits ++ connected_as o (new_circuit c x v.v.circuit v.i v.y g) ∷ [] }) → AllEnds P new
       joined g o sent core accepts is =
           frame-lasts P k (made_by g o) new (sent-frame (made_by g o) new c x.names sent (ap (λ (z : World). z.servers) is) (ap (λ (z : World). z.server_logs) is) (ap (λ (z : World). z.circuits) is)) (made-all g o accepts)

@@ -13,7 +13,7 @@ use Rattle.ca_link.specs.declared.keep.Keep.{Keep}
 use Rattle.ca_link.specs.declared.keep.Keep.TheVariants.{Close, Echo, Idle}
 use Rattle.ca_link.specs.Link.{kept}
 use Rattle.ca_search.specs.Searches as search
-use Rattle.ca_wire.specs.Messages.{bare, name_request, search_request, version_request}
+use Rattle.ca_wire.specs.Messages.{header_only, name_request, search_request, version_request}
 use Rattle.ca_model.specs.Answers.{Closing, Left, Sending}
 use Rattle.ca_model.specs.Answers as answer
 use Rattle.ca_model.specs.Client.{Channel, Client, ClientCircuit, Connection, Live, connection_at, ended, is_on_in, later, on_connection, sending}
@@ -26,7 +26,7 @@ use Rattle.ca_model.specs.Placed.{IsPlaced}
 use Rattle.ca_model.proofs.Handles.{not-same}
 use Rattle.ca_model.proofs.Standings.{at-filter-map}
 use Rattle.ca_model.proofs.Thinner.{number-or}
-use Rattle.ca_model.specs.ClientEvents.{HappensAccept, TicksOne, WantsFirst, after_tick, channel_number, client_after, client_closed, connected_as, left_silent, lines_of, new_circuit, sent_on, told_by}
+use Rattle.ca_model.specs.ClientEvents.{HappensAccept, TicksOne, WantsFirst, after_tick, channel_number, client_after, client_closed, connected_as, left_silent, lines_of, new_circuit, sent_on, closing_notices}
 use Rattle.ca_model.specs.World.{ClientSide, Joined, Names, ServerSide, World}
 use Rattle.ca_laws_parts.proofs.Marks.{at-filter}
 use Rattle.ca_laws_parts.specs.Kept as keeps
@@ -249,7 +249,7 @@ sided-accept w new c x v at stands all s happens = elim happens.leaves [
       let b = begins k first in
       let none : is_none (connection_at x.core on) ≡ true = ap (λ (w : Option ClientCircuit). is_none (connection-of w)) there.1 ∙ ap is_none there.2 in
       subst (λ (u : World). AllSided u) (sym did.6)
-      (sided-joined w c x core did.2 (lines_of history.OfCircuit x.names (told_by k)) n (slice_set w.servers v.i (record v.y { core = happens.server })) k at b.0 b.2 b.3 b.4
+      (sided-joined w c x core did.2 (lines_of history.OfCircuit x.names (closing_notices k)) n (slice_set w.servers v.i (record v.y { core = happens.server })) k at b.0 b.2 b.3 b.4
       (subst (λ (h : Handle). is_none (connection_at x.core h) ≡ true) (sym b.1) none) stands (subst (λ (h : Handle). IsMade x.names x.core h k did.2 core) (sym b.1) r) (λ o. open-or k first o) (subst (λ (u : World). AllCircuitsHeld u) did.6 all) s)
 ]
 
@@ -290,7 +290,7 @@ ticked-one n x t c h = go (connection_at t.core c)
     by Echo =
         let noted : Client = on_connection (λ (e : Connection). record e { link = record e.link { echoed = true } }) c t.core in
         let u : Ticking = record t { core = noted } in
-        ticked-sends n x u (of_circuit c (bare command.Echo)) refl (ticked-so n x t u refl refl refl h)
+        ticked-sends n x u (of_circuit c (header_only command.Echo)) refl (ticked-so n x t u refl refl refl h)
 
     go : (o : Option Connection) → IsTicked n x (unwrap_or (option_map (λ (e : Connection). ticks_as (kept t.core.moment e.link) c t) o) t)
     go None = h

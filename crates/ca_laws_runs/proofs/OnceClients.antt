@@ -17,7 +17,7 @@ use Rattle.ca_model.specs.Ends.{Address}
 use Rattle.ca_model.specs.History.{Called, Intent, Line, Sent, Step}
 use Rattle.ca_model.specs.History as history
 use Rattle.ca_model.specs.Client as client
-use Rattle.ca_model.specs.ClientEvents.{DownTaken, HappensAccept, HappensClear, HappensClientDatagram, HappensClientRestart, HappensClientStep, HappensCutClient, HappensDown, HappensHandingOut, HappensOpen, HappensRead, HappensSubscribe, HappensUnsubscribe, HappensUp, HappensWrite, HappensWriteNotify, Outcomes, TicksOne, WantsFirst, about_at, after_tick, cancelled, client_after, client_closed, client_ended, client_gone, client_stepped, connected_as, heard_in, left_silent, lines_of, new_circuit, refused, told_by}
+use Rattle.ca_model.specs.ClientEvents.{DownTaken, HappensAccept, HappensClear, HappensClientDatagram, HappensClientRestart, HappensClientStep, HappensCutClient, HappensDown, HappensHandingOut, HappensOpen, HappensRead, HappensSubscribe, HappensUnsubscribe, HappensUp, HappensWrite, HappensWriteNotify, Outcomes, TicksOne, WantsFirst, about_at, after_tick, cancelled, client_after, client_closed, client_ended, client_gone, client_stepped, connected_as, heard_in, left_silent, lines_of, new_circuit, refused, closing_notices}
 use Rattle.ca_model.specs.World.{ClientSide, Joined, Names, ServerSide, World, addresses, client_begun, log_length, with_circuit, with_client, with_server}
 use Rattle.ca_laws_parts.specs.Held.{with_request, with_subscription}
 use Rattle.ca_laws_parts.specs.Clients.{ClientsStand}
@@ -388,7 +388,7 @@ once-accept w new c x v at q s happens = elim happens.leaves [
       let made : World = record (with_server v.i (record v.y { core = happens.server }) w) { circuits = w.circuits ++ n ∷ [] } in
       let m : Moved x.core did.2 core = moved-connected x.core on there.0 k did.2 core (subst (λ (o : Option ClientCircuit). ConnectsOn x.core on o k did.2 core) (unconnected-is x.core on there.0 there.1 there.2) did.5) in
       subst (λ (u : World). OnceStand u) (sym did.6)
-      (once-own made c x (record { core = core; names = x.names; lines = lines_of history.OfCircuit x.names (told_by k); sent = did.2 }) at refl (q.tidy c x at) m (notices-no-call history.OfCircuit x.names (told_by k))
+      (once-own made c x (record { core = core; names = x.names; lines = lines_of history.OfCircuit x.names (closing_notices k); sent = did.2 }) at refl (q.tidy c x at) m (notices-no-call history.OfCircuit x.names (closing_notices k))
       (once-joined w made c x n at refl refl refl (same-client k first) (same-life k first) (same-up k first) s))
 ]
 

@@ -20,7 +20,7 @@ use Rattle.ca_model.specs.Answers as notice
 use Rattle.ca_model.specs.Ends.{Address}
 use Rattle.ca_model.specs.Client.{Channel, Client, ClientCircuit, Clearing, Connecting, Connection, Creating, Doomed, Leaving, Live, On, Phase, channel_on, circuit_to, disconnections, searched_again, sending, with_requests, with_standing, without_channel}
 use Rattle.ca_model.specs.ClientCalls.{clear_sent}
-use Rattle.ca_model.specs.Hears.{Answers, Completes, Effect, Fails, FindsAt, Hears, PutsOn, Updates, any_failed, clear_answered, confirmed, created, doing, failed, found_at, heard_by, left, put_on, request_failed, rights_told, searched_by, subscription_failed, without_drained, write_failed}
+use Rattle.ca_model.specs.Hears.{Answers, Completes, Effect, Fails, FindsAt, Hears, PutsOn, Updates, any_failed, clear_answered, confirmed, created, doing, failed, found_at, subscription_on, left, put_on, request_failed, rights_told, searched_by, subscription_failed, without_drained, write_failed}
 use Rattle.ca_model.specs.Hears as hears
 use Rattle.ca_model.proofs.Tables.{freed-back, one-value}
 use Rattle.ca_laws_parts.proofs.CircuitHeard.{answered-is}
@@ -205,7 +205,7 @@ told-over x y g s asks less was now = record {
     no-request (suc i) q o at = cc
 
 module _ (x : Client) (e : Effect) (less : Less x e.core) (c : Handle) where
-  told-refused : (m : Fields) (id : ℕ) (o : Option Handle) → heard_by x c id ≡ o → e ≡ subscription_failed x m o → Told x e.notices e.core
+  told-refused : (m : Fields) (id : ℕ) (o : Option Handle) → subscription_on x c id ≡ o → e ≡ subscription_failed x m o → Told x e.notices e.core
   told-refused m id None found is = same x e less is
   told-refused m id (Some g) found is =
       let f = heard-is x c id g found in
@@ -218,9 +218,9 @@ module _ (x : Client) (e : Effect) (less : Less x e.core) (c : Handle) where
     | inl whole ↦ by whole.0 (eqb whole.0.command 4) (eqb whole.0.command 1) whole.2
   ]
     where
-      by : (h : Header) (a b : Bool) → e ≡ cond a (write_failed x m (channel_on x c m.p1)) (cond b (subscription_failed x m (heard_by x c h.p2)) (any_failed x m (answered_by c h.command h.p2 x.requests))) → Told x e.notices e.core
+      by : (h : Header) (a b : Bool) → e ≡ cond a (write_failed x m (channel_on x c m.p1)) (cond b (subscription_failed x m (subscription_on x c h.p2)) (any_failed x m (answered_by c h.command h.p2 x.requests))) → Told x e.notices e.core
       by h true b is = told-write x e less c m (channel_on x c m.p1) is
-      by h false true is = told-refused m h.p2 (heard_by x c h.p2) refl is
+      by h false true is = told-refused m h.p2 (subscription_on x c h.p2) refl is
       by h false false is = told-any x e less c m h.command h.p2 (answered_by c h.command h.p2 x.requests) refl is
 
   -- a SERVER_DISCONN: all open requests of the channel are over
@@ -275,6 +275,6 @@ told-heard x c m e h = by h (moved-heard x c m e h).less
     by (hears.ServerDisconnect is does) less = told-left x e less c m (channel_on x c m.p1) does
     by (hears.Reply is does) less = told-reply x e less c m m.command (answered_by c m.command m.p2 x.requests) refl does
     by (hears.Confirmation is empty does) less = told-confirmed x e less c (confirmed_by c m.p2 x.subscriptions) does
-    by (hears.Update is some does) less = told-update x e less c m (heard_by x c m.p2) does
+    by (hears.Update is some does) less = told-update x e less c m (subscription_on x c m.p2) does
     by (hears.Error is does) less = told-error x e less c m does
     by (hears.Other is does) less = same x e less does

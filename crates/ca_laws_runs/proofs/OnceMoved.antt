@@ -18,7 +18,7 @@ use Rattle.ca_monitor.specs.Subscriptions.{Subscription, confirmed_by, standing_
 use Rattle.ca_requests.specs.Requests.{Request, answered_by}
 use Rattle.ca_requests.specs.Requests as request
 use Rattle.ca_wire.specs.Fields.{Fields}
-use Rattle.ca_wire.specs.Messages.{bare, name_request, search_request, version_request}
+use Rattle.ca_wire.specs.Messages.{header_only, name_request, search_request, version_request}
 use Rattle.ca_wire.specs.declared.header.Header.{Header}
 use Rattle.ca_model.specs.Answers.{Aim, Closing, Notice, Sending}
 use Rattle.ca_model.specs.Answers as aim
@@ -28,7 +28,7 @@ use Rattle.ca_model.specs.Client as client
 use Rattle.ca_model.specs.ClientCalls.{clear_sent, event_add_sent, is_over}
 use Rattle.ca_model.specs.ClientEnds.{ConnectsOn, GivesOn, Receives, ReceivesAll, Ticking, all_searched_on, beacon_heard, begun, circuits_ticked, creating, creations, due, falls_silent, flow_sent, given, is_connecting, is_name_connected, of_circuit, searches_made, searches_on, set_up, ticks, ticks_as, with_sending}
 use Rattle.ca_model.specs.ClientEnds as ends
-use Rattle.ca_model.specs.Hears.{Answers, Completes, Effect, Fails, FindsAt, Hears, PutsOn, Updates, any_failed, clear_answered, confirmed, create_sent, created, doing, event_adds, failed, found_at, heard_by, left, native_in, put_on, request_failed, rights_told, searched_by, subscription_failed, with_circuit, without_drained, without_request, without_subscription, write_failed}
+use Rattle.ca_model.specs.Hears.{Answers, Completes, Effect, Fails, FindsAt, Hears, PutsOn, Updates, any_failed, clear_answered, confirmed, create_sent, created, doing, event_adds, failed, found_at, subscription_on, left, native_in, put_on, request_failed, rights_told, searched_by, subscription_failed, with_circuit, without_drained, without_request, without_subscription, write_failed}
 use Rattle.ca_model.specs.Hears as hears
 use Rattle.ca_model.proofs.Standings.{at-filter-map, channel-on, searched-is}
 use Rattle.ca_model.proofs.Tables.{all-back, one-value}
@@ -213,9 +213,9 @@ module _ (x : Client) where
       | inl whole ↦ by whole.0 (eqb whole.0.command 4) (eqb whole.0.command 1) whole.2
     ]
       where
-        by : (h : Header) (a b : Bool) → e ≡ cond a (write_failed x m (channel_on x c m.p1)) (cond b (subscription_failed x m (heard_by x c h.p2)) (any_failed x m (answered_by c h.command h.p2 x.requests))) → Moved x e.sent e.core
+        by : (h : Header) (a b : Bool) → e ≡ cond a (write_failed x m (channel_on x c m.p1)) (cond b (subscription_failed x m (subscription_on x c h.p2)) (any_failed x m (answered_by c h.command h.p2 x.requests))) → Moved x e.sent e.core
         by h true b is = moved-write m e (channel_on x c m.p1) is
-        by h false true is = moved-refused m e (heard_by x c h.p2) is
+        by h false true is = moved-refused m e (subscription_on x c h.p2) is
         by h false false is = moved-any m e (answered_by c h.command h.p2 x.requests) is
 
   -- ---- search replies
@@ -254,7 +254,7 @@ moved-heard x c m e (hears.ClearChannel is does) = moved-answered x c m.p2 e (ch
 moved-heard x c m e (hears.ServerDisconnect is does) = moved-left x c m e (channel_on x c m.p1) refl does
 moved-heard x c m e (hears.Reply is does) = moved-reply x c m e (answered_by c m.command m.p2 x.requests) does
 moved-heard x c m e (hears.Confirmation is empty does) = moved-confirmed x c e (confirmed_by c m.p2 x.subscriptions) does
-moved-heard x c m e (hears.Update is some does) = moved-update x c m e (heard_by x c m.p2) does
+moved-heard x c m e (hears.Update is some does) = moved-update x c m e (subscription_on x c m.p2) does
 moved-heard x c m e (hears.Error is does) = moved-error x c m e does
 moved-heard x c m e (hears.Other is does) = nothing x [] e does
 
@@ -292,7 +292,7 @@ ticks-one x t c m = go (connection_at t.core c)
     by Echo =
         let noted : Client = on_connection (λ (e : Connection). record e { link = record e.link { echoed = true } }) c t.core in
         let u : Ticking = record t { core = noted } in
-        ticked-sending x u (of_circuit c (bare command.Echo)) refl (ticked-less x t u (less-on _ c t.core) refl m)
+        ticked-sending x u (of_circuit c (header_only command.Echo)) refl (ticked-less x t u (less-on _ c t.core) refl m)
 
     go : (o : Option Connection) → Ticked x (unwrap_or (option_map (λ (e : Connection). ticks_as (kept t.core.moment e.link) c t) o) t)
     go None = m
@@ -332,7 +332,7 @@ pub moved-given : (x : Client) (c : Handle) (bytes : List ℕ) (more : Bool) (o 
 moved-given x c bytes more (Some e) sent y gives =
     let z : Client = given c bytes more x in
     subst (λ (v : List Sending × Client). Moved x v.0 v.1) (λ i. (sym gives.0 i, sym gives.1 i))
-    (moved-sending x z (flow_sent c more e) (less-on _ c x) (map-plain (λ (k : Command). of_circuit c (bare k)) (option_to_list (sent_by_read more e.run)) (λ k. refl)))
+    (moved-sending x z (flow_sent c more e) (less-on _ c x) (map-plain (λ (k : Command). of_circuit c (header_only k)) (option_to_list (sent_by_read more e.run)) (λ k. refl)))
 moved-given x c bytes more None sent y gives = absurd gives
 
 creations-plain : (c : Handle) (x : Client) → ArePlain (creations c x)

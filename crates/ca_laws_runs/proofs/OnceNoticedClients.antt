@@ -19,7 +19,7 @@ use Rattle.ca_model.specs.Hears.{Effect}
 use Rattle.ca_model.specs.Ends.{Address}
 use Rattle.ca_model.specs.History.{Called, Intent, Line, Noticed, Step}
 use Rattle.ca_model.specs.History as history
-use Rattle.ca_model.specs.ClientEvents.{DownTaken, HappensAccept, HappensClear, HappensClientDatagram, HappensClientRestart, HappensClientStep, HappensCutClient, HappensDown, HappensHandingOut, HappensOpen, HappensRead, HappensSubscribe, HappensUnsubscribe, HappensUp, HappensWrite, HappensWriteNotify, Outcomes, TicksOne, WantsFirst, about_at, after_tick, cancelled, client_after, client_closed, client_ended, client_stepped, connected_as, heard_in, lines_of, new_circuit, refused, told_by}
+use Rattle.ca_model.specs.ClientEvents.{DownTaken, HappensAccept, HappensClear, HappensClientDatagram, HappensClientRestart, HappensClientStep, HappensCutClient, HappensDown, HappensHandingOut, HappensOpen, HappensRead, HappensSubscribe, HappensUnsubscribe, HappensUp, HappensWrite, HappensWriteNotify, Outcomes, TicksOne, WantsFirst, about_at, after_tick, cancelled, client_after, client_closed, client_ended, client_stepped, connected_as, heard_in, lines_of, new_circuit, refused, closing_notices}
 use Rattle.ca_model.specs.World.{ClientSetting, ClientSide, Joined, Names, ServerSide, World, addresses, client_begun, log_length, with_circuit, with_client, with_server}
 use Rattle.ca_laws_parts.specs.Held.{with_request, with_subscription}
 use Rattle.ca_laws_parts.specs.Clients.{ClientsStand}
@@ -336,9 +336,9 @@ told-accept w new c x v at q known s happens = elim happens.leaves [
       let on : Handle = v.v.circuit in
       let there = wanted-there x.core v.place v.v v.at in
       let made : World = record (with_server v.i (record v.y { core = happens.server }) w) { circuits = w.circuits ++ connected_as k (new_circuit c x on v.i v.y did.0) ∷ [] } in
-      let told : Told x.core (told_by k) core = told-connected x.core on there.0 k did.2 core there.1 (subst (λ (o : Option ClientCircuit). ConnectsOn x.core on o k did.2 core) (unconnected-is x.core on there.0 there.1 there.2) did.5) in
+      let told : Told x.core (closing_notices k) core = told-connected x.core on there.0 k did.2 core there.1 (subst (λ (o : Option ClientCircuit). ConnectsOn x.core on o k did.2 core) (unconnected-is x.core on there.0 there.1 there.2) did.5) in
       subst (λ (u : World). ToldStand u) (sym did.6)
-      (told-own made c x history.OfCircuit (told_by k) core did.2 at (q.tidy c x at) told (still-logs w made (refl, refl) known) (told-same w made (refl, refl) s))
+      (told-own made c x history.OfCircuit (closing_notices k) core did.2 at (q.tidy c x at) told (still-logs w made (refl, refl) known) (told-same w made (refl, refl) s))
 ]
 
 -- ---- a moment

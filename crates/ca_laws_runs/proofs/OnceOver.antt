@@ -18,7 +18,7 @@ use Rattle.ca_search.specs.Searches as search
 use Rattle.ca_text.specs.declared.command.Command.TheVariants as command
 use Rattle.ca_text.specs.declared.status.Status.{Status}
 use Rattle.ca_wire.specs.Fields.{Fields}
-use Rattle.ca_wire.specs.Messages.{bare, search_request}
+use Rattle.ca_wire.specs.Messages.{header_only, search_request}
 use Rattle.ca_model.specs.Answers.{Closing, Notice, Sending}
 use Rattle.ca_model.specs.Answers as notice
 use Rattle.ca_model.specs.Ends.{Address}
@@ -32,7 +32,7 @@ use Rattle.ca_model.specs.Placed.{Attached, was_live}
 use Rattle.ca_model.proofs.Handles.{same-is}
 use Rattle.ca_model.proofs.Standings.{found-standing}
 use Rattle.ca_model.proofs.Tables.{all-freed-back, one-value}
-use Rattle.ca_model.specs.ClientEvents.{told_by}
+use Rattle.ca_model.specs.ClientEvents.{closing_notices}
 use Rattle.ca_laws_runs.proofs.OnceCalls.{less-cleared}
 use Rattle.ca_laws_runs.proofs.OnceHeard.{none-told, told-finds}
 use Rattle.ca_laws_runs.proofs.OnceLess.{Less, less-ended, less-itself, less-on, less-same, less-sending}
@@ -199,7 +199,7 @@ module _ (x : Client) (h : Handle) (attached : Attached x) where
 
 -- ---- circuits are connected, and bytes come
 
-pub told-connected : (x : Client) (c : Handle) (d : ClientCircuit) (k : Option Closing) (sent : List Sending) (y : Client) → under x.circuits c ≡ Some d → ConnectsOn x c (Some d) k sent y → Told x (told_by k) y
+pub told-connected : (x : Client) (c : Handle) (d : ClientCircuit) (k : Option Closing) (sent : List Sending) (y : Client) → under x.circuits c ≡ Some d → ConnectsOn x c (Some d) k sent y → Told x (closing_notices k) y
 told-connected x c d None sent y there does =
     let sends : List Sending = set_up x.peer c d ++ creations c x in
     let z : Client = begun c x in
@@ -260,7 +260,7 @@ ticks-one x t c m = go (connection_at t.core c) refl
     by d there Close = told-then x t.core (ended c t.core) t.notices (farewell c t.core) m (told-ended t.core c d there)
     by d there Echo =
         let noted : Client = on_connection (λ (e : Connection). record e { link = record e.link { echoed = true } }) c t.core in
-        told-sent x noted t.notices (of_circuit c (bare command.Echo)) (told-after x t.core noted t.notices m (asks-same t.core noted refl refl) (less-on _ c t.core))
+        told-sent x noted t.notices (of_circuit c (header_only command.Echo)) (told-after x t.core noted t.notices m (asks-same t.core noted refl refl) (less-on _ c t.core))
 
     go : (o : Option Connection) → connection_at t.core c ≡ o → Ticked x (unwrap_or (option_map (λ (e : Connection). ticks_as (kept t.core.moment e.link) c t) o) t)
     go None is = m

@@ -16,7 +16,7 @@ use Rattle.ca_link.specs.declared.keep.Keep.TheVariants.{Close, Echo, Idle}
 use Rattle.ca_link.specs.Link.{kept}
 use Rattle.ca_search.specs.Searches as search
 use Rattle.ca_monitor.specs.Subscriptions.{Subscription}
-use Rattle.ca_wire.specs.Messages.{bare, search_request}
+use Rattle.ca_wire.specs.Messages.{header_only, search_request}
 use Rattle.ca_model.specs.Answers.{Closed, Closing, Left, NeedBytes, Notices, Sending, Stepped}
 use Rattle.ca_model.specs.Answers as answer
 use Rattle.ca_model.specs.Client.{Client, ClientCircuit, Connection, connection_at, ended, later, on_connection, out_bytes, sending, standing_at}
@@ -34,7 +34,7 @@ use Rattle.ca_model.proofs.Placed.{Keeps, keeps-on, keeps-sending, keeps-then}
 use Rattle.ca_model.proofs.Tables.{find-at, place, under-at}
 use Rattle.ca_model.proofs.Thinner.{number-or, set-there}
 use Rattle.std.proofs.lemmas.List.{append-nil}
-use Rattle.ca_model.specs.ClientEvents.{DownTaken, HappensAccept, HappensClear, HappensClientDatagram, HappensClientRestart, HappensClientStep, HappensCutClient, HappensDown, HappensHandingOut, HappensOpen, HappensRead, HappensSubscribe, HappensUnsubscribe, HappensUp, HappensWrite, HappensWriteNotify, Outcomes, TicksOne, WantsFirst, about_at, after_tick, cancelled, client_after, client_closed, client_ended, client_gone, client_stepped, connected_as, heard_in, lines_of, new_circuit, refused, told_by}
+use Rattle.ca_model.specs.ClientEvents.{DownTaken, HappensAccept, HappensClear, HappensClientDatagram, HappensClientRestart, HappensClientStep, HappensCutClient, HappensDown, HappensHandingOut, HappensOpen, HappensRead, HappensSubscribe, HappensUnsubscribe, HappensUp, HappensWrite, HappensWriteNotify, Outcomes, TicksOne, WantsFirst, about_at, after_tick, cancelled, client_after, client_closed, client_ended, client_gone, client_stepped, connected_as, heard_in, lines_of, new_circuit, refused, closing_notices}
 use Rattle.ca_model.specs.World.{ClientSide, Joined, Names, ServerSide, World, addresses, client_begun, log_length, with_circuit, with_client, with_server}
 use Rattle.ca_laws_parts.specs.Held.{with_request, with_subscription}
 use Rattle.ca_laws_parts.specs.Circuit.{sent_to}
@@ -367,7 +367,7 @@ sent-accept w new c x v at q once s happens = elim happens.leaves [
     made h k = record (with_server v.i (record v.y { core = happens.server }) w) { circuits = w.circuits ++ connected_as k (new_circuit c x on v.i v.y h) ∷ [] }
 
     joins : (d : ClientCircuit) → under x.core.circuits on ≡ Some d → d.connection ≡ None → (h : Handle) (k : Option Closing) (sent : List Sending) (core : Client) → ConnectsOn x.core on (Some d) k sent core
-        → SentStand (client_after c x x.names (record { core = core; names = x.names; lines = lines_of history.OfCircuit x.names (told_by k); sent = sent }) (made h k))
+        → SentStand (client_after c x x.names (record { core = core; names = x.names; lines = lines_of history.OfCircuit x.names (closing_notices k); sent = sent }) (made h k))
     joins d there none h None sent core does =
         let n : Joined = new_circuit c x on v.i v.y h in
         let w1 : World = made h None in
@@ -414,7 +414,7 @@ ticks-one x t c m = go (connection_at t.core c)
         )
     by Echo =
         let noted : Client = on_connection (λ (e : Connection). record e { link = record e.link { echoed = true } }) c t.core in
-        ticked-links x t.closings t.core (sending (of_circuit c (bare command.Echo) ∷ []) noted) (keeps-then t.core noted (sending (of_circuit c (bare command.Echo) ∷ []) noted) (keeps-on _ c t.core) (keeps-sending (of_circuit c (bare command.Echo) ∷ []) noted)).links m
+        ticked-links x t.closings t.core (sending (of_circuit c (header_only command.Echo) ∷ []) noted) (keeps-then t.core noted (sending (of_circuit c (header_only command.Echo) ∷ []) noted) (keeps-on _ c t.core) (keeps-sending (of_circuit c (header_only command.Echo) ∷ []) noted)).links m
 
     go : (o : Option Connection) → (let u : Ticking = unwrap_or (option_map (λ (e : Connection). ticks_as (kept t.core.moment e.link) c t) o) t in Ticked x u.closings u.core)
     go None = m

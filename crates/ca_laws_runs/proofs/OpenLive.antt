@@ -16,7 +16,7 @@ use Rattle.ca_search.specs.Searches as search
 use Rattle.ca_text.specs.declared.command.Command.TheVariants as command
 use Rattle.ca_wire.specs.declared.header.Header.{Header}
 use Rattle.ca_wire.specs.Fields.{Fields}
-use Rattle.ca_wire.specs.Messages.{bare, search_request}
+use Rattle.ca_wire.specs.Messages.{header_only, search_request}
 use Rattle.ca_model.specs.Answers.{Closing, Notice, Sending}
 use Rattle.ca_model.specs.Client.{Channel, Client, ClientCircuit, Clearing, Connecting, Connection, Creating, Doomed, Leaving, Live, On, Phase, Searching, Standing, channel_on, channels_ended, circuit_to, connection_at, ended, found_on, is_live, later, let_go, on_connection, searched_again, sending, standing_at, with_one_sent, with_requests, with_standing, without_channel, without_ids}
 use Rattle.ca_model.specs.Client as phase
@@ -24,7 +24,7 @@ use Rattle.ca_model.specs.ClientCalls.{ClientOpens, Opening, cleared, clearing_s
 use Rattle.ca_model.specs.ClientEnds.{ConnectsOn, GivesOn, Receives, ReceivesAll, Ticking, all_searched_on, beacon_heard, begun, circuits_ticked, creations, due, flow_sent, given, handed_over, is_name_connected, of_circuit, searches_made, searches_on, set_up, ticks, ticks_as, with_sending}
 use Rattle.ca_model.specs.ClientEnds as ends
 use Rattle.ca_model.specs.Ends.{Address}
-use Rattle.ca_model.specs.Hears.{Answers, Completes, Effect, Fails, FindsAt, Hears, PutsOn, Updates, any_failed, clear_answered, confirmed, created, doing, failed, found_at, heard_by, left, put_on, request_failed, rights_told, searched_by, subscription_failed, with_circuit, without_drained, without_request, write_failed}
+use Rattle.ca_model.specs.Hears.{Answers, Completes, Effect, Fails, FindsAt, Hears, PutsOn, Updates, any_failed, clear_answered, confirmed, created, doing, failed, found_at, subscription_on, left, put_on, request_failed, rights_told, searched_by, subscription_failed, with_circuit, without_drained, without_request, write_failed}
 use Rattle.ca_model.specs.Hears as hears
 use Rattle.ca_model.proofs.Handles.{handle-or, same-itself}
 use Rattle.ca_model.proofs.Standings.{channel-on, found-standing, searched-is}
@@ -311,9 +311,9 @@ module _ (x : Client) (e : Effect) where
       | inl whole ↦ by whole.0 (eqb whole.0.command 4) (eqb whole.0.command 1) whole.2
     ]
       where
-        by : (h : Header) (a b : Bool) → e ≡ cond a (write_failed x m (channel_on x c m.p1)) (cond b (subscription_failed x m (heard_by x c h.p2)) (any_failed x m (answered_by c h.command h.p2 x.requests))) → Opens x e.core
+        by : (h : Header) (a b : Bool) → e ≡ cond a (write_failed x m (channel_on x c m.p1)) (cond b (subscription_failed x m (subscription_on x c h.p2)) (any_failed x m (answered_by c h.command h.p2 x.requests))) → Opens x e.core
         by h true b is = opens-write (channel_on x c m.p1) is
-        by h false true is = opens-refused (heard_by x c h.p2) is
+        by h false true is = opens-refused (subscription_on x c h.p2) is
         by h false false is = opens-any (answered_by c h.command h.p2 x.requests) is
 
   -- ---- a channel was found
@@ -348,7 +348,7 @@ opens-heard x c m e (hears.ClearChannel is does) = opens-answered x e c m (chann
 opens-heard x c m e (hears.ServerDisconnect is does) = opens-left x e c m (channel_on x c m.p1) does
 opens-heard x c m e (hears.Reply is does) = opens-reply x e c m (answered_by c m.command m.p2 x.requests) does
 opens-heard x c m e (hears.Confirmation is empty does) = opens-confirmed x e c m (confirmed_by c m.p2 x.subscriptions) does
-opens-heard x c m e (hears.Update is some does) = opens-update x e c m (heard_by x c m.p2) does
+opens-heard x c m e (hears.Update is some does) = opens-update x e c m (subscription_on x c m.p2) does
 opens-heard x c m e (hears.Error is does) = opens-error x e c m does
 opens-heard x c m e (hears.Other is does) = nothing x e [] does
 
@@ -437,7 +437,7 @@ ticks-one x t c m = go (connection_at t.core c)
     by Close = opens-then x t.core (ended c t.core) m (opens-ended c t.core)
     by Echo =
         let noted : Client = on_connection (λ (e : Connection). record e { link = record e.link { echoed = true } }) c t.core in
-        opens-then x noted (sending (of_circuit c (bare command.Echo) ∷ []) noted) (opens-then x t.core noted m (opens-same t.core noted refl refl)) (opens-sending (of_circuit c (bare command.Echo) ∷ []) noted)
+        opens-then x noted (sending (of_circuit c (header_only command.Echo) ∷ []) noted) (opens-then x t.core noted m (opens-same t.core noted refl refl)) (opens-sending (of_circuit c (header_only command.Echo) ∷ []) noted)
 
     go : (o : Option Connection) → Opens x (unwrap_or (option_map (λ (e : Connection). ticks_as (kept t.core.moment e.link) c t) o) t).core
     go None = m

@@ -13,7 +13,7 @@ use Rattle.ca_model.specs.Client.{Client, Connection, connection_at, out_bytes}
 use Rattle.ca_model.specs.ClientEnds.{StepsOn}
 use Rattle.ca_model.specs.History.{Circuit, Entry, Line, OfCircuit, Reply, Step, Told}
 use Rattle.ca_model.specs.Channels.{AreSteps, Joins}
-use Rattle.ca_model.specs.ClientEvents.{HappensClientRestart, HappensClientStep, about_at, client_closed, client_gone, client_stepped, connected_as, heard_in, lines_of, new_circuit, told_by}
+use Rattle.ca_model.specs.ClientEvents.{HappensClientRestart, HappensClientStep, about_at, client_closed, client_gone, client_stepped, connected_as, heard_in, lines_of, new_circuit, closing_notices}
 use Rattle.ca_model.specs.Events.{Event}
 use Rattle.ca_model.specs.Events as event
 use Rattle.ca_model.specs.Runs.{AreEvents, Happens, Runs, StopsAt, clients_below}
@@ -300,7 +300,7 @@ made-or w new i (can, f) = elim f.leaves [
         client_logs = refl;
         server_logs = refl;
         circuits = refl;
-        goes = subst (λ (z : World). Grown mid z) (sym made.6) (grown-left mid i can.x can.x.names can.x.names made.3 (lines_of OfCircuit can.x.names (told_by made.1)) made.2 can.at);
+        goes = subst (λ (z : World). Grown mid z) (sym made.6) (grown-left mid i can.x can.x.names can.x.names made.3 (lines_of OfCircuit can.x.names (closing_notices made.1)) made.2 can.at);
       })
 ]
   where

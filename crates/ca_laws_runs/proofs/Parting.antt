@@ -19,7 +19,7 @@ use Rattle.ca_model.specs.Speech.{In}
 use Rattle.ca_model.specs.Placed.{IsPlaced}
 use Rattle.ca_model.proofs.Handles.{same-is, same-itself}
 use Rattle.ca_model.proofs.Tables.{at-find}
-use Rattle.ca_model.specs.ClientEvents.{HappensAccept, HappensClear, HappensCutClient, TicksOne, WantsFirst, after_tick, channel_number, client_closed, client_ended, line_of, lines_of, told_by}
+use Rattle.ca_model.specs.ClientEvents.{HappensAccept, HappensClear, HappensCutClient, TicksOne, WantsFirst, after_tick, channel_number, client_closed, client_ended, line_of, lines_of, closing_notices}
 use Rattle.ca_model.specs.Events.{Event}
 use Rattle.ca_model.specs.Events as event
 use Rattle.ca_model.specs.Runs.{Happens}
@@ -204,7 +204,7 @@ accept-parts w new i x v at lives stands live f = elim f.leaves [
   | inl full ↦ λ l y p line at_y there. inl (y, subst (λ (z : List (List Line)). At z l y) (ap (λ (z : World). z.client_logs) full.1) at_y, there)
   | inr made ↦
       let there = wanted-there x.core v.place v.v v.at in
-      parts-all w new i x (told_by made.1) at lives (ap (λ (z : World). z.client_logs) made.6)
+      parts-all w new i x (closing_notices made.1) at lives (ap (λ (z : World). z.client_logs) made.6)
       (λ p said in_it. absurd (none there.0 there.1 there.2 made.1 made.2 made.3 (subst (λ (o : Option ClientCircuit). ConnectsOn x.core v.v.circuit o made.1 made.2 made.3) (unconnected-is x.core v.v.circuit there.0 there.1 there.2) made.5) p said in_it))
       (λ p q g lt in_it at_q. none there.0 there.1 there.2 made.1 made.2 made.3 (subst (λ (o : Option ClientCircuit). ConnectsOn x.core v.v.circuit o made.1 made.2 made.3) (unconnected-is x.core v.v.circuit there.0 there.1 there.2) made.5) p (notice.Lost g) in_it)
 ]
@@ -218,7 +218,7 @@ accept-parts w new i x v at lives stands live f = elim f.leaves [
         (placed.waiting h (l.1).ch v.v.circuit (Live (l.1).native (l.1).rights) (l.1).there (l.1).stands
         ∙ ap (λ (o : Option ClientCircuit). is_none (option_and_then (λ (z : ClientCircuit). z.connection) o)) there ∙ ap is_none idle)
 
-    none : (d : ClientCircuit) → under x.core.circuits v.v.circuit ≡ Some d → d.connection ≡ None → (k : Option Closing) (sent : List Sending) (core : Client) → ConnectsOn x.core v.v.circuit (Some d) k sent core → (p : ℕ) (said : Notice) → At (told_by k) p said → ⊥
+    none : (d : ClientCircuit) → under x.core.circuits v.v.circuit ≡ Some d → d.connection ≡ None → (k : Option Closing) (sent : List Sending) (core : Client) → ConnectsOn x.core v.v.circuit (Some d) k sent core → (p : ℕ) (said : Notice) → At (closing_notices k) p said → ⊥
     none d there idle None sent core does p said in_it = none_at p said in_it
     none d there idle (Some k) sent core does p said in_it = elim (farewell-from v.v.circuit x.core p said (subst (λ (z : List Notice). At z p said) (ap (λ (z : Closing). z.notices) does.0) in_it)) [
       | inl q ↦ (let r = q.2 in let l = live i x at q.0 r.0 r.1 r.3 in not-live d there idle (r.0).channel (subst (λ (g : Handle). IsLiveOn x.core.channels g (r.0).channel) (same-is (r.0).circuit v.v.circuit r.2) l))

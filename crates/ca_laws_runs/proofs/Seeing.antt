@@ -20,7 +20,7 @@ use Rattle.ca_model.specs.Answers.{Notice}
 use Rattle.ca_model.specs.Answers as notice
 use Rattle.ca_model.specs.Client.{Channel, Client, Live, is_live, is_on_in}
 use Rattle.ca_model.specs.ClientEnds.{after_taking}
-use Rattle.ca_model.specs.Hears.{Effect, Hears, Updates, heard_by, is_live_on, understood}
+use Rattle.ca_model.specs.Hears.{Effect, Hears, Updates, subscription_on, is_live_on, understood}
 use Rattle.ca_model.specs.Hears as hears
 use Rattle.ca_model.specs.History.{Ask, Cancel, Clear, Create, Intent, Line, On, Reply, Request, Sent, Step, Subscribe, Told, Update, Updated}
 use Rattle.ca_model.specs.History as history
@@ -120,7 +120,7 @@ unlike-add m a none is adds = both_ways (eqb a 1) none (ap (λ (v : ℕ). eqb v 
 others-add : (m : Fields) → list_any (λ (k : Command). eqb m.command (command_number k)) understood ≡ false → m.command ≡ 1 → ⊥
 others-add m none adds = both_ways (list_any (λ (k : Command). eqb m.command (command_number k)) understood) none (ap (λ (v : ℕ). list_any (λ (k : Command). eqb v (command_number k)) understood) adds)
 
-updates-so : (x : Client) (c : Handle) (m : Fields) (e : Effect) → Hears x c m e → m.command ≡ 1 → (m.payload ≡ [] → ⊥) → Updates x m (heard_by x c m.p2) e
+updates-so : (x : Client) (c : Handle) (m : Fields) (e : Effect) → Hears x c m e → m.command ≡ 1 → (m.payload ≡ [] → ⊥) → Updates x m (subscription_on x c m.p2) e
 updates-so x c m e (hears.Update is some does) z payload = does
 updates-so x c m e (hears.Confirmation is empty does) z payload = absurd (payload empty)
 updates-so x c m e (hears.CreateChannel is does) z payload = absurd (unlike-add m 18 refl is z)
@@ -134,7 +134,7 @@ updates-so x c m e (hears.Error is does) z payload = absurd (unlike-add m 11 ref
 updates-so x c m e (hears.Other is does) z payload = absurd (others-add m is z)
 
 -- what is found by an id stands, and its channel is live
-heard-live : (x : Client) (c : Handle) (id : ℕ) (g : Handle) → heard_by x c id ≡ Some g → (d : Subscription) × (under x.subscriptions g ≡ Some d) × (is_live_on x c d.channel ≡ true)
+heard-live : (x : Client) (c : Handle) (id : ℕ) (g : Handle) → subscription_on x c id ≡ Some g → (d : Subscription) × (under x.subscriptions g ≡ Some d) × (is_live_on x c d.channel ≡ true)
 heard-live x c id g is = go (by_wire x.subscriptions id) refl is
   where
     by : (e : Handle × Subscription) → under x.subscriptions e.0 ≡ Some e.1 → (b l : Bool) → is_live_on x c e.1.channel ≡ l → option_and_then (λ (e : Handle × Subscription). cond (is_live_on x c e.1.channel) (Some e.0) None) (cond b (Some e) None) ≡ Some g → (d : Subscription) × (under x.subscriptions g ≡ Some d) × (is_live_on x c d.channel ≡ true)
@@ -150,7 +150,7 @@ heard-live x c id g is = go (by_wire x.subscriptions id) refl is
     go (Some e) found f = by e (wire-under x.subscriptions id e found).0 (stands_in e.1.stage) (is_live_on x c e.1.channel) refl f
 
 -- and what is on a live channel is found
-heard-found : (x : Client) (c : Handle) (g : Handle) (d : Subscription) → by_wire x.subscriptions (wire_of g) ≡ Some (g, d) → stands_in d.stage ≡ true → is_live_on x c d.channel ≡ true → heard_by x c (wire_of g) ≡ Some g
+heard-found : (x : Client) (c : Handle) (g : Handle) (d : Subscription) → by_wire x.subscriptions (wire_of g) ≡ Some (g, d) → stands_in d.stage ≡ true → is_live_on x c d.channel ≡ true → subscription_on x c (wire_of g) ≡ Some g
 heard-found x c g d found stands lives =
     ap (λ (o : Option (Handle × Subscription)). option_and_then (λ (e : Handle × Subscription). cond (is_live_on x c e.1.channel) (Some e.0) None) (option_and_then (λ (e : Handle × Subscription). cond (stands_in e.1.stage) (Some e) None) o)) found
     ∙ ap (λ (b : Bool). option_and_then (λ (e : Handle × Subscription). cond (is_live_on x c e.1.channel) (Some e.0) None) (cond b (Some (g, d)) None)) stands ∙ ap (λ (b : Bool). cond b (Some g) None) lives
@@ -281,7 +281,7 @@ module _ (w new : World) (k : ℕ) (j : Joined) (x : ClientSide) (on : At w.circ
   ]
 
   pub seen-now : (a number b : ℕ) → s.intent ≡ On a (Subscribe number) → t.cause ≡ Update b → IsSeen new now a number t step s
-  seen-now a number b meant cause = (let u = update-is a number b meant cause in go u.0 (heard_by z j.at_client m.p2) refl (updates-so z j.at_client m (record { core = f.core; sent = f.sent; notices = f.notices }) does u.0 u.1))
+  seen-now a number b meant cause = (let u = update-is a number b meant cause in go u.0 (subscription_on z j.at_client m.p2) refl (updates-so z j.at_client m (record { core = f.core; sent = f.sent; notices = f.notices }) does u.0 u.1))
     where
       -- it finds its subscription, and is told
       found-it : (g : Handle) (o : Outcome) → f.notices ≡ notice.Update g o ∷ [] → IsSeen new now a number t step s
@@ -294,7 +294,7 @@ module _ (w new : World) (k : ℕ) (j : Joined) (x : ClientSide) (on : At w.circ
           inl (log ++ lines, o, new_log, subst (λ (v : ℕ). At (log ++ lines) v line) (sym place) (At-after log lines 0 line first), omega (arith, some), subst (λ (v : Fields). Means v o) (sym is) says.1)
 
       -- it finds none
-      lost-it : m.command ≡ 1 → heard_by z j.at_client m.p2 ≡ None → IsSeen new now a number t step s
+      lost-it : m.command ≡ 1 → subscription_on z j.at_client m.p2 ≡ None → IsSeen new now a number t step s
       lost-it update none = look (under x.core.subscriptions named_g.0) refl
         where
           named_g : IsNamedIn x.names (On a (Subscribe number))
@@ -319,7 +319,7 @@ module _ (w new : World) (k : ℕ) (j : Joined) (x : ClientSide) (on : At w.circ
                     let channel : d.channel ≡ l.0 = one-handle x.names d.channel l.0 meaning.0 (tidy.numbered l.0 (l.2).ch (l.2).there) (meaning.1 ∙ sym l.1) in
                     let lives : is_live_on z j.at_client d.channel ≡ true = subst (λ (v : Handle). is_live_on z j.at_client v ≡ true) (sym channel) (live-there x.core j.at_client l.0 sid l.2) in
                     let by_id : by_wire x.core.subscriptions (wire_of named_g.0) ≡ Some (named_g.0, d) = under-wire x.core.subscriptions named_g.0 d (mine.holds opened).subscriptions.few held_there in
-                    let finds : heard_by z j.at_client m.p2 ≡ Some named_g.0 = subst (λ (v : ℕ). heard_by z j.at_client v ≡ Some named_g.0) (wire a number meant update named_g.0 named_g.1) (heard-found z j.at_client named_g.0 d by_id it lives) in
+                    let finds : subscription_on z j.at_client m.p2 ≡ Some named_g.0 = subst (λ (v : ℕ). subscription_on z j.at_client v ≡ Some named_g.0) (wire a number meant update named_g.0 named_g.1) (heard-found z j.at_client named_g.0 d by_id it lives) in
                     absurd (let e : ◌≡◌ {A = Option Handle} None (Some named_g.0) = sym none ∙ finds in cc)
               ]
 
@@ -334,7 +334,7 @@ module _ (w new : World) (k : ℕ) (j : Joined) (x : ClientSide) (on : At w.circ
           look None gone = inr (inl (over-now number (named_g.0, On a (Subscribe number)) named_g.1 (λ e is_e. absurd (let same : ◌≡◌ {A = Option Subscription} None (Some e) = sym gone ∙ is_e in cc))))
           look (Some d) held_there = by d held_there (stands_in d.stage) refl
 
-      go : m.command ≡ 1 → (o : Option Handle) → heard_by z j.at_client m.p2 ≡ o → Updates z m o (record { core = f.core; sent = f.sent; notices = f.notices }) → IsSeen new now a number t step s
+      go : m.command ≡ 1 → (o : Option Handle) → subscription_on z j.at_client m.p2 ≡ o → Updates z m o (record { core = f.core; sent = f.sent; notices = f.notices }) → IsSeen new now a number t step s
       go update (Some g) found effect = found-it g effect.0 (ap (λ (v : Effect). v.notices) effect.2)
       go update None found effect = lost-it update found
 

@@ -18,7 +18,7 @@ use Rattle.ca_wire.specs.Fields.{Fields}
 use Rattle.ca_model.specs.Answers.{Closed, NeedBytes, Notice, Notices, Sending, Stepped}
 use Rattle.ca_model.specs.Client.{Clearing, Client, Connecting, Connection, Creating, Doomed, Leaving, Live, Phase, channel_on, connection_at}
 use Rattle.ca_model.specs.ClientEnds.{StepsOn, Takes, after_taking}
-use Rattle.ca_model.specs.Hears.{AccessRights, ClearChannel, Confirmation, CreateChannel, CreateChannelFail, Effect, Error, Finds, Hears, Other, Reply, Search, ServerDisconnect, Update, failed, found_at, heard_by, searched_by}
+use Rattle.ca_model.specs.Hears.{AccessRights, ClearChannel, Confirmation, CreateChannel, CreateChannelFail, Effect, Error, Finds, Hears, Other, Reply, Search, ServerDisconnect, Update, failed, found_at, subscription_on, searched_by}
 use Rattle.ca_model.specs.History.{Ask, Circuit, Intent, Line, Sent, Step, Told}
 use Rattle.ca_model.specs.History as history
 use Rattle.ca_model.specs.Speech.{Cid, Is, Speaks, SubId}
@@ -98,7 +98,7 @@ module _ (ks : List ℕ) (on : Handle) (n : Names) (x : Client) (c : Circuit) (g
   done (ServerDisconnect is does) = inl (left-did ks on n x c g m e (channel_on x on m.p1) refl does)
   done (Reply is does) = inl (reply-did ks on n x c g m e (answered_by on m.command m.p2 x.requests) is (replied is) refl does)
   done (Confirmation is empty does) = inl (confirmed-did ks on n x c g m e (confirmed_by on m.p2 x.subscriptions) is empty (known 1 is other-1) refl does)
-  done (Update is some does) = inl (update-did ks on n x c g m e (heard_by x on m.p2) does)
+  done (Update is some does) = inl (update-did ks on n x c g m e (subscription_on x on m.p2) does)
   done (Error is does) = inl (error-did ks on n x c g m e is (known 11 is other-11) does)
   done (Other is does) = inl (nothing ks on n x c g [] e does)
 
@@ -188,9 +188,9 @@ module _ (s : Setting) (w new : World) (ok : IsSetting s) (h : ServersStand s w)
           cancel-is q.intent q.message (on-own.flows.asked t.place q there) asks
 
       quiet-failed : (h2 : Handle) (p : Phase) → Is command.CreateChannelFail m → channel_on a.x.core on m.p1 ≡ Some (h2, p) → was_live p ≡ false → IsQuiet a.j.lists t.place (channel_number a.x.names h2)
-      quiet-failed h2 p fails found bare =
+      quiet-failed h2 p fails found header_only =
           let speaks : Speaks t.message (Cid m.p1) = subst (λ (z : Fields). Speaks z (Cid m.p1)) (sym message) (inl (inl (inr (inl fails), refl))) in
-          failed-so (kept w k) a.x.names a.x.core on a.j.lists t q tidy still on-own.flows (on-own.cids a.is_open) (on-own.holds a.is_open) at there m.p1 h2 p (not-waiting m.p1 h2 p found) bare found speaks
+          failed-so (kept w k) a.x.names a.x.core on a.j.lists t q tidy still on-own.flows (on-own.cids a.is_open) (on-own.holds a.is_open) at there m.p1 h2 p (not-waiting m.p1 h2 p found) header_only found speaks
 
       quiet-cleared : (h2 : Handle) (p : Phase) → Is command.ClearChannel m → channel_on a.x.core on m.p2 ≡ Some (h2, p) → IsQuiet a.j.lists t.place (channel_number a.x.names h2)
       quiet-cleared h2 p clears found =
@@ -207,7 +207,7 @@ module _ (s : Setting) (w new : World) (ok : IsSetting s) (h : ServersStand s w)
           (number : ℕ) × Is command.EventAdd q.message × (named (SubId (wire_of g)) (meant_by a.x.names.subscriptions g) ≡ Some number)
           × ((p : ℕ) (r : Sent) (b : ℕ) → At a.j.lists.up p r → r.intent ≡ history.On b (history.Cancel number) → ⊥)
 
-      refusing : (header : Header) (g : Handle) → Is command.Error m → QuotesHeader m header → header.command ≡ command_number command.EventAdd → heard_by a.x.core on header.p2 ≡ Some g → Refusal g
+      refusing : (header : Header) (g : Handle) → Is command.Error m → QuotesHeader m header → header.command ≡ command_number command.EventAdd → subscription_on a.x.core on header.p2 ≡ Some g → Refusal g
       refusing header g is quotes adds found =
           refuses-so (kept w k) a.x.names a.x.core on a.j.lists t q tidy still on-own.flows (on-own.cids a.is_open) (on-own.holds a.is_open) at there header g (subst (λ (z : Fields). Is command.Error z) (sym message) is)
           (subst (λ (z : Fields). QuotesHeader z header) (sym message) quotes) adds found
@@ -222,7 +222,7 @@ module _ (s : Setting) (w new : World) (ok : IsSetting s) (h : ServersStand s w)
       own-there = own-so a.x.names y on a.j.lists (tidy-less a.x.names a.x.core y (less-on _ on a.x.core) tidy) (quiet-less a.x.names a.x.core y on a.j.lists.up (less-on _ on a.x.core) still) on-own.flows.asked
 
       known-so : ((h2 : Handle) (p : Phase) → Is command.CreateChannelFail m → channel_on a.x.core on m.p1 ≡ Some (h2, p) → was_live p ≡ false) → IsKnown a.x.names y on a.j.lists m
-      known-so bare = record {
+      known-so header_only = record {
         t = t;
         at = at;
         is = message;
@@ -230,7 +230,7 @@ module _ (s : Setting) (w new : World) (ok : IsSetting s) (h : ServersStand s w)
         there = there;
         reply = λ rights gone empty. reply-of m t at message gone empty;
         own = own-there;
-        failed = λ h2 p fails found. (failing h2 p fails found, quiet-failed h2 p fails found (bare h2 p fails found));
+        failed = λ h2 p fails found. (failing h2 p fails found, quiet-failed h2 p fails found (header_only h2 p fails found));
         cleared = λ h2 p clears found. (clearing h2 p clears found, quiet-cleared h2 p clears found);
         confirms = λ g adds empty found. (let r = confirming adds empty in (r.0, r.1, r.2, last-cancel g r.0 r.1 adds found r.2));
         refuses = λ header g is quotes adds found. refusing header g is quotes adds found;
@@ -239,7 +239,7 @@ module _ (s : Setting) (w new : World) (ok : IsSetting s) (h : ServersStand s w)
       about-so : IsAbout a.x.names y on a.j.lists m t q
       about-so = record {
         own = own-there;
-        failed = λ h2 p fails found bare. (failing h2 p fails found, quiet-failed h2 p fails found bare);
+        failed = λ h2 p fails found header_only. (failing h2 p fails found, quiet-failed h2 p fails found header_only);
         cleared = λ h2 p clears found. (clearing h2 p clears found, quiet-cleared h2 p clears found);
         confirms = λ g adds empty found. (let r = confirming adds empty in (r.0, r.1, r.2, last-cancel g r.0 r.1 adds found r.2));
         refuses = λ header g is quotes adds found. refusing header g is quotes adds found;
@@ -247,7 +247,7 @@ module _ (s : Setting) (w new : World) (ok : IsSetting s) (h : ServersStand s w)
 
     -- what it is about, unless a CREATE_CH_FAIL finds a channel that was created
     known : ((h2 : Handle) (p : Phase) → Is command.CreateChannelFail m → channel_on a.x.core on m.p1 ≡ Some (h2, p) → was_live p ≡ false) → IsKnown a.x.names y on a.j.lists m
-    known bare = (let sent = asked-there next.0 next.1 in known-so next.0 next.1 next.2 sent.0 sent.1 bare)
+    known header_only = (let sent = asked-there next.0 next.1 in known-so next.0 next.1 next.2 sent.0 sent.1 header_only)
 
     -- another message
     known-other : (n : ℕ) → m.command ≡ n → (n ≡ 26 → ⊥) → IsKnown a.x.names y on a.j.lists m

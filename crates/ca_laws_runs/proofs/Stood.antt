@@ -18,7 +18,7 @@ use Rattle.ca_search.specs.Searches as search
 use Rattle.ca_text.specs.declared.command.Command.TheVariants as command
 use Rattle.ca_wire.specs.declared.header.Header.{Header}
 use Rattle.ca_wire.specs.Fields.{Fields}
-use Rattle.ca_wire.specs.Messages.{bare, search_request}
+use Rattle.ca_wire.specs.Messages.{header_only, search_request}
 use Rattle.ca_model.specs.Answers.{Closing, Notice, Sending}
 use Rattle.ca_model.specs.Answers as aim
 use Rattle.ca_model.specs.Client.{Channel, Client, ClientCircuit, Clearing, Connecting, Connection, Creating, Doomed, Leaving, Live, On, Phase, Searching, Standing, channel_on, channels_ended, channels_on, circuit_to, connection_at, disconnected, ended, found_on, is_cleared, is_live, later, let_go, on_connection, searched_again, sending, with_one_sent, with_requests, with_standing, without_channel, without_circuit, without_ids}
@@ -27,7 +27,7 @@ use Rattle.ca_model.specs.ClientCalls.{ClientOpens, ClientSubscribes, LiveChanne
 use Rattle.ca_model.specs.ClientEnds.{ConnectsOn, GivesOn, Receives, ReceivesAll, Ticking, all_searched_on, beacon_heard, begun, circuits_ticked, creations, due, flow_sent, given, handed_over, is_name_connected, of_circuit, searches_made, searches_on, set_up, ticks, ticks_as, with_sending}
 use Rattle.ca_model.specs.ClientEnds as ends
 use Rattle.ca_model.specs.Ends.{Address}
-use Rattle.ca_model.specs.Hears.{Answers, Completes, Effect, Fails, FindsAt, Hears, PutsOn, Updates, any_failed, becomes, clear_answered, confirmed, created, doing, event_adds, failed, found_at, heard_by, left, native_in, put_on, request_failed, rights_told, searched_by, subscription_failed, with_circuit, without_drained, without_request, without_subscription, write_failed}
+use Rattle.ca_model.specs.Hears.{Answers, Completes, Effect, Fails, FindsAt, Hears, PutsOn, Updates, any_failed, becomes, clear_answered, confirmed, created, doing, event_adds, failed, found_at, subscription_on, left, native_in, put_on, request_failed, rights_told, searched_by, subscription_failed, with_circuit, without_drained, without_request, without_subscription, write_failed}
 use Rattle.ca_model.specs.Hears as hears
 use Rattle.ca_model.proofs.Handles.{handle-or, same-itself}
 use Rattle.ca_model.proofs.Standings.{channel-on, found-standing}
@@ -328,9 +328,9 @@ module _ (x : Client) (e : Effect) where
       | inl whole ↦ by whole.0 (eqb whole.0.command 4) (eqb whole.0.command 1) whole.2
     ]
       where
-        by : (h : Header) (a b : Bool) → e ≡ cond a (write_failed x m (channel_on x c m.p1)) (cond b (subscription_failed x m (heard_by x c h.p2)) (any_failed x m (answered_by c h.command h.p2 x.requests))) → Adds x e.sent e.core
+        by : (h : Header) (a b : Bool) → e ≡ cond a (write_failed x m (channel_on x c m.p1)) (cond b (subscription_failed x m (subscription_on x c h.p2)) (any_failed x m (answered_by c h.command h.p2 x.requests))) → Adds x e.sent e.core
         by h true b is = adds-write (channel_on x c m.p1) is
-        by h false true is = adds-refused (heard_by x c h.p2) is
+        by h false true is = adds-refused (subscription_on x c h.p2) is
         by h false false is = adds-any (answered_by c h.command h.p2 x.requests) is
 
   -- ---- a channel was found
@@ -369,7 +369,7 @@ adds-heard x c m e (hears.ClearChannel is does) = adds-answered x e c m (channel
 adds-heard x c m e (hears.ServerDisconnect is does) = adds-left x e c m (channel_on x c m.p1) does
 adds-heard x c m e (hears.Reply is does) = adds-reply x e c m (answered_by c m.command m.p2 x.requests) does
 adds-heard x c m e (hears.Confirmation is empty does) = adds-confirmed x e c m (confirmed_by c m.p2 x.subscriptions) does
-adds-heard x c m e (hears.Update is some does) = adds-update x e c m (heard_by x c m.p2) does
+adds-heard x c m e (hears.Update is some does) = adds-update x e c m (subscription_on x c m.p2) does
 adds-heard x c m e (hears.Error is does) = adds-error x e c m does
 adds-heard x c m e (hears.Other is does) = nothing x e [] does
 
@@ -498,7 +498,7 @@ ticks-one x t c m = go (connection_at t.core c)
     by Close = stays-then x t.core (ended c t.core) m (stays-ended c t.core)
     by Echo =
         let noted : Client = on_connection (λ (e : Connection). record e { link = record e.link { echoed = true } }) c t.core in
-        stays-then x noted (sending (of_circuit c (bare command.Echo) ∷ []) noted) (stays-then x t.core noted m (stays-same t.core noted refl refl)) (stays-sending (of_circuit c (bare command.Echo) ∷ []) noted)
+        stays-then x noted (sending (of_circuit c (header_only command.Echo) ∷ []) noted) (stays-then x t.core noted m (stays-same t.core noted refl refl)) (stays-sending (of_circuit c (header_only command.Echo) ∷ []) noted)
 
     go : (o : Option Connection) → Stays x (unwrap_or (option_map (λ (e : Connection). ticks_as (kept t.core.moment e.link) c t) o) t).core
     go None = m

@@ -18,7 +18,7 @@ use Rattle.ca_wire.specs.Fields.{Fields}
 use Rattle.ca_model.specs.Answers.{Notice}
 use Rattle.ca_model.specs.Answers as notice
 use Rattle.ca_model.specs.Client.{Channel, Client, Clearing, Connecting, Creating, Doomed, Leaving, Live, Native, On, Phase, channel_on, disconnections}
-use Rattle.ca_model.specs.Hears.{Answers, Completes, Effect, Fails, Hears, Updates, any_failed, clear_answered, confirmed, created, failed, found_at, heard_by, left, request_failed, rights_told, searched_by, subscription_failed, write_failed}
+use Rattle.ca_model.specs.Hears.{Answers, Completes, Effect, Fails, Hears, Updates, any_failed, clear_answered, confirmed, created, failed, found_at, subscription_on, left, request_failed, rights_told, searched_by, subscription_failed, write_failed}
 use Rattle.ca_model.specs.Hears as hears
 use Rattle.ca_model.specs.Speech.{Is}
 use Rattle.ca_model.proofs.Standings.{channel-on}
@@ -182,9 +182,9 @@ module _ (x : Client) (c : Handle) (m : Fields) where
   ]
     where
       by : (h : Header) → QuotesHeader m h → (a b : Bool) → eqb h.command 4 ≡ a
-          → e ≡ cond a (write_failed x m (channel_on x c m.p1)) (cond b (subscription_failed x m (heard_by x c h.p2)) (any_failed x m (answered_by c h.command h.p2 x.requests))) → Tells e
+          → e ≡ cond a (write_failed x m (channel_on x c m.p1)) (cond b (subscription_failed x m (subscription_on x c h.p2)) (any_failed x m (answered_by c h.command h.p2 x.requests))) → Tells e
       by h quotes true b writes is = told-write h e (channel_on x c m.p1) errs quotes (eqb-true h.command 4 writes) refl is
-      by h quotes false true writes is = told-refused e (heard_by x c h.p2) is
+      by h quotes false true writes is = told-refused e (subscription_on x c h.p2) is
       by h quotes false false writes is = told-any h.command h.p2 e (answered_by c h.command h.p2 x.requests) errs refl is
 
   pub tells-asked : (e : Effect) → Hears x c m e → Tells e
@@ -196,6 +196,6 @@ module _ (x : Client) (c : Handle) (m : Fields) where
   tells-asked e (hears.ServerDisconnect is does) = told-left e (channel_on x c m.p1) is refl does
   tells-asked e (hears.Reply is does) = told-reply e m.command (answered_by c m.command m.p2 x.requests) is refl does
   tells-asked e (hears.Confirmation is empty does) = told-confirmed e (confirmed_by c m.p2 x.subscriptions) does
-  tells-asked e (hears.Update is some does) = told-update e (heard_by x c m.p2) does
+  tells-asked e (hears.Update is some does) = told-update e (subscription_on x c m.p2) does
   tells-asked e (hears.Error is does) = told-error e is does
   tells-asked e (hears.Other is does) = silent e (made-of e _ does)

@@ -22,12 +22,12 @@ use Rattle.ca_model.specs.Answers.{Closing, Notice}
 use Rattle.ca_model.specs.Answers as notice
 use Rattle.ca_model.specs.Client.{Channel, Client, ClientCircuit, Clearing, Connecting, Connection, Creating, Doomed, Leaving, Live, Phase, channel_on, channels_on, connection_at, disconnections, farewell, is_live}
 use Rattle.ca_model.specs.ClientEnds.{ConnectsOn, StepsOn, Ticking, circuits_ticked, ticks, ticks_as}
-use Rattle.ca_model.specs.Hears.{Answers, Completes, Effect, Fails, Hears, Updates, any_failed, clear_answered, confirmed, created, failed, found_at, heard_by, left, request_failed, rights_told, searched_by, subscription_failed, write_failed}
+use Rattle.ca_model.specs.Hears.{Answers, Completes, Effect, Fails, Hears, Updates, any_failed, clear_answered, confirmed, created, failed, found_at, subscription_on, left, request_failed, rights_told, searched_by, subscription_failed, write_failed}
 use Rattle.ca_model.specs.Hears as hears
 use Rattle.ca_model.specs.History.{Intent, Line, OfCircuit, Updated}
 use Rattle.ca_model.specs.Speech.{Is}
 use Rattle.ca_model.proofs.Standings.{channel-on}
-use Rattle.ca_model.specs.ClientEvents.{TicksOne, line_of, lines_of, told_by}
+use Rattle.ca_model.specs.ClientEvents.{TicksOne, line_of, lines_of, closing_notices}
 use Rattle.ca_model.specs.Events.{Event}
 use Rattle.ca_model.specs.Events as event
 use Rattle.ca_model.specs.Runs.{Happens, TicksAll, clients_below}
@@ -79,9 +79,9 @@ farewell-notices c x = both-notices (disconnections (was_sent_on c) x) (map noti
 -- the client holds. An update is told alone, by an EVENT_ADD with a payload, of the
 -- subscription that it finds.
 abbrev pub TellsHeld : Client → Handle → Fields → (p : ℕ) → Notice → Type 0
-TellsHeld x c m p (notice.Update g o) = (p ≡ 0) × Is command.EventAdd m × (m.payload ≢ []) × (heard_by x c m.p2 ≡ Some g)
+TellsHeld x c m p (notice.Update g o) = (p ≡ 0) × Is command.EventAdd m × (m.payload ≢ []) × (subscription_on x c m.p2 ≡ Some g)
 TellsHeld x c m p (notice.Live h) = (p ≡ 0) × Is command.CreateChannel m × ((ch : Channel) × (under x.channels h ≡ Some ch) × (is_gone ch.standing ≡ false))
-TellsHeld x c m p (notice.SubscriptionEnded g s) = (p ≡ 0) × Is command.Error m × ((id : ℕ) × (heard_by x c id ≡ Some g))
+TellsHeld x c m p (notice.SubscriptionEnded g s) = (p ≡ 0) × Is command.Error m × ((id : ℕ) × (subscription_on x c id ≡ Some g))
 TellsHeld x c m p o = Unit {0}
 
 no-tells : (x : Client) (c : Handle) (m : Fields) (p : ℕ) (o : Notice) → is_own o ≡ false → TellsHeld x c m p o
@@ -163,7 +163,7 @@ module _ (x : Client) (c : Handle) (m : Fields) where
   told-confirmed e None is = quiet e _ is no-notices
   told-confirmed e (Some g) is = quiet e _ is no-notices
 
-  told-update : (e : Effect) (o : Option Handle) → Is command.EventAdd m → m.payload ≢ [] → heard_by x c m.p2 ≡ o → Updates x m o e → Tells e
+  told-update : (e : Effect) (o : Option Handle) → Is command.EventAdd m → m.payload ≢ [] → subscription_on x c m.p2 ≡ o → Updates x m o e → Tells e
   told-update e None adds some found is = quiet e _ is no-notices
   told-update e (Some g) adds some found is = λ p o at. go p o (subst (λ (z : Effect). At z.notices p o) is.2 at)
     where
@@ -180,7 +180,7 @@ module _ (x : Client) (c : Handle) (m : Fields) where
   told-write e (Some (h, Clearing)) is = quiet e _ is no-notices
   told-write e (Some (h, Doomed)) is = quiet e _ is no-notices
 
-  told-refused : (e : Effect) (id : ℕ) (o : Option Handle) → Is command.Error m → heard_by x c id ≡ o → e ≡ subscription_failed x m o → Tells e
+  told-refused : (e : Effect) (id : ℕ) (o : Option Handle) → Is command.Error m → subscription_on x c id ≡ o → e ≡ subscription_failed x m o → Tells e
   told-refused e id None errs found is = quiet e _ is no-notices
   told-refused e id (Some g) errs found is = alone (notice.SubscriptionEnded g (record { number = m.p2 })) e (ap (λ (z : Effect). z.notices) is) (refl, errs, (id, found))
 
@@ -198,9 +198,9 @@ module _ (x : Client) (c : Handle) (m : Fields) where
     | inl whole ↦ by whole.0 (eqb whole.0.command 4) (eqb whole.0.command 1) whole.2
   ]
     where
-      by : (h : Header) (a b : Bool) → e ≡ cond a (write_failed x m (channel_on x c m.p1)) (cond b (subscription_failed x m (heard_by x c h.p2)) (any_failed x m (answered_by c h.command h.p2 x.requests))) → Tells e
+      by : (h : Header) (a b : Bool) → e ≡ cond a (write_failed x m (channel_on x c m.p1)) (cond b (subscription_failed x m (subscription_on x c h.p2)) (any_failed x m (answered_by c h.command h.p2 x.requests))) → Tells e
       by h true b is = told-write e (channel_on x c m.p1) is
-      by h false true is = told-refused e h.p2 (heard_by x c h.p2) errs refl is
+      by h false true is = told-refused e h.p2 (subscription_on x c h.p2) errs refl is
       by h false false is = told-any e (answered_by c h.command h.p2 x.requests) is
 
   pub tells-held : (e : Effect) → Hears x c m e → Tells e
@@ -212,7 +212,7 @@ module _ (x : Client) (c : Handle) (m : Fields) where
   tells-held e (hears.ServerDisconnect is does) = told-left e (channel_on x c m.p1) does
   tells-held e (hears.Reply is does) = told-reply e (answered_by c m.command m.p2 x.requests) does
   tells-held e (hears.Confirmation is empty does) = told-confirmed e (confirmed_by c m.p2 x.subscriptions) does
-  tells-held e (hears.Update is some does) = told-update e (heard_by x c m.p2) is some refl does
+  tells-held e (hears.Update is some does) = told-update e (subscription_on x c m.p2) is some refl does
   tells-held e (hears.Error is does) = told-error e is does
   tells-held e (hears.Other is does) = quiet e _ does no-notices
 
@@ -287,7 +287,7 @@ covers-not = record { silent = silent-not; goodbye = goodbye-not }
 
 -- ---- events
 
-connect-notices : (x : Client) (c : Handle) (o : Option ClientCircuit) (k : Option Closing) (sent : _) (core : Client) → ConnectsOn x c o k sent core → AreGoodbyes (told_by k)
+connect-notices : (x : Client) (c : Handle) (o : Option ClientCircuit) (k : Option Closing) (sent : _) (core : Client) → ConnectsOn x c o k sent core → AreGoodbyes (closing_notices k)
 connect-notices x c o None sent core f = no-goodbyes
 connect-notices x c None (Some k) sent core f = same-goodbyes [] k.notices (ap (λ (z : Closing). z.notices) f.0) no-goodbyes
 connect-notices x c (Some d) (Some k) sent core f = same-goodbyes (farewell c x) k.notices (ap (λ (z : Closing). z.notices) f.0) (farewell-goodbyes c x)
@@ -354,7 +354,7 @@ module _ (Q : Line → Type 0) (c : Covers Q) where
     | inl full ↦ lines-same Q w new (ap (λ (z : World). z.client_logs) full.1)
     | inr made ↦
         lines-all Q w new at.x.life _ (lives.present i at.x at.at) (ap (λ (z : World). z.client_logs) made.6)
-        (lines-bye OfCircuit at.x.names (told_by made.1) (connect-notices at.x.core at.v.v.circuit _ made.1 made.2 made.3 made.5))
+        (lines-bye OfCircuit at.x.names (closing_notices made.1) (connect-notices at.x.core at.v.v.circuit _ made.1 made.2 made.3 made.5))
   ]
   other-lines w new (event.Tick moment) other lives (at, (mid, ticks, is)) =
       lines-then Q w mid new (ticks-lines moment w (clients_below (length w.clients)) mid lives ticks) (lines-same Q mid new (ap (λ (z : World). z.client_logs) is))

@@ -184,8 +184,8 @@ side-life w k j y did at = go (slice_get (acted k j y did w).servers j.server) r
     go (Some z) is = elim (At-set w.servers j.server next j.server z is) [ inl own ↦ ap (λ (x : ServerSide). x.life) own.1 | inr old ↦ absurd (old.1 refl) ]
 
 -- the entries of what a message does
-abbrev told_by : (k : ℕ) → Joined → ServerSide → Action → List Entry
-told_by k j y did = logged_by y.core j.at_server (record { circuit = k; place = length j.lists.handled }) did y.records
+abbrev entries_by : (k : ℕ) → Joined → ServerSide → Action → List Entry
+entries_by k j y did = logged_by y.core j.at_server (record { circuit = k; place = length j.lists.handled }) did y.records
 
 next-quiet : (y : ServerSide) (r : RecordSide) (a : Option WaitingPut) → AreQuiet (next_entries y r a None)
 next-quiet y r (Some v) = none-quiet
@@ -218,11 +218,11 @@ module _ (v : World) where
 
   -- ---- a step of a server's end
 
-  acted-keep : (w : World) (k : ℕ) (j : Joined) (y : ServerSide) (did : Action) (ends : Joined → Option (List ℕ)) (core : Server) → Writes w → At w.servers j.server y → ((log : List Entry) → At w.server_logs y.life log → MayTell v log (told_by k j y did))
+  acted-keep : (w : World) (k : ℕ) (j : Joined) (y : ServerSide) (did : Action) (ends : Joined → Option (List ℕ)) (core : Server) → Writes w → At w.servers j.server y → ((log : List Entry) → At w.server_logs y.life log → MayTell v log (entries_by k j y did))
       → AllIn v w → AllIn v (server_after j.server (side_of j.server y (acted k j y did w)) ends core (acted k j y did w))
   acted-keep w k j y did ends core h at may all =
       let own : (log : List Entry) × At w.server_logs y.life log = log-of w j.server y h at in
-      let more : List Entry = told_by k j y did in
+      let more : List Entry = entries_by k j y did in
       let mid : World = acted k j y did w in
       ends-keep mid j.server (side_of j.server y mid) ends core (own.0 ++ more) (subst (λ (l : ℕ). At mid.server_logs l (own.0 ++ more)) (sym (side-life w k j y did at)) (grown-here w.server_logs y.life own.0 more own.1))
       (told-more w mid y.life more own.0 refl own.1 (may own.0 own.1) all)
@@ -235,7 +235,7 @@ module _ (v : World) where
       go (Some c) = all
 
   step-keep : (w new : World) (k : ℕ) (j : Joined) (y : ServerSide) (did : Stepped) → Writes w → At w.servers j.server y
-      → ((e : ServerEnd) → HasEnd y.core j.at_server e → (n : Next y.core j.at_server e) → (log : List Entry) → At w.server_logs y.life log → MayTell v log (told_by k j y n.action))
+      → ((e : ServerEnd) → HasEnd y.core j.at_server e → (n : Next y.core j.at_server e) → (log : List Entry) → At w.server_logs y.life log → MayTell v log (entries_by k j y n.action))
       → ServerStepped w k j y did new → AllIn v w → AllIn v new
   step-keep w new k j y stepped.Handled h at may f all =
       subst (λ (z : World). AllIn v z) (sym f.leaves) (noted-keep w _ k j y (f.steps.0).replies (acted-keep w k j y (f.steps.0).action (ends_by j.server f.core) f.core h at (may f.e f.has f.steps.0) all))
@@ -331,7 +331,7 @@ module _ (v : World) where
   -- ---- every event
 
   leaves-keep : (w new : World) (e : Event) → Writes w → (at : CanBe w e) → Leaves w e at new
-      → ((k : ℕ) (j : Joined) (y : ServerSide) → At w.circuits k j → At w.servers j.server y → j.lists.server_open ≡ true → (f : ServerEnd) → HasEnd y.core j.at_server f → (n : Next y.core j.at_server f) → (log : List Entry) → At w.server_logs y.life log → MayTell v log (told_by k j y n.action))
+      → ((k : ℕ) (j : Joined) (y : ServerSide) → At w.circuits k j → At w.servers j.server y → j.lists.server_open ≡ true → (f : ServerEnd) → HasEnd y.core j.at_server f → (n : Next y.core j.at_server f) → (log : List Entry) → At w.server_logs y.life log → MayTell v log (entries_by k j y n.action))
       → AllIn v w → AllIn v new
   leaves-keep w new (event.Open i name priority) h at l may all = same-logs w new (open-frame w new i at.x name priority l).logs all
   leaves-keep w new (event.Clear i c) h at l may all = same-logs w new (clear-frame w new i at.x c at.h l).logs all
@@ -519,7 +519,7 @@ module _ (s : Setting) (es : List Event) (w : World) (ok : IsSetting s) (are : A
       title = sym (ap (λ (z : RecordState). z.name) g.agrees.state) ∙ g.agrees.name ∙ g.named
 
   -- what it logs
-  step-may : (new : World) → WorldsOn w new → MayTell new log (told_by k j y n.action)
+  step-may : (new : World) → WorldsOn w new → MayTell new log (entries_by k j y n.action)
   step-may new goes = go n.action n.handles.due
     where
       one : (x : Entry) (r : ℕ) → IsTitled w k place r log → HasNoAlarm x
@@ -532,7 +532,7 @@ module _ (s : Setting) (es : List Event) (w : World) (ok : IsSetting s) (are : A
           )
       one x r titled plain parts a c d f (suc i, there) tells = absurd (none_at i f there)
 
-      go : (did : Action) → Due (knows y.core e) n.m n.replies did → MayTell new log (told_by k j y did)
+      go : (did : Action) → Due (knows y.core e) n.m n.replies did → MayTell new log (entries_by k j y did)
       go (Applies name value busies) due =
           let c = applies-serves (knows y.core e) n.m n.replies name value busies due in
           one (Applied k place (server.number_of name y.records) (stored_now y.core value) busies) (server.number_of name y.records)
@@ -542,7 +542,7 @@ module _ (s : Setting) (es : List Event) (w : World) (ok : IsSetting s) (are : A
           one (Waits k place (server.number_of name y.records) (stored_now y.core value)) (server.number_of name y.records)
           (write-titled c.0 name c.1 (writes-only (knows y.core e) n.m n.replies (action.Waits name value) due tt)) ((y.core).stamp, refl) (λ a b d tells. tells)
       go (action.Clears sid) due =
-          quiet-may new log (told_by k j y (action.Clears sid))
+          quiet-may new log (entries_by k j y (action.Clears sid))
           (withdrawn-quiet (flat_map (λ (ps : List PutPlace). ps) (server.with_core (λ (c : Record) (r : RecordSide). server.places_where (server.is_of_channel j.at_server sid) c.waiting r.waiting) y.core.records y.records)))
       go action.Nothing due = quiet-may new log [] none-quiet
       go action.Greets due = quiet-may new log [] none-quiet

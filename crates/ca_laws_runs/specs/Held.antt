@@ -14,7 +14,7 @@ use Rattle.ca_wire.specs.declared.header.Header.{Header}
 use Rattle.ca_wire.specs.Fields.{Fields}
 use Rattle.ca_model.specs.Client.{Client, Connection, Phase, channel_on, connection_at}
 use Rattle.ca_model.specs.ClientEnds.{after_taking}
-use Rattle.ca_model.specs.Hears.{heard_by}
+use Rattle.ca_model.specs.Hears.{subscription_on}
 use Rattle.ca_model.specs.History.{Cancel, Circuit, On, Sent, Told}
 use Rattle.ca_model.specs.Speech.{Is, SubId}
 use Rattle.ca_model.specs.Channels.{named}
@@ -50,7 +50,7 @@ pub record IsHeard (n : Names) (x : Client) (on : Handle) (c : Circuit) (m : Fie
       → s.intent ≡ On channel (Cancel number) → IsLastCancel c t.place (SubId (wire_of q)) number
   pub refuses : (h : Header) (q : Handle) → Is command.Error m → QuotesHeader m h
       → h.command ≡ command_number command.EventAdd
-      → heard_by x on h.p2 ≡ Some q
+      → subscription_on x on h.p2 ≡ Some q
       → (number : ℕ) × Is command.EventAdd s.message
       × (named (SubId (wire_of q)) (meant_by n.subscriptions q) ≡ Some number)
       × ((p : ℕ) (r : Sent) (a : ℕ) → At c.up p r → r.intent ≡ On a (Cancel number) → ⊥)

@@ -10,7 +10,7 @@ use Rattle.ca_wire.specs.Messages.{on_channel}
 use Rattle.ca_wire.specs.Reading as wire
 use Rattle.ca_wire.specs.Stream.{Held}
 use Rattle.ca_wire.proofs.Shorts.{short-spells}
-use Rattle.ca_link.specs.Calls.{FirstShort, Nexts, NextsBare}
+use Rattle.ca_link.specs.Calls.{FirstScalar, Nexts, NextsHeaderOnly}
 use Rattle.ca_link.specs.Link.{LinkState}
 
 -- the link with this in its reader
@@ -36,12 +36,12 @@ pub nexts-of : (old new : LinkState) (r : Result (Option Fields) Refusal) (input
 nexts-of old new r input is e = subst (λ (l : LinkState). Nexts old r l) e (nexts-link old r input is)
 
 -- a message without payload
-pub bare-link : (c : Command) (old new : LinkState) (o : Option Wanted) (input : Held) → wire.NextsBare c old.input o input → with_input old input ≡ new → NextsBare c old o new
-bare-link c old new (Some w) input is e = nexts-of old new (Ok (Some (on_channel c w []))) input is e
-bare-link c old new None input is e = (is.0, sym e ∙ ap (with_input old) is.1)
+pub header_only-link : (c : Command) (old new : LinkState) (o : Option Wanted) (input : Held) → wire.NextsHeaderOnly c old.input o input → with_input old input ≡ new → NextsHeaderOnly c old o new
+header_only-link c old new (Some w) input is e = nexts-of old new (Ok (Some (on_channel c w []))) input is e
+header_only-link c old new None input is e = (is.0, sym e ∙ ap (with_input old) is.1)
 
 -- a message with a payload of eight bytes
-pub short-link : (c : Command) (l : LinkState) (o : Option Wanted) → wire.FirstShort c l.input o → FirstShort c l o
+pub short-link : (c : Command) (l : LinkState) (o : Option Wanted) → wire.FirstScalar c l.input o → FirstScalar c l o
 short-link c l (Some w) is =
     record { live = is.0; room = is.1.room; takes = (take 24 l.input.bytes, short-spells l.input.bytes c w is.1, sym (take-append-drop 24 l.input.bytes)) }
 short-link c l None is = is

@@ -10,7 +10,7 @@ use Rattle.ca_text.specs.declared.command.Command.{Command}
 use Rattle.ca_wire.specs.declared.requests.Wanted.{Wanted}
 use Rattle.ca_wire.specs.Fields.{Fields}
 use Rattle.ca_wire.specs.Messages.{on_channel}
-use Rattle.ca_wire.specs.Reading.{NoBare, NoShort, short_in}
+use Rattle.ca_wire.specs.Reading.{NoHeaderOnly, NoScalar, scalar_in}
 use Rattle.ca_wire.specs.Made.{with_payload}
 use Rattle.ca_wire.specs.Stream.{BadAt, NoneBegins, NotBad}
 use Rattle.ca_link.specs.Link.{LinkState, TakesFirst, with_given, with_rest, with_sent}
@@ -55,20 +55,20 @@ Nexts old (Err _) new = ⊥
 
 -- `next_without_payload`: the same, if the first message is of this command, in 16 bytes without
 -- payload.
-abbrev pub NextsBare : Command → LinkState → Option Wanted → LinkState → Type 0
-NextsBare c old (Some w) new = Nexts old (Ok (Some (on_channel c w []))) new
-NextsBare c old None new = (IsOpen old → NoBare old.input.bytes c) × (new ≡ old)
+abbrev pub NextsHeaderOnly : Command → LinkState → Option Wanted → LinkState → Type 0
+NextsHeaderOnly c old (Some w) new = Nexts old (Ok (Some (on_channel c w []))) new
+NextsHeaderOnly c old None new = (IsOpen old → NoHeaderOnly old.input.bytes c) × (new ≡ old)
 
 -- `first_of_eight_bytes`: the first message is of this command, names this, and is 24 bytes, of
 -- which eight are its payload.
-pub record HasShort (c : Command) (l : LinkState) (w : Wanted) : Type 0 where
+pub record HasScalar (c : Command) (l : LinkState) (w : Wanted) : Type 0 where
   pub live : IsOpen l
   pub room : 24 ≤ length l.input.bytes
-  pub takes : TakesFirst l (short_in l.input.bytes c w) (drop 24 l.input.bytes)
+  pub takes : TakesFirst l (scalar_in l.input.bytes c w) (drop 24 l.input.bytes)
 
-abbrev pub FirstShort : Command → LinkState → Option Wanted → Type 0
-FirstShort c l (Some w) = HasShort c l w
-FirstShort c l None = IsOpen l → NoShort l.input.bytes c
+abbrev pub FirstScalar : Command → LinkState → Option Wanted → Type 0
+FirstScalar c l (Some w) = HasScalar c l w
+FirstScalar c l None = IsOpen l → NoScalar l.input.bytes c
 
 -- `queue`: a message of a caller waits after the others, unless as many bytes wait as
 -- may. It takes memory.

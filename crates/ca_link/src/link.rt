@@ -2,9 +2,10 @@
 //! the messages mean only the cores know.
 ghost use Rattle.std.specs.Prelude.{ℕ, List, ◌≡◌, ◌≤◌, IfOk, drop, length, nat_le, take};
 ghost use Rattle.ca_text.specs.Limits.{output_limit, payload_limit};
-ghost use Rattle.ca_link.specs.Calls.{FirstShort, Gives, Nexts, NextsBare, Queues, QueuesMade};
+ghost use Rattle.ca_link.specs.Calls.{FirstScalar, Gives, Nexts, NextsHeaderOnly, Queues};
+ghost use Rattle.ca_link.specs.Calls.{QueuesMade};
 ghost use Rattle.ca_link.specs.Calls.{QueuesOwn};
-ghost use Rattle.ca_wire.specs.Messages.{alone, done};
+ghost use Rattle.ca_wire.specs.Messages.{scalar, done};
 ghost use Rattle.ca_link.specs.Link.{kept, mark_of, new_link, noted, restored, with_handed};
 ghost use Rattle.ca_link.specs.Link.{with_rest};
 
@@ -103,7 +104,7 @@ impl Link {
     /// leaves all as it was.
     #[inline(always)]
     pub fn next_without_payload(&mut self, command: Command) -> Option<Wanted>
-        ensures { NextsBare command self.old result self.new }
+        ensures { NextsHeaderOnly command self.old result self.new }
     {
         self.input.next_without_payload(command)
     }
@@ -112,7 +113,7 @@ impl Link {
     /// bytes and a payload of eight. It stays there if its payload can be read without memory.
     #[inline(always)]
     pub fn first_of_eight_bytes(&self, command: Command) -> Option<Wanted>
-        ensures { FirstShort command self.now result }
+        ensures { FirstScalar command self.now result }
     {
         self.input.first_of_eight_bytes(command)
     }
@@ -178,7 +179,7 @@ impl Link {
     /// Refused as CircuitClosed, then as OutOfMemory.
     #[inline(always)]
     pub fn queue_scalar(&mut self, said: ScalarMessage) -> Result<(), Refusal>
-        ensures { QueuesOwn (alone said) self.old result self.new }
+        ensures { QueuesOwn (scalar said) self.old result self.new }
     {
         if self.input.is_closed() {
             return Err(Refusal::CircuitClosed);

@@ -23,7 +23,7 @@ use Rattle.ca_model.proofs.Tables.{all-back, all-freed-back, changed-back, freed
 use Rattle.ca_model.specs.Placed.{IsPlaced}
 use Rattle.ca_model.proofs.Standings.{never-cleared, stands-as}
 use Rattle.ca_model.proofs.Letting.{keeps-unwanted}
-use Rattle.ca_model.proofs.Placed.{Keeps, bare-never, keeps-gone, keeps-itself, keeps-on, keeps-requests, keeps-sending, keeps-stood, keeps-subscriptions, keeps-then, stands-in-test}
+use Rattle.ca_model.proofs.Placed.{Keeps, header_only-never, keeps-gone, keeps-itself, keeps-on, keeps-requests, keeps-sending, keeps-stood, keeps-subscriptions, keeps-then, stands-in-test}
 use Rattle.ca_model.proofs.Thinner.{thin-all, thin-all-freed, thin-changed, thin-freed, thin-itself}
 
 pub on-handle : (c d : Handle) (q r : Phase) → On c q ≡ On d r → c ≡ d
@@ -64,7 +64,7 @@ unsubscribed-keeps h x =
 gone-never : (h : Handle) (x : Client) → ((ch : Channel) (on : Handle) → under x.channels h ≡ Some ch → is_on_in was_live on ch ≡ false) → Keeps x (without_channel (unsubscribed_all h x) h)
 gone-never h x never =
     let y : Client = unsubscribed_all h x in
-    keeps-then x y (without_channel y h) (unsubscribed-keeps h x) (keeps-gone h y (λ p. bare-never h y p never))
+    keeps-then x y (without_channel y h) (unsubscribed-keeps h x) (keeps-gone h y (λ p. header_only-never h y p never))
 
 pub over-requests : (h : Handle) (x : Client) → Keeps x (with_requests (request.channel_over h x.requests) x)
 over-requests h x = keeps-requests (request.channel_over h x.requests) x (thin-all (request.over_on h) x.requests) (λ q r is.

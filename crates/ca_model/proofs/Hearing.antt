@@ -16,9 +16,9 @@ use Rattle.ca_model.specs.Ends.{Address, same_address}
 use Rattle.ca_model.specs.Client.{Channel, Client, ClientCircuit, Clearing, Connecting, Connection, Creating, Doomed, Leaving, Live, On, Phase, Searching, Standing, channel_on, circuit_to, connection_at, found_on, is_on_in, new_circuit, phase_on, searched_again, sending, with_requests, with_standing, without_channel}
 use Rattle.ca_model.specs.ClientEnds.{Receives, ReceivesAll, beacon_heard, begun, creating, is_connecting, new_connection}
 use Rattle.ca_model.specs.ClientEnds as ends
-use Rattle.ca_model.specs.Hears.{Answers, Completes, Effect, Fails, FindsAt, Hears, PutsOn, Updates, any_failed, becomes, clear_answered, confirmed, created, doing, failed, failing, found_at, heard_by, left, native_in, put_on, request_failed, rights_told, searched_by, subscription_failed, with_circuit, without_drained, without_request, without_subscription, write_failed}
+use Rattle.ca_model.specs.Hears.{Answers, Completes, Effect, Fails, FindsAt, Hears, PutsOn, Updates, any_failed, becomes, clear_answered, confirmed, created, doing, failed, failing, found_at, subscription_on, left, native_in, put_on, request_failed, rights_told, searched_by, subscription_failed, with_circuit, without_drained, without_request, without_subscription, write_failed}
 use Rattle.ca_model.specs.Hears as hears
-use Rattle.ca_model.specs.Placed.{IsBare, WasLive, was_live}
+use Rattle.ca_model.specs.Placed.{HasNoRequests, WasLive, was_live}
 use Rattle.ca_model.proofs.Standings.{is-on}
 use Rattle.ca_model.proofs.Standings.{on-one}
 use Rattle.ca_model.proofs.Handles.{handle-or, same-itself}
@@ -29,7 +29,7 @@ use Rattle.ca_model.specs.Placed.{IsPlaced}
 use Rattle.ca_model.proofs.Changes.{freed-keeps, keeps-phase, keeps-searches, on-handle, on-phase, over-requests}
 use Rattle.ca_model.proofs.Standings.{searched-is}
 use Rattle.ca_model.proofs.Letting.{KeepsBut}
-use Rattle.ca_model.proofs.Placed.{Keeps, Links, bare-never, keeps-again, keeps-gone, keeps-itself, keeps-requests, keeps-sending, keeps-stood, keeps-subscriptions, keeps-then, options-agree, under-other}
+use Rattle.ca_model.proofs.Placed.{Keeps, Links, header_only-never, keeps-again, keeps-gone, keeps-itself, keeps-requests, keeps-sending, keeps-stood, keeps-subscriptions, keeps-then, options-agree, under-other}
 use Rattle.ca_model.proofs.Thinner.{thin-all, thin-all-freed, thin-freed, thin-itself}
 
 abbrev connection-of : Option ClientCircuit → Option Connection
@@ -75,9 +75,9 @@ module _ (c : Handle) (x : Client) where
       keeps-doing x (with_standing (On c Clearing) h x) _ _ e is (keeps-phase c h x found.0 Doomed Clearing found.1 found.3 refl (λ f. refl))
 
   -- a channel in a phase that was not live has nothing attached
-  pub bare-so : (h : Handle) (ch : Channel) (p : Phase) → under x.channels h ≡ Some ch → ch.standing ≡ On c p → was_live p ≡ false → IsPlaced x → IsBare h x
-  bare-so h ch p there stands never placed =
-      bare-never h x placed (λ w on is. subst (λ (z : Channel). is_on_in was_live on z ≡ false) (one-value x.channels h ch w there is) (fails-anywhere was_live on c ch p stands never))
+  pub header_only-so : (h : Handle) (ch : Channel) (p : Phase) → under x.channels h ≡ Some ch → ch.standing ≡ On c p → was_live p ≡ false → IsPlaced x → HasNoRequests h x
+  header_only-so h ch p there stands never placed =
+      header_only-never h x placed (λ w on is. subst (λ (z : Channel). is_on_in was_live on z ≡ false) (one-value x.channels h ch w there is) (fails-anywhere was_live on c ch p stands never))
 
   pub failed-keeps : (m : Fields) (e : Effect) (o : Option (Handle × Phase)) → channel_on x c m.p1 ≡ o → e ≡ failed x o → Keeps x e.core
   failed-keeps m e None at is = keeps-doing x x [] [] e is (keeps-itself x)
@@ -87,10 +87,10 @@ module _ (c : Handle) (x : Client) where
   failed-keeps m e (Some (h, Clearing)) at is = keeps-doing x x [] [] e is (keeps-itself x)
   failed-keeps m e (Some (h, Creating rights)) at is =
       let found = channel-on x c m.p1 h (Creating rights) at in
-      keeps-doing x (searched_again x h) [] [] e is (keeps-again h x (bare-so h found.0 (Creating rights) found.1 found.3 refl))
+      keeps-doing x (searched_again x h) [] [] e is (keeps-again h x (header_only-so h found.0 (Creating rights) found.1 found.3 refl))
   failed-keeps m e (Some (h, Doomed)) at is =
       let found = channel-on x c m.p1 h Doomed at in
-      keeps-doing x (without_channel x h) [] [] e is (keeps-gone h x (bare-so h found.0 Doomed found.1 found.3 refl))
+      keeps-doing x (without_channel x h) [] [] e is (keeps-gone h x (header_only-so h found.0 Doomed found.1 found.3 refl))
 
   -- the ids of a channel no longer drain
   pub drained-keeps : (h : Handle) → Keeps x (without_drained c h x)
@@ -101,8 +101,8 @@ module _ (c : Handle) (x : Client) where
       (keeps-subscriptions (monitor.channel_drained c h x.subscriptions) x (thin-all-freed test x.subscriptions) (λ p g d on is drains. inl (d, (all-freed-back test x.subscriptions g d is).0, refl, drains)))
       (keeps-requests (request.channel_gone h x.requests) y (thin-all-freed (asks_on h) x.requests) (λ q r is. (r, (all-freed-back (asks_on h) x.requests q r is).0, refl, refl)))
 
-  pub drained-bare : (h : Handle) (ch : Channel) (p : Phase) → under x.channels h ≡ Some ch → ch.standing ≡ On c p → IsPlaced x → IsBare h (without_drained c h x)
-  drained-bare h ch p there stands placed = record {
+  pub drained-header_only : (h : Handle) (ch : Channel) (p : Phase) → under x.channels h ≡ Some ch → ch.standing ≡ On c p → IsPlaced x → HasNoRequests h (without_drained c h x)
+  drained-header_only h ch p there stands placed = record {
     requests = λ q r is same.
         let was = all-freed-back (asks_on h) x.requests q r is in
         both_ways (asks_on h r) was.1 (subst (λ (k : Handle). same_handle k h ≡ true) (sym same) (same-itself h));
@@ -124,11 +124,11 @@ module _ (c : Handle) (x : Client) where
   answered-keeps placed m e (Some (h, Clearing)) at is =
       let found = channel-on x c m.p2 h Clearing at in
       let y : Client = without_drained c h x in
-      keeps-doing x (without_channel y h) [] [] e is (keeps-then x y (without_channel y h) (drained-keeps h) (keeps-gone h y (λ p. drained-bare h found.0 Clearing found.1 found.3 placed)))
+      keeps-doing x (without_channel y h) [] [] e is (keeps-then x y (without_channel y h) (drained-keeps h) (keeps-gone h y (λ p. drained-header_only h found.0 Clearing found.1 found.3 placed)))
   answered-keeps placed m e (Some (h, Leaving)) at is =
       let found = channel-on x c m.p2 h Leaving at in
       let y : Client = without_drained c h x in
-      keeps-doing x (searched_again y h) [] [] e is (keeps-then x y (searched_again y h) (drained-keeps h) (keeps-again h y (λ p. drained-bare h found.0 Leaving found.1 found.3 placed)))
+      keeps-doing x (searched_again y h) [] [] e is (keeps-then x y (searched_again y h) (drained-keeps h) (keeps-again h y (λ p. drained-header_only h found.0 Leaving found.1 found.3 placed)))
 
   pub left-keeps : (m : Fields) (e : Effect) (o : Option (Handle × Phase)) → channel_on x c m.p1 ≡ o → e ≡ left x c o → Keeps x e.core
   left-keeps m e None at is = keeps-doing x x [] [] e is (keeps-itself x)
@@ -188,9 +188,9 @@ module _ (c : Handle) (x : Client) where
     | inl whole ↦ by whole.0 (eqb whole.0.command 4) (eqb whole.0.command 1) whole.2
   ]
     where
-      by : (h : Header) (a b : Bool) → e ≡ cond a (write_failed x m (channel_on x c m.p1)) (cond b (subscription_failed x m (heard_by x c h.p2)) (any_failed x m (answered_by c h.command h.p2 x.requests))) → Keeps x e.core
+      by : (h : Header) (a b : Bool) → e ≡ cond a (write_failed x m (channel_on x c m.p1)) (cond b (subscription_failed x m (subscription_on x c h.p2)) (any_failed x m (answered_by c h.command h.p2 x.requests))) → Keeps x e.core
       by h true b is = write-keeps m e (channel_on x c m.p1) is
-      by h false true is = refused-keeps m e (heard_by x c h.p2) is
+      by h false true is = refused-keeps m e (subscription_on x c h.p2) is
       by h false false is = any-keeps m e (answered_by c h.command h.p2 x.requests) is
 
 -- ---- search replies
@@ -278,7 +278,7 @@ keeps-heard x c m e placed (hears.ClearChannel is does) = answered-keeps c x pla
 keeps-heard x c m e placed (hears.ServerDisconnect is does) = left-keeps c x m e (channel_on x c m.p1) refl does
 keeps-heard x c m e placed (hears.Reply is does) = reply-keeps c x m e (answered_by c m.command m.p2 x.requests) does
 keeps-heard x c m e placed (hears.Confirmation is empty does) = confirmed-keeps c x e (confirmed_by c m.p2 x.subscriptions) does
-keeps-heard x c m e placed (hears.Update is some does) = update-keeps c x m e (heard_by x c m.p2) does
+keeps-heard x c m e placed (hears.Update is some does) = update-keeps c x m e (subscription_on x c m.p2) does
 keeps-heard x c m e placed (hears.Error is does) = error-keeps c x m e does
 keeps-heard x c m e placed (hears.Other is does) = keeps-doing x x [] [] e does (keeps-itself x)
 

@@ -10,7 +10,7 @@ use Rattle.ca_requests.specs.Requests.{Request}
 use Rattle.ca_model.specs.Answers.{Sending}
 use Rattle.ca_model.specs.Client.{Channel, Client, ClientCircuit, Connection, On, Phase, Searching, Standing, connection_at, is_on_in, on_connection, phase_on, searched_again, sending, with_one_sent, with_requests, with_standing, without_channel}
 use Rattle.ca_model.specs.ClientEnds.{is_connecting}
-use Rattle.ca_model.specs.Placed.{IsBare, WasLive, was_live}
+use Rattle.ca_model.specs.Placed.{HasNoRequests, WasLive, was_live}
 use Rattle.ca_model.proofs.Handles.{handle-or}
 use Rattle.ca_model.proofs.Tables.{changed-back, changed-other, changed-own, freed-back, freed-other}
 use Rattle.ca_model.specs.Placed.{IsPlaced}
@@ -146,8 +146,8 @@ keeps-stood s h x may = record {
 -- ---- a channel is gone, or searched for again
 
 -- so it is with one that was not live
-pub bare-never : (h : Handle) (x : Client) → IsPlaced x → ((ch : Channel) (on : Handle) → under x.channels h ≡ Some ch → is_on_in was_live on ch ≡ false) → IsBare h x
-bare-never h x p never = record {
+pub header_only-never : (h : Handle) (x : Client) → IsPlaced x → ((ch : Channel) (on : Handle) → under x.channels h ≡ Some ch → is_on_in was_live on ch ≡ false) → HasNoRequests h x
+header_only-never h x p never = record {
   requests = λ q r is same. no_one r.channel r.circuit same (p.attached.requests q r is);
   subscriptions = λ g d on is drains same. no_one d.channel on same (p.attached.subscriptions g d on is drains);
 }
@@ -155,13 +155,13 @@ bare-never h x p never = record {
     no_one : (channel on : Handle) → channel ≡ h → WasLive x channel on → ⊥
     no_one channel on same was = both_ways (is_on_in was_live on was.0) (never was.0 on (subst (λ (k : Handle). under x.channels k ≡ Some was.0) same was.1)) was.2
 
-pub keeps-gone : (h : Handle) (x : Client) → (IsPlaced x → IsBare h x) → Keeps x (without_channel x h)
-keeps-gone h x bare = record {
+pub keeps-gone : (h : Handle) (x : Client) → (IsPlaced x → HasNoRequests h x) → Keeps x (without_channel x h)
+keeps-gone h x header_only = record {
   thins = record { channels = thin-freed h x.channels; requests = thin-itself x.requests; subscriptions = thin-itself x.subscriptions };
   placed = λ p. record {
     attached = record {
-      requests = λ q r is. live r.channel r.circuit (λ e. (bare p).requests q r is e) (p.attached.requests q r is);
-      subscriptions = λ g d on is drains. live d.channel on (λ e. (bare p).subscriptions g d on is drains e) (p.attached.subscriptions g d on is drains);
+      requests = λ q r is. live r.channel r.circuit (λ e. (header_only p).requests q r is e) (p.attached.requests q r is);
+      subscriptions = λ g d on is drains. live d.channel on (λ e. (header_only p).subscriptions g d on is drains e) (p.attached.subscriptions g d on is drains);
     };
     waiting = λ g ch c q is stands. p.waiting g ch c q (freed-back x.channels g h ch is).1 stands;
   };
@@ -171,13 +171,13 @@ keeps-gone h x bare = record {
     live : (channel on : Handle) → (channel ≡ h → ⊥) → WasLive x channel on → WasLive (without_channel x h) channel on
     live channel on other was = (was.0, freed-other x.channels channel h was.0 was.1 other, was.2)
 
-pub keeps-again : (h : Handle) (x : Client) → (IsPlaced x → IsBare h x) → Keeps x (searched_again x h)
-keeps-again h x bare = record {
+pub keeps-again : (h : Handle) (x : Client) → (IsPlaced x → HasNoRequests h x) → Keeps x (searched_again x h)
+keeps-again h x header_only = record {
   thins = record { channels = thin-changed there h x.channels; requests = thin-itself x.requests; subscriptions = thin-itself x.subscriptions };
   placed = λ p. record {
     attached = record {
-      requests = λ q r is. live r.channel r.circuit (λ e. (bare p).requests q r is e) (p.attached.requests q r is);
-      subscriptions = λ g d on is drains. live d.channel on (λ e. (bare p).subscriptions g d on is drains e) (p.attached.subscriptions g d on is drains);
+      requests = λ q r is. live r.channel r.circuit (λ e. (header_only p).requests q r is e) (p.attached.requests q r is);
+      subscriptions = λ g d on is drains. live d.channel on (λ e. (header_only p).subscriptions g d on is drains e) (p.attached.subscriptions g d on is drains);
     };
     waiting = λ g ch c q is stands. elim (changed-back there x.channels g h ch is) [
       | inr old ↦ p.waiting g ch c q old.1 stands

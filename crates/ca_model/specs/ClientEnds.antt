@@ -23,7 +23,7 @@ use Rattle.ca_link.specs.Link.{TakesFirst, kept, new_link, with_given, with_hand
 use Rattle.ca_search.specs.Searcher as searcher
 use Rattle.ca_search.specs.Searches as search
 use Rattle.ca_wire.specs.Fields.{Fields}
-use Rattle.ca_wire.specs.Messages.{bare, name_request, search_request, version_request}
+use Rattle.ca_wire.specs.Messages.{header_only, name_request, search_request, version_request}
 use Rattle.ca_wire.specs.Stream.{BadAt, NoneBegins, NotBad}
 use Rattle.ca_monitor.specs.ReadRun.{after_read, no_reads, sent_by_read}
 use Rattle.ca_model.specs.Ends.{Address, Cut, NamesFit, Peer, Why, same_address}
@@ -167,7 +167,7 @@ ClientConnects old c answer sent new = ConnectsOn old c (unconnected old c) answ
 -- what a read makes the client send: EVENTS_OFF or EVENTS_ON, or nothing
 abbrev pub flow_sent : Handle → Bool → Connection → List Sending
 flow_sent c more e =
-    map (λ (k : Command). of_circuit c (bare k)) (option_to_list (sent_by_read more e.run))
+    map (λ (k : Command). of_circuit c (header_only k)) (option_to_list (sent_by_read more e.run))
 
 -- the client to which these bytes came, while more wait or none
 abbrev pub given : Handle → List ℕ → Bool → Client → Client
@@ -271,7 +271,7 @@ echoes c t =
     let noted : Client =
     on_connection
     (λ (e : Connection). record e { link = record e.link { echoed = true } }) c t.core in
-    with_sending (of_circuit c (bare command.Echo)) (record t { core = noted })
+    with_sending (of_circuit c (header_only command.Echo)) (record t { core = noted })
 
 -- the end of a circuit that was silent too long has ended
 abbrev pub falls_silent : Handle → Ticking → Ticking

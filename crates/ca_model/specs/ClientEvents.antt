@@ -335,9 +335,9 @@ connected_as None j = j
 connected_as (Some k) j = client_closed k.left j
 
 -- what a closing reports
-abbrev pub told_by : Option Closing → List Notice
-told_by None = []
-told_by (Some k) = k.notices
+abbrev pub closing_notices : Option Closing → List Notice
+closing_notices None = []
+closing_notices (Some k) = k.notices
 
 -- The circuit that the client wants first is made. A server without room refuses it,
 -- and reports nothing.
@@ -359,7 +359,7 @@ pub record HappensAccept (w : World) (c : ℕ) (x : ClientSide) (v : WantsFirst 
       (record {
         core = core;
         names = x.names;
-        lines = lines_of OfCircuit x.names (told_by k);
+        lines = lines_of OfCircuit x.names (closing_notices k);
         sent = sent;
       }) made))
 

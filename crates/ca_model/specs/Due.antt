@@ -20,7 +20,8 @@ use Rattle.ca_records.specs.Faults.{late_put_fault}
 use Rattle.ca_records.specs.Record.{RecordState}
 use Rattle.ca_records.specs.Rules.{Rule, rights}
 use Rattle.ca_wire.specs.Fields.{Fields}
-use Rattle.ca_wire.specs.Messages.{bare, cancel_reply, cleared_reply, created_reply, error_reply}
+use Rattle.ca_wire.specs.Messages.{header_only, cancel_reply, cleared_reply, created_reply}
+use Rattle.ca_wire.specs.Messages.{error_reply}
 use Rattle.ca_wire.specs.Messages.{failed_reply, mask_in, no_cid, not_found_reply, rights_reply}
 use Rattle.ca_wire.specs.Messages.{search_reply, status_reply, text_in, value_reply, version_reply}
 use Rattle.ca_model.specs.Ends.{Peer}
@@ -286,7 +287,7 @@ pub record Due (k : Knows) (m : Fields) (replies : List Fields) (action : Action
       × (action ≡ named k (record k.peer { user = text_in m.payload }))
   pub host : m.command ≡ command_number command.HostName → (replies ≡ [])
       × (action ≡ named k (record k.peer { host = text_in m.payload }))
-  pub echo : m.command ≡ command_number command.Echo → (replies ≡ bare command.Echo ∷ [])
+  pub echo : m.command ≡ command_number command.Echo → (replies ≡ header_only command.Echo ∷ [])
       × (action ≡ Nothing)
   pub search : m.command ≡ command_number command.Search → (replies ≡ search_due k m)
       × (action ≡ Nothing)

@@ -193,8 +193,8 @@ abbrev pub is_live_on : Client → Handle → Handle → Bool
 is_live_on x c h = unwrap_or (option_map (is_on_in is_live c) (under x.channels h)) false
 
 -- the subscription of this id, if it stands and its channel is live on this circuit
-abbrev pub heard_by : Client → Handle → ℕ → Option Handle
-heard_by x c id =
+abbrev pub subscription_on : Client → Handle → ℕ → Option Handle
+subscription_on x c id =
     option_and_then
     (λ (e : Handle × Subscription). if is_live_on x c e.1.channel then Some e.0 else None)
     (standing_by id x.subscriptions)
@@ -237,7 +237,7 @@ failing x c m h =
     if h.command == command_number command.Write
     then write_failed x m (channel_on x c m.p1)
     else if h.command == command_number command.EventAdd
-    then subscription_failed x m (heard_by x c h.p2)
+    then subscription_failed x m (subscription_on x c h.p2)
     else any_failed x m (answered_by c h.command h.p2 x.requests)
 
 -- An ERROR quotes the header of the request that failed. If that is not complete the ERROR is
@@ -276,7 +276,7 @@ pub data Hears (x : Client) (c : Handle) (m : Fields) (e : Effect) : Type 0 wher
       → Answers x m (answered_by c m.command m.p2 x.requests) e → Hears x c m e
   Confirmation : Is command.EventAdd m → m.payload ≡ []
       → e ≡ confirmed x (confirmed_by c m.p2 x.subscriptions) → Hears x c m e
-  Update : Is command.EventAdd m → m.payload ≢ [] → Updates x m (heard_by x c m.p2) e
+  Update : Is command.EventAdd m → m.payload ≢ [] → Updates x m (subscription_on x c m.p2) e
       → Hears x c m e
   Error : Is command.Error m → Fails x c m e → Hears x c m e
   Other : list_any (λ (k : Command). m.command == command_number k) understood ≡ false

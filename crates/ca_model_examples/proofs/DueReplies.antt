@@ -13,7 +13,7 @@ use Rattle.ca_queue.specs.Keys.{is_among}
 use Rattle.ca_dbr.specs.Elements.{Elements, longs, signed_bytes_4}
 use Rattle.ca_wire.specs.Fields.{Fields}
 use Rattle.ca_wire.specs.Header.{number16}
-use Rattle.ca_wire.specs.Messages.{bare, cancel_reply, cleared_reply, error_reply, status_reply, version_reply}
+use Rattle.ca_wire.specs.Messages.{header_only, cancel_reply, cleared_reply, error_reply, status_reply, version_reply}
 use Rattle.ca_model.specs.Due.{Action, Adds, Applies, Clears, Drops, Due, EventDue, Greets, IsCreated, IsNotCreated, IsRetired, IsUnknown, KnownChannel, KnownRecord, Knows, Names, Nothing, Opens, PutDue, PutReads, ReadDue, Serves, StrayDue, Switches, Waits, WriteDue, fault_of_read, must_wait, is_known, key_in, rights_at, named, search_due}
 use Rattle.ca_model.specs.Faults.{base_type_of, early_put_fault, read_fault, subscription_fault, type_of}
 use Rattle.ca_records.specs.Rules.{Rule, rights}
@@ -36,7 +36,7 @@ abbrev IsDueFor : Knows → Fields → List Fields → Action → Command → Ty
 IsDueFor k m r a command.Version = (r ≡ (if k.greeted then [] else version_reply ∷ [])) × (a ≡ Greets)
 IsDueFor k m r a command.ClientName = (r ≡ []) × (a ≡ named k (record k.peer { user = text_in m.payload }))
 IsDueFor k m r a command.HostName = (r ≡ []) × (a ≡ named k (record k.peer { host = text_in m.payload }))
-IsDueFor k m r a command.Echo = (r ≡ bare command.Echo ∷ []) × (a ≡ Nothing)
+IsDueFor k m r a command.Echo = (r ≡ header_only command.Echo ∷ []) × (a ≡ Nothing)
 IsDueFor k m r a command.Search = (r ≡ search_due k m) × (a ≡ Nothing)
 IsDueFor k m r a command.CreateChannel = IsCreated k m r a ⊎ IsNotCreated k m r a
 IsDueFor k m r a command.ReadNotify = ReadDue k m r a ⊎ StrayDue k m (λ cid. status_reply m bad_channel) r a

@@ -7,7 +7,7 @@ use Rattle.ca_text.proofs.Places.{some_is}
 use Rattle.ca_text.specs.declared.command.Command.TheVariants as command
 use Rattle.ca_dbr.specs.declared.value.Outcome.TheVariants as outcome
 use Rattle.ca_wire.specs.Fields.{Fields}
-use Rattle.ca_wire.specs.Messages.{bare, status_reply}
+use Rattle.ca_wire.specs.Messages.{header_only, status_reply}
 use Rattle.ca_model.specs.Speech.{Is}
 use Rattle.ca_model.specs.History.{Circuit, Entry, Line, Sent, Told, Step, Added, Finished, Clear, Intent, On, Subscribe, Called}
 use Rattle.ca_model.specs.Channels.{IsFinished, IsReply, OfCircuits}
@@ -189,7 +189,7 @@ pub never-unsent : UnsafeUnsent
 never-unsent s =
     let p = its-own (AnswersOwn EchoDue Shows Means) (live_circuit [] [] [] ∷ []) (live_lines []) temp_there s.own.0 0 (live_circuit [] [] []) refl refl refl in
     let a = p.answered 0 (step 0 1 1) refl in
-    let here = a.now 0 (bare command.Echo) (subst (λ (l : List Fields). At l 0 (bare command.Echo)) (sym a.due) refl) in
+    let here = a.now 0 (header_only command.Echo) (subst (λ (l : List Fields). At l 0 (header_only command.Echo)) (sym a.due) refl) in
     let e = ap (λ (t : Told). t.message.command) (one-at created_told 0 _ here).1 in
     omega (arith, e)
 

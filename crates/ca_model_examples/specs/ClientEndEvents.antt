@@ -7,7 +7,7 @@ use Rattle.ca_link.specs.Link.{LinkState, new_link}
 use Rattle.ca_text.specs.declared.command.Command.TheVariants as command
 use Rattle.ca_wire.specs.Fields.{Fields}
 use Rattle.ca_wire.specs.Message.{spelling}
-use Rattle.ca_wire.specs.Messages.{bare, create_request, name_request, version_request}
+use Rattle.ca_wire.specs.Messages.{header_only, create_request, name_request, version_request}
 use Rattle.ca_model.specs.Answers as answer
 use Rattle.ca_model.specs.Client.{Client, Connection, ended, on_connection, out_bytes}
 use Rattle.ca_model.specs.ClientEnds.{circuits_ticked, searches_made}
@@ -123,7 +123,8 @@ with_put =
 abbrev pub hearing : List Step → Joined
 hearing steps =
     let j : Joined =
-    joined 0 first true (record { message = bare command.Version; intent = OfCircuit } ∷ []) in
+    joined 0 first true
+    (record { message = header_only command.Version; intent = OfCircuit } ∷ []) in
     record j { lists = record j.lists { heard = steps } }
 
 -- The reply is read in a step of its own, and its notice told.
@@ -244,13 +245,13 @@ AboutPlace =
     let j : Joined =
     joined 0 first true
     (record {
-      message = bare command.Version;
+      message = header_only command.Version;
       intent = OfCircuit;
-    } ∷ record { message = bare command.Write; intent = on_temp (Request Write 2) } ∷ []) in
+    } ∷ record { message = header_only command.Write; intent = on_temp (Request Write 2) } ∷ []) in
     let c : history.Circuit =
     record j.lists {
       down = record {
-        message = bare command.Error;
+        message = header_only command.Error;
         place = 1;
         cause = Reply;
       } ∷ [];
@@ -297,7 +298,7 @@ TickStops =
 -- the search reply for TEMP
 abbrev pub reply_of_search : Fields
 reply_of_search =
-    record (bare command.Search) {
+    record (header_only command.Search) {
       data_type = 5064;
       p1 = 0xFFFFFFFF;
       p2 = 65536;

@@ -15,7 +15,8 @@ use Rattle.ca_text.specs.declared.refusal.Refusal.TheVariants as refusal
 use Rattle.ca_text.specs.Limits.{output_limit}
 use Rattle.ca_wire.specs.declared.header.Header.{Header}
 use Rattle.ca_wire.specs.Fields.{Fields}
-use Rattle.ca_wire.specs.Messages.{bare, create_request, event_add_request, event_cancel_request}
+use Rattle.ca_wire.specs.Messages.{header_only, create_request, event_add_request}
+use Rattle.ca_wire.specs.Messages.{event_cancel_request}
 use Rattle.ca_link.specs.Link.{new_link}
 use Rattle.ca_model.specs.Answers.{Notice, Sending}
 use Rattle.ca_model.specs.Answers as notice
@@ -51,7 +52,7 @@ CreationFails =
 abbrev pub OutOfTurn : Type 0
 OutOfTurn =
     (channel_state
-    (rights_told alive.core first (record (bare command.AccessRights) { p1 = 65536; p2 = 1 })
+    (rights_told alive.core first (record (header_only command.AccessRights) { p1 = 65536; p2 = 1 })
     (channel_on alive.core first 65536)).core
     first
     ≡ Ok (state.Live 5 1 1))
@@ -66,10 +67,11 @@ OutOfTurn =
 abbrev pub Found : Type 0
 Found =
     (found_at (record { host = 9; port = 7 })
-    (record (bare command.Search) { data_type = 5064; p1 = 0xFFFFFFFF })
+    (record (header_only command.Search) { data_type = 5064; p1 = 0xFFFFFFFF })
     ≡ record { host = 9; port = 5064 })
     × (found_at (record { host = 9; port = 7 })
-    (record (bare command.Search) { data_type = 5064; p1 = 8 }) ≡ record { host = 8; port = 5064 })
+    (record (header_only command.Search) { data_type = 5064; p1 = 8 })
+    ≡ record { host = 8; port = 5064 })
     × (let e : Effect = put_on first (Some (new_connection 0)) first temp_channel
     (with_temp named_on) in
     (map (λ (s : Sending). s.message) e.sent ≡ create_request 65536 temp ∷ [])
@@ -115,14 +117,14 @@ ConfirmedThere =
 -- NOT_FOUND, and any other command that a client does not understand, is skipped.
 abbrev pub Skipped : Type 0
 Skipped =
-    Hears alive.core first (bare command.NotFound) (becomes alive.core)
-    × Hears alive.core first (bare command.Echo) (becomes alive.core)
+    Hears alive.core first (header_only command.NotFound) (becomes alive.core)
+    × Hears alive.core first (header_only command.Echo) (becomes alive.core)
 
 -- ---- ERROR
 
 -- an ERROR about TEMP, with the status 160, and the header of a request that failed
 abbrev pub error : Fields
-error = record (bare command.Error) { p1 = 65536; p2 = 160 }
+error = record (header_only command.Error) { p1 = 65536; p2 = 160 }
 
 abbrev pub failed_header : (number : ℕ) → Header
 failed_header number =
@@ -199,7 +201,15 @@ abbrev pub PauseIsSent : Type 0
 PauseIsSent =
     (flow_sent second true
     (record { link = new_link 0; run = record { reads = 9; events_off = false } })
-    ≡ record { circuit = second; message = bare command.EventsOff; aim = notice.OfCircuit } ∷ [])
+    ≡ record {
+      circuit = second;
+      message = header_only command.EventsOff;
+      aim = notice.OfCircuit;
+    } ∷ [])
     × (flow_sent second false
     (record { link = new_link 0; run = record { reads = 0; events_off = true } })
-    ≡ record { circuit = second; message = bare command.EventsOn; aim = notice.OfCircuit } ∷ [])
+    ≡ record {
+      circuit = second;
+      message = header_only command.EventsOn;
+      aim = notice.OfCircuit;
+    } ∷ [])

@@ -12,7 +12,7 @@ use Rattle.ca_arena.specs.declared.handle.Handle.{Handle}
 use Rattle.ca_ids.specs.Table.{held, with_held}
 use Rattle.ca_ids.specs.Wire.{wire_of}
 use Rattle.ca_wire.specs.Fields.{Fields}
-use Rattle.ca_wire.specs.Messages.{bare, clear_request, search_request, update}
+use Rattle.ca_wire.specs.Messages.{header_only, clear_request, search_request, update}
 use Rattle.ca_wire.specs.Message.{spelled}
 use Rattle.ca_monitor.specs.ReadRun.{ReadRun, after_read, no_reads, sent_by_read}
 use Rattle.ca_monitor.specs.Subscriptions.{Subscription, confirmed_by}
@@ -34,7 +34,8 @@ use Rattle.ca_model.specs.ClientCalls.{read_sent, unsubscribed, wanted}
 use Rattle.ca_model.specs.ClientEnds.{Ticking, beacon_heard, begun, circuits_ticked, creations, due}
 use Rattle.ca_model.specs.ClientEnds.{new_client, packed, searches_made, set_up, ticked}
 use Rattle.ca_model.specs.Hears.{Effect, Hears, becomes, clear_answered, confirmed, created}
-use Rattle.ca_model.specs.Hears.{heard_by, left, put_on, rights_told, with_circuit, without_request}
+use Rattle.ca_model.specs.Hears.{subscription_on, left, put_on, rights_told, with_circuit}
+use Rattle.ca_model.specs.Hears.{without_request}
 
 -- the first handle of a table, the second, and the first given again
 abbrev pub first : Handle
@@ -87,11 +88,11 @@ Greets = (length (out_bytes greeted first) ≡ 88) × (channel_state greeted fir
 
 -- a server's message on TEMP
 abbrev pub rights : Fields
-rights = record (bare command.AccessRights) { p1 = 65536; p2 = 3 }
+rights = record (header_only command.AccessRights) { p1 = 65536; p2 = 3 }
 
 abbrev pub created_temp : Fields
 created_temp =
-    record (bare command.CreateChannel) { data_type = 5; count = 1; p1 = 65536; p2 = 65536 }
+    record (header_only command.CreateChannel) { data_type = 5; count = 1; p1 = 65536; p2 = 65536 }
 
 abbrev pub permitted : Client
 permitted = (rights_told greeted first rights (channel_on greeted first 65536)).core
@@ -277,7 +278,8 @@ IdsOfSubscriptions =
 -- An update of it goes to nobody; while it stood, it went to it.
 abbrev pub UpdateToNobody : Type 0
 UpdateToNobody =
-    (heard_by subscribed first 65536 ≡ Some first) × (heard_by cancelled first 65536 ≡ None)
+    (subscription_on subscribed first 65536 ≡ Some first)
+    × (subscription_on cancelled first 65536 ≡ None)
 
 -- The confirmation is about it once, and never about one that was not cancelled.
 abbrev pub ConfirmationFrees : Type 0
@@ -365,7 +367,7 @@ SearchesOnName =
 
 -- a beacon of this number
 abbrev pub beacon : ℕ → Fields
-beacon number = record (bare command.RsrvIsUp) { data_type = 13; count = 5064; p1 = number }
+beacon number = record (header_only command.RsrvIsUp) { data_type = 13; count = 5064; p1 = number }
 
 -- a client that searched for TEMP at 0, at the moment 10
 abbrev pub searching : Client
@@ -383,7 +385,7 @@ EchoThenClose =
     let echoed : Ticking =
     circuits_ticked 30000 named_on in let silent : Ticking = circuits_ticked 35000 echoed.core in
     ((circuits_ticked 29999 named_on).sent ≡ [])
-    × (map (λ (s : Sending). s.message) echoed.sent ≡ bare command.Echo ∷ [])
+    × (map (λ (s : Sending). s.message) echoed.sent ≡ header_only command.Echo ∷ [])
     × ((circuits_ticked 34999 echoed.core).sent ≡ []) × (length silent.closings ≡ 1)
     × (wanted silent.core ≡ wanted named)
     × (length (circuits_ticked 35000 named_on).closings ≡ 1)

@@ -10,7 +10,7 @@ use Rattle.ca_text.specs.declared.refusal.Refusal.TheVariants as refusal
 use Rattle.ca_text.specs.Limits.{output_limit}
 use Rattle.ca_wire.specs.Messages.{disconnect}
 use Rattle.ca_model.specs.ClientCalls.{ClientOpens, cancel_fault}
-use Rattle.ca_model.specs.Hears.{Completes, becomes, heard_by, without_request}
+use Rattle.ca_model.specs.Hears.{Completes, becomes, subscription_on, without_request}
 use Rattle.ca_model.specs.Server.{Server}
 use Rattle.ca_records.specs.Calls.{PostFault}
 use Rattle.ca_model.specs.ServerCalls.{Posts, disconnects}
@@ -89,7 +89,7 @@ CancelWaits =
 
 -- An update counts on the circuit on which its channel is live.
 abbrev pub UpdateElsewhere : Type 0
-UpdateElsewhere = heard_by subscribed second 65536 ≡ None
+UpdateElsewhere = subscription_on subscribed second 65536 ≡ None
 
 -- The reply to a request that is over tells nothing, and its IOID drains no more.
 abbrev pub LateReplyDrains : Type 0

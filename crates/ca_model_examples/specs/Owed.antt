@@ -6,7 +6,8 @@ use Rattle.ca_text.specs.Status.{normal}
 use Rattle.ca_dbr.specs.declared.value.Outcome.TheVariants as outcome
 use Rattle.ca_dbr.specs.Elements.{longs}
 use Rattle.ca_wire.specs.Fields.{Fields}
-use Rattle.ca_wire.specs.Messages.{bare, error_reply, failed_reply, put_request, status_reply}
+use Rattle.ca_wire.specs.Messages.{header_only, error_reply, failed_reply, put_request}
+use Rattle.ca_wire.specs.Messages.{status_reply}
 use Rattle.ca_wire.specs.Messages.{value_reply}
 use Rattle.ca_model.specs.Speech.{Is}
 use Rattle.ca_records.specs.Record.{RecordState}
@@ -188,7 +189,7 @@ answered_by_value value = world (temp_read value ∷ []) opened temp_and_setp
 -- An ECHO is due for each message.
 abbrev pub EchoDue : ℕ → Circuit → List Entry → Fields → List Fields → Option Fields → List Entry
     → Type 0
-EchoDue n c y m replies late logs = replies ≡ bare command.Echo ∷ []
+EchoDue n c y m replies late logs = replies ≡ header_only command.Echo ∷ []
 
 -- An entry is due.
 abbrev pub EntryDue : ℕ → Circuit → List Entry → Fields → List Fields → Option Fields → List Entry

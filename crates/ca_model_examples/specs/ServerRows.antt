@@ -24,7 +24,8 @@ use Rattle.ca_queue.specs.Waiting.{after_cancel, after_post, after_take, taken}
 use Rattle.ca_wire.specs.Fields.{Fields, padded}
 use Rattle.ca_wire.specs.Message.{spelling}
 use Rattle.ca_wire.specs.declared.requests.Wanted.{Wanted}
-use Rattle.ca_wire.specs.Messages.{bare, cancel_reply, cleared_reply, clear_request, create_request}
+use Rattle.ca_wire.specs.Messages.{header_only, cancel_reply, cleared_reply, clear_request}
+use Rattle.ca_wire.specs.Messages.{create_request}
 use Rattle.ca_wire.specs.Messages.{created_reply, disconnect, error_reply, event_add_request}
 use Rattle.ca_wire.specs.Messages.{event_cancel_request, failed_reply, no_cid, not_found_reply}
 use Rattle.ca_wire.specs.Messages.{put_request, read_request, rights_reply, search_reply}
@@ -306,7 +307,7 @@ abbrev pub VersionSpelled : Type 0
 VersionSpelled = spelling version_reply ≡ 0 ∷ 0 ∷ 0 ∷ 0 ∷ 0 ∷ 0 ∷ 0 ∷ 13 ∷ replicate 8 0
 
 abbrev pub EchoSpelled : Type 0
-EchoSpelled = spelling (bare command.Echo) ≡ 0 ∷ 23 ∷ replicate 14 0
+EchoSpelled = spelling (header_only command.Echo) ≡ 0 ∷ 23 ∷ replicate 14 0
 
 -- a search for TEMP with the CID 00010000, answered by a server on port 5064
 abbrev pub SearchSpelled : Type 0
@@ -352,7 +353,7 @@ PutSpelled =
 abbrev pub update_of : Wanted → RecordState → Option DataType → Fields
 update_of w r (Some t) =
     update_in w (record { value = r.value; meta = r.meta }) t (read_shown r (read_request w) t)
-update_of w r None = bare command.Error
+update_of w r None = header_only command.Error
 
 abbrev pub UpdateSpelled : Type 0
 UpdateSpelled =

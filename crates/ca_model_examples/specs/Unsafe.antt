@@ -7,7 +7,8 @@ use Rattle.ca_dbr.specs.declared.value.Outcome.{Outcome}
 use Rattle.ca_dbr.specs.declared.value.Outcome.TheVariants as outcome
 use Rattle.ca_wire.specs.Fields.{Fields}
 use Rattle.ca_dbr.specs.Elements.{longs}
-use Rattle.ca_wire.specs.Messages.{bare, cancel_reply, create_request, created_reply, disconnect}
+use Rattle.ca_wire.specs.Messages.{header_only, cancel_reply, create_request, created_reply}
+use Rattle.ca_wire.specs.Messages.{disconnect}
 use Rattle.ca_wire.specs.Messages.{event_cancel_request, put_request, rights_reply, status_reply}
 use Rattle.ca_wire.specs.Messages.{update, value_reply}
 use Rattle.ca_model.specs.Events.{Event}
@@ -124,10 +125,10 @@ finished busies more = Added 0 temp ∷ Applied 0 0 0 (long 22) busies ∷ Finis
 
 -- an ECHO, and its reply
 abbrev pub echo : Sent
-echo = record { message = bare command.Echo; intent = OfCircuit }
+echo = record { message = header_only command.Echo; intent = OfCircuit }
 
 abbrev pub echoed : ℕ → Told
-echoed place = reply place (bare command.Echo)
+echoed place = reply place (header_only command.Echo)
 
 abbrev pub echoes : List Sent → List Told → List Step → List Step → World
 echoes up down handled heard = world (circuit up down handled heard ∷ []) [] temp_there

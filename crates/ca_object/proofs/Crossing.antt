@@ -1,7 +1,7 @@
 -- What is owned at an object's pointer may cross to another thread if the object
 -- may. Assumes nothing.
 use base.Shift.{Keyless}
-use mir.Raw.{raw as bare}
+use mir.Raw.{raw as header_only}
 use denote.Memory.{lone}
 use denote.Param.Send.{IsSend}
 use denote.RattleType.{RattleType}
@@ -14,4 +14,4 @@ use Rattle.ca_object.specs.Owning.{owns_object}
 
 pub object-crosses : (R : RattleType) → IsSend R → (p : Ptr) (v : Option R.Denot) → Keyless (owns_object R p v)
 object-crosses R sent p None = tt
-object-crosses R sent p (Some x) = (lies R sent p x, chunk-Keyless (bare (lone R.mir)) p)
+object-crosses R sent p (Some x) = (lies R sent p x, chunk-Keyless (header_only (lone R.mir)) p)

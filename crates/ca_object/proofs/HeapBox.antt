@@ -3,7 +3,7 @@
 --     drops          how an allocator is dropped: nothing is done
 --     box_at         the box
 use Rattle.std.proofs.Common.{[], ◌∷◌, refl}
-use mir.Raw.{raw as bare}
+use mir.Raw.{raw as header_only}
 use mir.Syntax.{Dict, dnil, impl, tcons, tnil}
 use denote.Exit.{no}
 use denote.Param.{arg, layout}
@@ -15,10 +15,10 @@ use Rattle.std_heap.proofs.Global.TheLaws as heap_laws
 use Rattle.std_heap.specs.contracts.GlobalAllocator.TheImpl.{dict, ghosts}
 
 abbrev pub A : RattleType
-A = arg (bare (layout heap.the_row)) no heap.the_row
+A = arg (header_only (layout heap.the_row)) no heap.the_row
 
 abbrev pub A-laws : Laws A
-A-laws = arg_laws (bare (layout heap.the_row)) no heap.the_row heap_laws.the_row_laws refl
+A-laws = arg_laws (header_only (layout heap.the_row)) no heap.the_row heap_laws.the_row_laws refl
 
 abbrev pub drops : Dict
 drops = impl ("ca_object::Destruct++none::drop" ∷ []) (tcons (layout A) tnil) dnil

@@ -7,7 +7,7 @@ use seplogic.Ra.Ura.{Ura}
 use base.Fraction.{full_share}
 use base.Logic.{SProp, ent, guard_i, via, snd∗, fst∗, never}
 use contract.Monad.{fact, fact_mono, fact_use}
-use mir.Raw.{raw as bare}
+use mir.Raw.{raw as header_only}
 use mir.Val.{Val, vstruct, vcons, vnil, of_list, has_ty, WT}
 use types.Kit.{Goal, Item, Seq, Step, step, given, ‵, ◌$◌, drop, use1, learn, fsplit, fjoin, fpick, feq_l}
 use types.Logic.{Logic, sem}
@@ -52,7 +52,7 @@ module _ (R : RattleType) where
         → ((b o : ℕ) (x : R.Denot) → p ≡ block_ptr b o → v ≡ Some x → Testable (block_ptr b o) → Seq K 𝓛 (‵ (box_owns chunk R (block_ptr b o) x) ∷ Γ) G)
         → Seq K 𝓛 (‵ (owns_object R p v) ∷ Γ) G
     is_there t p None none one = feq_l t (λ at. none at refl)
-    is_there t p (Some x) none one = let ty = bare (lone R.mir) in
+    is_there t p (Some x) none one = let ty = header_only (lone R.mir) in
         in_a_block t p (λ q. box_owns chunk R q x) (fst∗ 𝓤 (never 𝓤) (sem 𝓛 (chunk ty null_ptr))) (λ b o at. let q = block_ptr b o in let owned : SProp 𝓤 = sem 𝓛 (box_owns chunk R q x) in
         let start : ent 𝓤 owned (fact 𝓤 (count_of q ≡ 0)) = via 𝓤 _ (snd∗ 𝓤 (sem 𝓛 (lies_at R full_share q x)) (sem 𝓛 (chunk ty q))) (chunk_start 𝓛 ty q) in
         let tested : ent 𝓤 owned (fact 𝓤 (Testable q)) = via 𝓤 _ start (fact_mono 𝓤 (count_of q ≡ 0) (Testable q) (λ none. subst (λ (n : ℕ). n < 2 ^ 63) (sym none) (lit< tt))) in

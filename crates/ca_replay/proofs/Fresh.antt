@@ -8,7 +8,7 @@ use Rattle.ca_text.specs.Place.{At}
 use Rattle.ca_text.proofs.Places.{At-after, At-append, At-snoc, At-within}
 use Rattle.ca_world_data.specs.Settings.{is_taken}
 use Rattle.ca_world_script.specs.Scripts.{Adds, Reading, SaysScript, nothing, reading}
-use Rattle.ca_world_script.specs.Servers.{TakesLine, bare}
+use Rattle.ca_world_script.specs.Servers.{TakesLine, header_only}
 use Rattle.ca_world_script.specs.declared.script.Script.{Script}
 use Rattle.ca_replay.specs.Settings.{AreFresh}
 
@@ -53,7 +53,7 @@ same-address server next words (inr takes) = ap (λ (s : ServerSetting). s.addre
 adds-fresh : (old new : Reading) (words : List (List ℕ)) → Adds old words new → AreFresh old.servers → AreFresh new.servers
 adds-fresh old new words (inl adds) fresh = subst (λ (r : Reading). AreFresh r.servers) (sym adds.after) fresh
 adds-fresh old new words (inr (inl adds)) fresh =
-    subst (λ (r : Reading). AreFresh r.servers) (sym adds.after) (fresh-more old.servers (bare adds.address) fresh adds.fresh)
+    subst (λ (r : Reading). AreFresh r.servers) (sym adds.after) (fresh-more old.servers (header_only adds.address) fresh adds.fresh)
 adds-fresh old new words (inr (inr (inl adds))) fresh =
     subst (λ (r : Reading). AreFresh r.servers) (sym adds.after) (fresh-again old.servers adds.others adds.server adds.next adds.last (same-address adds.server adds.next words adds.takes) fresh)
 adds-fresh old new words (inr (inr (inr (inl adds)))) fresh = subst (λ (r : Reading). AreFresh r.servers) (sym adds.after) fresh

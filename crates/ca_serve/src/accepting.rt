@@ -58,7 +58,7 @@ pub(crate) type Running<L> = IndexMap<u64, JoinHandle<Gathered<L>>>;
 #[derive(Drop)]
 struct Accepted<L: Ledger, D: Device> {
     shared: Arc<SharedServer<L, D>>,
-    line: CircuitSocket,
+    socket: CircuitSocket,
     number: u64,
     tally: Tally,
     // Whether the circuit is to be closed at once.
@@ -299,7 +299,7 @@ fn prepared<L: Ledger, D: Device>(
     let tally = shared.tally()?;
     let accepted = Accepted {
         shared,
-        line: CircuitSocket::new(alloc, stream, Arc::try_clone(&parker)?)?,
+        socket: CircuitSocket::new(alloc, stream, Arc::try_clone(&parker)?)?,
         number,
         tally,
         ends: Arc::try_clone(&is_to_end)?,
@@ -340,13 +340,13 @@ fn start_circuit<
 {
     let Accepted {
         shared,
-        line,
+        socket,
         number,
         tally,
         is_to_end,
         ends,
     } = accepted;
-    let work = CircuitThread::new(shared, line, circuit, number, tally, ends, share);
+    let work = CircuitThread::new(shared, socket, circuit, number, tally, ends, share);
     started_or_ended(rt, work, &is_to_end)
 }
 

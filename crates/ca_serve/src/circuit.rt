@@ -41,7 +41,7 @@ pub(crate) struct Gathered<L: Ledger> {
 #[derive(Drop)]
 pub(crate) struct CircuitThread<L: Ledger, D: Device> {
     shared: Arc<SharedServer<L, D>>,
-    line: CircuitSocket,
+    socket: CircuitSocket,
     circuit: Handle,
     number: u64,
     tally: Tally,
@@ -64,7 +64,7 @@ enum Turn {
 impl<L: Ledger, D: Device> CircuitThread<L, D> {
     pub(crate) fn new(
         shared: Arc<SharedServer<L, D>>,
-        line: CircuitSocket,
+        socket: CircuitSocket,
         circuit: Handle,
         number: u64,
         tally: Tally,
@@ -75,7 +75,7 @@ impl<L: Ledger, D: Device> CircuitThread<L, D> {
     {
         CircuitThread {
             shared,
-            line,
+            socket,
             circuit,
             number,
             tally,
@@ -93,14 +93,14 @@ impl<L: Ledger, D: Device> ThreadWork<Gathered<L>> for CircuitThread<L, D> {
     ) -> Gathered<L> {
         let CircuitThread {
             shared,
-            mut line,
+            mut socket,
             circuit,
             number,
             mut tally,
             is_to_end,
             mut share,
         } = self;
-        let is_joined = line.join(&shared.parking.registry, token_of(circuit));
+        let is_joined = socket.join(&shared.parking.registry, token_of(circuit));
         let mut moved = if is_joined && !is_to_end.load(Ordering::SeqCst) {
             SocketRead::Later
         } else {
@@ -111,7 +111,13 @@ impl<L: Ledger, D: Device> ThreadWork<Gathered<L>> for CircuitThread<L, D> {
         tally.begin();
         for _ in rt.forever() {
             let turn = turned(
-                rt, &shared, circuit, moved, &mut line, &mut share, &mut rings,
+                rt,
+                &shared,
+                circuit,
+                moved,
+                &mut socket,
+                &mut share,
+                &mut rings,
             );
             match turn {
                 Turn::Closed(left) => {
@@ -119,25 +125,32 @@ impl<L: Ledger, D: Device> ThreadWork<Gathered<L>> for CircuitThread<L, D> {
                     rings.ring_all(&shared.rung);
                     ring(&shared.accepting);
                     if !patience.is_over {
-                        write_left(rt, &shared, &mut line, left);
+                        write_left(rt, &shared, &mut socket, left);
                     }
                     break;
                 }
                 turn => {
-                    tally.count(line.taken());
-                    let before = line.written;
-                    let written = line.write();
-                    let took = line.written != before;
+                    tally.count(socket.taken());
+                    let before = socket.written;
+                    let written = socket.write();
+                    let took = socket.written != before;
                     rings.ring_all(&shared.rung);
                     let written = patience.after(rt, written, took);
                     let is_busy = took || matches!(moved, SocketRead::Count(_));
                     moved = go_on(
-                        rt, &shared, circuit, is_busy, &turn, written, &patience, &mut line,
+                        rt,
+                        &shared,
+                        circuit,
+                        is_busy,
+                        &turn,
+                        written,
+                        &patience,
+                        &mut socket,
                     );
                 }
             }
         }
-        if !line.is_parked() {
+        if !socket.is_parked() {
             shared.parking.give_back(rt);
         }
         note_gone(rt, &shared, number);
@@ -165,7 +178,7 @@ fn turned<L: Ledger, D: Device, R: Wait + Clock>(
     shared: &SharedServer<L, D>,
     circuit: Handle,
     moved: SocketRead,
-    line: &mut CircuitSocket,
+    socket: &mut CircuitSocket,
     share: &mut Share<L>,
     rings: &mut Rings,
 ) -> Turn
@@ -174,9 +187,9 @@ fn turned<L: Ledger, D: Device, R: Wait + Clock>(
 {
     let mut guard = shared.lock(rt);
     let locked = &mut *guard;
-    take_in(locked, circuit, moved, line.input.as_slice());
+    take_in(locked, circuit, moved, socket.input.as_slice());
     let turn = steps(rt, locked, &shared.slow, circuit, share, rings);
-    let turn = take_out(locked, circuit, turn, line);
+    let turn = take_out(locked, circuit, turn, socket);
     let is_given = !locked.busy.is_empty();
     rings.hand_over(&mut locked.rings);
     shared.note_writes(locked);
@@ -198,22 +211,22 @@ fn go_on<L: Ledger, D: Device, R: Wait + Clock + Net>(
     turn: &Turn,
     written: Written,
     patience: &Patience,
-    line: &mut CircuitSocket,
+    socket: &mut CircuitSocket,
 ) -> SocketRead {
-    if is_busy && line.is_parked() {
-        unpark(rt, shared, circuit, line);
+    if is_busy && socket.is_parked() {
+        unpark(rt, shared, circuit, socket);
     }
     match written {
         Written::Failed => SocketRead::Ended,
         Written::Some => {
             let registry = &shared.parking.registry;
-            if line.is_full(rt, registry, token_of(circuit), patience.left(rt)) {
-                park(rt, shared, circuit, line);
+            if socket.is_full(rt, registry, token_of(circuit), patience.left(rt)) {
+                park(rt, shared, circuit, socket);
             }
             SocketRead::Later
         }
         Written::All => match turn {
-            Turn::Idle => read(rt, shared, circuit, line),
+            Turn::Idle => read(rt, shared, circuit, socket),
             _ => SocketRead::Later,
         },
     }
@@ -225,15 +238,15 @@ fn read<L: Ledger, D: Device, R: Wait + Clock>(
     rt: &R,
     shared: &SharedServer<L, D>,
     circuit: Handle,
-    line: &mut CircuitSocket,
+    socket: &mut CircuitSocket,
 ) -> SocketRead {
-    match line.read() {
+    match socket.read() {
         SocketRead::Later => {
-            if line.is_idle(rt) {
-                park(rt, shared, circuit, line);
+            if socket.is_idle(rt) {
+                park(rt, shared, circuit, socket);
                 return SocketRead::Later;
             }
-            line.read()
+            socket.read()
         }
         moved => moved,
     }
@@ -304,7 +317,7 @@ fn take_out<L: Ledger>(
     locked: &mut LockedServer<L>,
     circuit: Handle,
     turn: Turn,
-    line: &mut CircuitSocket,
+    socket: &mut CircuitSocket,
 ) -> Turn {
     if let Turn::Closed(left) = turn {
         locked.bells.swap_remove(&circuit.index);
@@ -312,7 +325,7 @@ fn take_out<L: Ledger>(
         return Turn::Closed(left);
     }
     let is_pumped = locked.state.out_bytes(circuit).len() < OUTPUT_LIMIT;
-    let is_all = line.take_out(&mut locked.state, circuit)
+    let is_all = socket.take_out(&mut locked.state, circuit)
         || locked.state.out_bytes(circuit).is_empty();
     let is_idle = matches!(turn, Turn::Idle)
         && is_pumped
@@ -329,21 +342,21 @@ fn take_out<L: Ledger>(
 fn write_left<L: Ledger, D: Device, R: Wait + Clock>(
     rt: &R,
     shared: &SharedServer<L, D>,
-    line: &mut CircuitSocket,
+    socket: &mut CircuitSocket,
     left: Pipe,
 ) {
     let mut left = left;
     let mut waits = 0u32;
     for _ in rt.forever() {
-        line.take_left(&mut left);
-        let before = line.written;
-        match line.write() {
+        socket.take_left(&mut left);
+        let before = socket.written;
+        match socket.write() {
             Written::Failed => return,
             Written::All if left.bytes().is_empty() => return,
             Written::All => {}
             Written::Some => {
                 let is_ending = shared.locked.lock(rt).ending;
-                if line.written != before && !is_ending {
+                if socket.written != before && !is_ending {
                     waits = 0;
                 }
                 let most = if is_ending { WAITS_AT_END } else { WAITS };
@@ -351,7 +364,7 @@ fn write_left<L: Ledger, D: Device, R: Wait + Clock>(
                     return;
                 }
                 waits = waits.saturating_add(1);
-                line.pause(rt);
+                socket.pause(rt);
             }
         }
     }

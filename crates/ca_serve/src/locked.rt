@@ -319,11 +319,11 @@ fn reach<L: Ledger>(
     but: Option<Handle>,
     rings: &mut Rings,
 ) {
-    let Some(line) = state.watching(name) else {
+    let Some(watching) = state.watching(name) else {
         return;
     };
-    for place in 0..line.len() {
-        match line.at(place) {
+    for place in 0..watching.len() {
+        match watching.at(place) {
             Some(circuit) if Some(circuit) != but => take(bells, circuit, rings),
             _ => {}
         }

@@ -48,7 +48,7 @@ impl Parking {
         &self,
         rt: &R,
         alloc: Global,
-        line: &mut CircuitSocket,
+        socket: &mut CircuitSocket,
     ) -> Result<Arc<Waker>, Refusal> {
         let mut polls = self.polls.lock(rt);
         if *polls >= MOST_POLLS {
@@ -57,7 +57,7 @@ impl Parking {
         let (poll, waker) = new_poll(rt)?;
         let waker = Arc::new(alloc, waker)?;
         let events = Events::with_capacity(alloc, 4)?;
-        line.leave(Own { poll, events }, &self.registry)?;
+        socket.leave(Own { poll, events }, &self.registry)?;
         *polls += 1;
         Ok(waker)
     }
@@ -83,9 +83,9 @@ pub(crate) fn unpark<L: Ledger, D: Device, R: Wait + Net>(
     rt: &R,
     shared: &SharedServer<L, D>,
     circuit: Handle,
-    line: &mut CircuitSocket,
+    socket: &mut CircuitSocket,
 ) {
-    if let Ok(waker) = shared.parking.own(rt, shared.alloc, line) {
+    if let Ok(waker) = shared.parking.own(rt, shared.alloc, socket) {
         ring(&waker);
         hang(rt, shared, circuit, Some(waker));
     }
@@ -99,13 +99,13 @@ pub(crate) fn park<L: Ledger, D: Device, R: Wait>(
     rt: &R,
     shared: &SharedServer<L, D>,
     circuit: Handle,
-    line: &mut CircuitSocket,
+    socket: &mut CircuitSocket,
 ) {
-    if !line.join(&shared.parking.registry, token_of(circuit)) {
+    if !socket.join(&shared.parking.registry, token_of(circuit)) {
         return;
     }
     hang(rt, shared, circuit, None);
-    line.drop_own();
+    socket.drop_own();
     shared.parking.give_back(rt);
 }
 

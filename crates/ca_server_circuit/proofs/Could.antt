@@ -30,7 +30,7 @@ use Rattle.ca_records.specs.Record.{RecordState}
 use Rattle.ca_records.specs.Rules.{may_read, rights}
 use Rattle.ca_records.specs.Store.{Store, present, records_of}
 use Rattle.ca_wire.specs.Fields.{Fields}
-use Rattle.ca_wire.specs.Messages.{bare, cancel_reply, cleared_reply, error_reply, failed_reply, mask_in, no_cid, status_reply, text_in, value_reply, version_reply}
+use Rattle.ca_wire.specs.Messages.{header_only, cancel_reply, cleared_reply, error_reply, failed_reply, mask_in, no_cid, status_reply, text_in, value_reply, version_reply}
 use Rattle.ca_queue.specs.Keys.{is_among, same}
 use Rattle.ca_queue.specs.Queue.{added, posted}
 use Rattle.ca_model.specs.Due.{Action, Adds, Applies, CidTaken, Clears, Drops, Due, Greets, KnownChannel, Knows, Names, Nothing, PutReads, PutRefused, PutTaken, Serves, Switches, Waits, early_fault, fault_of_event, is_known, key_in, late_fault, must_wait, named, search_due, subscription_in}
@@ -416,7 +416,7 @@ module _ (port : ℕ) (s : Store) (h : Handle) (e : ServerEnd) (m : Fields) (sou
   part command.Version = done command.Version (if e.greeted then [] else version_reply ∷ []) Greets (let new : ServerEnd = record e { greeted = true } in new) (refl, refl) (λ y. refl) refl
   part command.ClientName = name-part command.ClientName (let p : Peer = record e.peer { user = text_in m.payload } in p) e.settled refl (λ a is. (refl, is))
   part command.HostName = name-part command.HostName (let p : Peer = record e.peer { host = text_in m.payload } in p) e.settled refl (λ a is. (refl, is))
-  part command.Echo = quiet command.Echo (bare command.Echo ∷ []) (refl, refl)
+  part command.Echo = quiet command.Echo (header_only command.Echo ∷ []) (refl, refl)
   part command.Search = quiet command.Search (search_due k m) (refl, refl)
   part command.CreateChannel = create (record_named (records_of s) (text_in m.payload)) refl
   part command.ReadNotify = read sought

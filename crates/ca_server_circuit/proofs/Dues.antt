@@ -5,7 +5,7 @@ use Rattle.ca_text.specs.Command.{command_number}
 use Rattle.ca_text.specs.declared.command.Command.{Command}
 use Rattle.ca_text.specs.declared.command.Command.TheVariants as command
 use Rattle.ca_wire.specs.Fields.{Fields}
-use Rattle.ca_wire.specs.Messages.{bare, cancel_reply, cleared_reply, error_reply, status_reply, text_in, version_reply}
+use Rattle.ca_wire.specs.Messages.{header_only, cancel_reply, cleared_reply, error_reply, status_reply, text_in, version_reply}
 use Rattle.ca_text.specs.Status.{bad_channel}
 use Rattle.ca_model.specs.Ends.{Peer}
 use Rattle.ca_model.specs.Due.{Action, Adds, Applies, Clears, Drops, Due, EventDue, Greets, IsCreated, IsNotCreated, Knows, Names, Nothing, Opens, PutDue, ReadDue, StrayDue, Switches, Waits, WriteDue, is_known, key_in, named, search_due}
@@ -21,7 +21,7 @@ abbrev pub IsDueFor : Knows → Fields → List Fields → Action → Command �
 IsDueFor k m r a command.Version = (r ≡ (if k.greeted then [] else version_reply ∷ [])) × (a ≡ Greets)
 IsDueFor k m r a command.ClientName = (r ≡ []) × (a ≡ named k (record k.peer { user = text_in m.payload }))
 IsDueFor k m r a command.HostName = (r ≡ []) × (a ≡ named k (record k.peer { host = text_in m.payload }))
-IsDueFor k m r a command.Echo = (r ≡ bare command.Echo ∷ []) × (a ≡ Nothing)
+IsDueFor k m r a command.Echo = (r ≡ header_only command.Echo ∷ []) × (a ≡ Nothing)
 IsDueFor k m r a command.Search = (r ≡ search_due k m) × (a ≡ Nothing)
 IsDueFor k m r a command.CreateChannel = Creates k m r a
 IsDueFor k m r a command.ReadNotify = Reads k m r a
@@ -138,7 +138,7 @@ module _ (m : Fields) where
   lack-search k is some r a due = needs-some r a (λ e. some (sym (due.search is).0 ∙ e))
 
   pub lack-echo : (k : Knows) → m.command ≡ command_number command.Echo → MayLack k m
-  lack-echo k is r a due = needs r a (bare command.Echo) [] (due.echo is).0
+  lack-echo k is r a due = needs r a (header_only command.Echo) [] (due.echo is).0
 
   pub lack-cancel : (k : Knows) → m.command ≡ command_number command.EventCancel → MayLack k m
   lack-cancel k is r a due = needs r a (cancel_reply m) [] (due.cancel is).0

@@ -11,7 +11,7 @@ use Rattle.ca_arena.specs.declared.handle.Handle.{Handle}
 use Rattle.ca_queue.specs.Keys.{same}
 use Rattle.ca_records.specs.Store.{Store}
 use Rattle.ca_wire.specs.Fields.{Fields}
-use Rattle.ca_wire.specs.Messages.{bare, cancel_reply, cleared_reply, text_in, version_reply}
+use Rattle.ca_wire.specs.Messages.{header_only, cancel_reply, cleared_reply, text_in, version_reply}
 use Rattle.ca_model.specs.Due.{Action, Clears, Drops, Due, Greets, Names, Nothing, Switches, is_known, key_in, named, search_due}
 use Rattle.ca_model.specs.Ends.{Peer}
 use Rattle.ca_model.specs.Server.{ServerEnd, with_events, without_subscriptions}
@@ -121,9 +121,9 @@ module _ (port : ℕ) (s : Store) (h : Handle) (e : ServerEnd) (m : Fields) wher
   does-host new is done =
       does-name new (record e.peer { host = text_in m.payload }) (ap (told_at m.p1) is) (λ a same. due-for (known port s e) m [] a command.HostName is refl refl (refl, same)) done
 
-  pub does-echo : (new : ServerEnd) → m.command ≡ command_number command.Echo → new ≡ replied (bare command.Echo ∷ []) e → Does DueHere s h e m (effect.Quiet told.Quiet) s new
+  pub does-echo : (new : ServerEnd) → m.command ≡ command_number command.Echo → new ≡ replied (header_only command.Echo ∷ []) e → Does DueHere s h e m (effect.Quiet told.Quiet) s new
   does-echo new is done =
-      does-reply new command.Echo is refl refl refl (record { replies = bare command.Echo ∷ []; due = (refl, refl); leaves = done })
+      does-reply new command.Echo is refl refl refl (record { replies = header_only command.Echo ∷ []; due = (refl, refl); leaves = done })
 
   pub does-search : (new : ServerEnd) → m.command ≡ command_number command.Search → new ≡ replied (search_due (known port s e) m) e → Does DueHere s h e m (effect.Quiet told.Quiet) s new
   does-search new is done =

@@ -188,10 +188,10 @@ module _ {K : Type 0} (bytes : K → List ℕ) where
 
   -- the first of a name
   pub enters-first : {S : Type 0} (m n : HashMap K (List Handle) S) (k : K) (name : List ℕ) (h : Handle) (w : List Handle) → channels_in (lines_in bytes m.entries) name ≡ [] → bytes k ≡ name → hash.UpdatesBy equal (equal k) m n (Some w) → w ≡ h ∷ [] → Enters name h (lines_in bytes m.entries) (lines_in bytes n.entries)
-  enters-first m n k name h w empty key u alone =
+  enters-first m n k name h w empty key u scalar =
       let v = subst (λ (t : List ℕ). hash.UpdatesBy equal (is_named t) m n (Some w)) key u in
       record {
-        own = λ below from parts are rest. own-is m n name (Some w) v ∙ alone ∙ only below from (sym parts ∙ empty);
+        own = λ below from parts are rest. own-is m n name (Some w) v ∙ scalar ∙ only below from (sym parts ∙ empty);
         stay = others-stay m n name (Some w) v;
       }
     where

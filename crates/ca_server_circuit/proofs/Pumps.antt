@@ -18,7 +18,7 @@ use Rattle.ca_dbr.specs.declared.data_type.DataType.{DataType}
 use Rattle.ca_dbr.specs.declared.data_type.Form.{Form}
 use Rattle.ca_dbr.specs.declared.data_type.Form.TheVariants as form
 use Rattle.ca_dbr.specs.Conversion.{Fails}
-use Rattle.ca_dbr.specs.Alone.{IsAlone}
+use Rattle.ca_dbr.specs.Scalar.{IsScalar}
 use Rattle.ca_dbr.specs.Elements.{Elements, base_of, bytes_8, count_of}
 use Rattle.ca_dbr.specs.Image.{image}
 use Rattle.ca_dbr.specs.Shown.{shown}
@@ -33,7 +33,7 @@ use Rattle.ca_wire.specs.Fields.{Fields}
 use Rattle.ca_wire.specs.Header.{header_spelling}
 use Rattle.ca_wire.specs.Message.{header_of, spelled, spelling}
 use Rattle.ca_wire.proofs.Headers.{length-header_spelling}
-use Rattle.ca_wire.specs.Messages.{alone, update}
+use Rattle.ca_wire.specs.Messages.{scalar, update}
 use Rattle.ca_model.specs.Server.{ServerEnd, key_of}
 use Rattle.ca_model.specs.ServerSteps.{Leaves, Rests, Update}
 use Rattle.ca_model.specs.Speech.{Stored}
@@ -42,7 +42,7 @@ use Rattle.ca_server_subscriptions.specs.Pumping.{GivesUpdate, MayGive}
 use Rattle.ca_server_subscriptions.specs.Subscribed.{IsAskable, Subscribed}
 use Rattle.ca_text.specs.Command.{command_number}
 use Rattle.ca_text.specs.declared.command.Command.TheVariants as command
-use Rattle.ca_server_circuit.specs.Pumping.{PumpsEnd, PumpsOne, update_alone}
+use Rattle.ca_server_circuit.specs.Pumping.{PumpsEnd, PumpsOne, scalar_update}
 use Rattle.ca_server_circuit.specs.Subscribing.{events_of}
 use Rattle.ca_server_circuit.proofs.Types.{type-of-number, typed-by}
 
@@ -303,9 +303,9 @@ one-asked zero n few one = one
 one-asked (suc zero) n few one = refl
 one-asked (suc (suc k)) n few one = absurd (omega (arith, few))
 
-pub shows-alone : (w : Wanted) (v : Stored) (n : ℕ) (e : Elements) → w.count ≤ 1 → e ≡ v.value → IsAlone e w.data_type n → ShowsTo w v (alone (update_alone w n))
+pub shows-scalar : (w : Wanted) (v : Stored) (n : ℕ) (e : Elements) → w.count ≤ 1 → e ≡ v.value → IsScalar e w.data_type n → ShowsTo w v (scalar (scalar_update w n))
 unfolding bytes_8
-shows-alone w v n e few same is =
+shows-scalar w v n e few same is =
     let t : DataType = record { base = base_of e; form = form.Plain } in
     let one : count_of v.value ≡ 1 = ap count_of (sym same) ∙ is.one in
     let asks : update_count w v ≡ 1 = one-asked w.count (count_of v.value) few one in
@@ -313,9 +313,9 @@ shows-alone w v n e few same is =
     ap (λ (x : Elements). shown x (update_count w v) (base_of e)) (sym same) ∙ ap (λ (k : ℕ). shown e k (base_of e)) asks ∙ is.shown in
     let made : ℕ → List ℕ → Fields =
     λ k p. record { command = command_number command.EventAdd; data_type = w.data_type; count = k; p1 = normal; p2 = w.id; payload = p } in
-    shows-update w v t (omega (arith, is.typed)) e (alone (update_alone w n)) shown-so
+    shows-update w v t (omega (arith, is.typed)) e (scalar (scalar_update w n)) shown-so
     (ap (λ (k : ℕ). made k (to_be_bytes w64 n)) (sym asks) ∙ ap (λ (p : List ℕ). made (update_count w v) p) (sym is.bytes))
 
-pub if-alone : (w : Wanted) (v : Stored) (e : Elements) (o : Option ℕ) → w.count ≤ 1 → e ≡ v.value → IfSome o (λ n. IsAlone e w.data_type n) → IfSome o (λ n. ShowsTo w v (alone (update_alone w n)))
-if-alone w v e (Some n) few same is = shows-alone w v n e few same is
-if-alone w v e None few same is = tt
+pub if-scalar : (w : Wanted) (v : Stored) (e : Elements) (o : Option ℕ) → w.count ≤ 1 → e ≡ v.value → IfSome o (λ n. IsScalar e w.data_type n) → IfSome o (λ n. ShowsTo w v (scalar (scalar_update w n)))
+if-scalar w v e (Some n) few same is = shows-scalar w v n e few same is
+if-scalar w v e None few same is = tt

@@ -79,7 +79,7 @@ served-read port s e new m reply seat i answers done = record {
     by (inr h) = (serves port s e m.p1 seat i, refl, inr (h.0, (h.1.0, h.1.1, h.1.2, h.1.3, ap (λ (x : Fields). x ∷ []) h.1.4)))
 
 -- what a read asks for, whatever its payload is
-same-fault : (r : RecordState) (bits : ℕ) (m : Fields) (c : ℕ) (o : Option DataType) → (let bare : Fields = record { command = c; data_type = m.data_type; count = m.count; p1 = m.p1; p2 = m.p2; payload = [] } in read_fault r bits bare o ≡ read_fault r bits m o)
+same-fault : (r : RecordState) (bits : ℕ) (m : Fields) (c : ℕ) (o : Option DataType) → (let header_only : Fields = record { command = c; data_type = m.data_type; count = m.count; p1 = m.p1; p2 = m.p2; payload = [] } in read_fault r bits header_only o ≡ read_fault r bits m o)
 same-fault r bits m c None = refl
 same-fault r bits m c (Some t) = refl
 

@@ -11,7 +11,7 @@ use Rattle.std.specs.Int.{to_be_bytes, w64}
 use Rattle.ca_dbr.specs.declared.data_type.BaseType.{BaseType}
 use Rattle.ca_dbr.specs.declared.data_type.BaseType.TheVariants as base
 use Rattle.ca_dbr.specs.declared.data_type.Form.TheVariants as form
-use Rattle.ca_dbr.specs.Alone.{IsAlone}
+use Rattle.ca_dbr.specs.Scalar.{IsScalar}
 use Rattle.ca_wire.specs.declared.requests.Wanted.{Wanted}
 use Rattle.ca_dbr.specs.declared.data_type.DataType.{DataType}
 use Rattle.ca_dbr.specs.Conversion.{Fails}
@@ -25,10 +25,10 @@ use Rattle.ca_records.specs.Faults.{first_fault, has_misfit, lacks_conversion}
 use Rattle.ca_records.specs.Record.{IsRecord, RecordState}
 use Rattle.ca_records.specs.Rules.{may_read}
 use Rattle.ca_wire.specs.Fields.{Fields}
-use Rattle.ca_wire.specs.Messages.{alone, read_request, status_reply, value_reply}
+use Rattle.ca_wire.specs.Messages.{scalar, read_request, status_reply, value_reply}
 use Rattle.ca_model.specs.Faults.{read_count, read_fault, read_shown, too_many, type_of}
 use Rattle.ca_server_circuit.specs.declared.read.ReadSize.{ReadSize}
-use Rattle.ca_server_circuit.specs.Showing.{AnswersRead, IsInOrder, ShowsRead, answer_alone, status_for}
+use Rattle.ca_server_circuit.specs.Showing.{AnswersRead, IsInOrder, ShowsRead, scalar_reply, status_for}
 use Rattle.ca_server_circuit.proofs.Types.{type-of-none, type-of-number}
 
 -- the faults of a read in order, by their tests
@@ -183,9 +183,9 @@ one-read zero n few one = one
 one-read (suc zero) n few one = refl
 one-read (suc (suc k)) n few one = absurd (omega arith)
 
-pub shows-alone : (r : RecordState) (rights : ℕ) (w : Wanted) (n : ℕ) (v : Elements) → IsRecord r → may_read rights ≡ true → w.count ≤ 1 → v ≡ r.value → IsAlone v w.data_type n → AnswersRead r rights (read_request w) (alone (answer_alone w n))
+pub shows-scalar : (r : RecordState) (rights : ℕ) (w : Wanted) (n : ℕ) (v : Elements) → IsRecord r → may_read rights ≡ true → w.count ≤ 1 → v ≡ r.value → IsScalar v w.data_type n → AnswersRead r rights (read_request w) (scalar (scalar_reply w n))
 unfolding bytes_8
-shows-alone r rights w n v recorded right few same is =
+shows-scalar r rights w n v recorded right few same is =
     let m : Fields = read_request w in
     let t : DataType = record { base = base_of v; form = form.Plain } in
     let typed : type_of m.data_type ≡ Some t = type-of-number t m.data_type (omega (arith, is.typed)) in
@@ -203,10 +203,10 @@ shows-alone r rights w n v recorded right few same is =
     } in
     let made : ℕ → List ℕ → Fields = λ k p. record { command = m.command; data_type = m.data_type; count = k; p1 = normal; p2 = m.p2; payload = p } in
     let shown-so : read_shown r m t ≡ Ok v = ap (λ (e : Elements). shown e (read_count r m) (base_of v)) (sym same) ∙ ap (λ (k : ℕ). shown v k (base_of v)) asks ∙ is.shown in
-    let reply : alone (answer_alone w n) ≡ value_reply m (count_of v) (image t v r.meta) = ap (λ (k : ℕ). made k (to_be_bytes w64 n)) (sym is.one) ∙ ap (λ (p : List ℕ). made (count_of v) p) (sym is.bytes) in
-    answers-shown r rights m a (alone (answer_alone w n)) order right (record { t = t; typed = typed; shows = inl (v, shown-so, reply) })
+    let reply : scalar (scalar_reply w n) ≡ value_reply m (count_of v) (image t v r.meta) = ap (λ (k : ℕ). made k (to_be_bytes w64 n)) (sym is.one) ∙ ap (λ (p : List ℕ). made (count_of v) p) (sym is.bytes) in
+    answers-shown r rights m a (scalar (scalar_reply w n)) order right (record { t = t; typed = typed; shows = inl (v, shown-so, reply) })
 
-pub if-alone : (r : RecordState) (rights : ℕ) (w : Wanted) (v : Elements) (o : Option ℕ) → IsRecord r → may_read rights ≡ true → w.count ≤ 1 → v ≡ r.value → IfSome o (λ n. IsAlone v w.data_type n)
-    → IfSome o (λ n. AnswersRead r rights (read_request w) (alone (answer_alone w n)))
-if-alone r rights w v (Some n) recorded right few same is = shows-alone r rights w n v recorded right few same is
-if-alone r rights w v None recorded right few same is = tt
+pub if-scalar : (r : RecordState) (rights : ℕ) (w : Wanted) (v : Elements) (o : Option ℕ) → IsRecord r → may_read rights ≡ true → w.count ≤ 1 → v ≡ r.value → IfSome o (λ n. IsScalar v w.data_type n)
+    → IfSome o (λ n. AnswersRead r rights (read_request w) (scalar (scalar_reply w n)))
+if-scalar r rights w v (Some n) recorded right few same is = shows-scalar r rights w n v recorded right few same is
+if-scalar r rights w v None recorded right few same is = tt

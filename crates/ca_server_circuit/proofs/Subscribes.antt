@@ -17,9 +17,9 @@ use Rattle.ca_model.specs.Faults.{subscribed_count, subscription_fault, too_many
 use Rattle.ca_server_circuit.proofs.Types.{type-of-none}
 
 -- the faults in order, by their tests
-abbrev five : (forbidden bare many lacks crowded : Bool) → Option ℕ
-five forbidden bare many lacks crowded =
-    first_fault ((forbidden, no_read_access) ∷ (bare, add_fail) ∷ (many, bad_count) ∷ (lacks, no_convert) ∷ (crowded, add_fail) ∷ [])
+abbrev five : (forbidden header_only many lacks crowded : Bool) → Option ℕ
+five forbidden header_only many lacks crowded =
+    first_fault ((forbidden, no_read_access) ∷ (header_only, add_fail) ∷ (many, bad_count) ∷ (lacks, no_convert) ∷ (crowded, add_fail) ∷ [])
 
 -- whether there is a conversion decides what is told
 pub lacks-none : (e : Elements) (b : BaseType) → (HasConversion (base_of e) b → ⊥) → lacks_conversion (converted e b) ≡ true

@@ -43,6 +43,6 @@ PumpsAt h (server.Open e) s new t =
 PumpsAt h (server.Ended w left) s new t = (new ≡ server.Ended w left) × (t ≡ s)
 
 -- the update that shows one element to whoever asked so, by these eight bytes
-abbrev pub update_alone : Wanted → ℕ → ScalarMessage
-update_alone w n =
+abbrev pub scalar_update : Wanted → ℕ → ScalarMessage
+scalar_update w n =
     record { command = command.EventAdd; data_type = w.data_type; id = w.id; payload = n }

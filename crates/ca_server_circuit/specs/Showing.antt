@@ -56,6 +56,6 @@ pub record ShowsRead (r : RecordState) (m reply : Fields) : Type 0 where
       ⊎ ((why : Refusal) × (read_shown r m t ≡ Err why) × (reply ≡ status_reply m (status_for why)))
 
 -- the answer to this read that shows one element by these eight bytes
-abbrev pub answer_alone : Wanted → ℕ → ScalarMessage
-answer_alone w n =
+abbrev pub scalar_reply : Wanted → ℕ → ScalarMessage
+scalar_reply w n =
     record { command = command.ReadNotify; data_type = w.data_type; id = w.id; payload = n }

@@ -11,12 +11,12 @@ use Rattle.ca_text.specs.Limits.{output_limit}
 use Rattle.ca_wire.specs.Fields.{Fields}
 use Rattle.ca_wire.specs.Stream.{BadAt, NoneBegins, NotBad}
 use Rattle.ca_wire.specs.Header.{header_spelling}
-use Rattle.ca_wire.specs.Messages.{bare}
+use Rattle.ca_wire.specs.Messages.{header_only}
 use Rattle.ca_wire.specs.declared.done.Done.{Done}
 use Rattle.ca_wire.specs.declared.header.Header.{Header}
 use Rattle.ca_wire.specs.declared.reading.Head.{Head}
 use Rattle.ca_wire.specs.declared.requests.Wanted.{Wanted}
-use Rattle.ca_wire.specs.Reading.{short_in}
+use Rattle.ca_wire.specs.Reading.{scalar_in}
 use Rattle.ca_text.specs.declared.command.Command.{Command}
 use Rattle.ca_text.specs.declared.command.Command.TheVariants as command
 use Rattle.ca_model.specs.Due.{Action, Due, Knows}
@@ -79,17 +79,17 @@ EndSteps port h e s (Breaks c) new t =
     × (t ≡ s)
 
 -- the end without its first message, of 24 bytes
-abbrev pub after_short : ServerEnd → ServerEnd
-after_short e = record e { link = with_rest (drop 24 e.link.input.bytes) e.link }
+abbrev pub after_scalar : ServerEnd → ServerEnd
+after_scalar e = record e { link = with_rest (drop 24 e.link.input.bytes) e.link }
 
 -- What is due by this relation was done for the first message, which is of this command, names
 -- this, and is 24 bytes.
-abbrev pub DoesShort : (Knows → Fields → List Fields → Action → Type 0) → Command → Wanted → Handle
+abbrev pub DoesScalar : (Knows → Fields → List Fields → Action → Type 0) → Command → Wanted → Handle
     → Store → ServerEnd → FollowUp → Store → ServerEnd → Type 0
-DoesShort D c w h s e did t new =
+DoesScalar D c w h s e did t new =
     (port : ℕ)
-    → Does (D (known port s (after_short e)) (short_in e.link.input.bytes c w)) s h (after_short e)
-    (short_in e.link.input.bytes c w) did t new
+    → Does (D (known port s (after_scalar e)) (scalar_in e.link.input.bytes c w)) s h
+    (after_scalar e) (scalar_in e.link.input.bytes c w) did t new
 
 -- What a fast path answers: none, and then nothing has changed; or what it did, which is
 -- a step as any other.
@@ -127,7 +127,7 @@ after_head head e =
 -- the ERROR with this CID that says this status, and quotes this header
 abbrev pub error_on : ℕ → ℕ → Header → Fields
 error_on cid status h =
-    record (bare command.Error) {
+    record (header_only command.Error) {
       p1 = cid;
       p2 = status;
       payload = header_spelling h ++ replicate 8 0;

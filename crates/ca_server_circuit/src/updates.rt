@@ -7,11 +7,11 @@ ghost use Rattle.ca_dbr.specs.Elements.{count_of};
 ghost use Rattle.ca_link.specs.Calls.{IsOpen};
 ghost use Rattle.ca_link.specs.Link.{with_sent};
 ghost use Rattle.ca_wire.specs.Fields.{Fields};
-ghost use Rattle.ca_wire.specs.Messages.{alone, update};
+ghost use Rattle.ca_wire.specs.Messages.{scalar, update};
 ghost use Rattle.ca_model.specs.Server.{concerns, with_post};
 ghost use Rattle.ca_model.specs.Updates.{ShowsTo};
 ghost use Rattle.ca_server_circuit.specs.AtOnce.{ShowsAtOnce};
-ghost use Rattle.ca_server_circuit.specs.Pumping.{PumpsEnd, PumpsOne, update_alone};
+ghost use Rattle.ca_server_circuit.specs.Pumping.{PumpsEnd, PumpsOne, scalar_update};
 ghost use Rattle.ca_server_subscriptions.specs.Subscribed.{IsAskable, is_on};
 
 use crate::end::End;
@@ -58,7 +58,7 @@ impl End {
         if self.link.is_full() {
             return false;
         }
-        let Some(wanted) = self.subscriptions.sole(of.name(), mask) else {
+        let Some(wanted) = self.subscriptions.only_one(of.name(), mask) else {
             return false;
         };
         match value_scalar(&wanted, of) {
@@ -153,12 +153,12 @@ fn show(alloc: Global, link: &mut Link, wanted: &Wanted, shown: &Update) -> Resu
 #[inline(always)]
 fn shown_scalar(wanted: &Wanted, shown: &Update) -> Option<u64>
     ensures { IfSome result (λ n.
-        ShowsTo wanted.now shown.now (alone (update_alone wanted.now n))) }
+        ShowsTo wanted.now shown.now (scalar (scalar_update wanted.now n))) }
 {
     if wanted.count > 1 {
         return None;
     }
-    shown.value().alone(wanted.data_type)
+    shown.value().scalar(wanted.data_type)
 }
 
 /// The eight bytes that show a record's value as a subscription asks, if it has one element, of the
@@ -166,12 +166,13 @@ fn shown_scalar(wanted: &Wanted, shown: &Update) -> Option<u64>
 #[inline(always)]
 fn value_scalar(wanted: &Wanted, of: &Record) -> Option<u64>
     ensures { IfSome result (λ n. ShowsTo wanted.now
-        (record { value = of.now.value; meta = of.now.meta }) (alone (update_alone wanted.now n))) }
+        (record { value = of.now.value; meta = of.now.meta })
+        (scalar (scalar_update wanted.now n))) }
 {
     if wanted.count > 1 {
         return None;
     }
-    of.value().alone(wanted.data_type)
+    of.value().scalar(wanted.data_type)
 }
 
 /// Puts an update of one element after what waits on an open link. Without memory the link is as it
@@ -181,7 +182,7 @@ fn value_scalar(wanted: &Wanted, of: &Record) -> Option<u64>
 fn send_scalar(link: &mut Link, wanted: &Wanted, payload: u64) -> Result<(), AllocError>
     requires { IsOpen link.old }
     ensures ok { OnOk result (link.new
-        ≡ with_sent (alone (update_alone wanted.now payload) ∷ []) link.old) }
+        ≡ with_sent (scalar (scalar_update wanted.now payload) ∷ []) link.old) }
     ensures err { OnErr result (link.new ≡ link.old) }
 {
     let said = ScalarMessage {

@@ -4,7 +4,7 @@ use Rattle.ca_arena.specs.declared.handle.Handle.{Handle}
 use Rattle.ca_ids.specs.Table.{under}
 use Rattle.ca_text.specs.declared.command.Command.TheVariants as command
 use Rattle.ca_wire.specs.Fields.{Fields}
-use Rattle.ca_wire.specs.Messages.{bare}
+use Rattle.ca_wire.specs.Messages.{header_only}
 use Rattle.ca_model.specs.Due.{Action, Nothing}
 use Rattle.ca_model.specs.Server.{Open, Server, ServerCircuit}
 use Rattle.ca_model.specs.ServerSteps.{Steps, StepsAt}
@@ -30,7 +30,7 @@ action_of old h new d = action_at old h new (under old.circuits h) d
 abbrev pub message_at : (old : Server) (h : Handle) (new : Server) (c : Option ServerCircuit)
     → StepsAt old h c steps.Handled new → Fields
 message_at old h new (Some (Open e)) d = d.0.m
-message_at old h new c d = bare command.Echo
+message_at old h new c d = header_only command.Echo
 
 -- the same under its own
 abbrev pub message_of : (old : Server) (h : Handle) (new : Server) → Steps old h steps.Handled new

@@ -22,7 +22,7 @@ use Rattle.ca_server_subscriptions.proofs.Sieves.{without-none, without-one}
 use Rattle.ca_server_subscriptions.specs.Pumping.{GivesUpdate}
 use Rattle.ca_server_subscriptions.specs.Subscribed.{ArePlaced, Standings, Subscribed, subscriptions_in}
 use Rattle.ca_server_subscriptions.specs.declared.waiting.Addressee.{Addressee}
-use Rattle.ca_server_subscriptions.specs.Owing.{AreEmpty, AreInOrder, AreSwitched, HasAlone, IsOwing, LosesNext, keys_of, with_owed}
+use Rattle.ca_server_subscriptions.specs.Owing.{AreEmpty, AreInOrder, AreSwitched, HasOnly, IsOwing, LosesNext, keys_of, with_owed}
 
 -- all but one
 abbrev others_of : SubKey → List Addressee → List Addressee
@@ -80,7 +80,7 @@ module _ {E : Type 0} where
 
   pub off-rests : (on empty : Bool) (a : Addressee) (owed : List Addressee) (v : E) (qs now : List (Queue E)) → IsOwing on empty (a ∷ owed) qs → on ≡ false → with_owed (a ∷ owed) v qs ≡ now → RestBefore now (length now)
   off-rests on empty a owed v qs now h off view =
-      let none : AreEmpty qs = h.quiet (h.alone 0 a refl).0 in
+      let none : AreEmpty qs = h.quiet (h.only_one 0 a refl).0 in
       subst (λ (rs : List (Queue E)). RestBefore rs (length rs)) (sym (laid-out (a ∷ owed) v qs h.apart none) ∙ view)
       (λ i r lt at.
       let m = At-mapped (owing (a ∷ owed) v) qs i r at in
@@ -108,8 +108,8 @@ module _ {E : Type 0} where
   owing-switched on was empty owed qs h = record {
     switched = λ i q at. (let m = At-mapped (switched on) qs i q at in ap (λ (x : Queue E). x.events_on) m.2);
     quiet = λ e. empty-switched on qs (h.quiet e);
-    alone = λ i a at.
-        let one = h.alone i a at in
+    only_one = λ i a at.
+        let one = h.only_one i a at in
         (one.0, (has-switched on qs a.queue a.key one.1.0, λ j has. one.1.1 j (had-switched on qs j a.key has)));
     apart = h.apart;
     ordered = h.ordered;
@@ -118,7 +118,7 @@ module _ {E : Type 0} where
   pub view-switched : (on was empty : Bool) (owed : List Addressee) (v : E) (qs : List (Queue E)) → IsOwing was empty owed qs → with_owed owed v (map (switched on) qs) ≡ map (switched on) (with_owed owed v qs)
   view-switched on was empty [] v qs h = refl
   view-switched on was empty (a ∷ owed) v qs h =
-      let none : AreEmpty qs = h.quiet (h.alone 0 a refl).0 in
+      let none : AreEmpty qs = h.quiet (h.only_one 0 a refl).0 in
       laid-out (a ∷ owed) v (map (switched on) qs) h.apart (empty-switched on qs none)
       ∙ map-both (owing (a ∷ owed) v) (switched on) qs
       ∙ sym (map-both (switched on) (owing (a ∷ owed) v) qs)
@@ -144,9 +144,9 @@ module _ {E : Type 0} where
   owing-without key on empty owed left qs h is = subst (λ (bs : List Addressee). IsOwing on empty bs (without_each (same key) qs)) (sym is) (record {
     switched = on-map on (queue_without (same key)) (without-on key) qs h.switched;
     quiet = λ e. empty-without key qs (h.quiet e);
-    alone = λ i a at.
+    only_one = λ i a at.
         let f = filtered-later (λ (b : Addressee). not (same key b.key)) owed i a at in
-        let one = h.alone f.0 a f.2 in
+        let one = h.only_one f.0 a f.2 in
         let differs = differs-at (same key a.key) f.3 in
         let (q, at-q, some) = one.1.0 in (
           one.0,
@@ -221,7 +221,7 @@ module _ {E : Type 0} where
       → with_owed left v (without_each (same key) qs) ≡ without_each (same key) (with_owed owed v qs)
   view-without key on empty [] left v qs h is = ap (λ (bs : List Addressee). with_owed bs v (without_each (same key) qs)) is
   view-without key on empty (a ∷ owed) left v qs h is =
-      let none : AreEmpty qs = h.quiet (h.alone 0 a refl).0 in
+      let none : AreEmpty qs = h.quiet (h.only_one 0 a refl).0 in
       let after = owing-without key on empty (a ∷ owed) (others_of key (a ∷ owed)) qs h refl in
       ap (λ (bs : List Addressee). with_owed bs v (without_each (same key) qs)) is
       ∙ laid-out (others_of key (a ∷ owed)) v (without_each (same key) qs) after.apart (empty-without key qs none)

@@ -77,10 +77,10 @@ module _ {K : Type 0} (bytes : K → List ℕ) where
 
   -- the first is on a record
   pub adds-first : {S : Type 0} (m n : HashMap K (List Receiver) S) (k : K) (name : List ℕ) (r : Receiver) (w : List Receiver) → receivers_in (lines_in bytes m.entries) name ≡ [] → bytes k ≡ name → hash.UpdatesBy equal (equal k) m n (Some w) → w ≡ r ∷ [] → Adds name r (lines_in bytes m.entries) (lines_in bytes n.entries)
-  adds-first m n k name r w empty key u alone =
+  adds-first m n k name r w empty key u only_one =
       let v = subst (λ (t : List ℕ). hash.UpdatesBy equal (is_named t) m n (Some w)) key u in
       record {
-        own = own-is m n name (Some w) v ∙ alone ∙ ap (λ (rs : List Receiver). rs ++ r ∷ []) (sym empty);
+        own = own-is m n name (Some w) v ∙ only_one ∙ ap (λ (rs : List Receiver). rs ++ r ∷ []) (sym empty);
         stay = others-stay m n name (Some w) v;
       }
 

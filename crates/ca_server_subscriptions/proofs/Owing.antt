@@ -19,7 +19,7 @@ use Rattle.ca_queue.proofs.Keys.{other_sym}
 use Rattle.ca_server_subscriptions.proofs.Dropping.{filtered-later}
 use Rattle.ca_server_subscriptions.proofs.Sieves.{without-none, without-one}
 use Rattle.ca_server_subscriptions.specs.declared.waiting.Addressee.{Addressee}
-use Rattle.ca_server_subscriptions.specs.Owing.{AreEmpty, AreInOrder, AreOn, AreSwitched, HasAlone, IsNext, IsOwing, LosesNext, MayBegin, keys_of, with_owed}
+use Rattle.ca_server_subscriptions.specs.Owing.{AreEmpty, AreInOrder, AreOn, AreSwitched, HasOnly, IsNext, IsOwing, LosesNext, MayBegin, keys_of, with_owed}
 
 -- ---- lists
 
@@ -159,7 +159,7 @@ module _ {E : Type 0} where
   none-owed on empty owed qs none are quiet = subst (λ (xs : List Addressee). IsOwing on empty xs qs) (sym none) (record {
     switched = are;
     quiet = quiet;
-    alone = λ i a at. nothing i a at;
+    only_one = λ i a at. nothing i a at;
     apart = tt;
     ordered = tt;
   })
@@ -272,9 +272,9 @@ module _ {E : Type 0} where
 
   -- ---- the first of them is the next to be taken
 
-  module _ (a : Addressee) (owed : List Addressee) (v : E) (qs : List (Queue E)) (on : AreOn qs) (empty : AreEmpty qs) (alone : (i : ℕ) (b : Addressee) → At (a ∷ owed) i b → HasAlone qs b.queue b.key) (ordered : AreInOrder (a ∷ owed)) where
-    abbrev one : HasAlone qs a.queue a.key
-    one = alone 0 a refl
+  module _ (a : Addressee) (owed : List Addressee) (v : E) (qs : List (Queue E)) (on : AreOn qs) (empty : AreEmpty qs) (only_one : (i : ℕ) (b : Addressee) → At (a ∷ owed) i b → HasOnly qs b.queue b.key) (ordered : AreInOrder (a ∷ owed)) where
+    abbrev one : HasOnly qs a.queue a.key
+    one = only_one 0 a refl
 
     abbrev q : Queue E
     q = one.0.0
@@ -283,7 +283,7 @@ module _ {E : Type 0} where
     at = one.0.1
 
     -- a queue before its has none of them
-    before : (i : ℕ) (m : Queue E) → i < a.queue → At qs i m → (bs : List Addressee) → ((j : ℕ) (b : Addressee) → At bs j b → HasAlone qs b.queue b.key × (a.queue ≤ b.queue))
+    before : (i : ℕ) (m : Queue E) → i < a.queue → At qs i m → (bs : List Addressee) → ((j : ℕ) (b : Addressee) → At bs j b → HasOnly qs b.queue b.key × (a.queue ≤ b.queue))
         → filter (λ (b : Addressee). is_among b.key m.subscriptions) bs ≡ []
     before i m lt at-m [] all = refl
     before i m lt at-m (b ∷ bs) all = elim (cases_Bool (is_among b.key m.subscriptions)) [
@@ -294,9 +294,9 @@ module _ {E : Type 0} where
       | inr none ↦ rw none (before i m lt at-m bs (λ j c at-c. all (suc j) c at-c))
     ]
 
-    behind : (i : ℕ) (b : Addressee) → At (a ∷ owed) i b → HasAlone qs b.queue b.key × (a.queue ≤ b.queue)
-    behind zero b at-b = (alone 0 b at-b, subst (λ (x : Addressee). a.queue ≤ x.queue) (some_is a b at-b) (omega arith))
-    behind (suc i) b at-b = (alone (suc i) b at-b, ordered.0 i b at-b)
+    behind : (i : ℕ) (b : Addressee) → At (a ∷ owed) i b → HasOnly qs b.queue b.key × (a.queue ≤ b.queue)
+    behind zero b at-b = (only_one 0 b at-b, subst (λ (x : Addressee). a.queue ≤ x.queue) (some_is a b at-b) (omega arith))
+    behind (suc i) b at-b = (only_one (suc i) b at-b, ordered.0 i b at-b)
 
     front : (owing (a ∷ owed) v q).waiting ≡ (a.key, v) ∷ its owed v q
     front =
@@ -339,15 +339,15 @@ module _ {E : Type 0} where
 
   pub owed-takes : (on empty : Bool) (a : Addressee) (owed : List Addressee) (v : E) (qs : List (Queue E)) → IsOwing on empty (a ∷ owed) qs → on ≡ true → Takes (with_owed (a ∷ owed) v qs) (Some (a.queue, a.key, v)) (with_owed owed v qs)
   owed-takes on empty a owed v qs h is =
-      let none : AreEmpty qs = h.quiet (h.alone 0 a refl).0 in
+      let none : AreEmpty qs = h.quiet (h.only_one 0 a refl).0 in
       let all : AreOn qs = subst (λ (b : Bool). AreSwitched b qs) is h.switched in
       subst (λ (rs : List (Queue E)). Takes rs (Some (a.queue, a.key, v)) (with_owed owed v qs)) (sym (laid-out (a ∷ owed) v qs h.apart none))
       (subst (λ (rs : List (Queue E)). Takes (map (owing (a ∷ owed) v) qs) (Some (a.queue, a.key, v)) rs) (sym (laid-out owed v qs h.apart.1 none))
-      (owing-takes a owed v qs all none (λ i b at. (h.alone i b at).1) h.ordered))
+      (owing-takes a owed v qs all none (λ i b at. (h.only_one i b at).1) h.ordered))
 
   pub owed-rest : (on empty : Bool) (a : Addressee) (owed : List Addressee) (qs : List (Queue E)) → IsOwing on empty (a ∷ owed) qs → IsOwing on empty owed qs
   owed-rest on empty a owed qs h =
-      record { switched = h.switched; quiet = h.quiet; alone = λ i b at. h.alone (suc i) b at; apart = h.apart.1; ordered = h.ordered.1 }
+      record { switched = h.switched; quiet = h.quiet; only_one = λ i b at. h.only_one (suc i) b at; apart = h.apart.1; ordered = h.ordered.1 }
 
   pub owed-next : (on empty : Bool) (owed : List Addressee) (a : Addressee) (v : E) (qs now : List (Queue E)) → IsOwing on empty owed qs → on ≡ true → At owed 0 a → with_owed owed v qs ≡ now → IsNext now a.key v
   owed-next on empty [] a v qs now h is at view = absurd cc
@@ -364,11 +364,11 @@ module _ {E : Type 0} where
       subst (λ (rs : List (Queue E)). LosesNext rs (with_owed owed v qs)) view (Some (a.queue, a.key, v), owed-takes on empty a owed v qs h is)
 
   -- one that waits alone
-  pub one-takes : (place : ℕ) (key : SubKey) (v : E) (qs : List (Queue E)) → AreOn qs → AreEmpty qs → HasAlone qs place key → Takes (map (queue_posted key v) qs) (Some (place, key, v)) qs
-  one-takes place key v qs on empty alone = owed-takes true true its_own [] v qs (record {
+  pub one-takes : (place : ℕ) (key : SubKey) (v : E) (qs : List (Queue E)) → AreOn qs → AreEmpty qs → HasOnly qs place key → Takes (map (queue_posted key v) qs) (Some (place, key, v)) qs
+  one-takes place key v qs on empty only_one = owed-takes true true its_own [] v qs (record {
     switched = on;
     quiet = λ e. empty;
-    alone = λ i a at. (refl, by i a at);
+    only_one = λ i a at. (refl, by i a at);
     apart = (refl, tt);
     ordered = (λ i b at. absurd cc, tt);
   }) refl
@@ -376,8 +376,8 @@ module _ {E : Type 0} where
       its_own : Addressee
       its_own = record { queue = place; key = key }
 
-      by : (i : ℕ) (a : Addressee) → At (its_own ∷ []) i a → HasAlone qs a.queue a.key
-      by zero a at = subst (λ (x : Addressee). HasAlone qs x.queue x.key) (some_is its_own a at) alone
+      by : (i : ℕ) (a : Addressee) → At (its_own ∷ []) i a → HasOnly qs a.queue a.key
+      by zero a at = subst (λ (x : Addressee). HasOnly qs x.queue x.key) (some_is its_own a at) only_one
       by (suc i) a at = absurd cc
 
   pub front-loses : (P : Type 0) (Q : Addressee → Type 0) (on empty : Bool) (front : Option Addressee) (owed rest : List Addressee) (v : E) (qs now : List (Queue E)) → IsOwing on empty owed qs → on ≡ true

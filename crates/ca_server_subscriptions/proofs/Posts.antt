@@ -17,7 +17,7 @@ use Rattle.ca_server_subscriptions.proofs.Receivers.{drop-at, receiver-has}
 use Rattle.ca_server_subscriptions.specs.ByRecord.{ArePlacedIn, Receiver, is_masked, receiver_of, receivers_of}
 use Rattle.ca_server_subscriptions.specs.Subscribed.{ArePlaced, Standings, is_on, keys_in}
 use Rattle.ca_server_subscriptions.specs.declared.waiting.Addressee.{Addressee}
-use Rattle.ca_server_subscriptions.specs.Owing.{AreCopies, AreEmpty, AreInOrder, AreSwitched, HasAlone, IsOwing, addressee_of, keys_of, with_owed}
+use Rattle.ca_server_subscriptions.specs.Owing.{AreCopies, AreEmpty, AreInOrder, AreSwitched, HasOnly, IsOwing, addressee_of, keys_of, with_owed}
 
 -- a post to nobody
 pub nobody : (mask : ℕ) (rs : List Receiver) → list_any (is_masked mask) rs ≡ false → filter (is_masked mask) rs ≡ []
@@ -46,11 +46,11 @@ pub owes : (on empty : Bool) (owed : List Addressee) (rs : List Receiver) (mask 
 owes on empty owed rs mask qs switched is none (es, name, p, are) order all = subst (λ (bs : List Addressee). IsOwing on empty bs qs) (sym all) (record {
   switched = switched;
   quiet = λ e. none;
-  alone = λ i a at.
+  only_one = λ i a at.
       let m = At-mapped addressee_of (filter (is_masked mask) rs) i a at in
       let f = filtered-later (is_masked mask) rs i m.0 m.1 in
       let has = receiver-has es qs name f.0 m.0 p (subst (λ (xs : List Receiver). At xs f.0 m.0) are f.2) in
-      (is, subst (λ (x : Addressee). HasAlone qs x.queue x.key) (sym m.2) (has, λ j also. p.one j m.0.queue m.0.key also has));
+      (is, subst (λ (x : Addressee). HasOnly qs x.queue x.key) (sym m.2) (has, λ j also. p.one j m.0.queue m.0.key also has));
   apart =
       subst (λ (ks : List SubKey). AreApart ks) (sym (map-both (λ (a : Addressee). a.key) addressee_of (filter (is_masked mask) rs)))
       (apart-some (λ (r : Receiver). r.key) (is_masked mask) rs (subst (λ (xs : List Receiver). AreApart (map (λ (r : Receiver). r.key) xs)) (sym are) (keys-apart es name p.apart)));

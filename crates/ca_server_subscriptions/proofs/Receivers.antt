@@ -20,7 +20,7 @@ use Rattle.ca_model.specs.Server.{Subscription, concerns, key_of}
 use Rattle.ca_model.specs.Speech.{Stored, share_bit}
 use Rattle.ca_server_subscriptions.proofs.Placing.{Entry, Q, alike-posted, all-other, filtered-at, has-none, other, placed-alike}
 use Rattle.ca_server_subscriptions.proofs.Sieves.{each-none, without-one}
-use Rattle.ca_server_subscriptions.specs.ByRecord.{Adds, AreByRecord, ArePlacedIn, Drops, IsSole, Lines, Receiver, is_masked, receiver_of, receivers_in, receivers_of, without}
+use Rattle.ca_server_subscriptions.specs.ByRecord.{Adds, AreByRecord, ArePlacedIn, Drops, IsOnlyOne, Lines, Receiver, is_masked, receiver_of, receivers_in, receivers_of, without}
 use Rattle.ca_server_subscriptions.specs.Subscribed.{AreAskable, ArePlaced, IsAskable, Standings, is_on, keys_in, subscriptions_in}
 
 -- ---- those on a record
@@ -296,8 +296,8 @@ askable-left key es left all were i x at =
 
 -- ---- the only one on a record
 
-pub none-sole : (es : Standings) → IsSole None es
-none-sole es place e is at = absurd (nothing place is)
+pub none-only_one : (es : Standings) → IsOnlyOne None es
+none-only_one es place e is at = absurd (nothing place is)
   where
     nothing : (n : ℕ) → (let none : Option ℕ = None in none ≡ Some n) → ⊥
     nothing n is = cc
@@ -335,23 +335,23 @@ one-on name (x ∷ es) (suc place) e at on one = by (is_on name x.1.0) refl (one
         let shown : receivers_of name (x ∷ es) ≡ receivers_of name es = rw there refl in
         shown ∙ rest (sym (ap (λ (rs : List Receiver). length rs) shown) ∙ one)
 
-pub sole-found : (name : List ℕ) (es : Standings) (place : ℕ) (e : Entry) → At es place e → is_on name e.1.0 ≡ true → length (receivers_of name es) ≡ 1 → IsSole (Some place) es
-sole-found name es place e at on one p x is there =
+pub only_one-found : (name : List ℕ) (es : Standings) (place : ℕ) (e : Entry) → At es place e → is_on name e.1.0 ≡ true → length (receivers_of name es) ≡ 1 → IsOnlyOne (Some place) es
+only_one-found name es place e at on one p x is there =
     let same_place : place ≡ p = some_is place p is in
     let own : x ≡ e = At-one es place x e (subst (λ (n : ℕ). At es n x) (sym same_place) there) at in
     subst (λ (y : Entry). receivers_of y.1.0.name es ≡ receiver_of y ∷ []) (sym own)
     (subst (λ (t : List ℕ). receivers_of t es ≡ receiver_of e ∷ []) (sym ((bytes_eq-Decides e.1.0.name name).0 on)) (one-on name es place e at on one))
 
-pub sole-on : (sole : Option ℕ) (name : List ℕ) (es : Standings) (place : ℕ) (e : Entry) → IsSole sole es → sole ≡ Some place → At es place e → is_on name e.1.0 ≡ true → receivers_of name es ≡ receiver_of e ∷ []
-sole-on sole name es place e s is at on = subst (λ (t : List ℕ). receivers_of t es ≡ receiver_of e ∷ []) ((bytes_eq-Decides e.1.0.name name).0 on) (s place e is at)
+pub only_one-on : (only_one : Option ℕ) (name : List ℕ) (es : Standings) (place : ℕ) (e : Entry) → IsOnlyOne only_one es → only_one ≡ Some place → At es place e → is_on name e.1.0 ≡ true → receivers_of name es ≡ receiver_of e ∷ []
+only_one-on only_one name es place e s is at on = subst (λ (t : List ℕ). receivers_of t es ≡ receiver_of e ∷ []) ((bytes_eq-Decides e.1.0.name name).0 on) (s place e is at)
 
 module _ (name : List ℕ) (es : Standings) (r : Receiver) (are : receivers_of name es ≡ r ∷ []) where
-  pub sole-has : (qs : List Q) → ArePlaced es qs → HasAt qs r.queue r.key
-  sole-has qs p = receiver-has es qs name 0 r p (ap (λ (rs : List Receiver). slice_get rs 0) are)
+  pub only_one-has : (qs : List Q) → ArePlaced es qs → HasAt qs r.queue r.key
+  only_one-has qs p = receiver-has es qs name 0 r p (ap (λ (rs : List Receiver). slice_get rs 0) are)
 
-  pub sole-posts : (mask : ℕ) (v : Stored) (qs now : List Q) → ((i : ℕ) (e : Entry) → At es i e → e.0 ≡ key_of e.1.0) → now ≡ cond (is_masked mask r) (map (queue_posted r.key v) qs) qs
+  pub only_one-posts : (mask : ℕ) (v : Stored) (qs now : List Q) → ((i : ℕ) (e : Entry) → At es i e → e.0 ≡ key_of e.1.0) → now ≡ cond (is_masked mask r) (map (queue_posted r.key v) qs) qs
       → now ≡ fold (λ (rs : List Q) (x : Subscription). map (queue_posted (key_of x) v) rs) qs (filter (concerns name mask) (subscriptions_in es))
-  sole-posts mask v qs now keyed did =
+  only_one-posts mask v qs now keyed did =
       did ∙ by (is_masked mask r)
       ∙ ap (λ (rs : List Receiver). fold (λ (zs : List Q) (x : Receiver). map (queue_posted x.key v) zs) qs (filter (is_masked mask) rs)) (sym are)
       ∙ posts-all name mask v es qs keyed
@@ -360,8 +360,8 @@ module _ (name : List ℕ) (es : Standings) (r : Receiver) (are : receivers_of n
       by true = refl
       by false = refl
 
-  pub sole-is-on : list_any (is_on name) (subscriptions_in es) ≡ true
-  sole-is-on = any-on name es ∙ ap (λ (rs : List Receiver). list_any (λ (x : Receiver). true) rs) are
+  pub only_one-is-on : list_any (is_on name) (subscriptions_in es) ≡ true
+  only_one-is-on = any-on name es ∙ ap (λ (rs : List Receiver). list_any (λ (x : Receiver). true) rs) are
 
-  pub sole-concerned : (mask : ℕ) → is_masked mask r ≡ true → list_any (concerns name mask) (subscriptions_in es) ≡ true
-  sole-concerned mask masked = any-concerned name mask es ∙ ap (λ (rs : List Receiver). list_any (is_masked mask) rs) are ∙ ap (λ (b : Bool). b || false) masked
+  pub only_one-concerned : (mask : ℕ) → is_masked mask r ≡ true → list_any (concerns name mask) (subscriptions_in es) ≡ true
+  only_one-concerned mask masked = any-concerned name mask es ∙ ap (λ (rs : List Receiver). list_any (is_masked mask) rs) are ∙ ap (λ (b : Bool). b || false) masked

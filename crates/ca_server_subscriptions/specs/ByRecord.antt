@@ -84,13 +84,13 @@ ArePlacedIn rs qs =
     (es : Standings) × (name : List ℕ) × ArePlaced es qs × (rs ≡ receivers_of name es)
 
 -- whoever is at this place is the only one on its record
-abbrev pub IsSole : Option ℕ → Standings → Type 0
-IsSole sole es =
-    (place : ℕ) (e : SubKey × (Subscription × ℕ)) → sole ≡ Some place → At es place e
+abbrev pub IsOnlyOne : Option ℕ → Standings → Type 0
+IsOnlyOne only_one es =
+    (place : ℕ) (e : SubKey × (Subscription × ℕ)) → only_one ≡ Some place → At es place e
     → receivers_of e.1.0.name es ≡ receiver_of e ∷ []
 
 -- it is the only one on the record of this name, and is under its key
-abbrev pub IsAloneOn : (name : List ℕ) → Subscription × ℕ → Standings → Type 0
-IsAloneOn name of es =
+abbrev pub IsOnlyOn : (name : List ℕ) → Subscription × ℕ → Standings → Type 0
+IsOnlyOn name of es =
     (key : SubKey) × (receivers_of name es ≡ receiver_of (key, of) ∷ [])
     × (lookup (same key) es ≡ Some of)

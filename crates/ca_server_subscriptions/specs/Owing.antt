@@ -48,15 +48,15 @@ module _ {E : Type 0} where
   AreEmpty qs = (i : ℕ) (q : Queue E) → At qs i q → q.waiting ≡ []
 
   -- the queue at a place has the subscription, and no other has it
-  abbrev pub HasAlone : List (Queue E) → ℕ → SubKey → Type 0
-  HasAlone qs place key = HasAt qs place key × ((i : ℕ) → HasAt qs i key → i ≡ place)
+  abbrev pub HasOnly : List (Queue E) → ℕ → SubKey → Type 0
+  HasOnly qs place key = HasAt qs place key × ((i : ℕ) → HasAt qs i key → i ≡ place)
 
   -- What holds of the queues: whether events are on, whether nothing waits in them, and whom the
   -- update beside them is for.
   pub record IsOwing (on empty : Bool) (owed : List Addressee) (qs : List (Queue E)) : Type 0 where
     pub switched : AreSwitched on qs
     pub quiet : empty ≡ true → AreEmpty qs
-    pub alone : (i : ℕ) (a : Addressee) → At owed i a → (empty ≡ true) × HasAlone qs a.queue a.key
+    pub only_one : (i : ℕ) (a : Addressee) → At owed i a → (empty ≡ true) × HasOnly qs a.queue a.key
     pub apart : AreApart (keys_of owed)
     pub ordered : AreInOrder owed
 

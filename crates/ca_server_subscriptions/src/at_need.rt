@@ -208,13 +208,13 @@ impl SubscriptionsAtNeed {
     /// post with this mask concerns it, and nothing waits while events are on: its update would be
     /// the next to be taken, and would leave all as it is. None says nothing.
     #[inline(always)]
-    pub fn sole(&mut self, name: &[u8], mask: u16) -> Option<Wanted>
+    pub fn only_one(&mut self, name: &[u8], mask: u16) -> Option<Wanted>
         ensures passes { IfSome result (λ w. PassesBy name.now mask w self.old) }
         ensures askable { IfSome result (λ w. IsAskable w) }
         ensures stays { self.new ≡ self.old }
     {
         match &mut self.kept {
-            Some(subscriptions) => subscriptions.sole(name, mask),
+            Some(subscriptions) => subscriptions.only_one(name, mask),
             None => None,
         }
     }

@@ -13,7 +13,7 @@ ghost use Rattle.ca_server_subscriptions.specs.Concerned.{ConcernsAt};
 ghost use Rattle.ca_queue.specs.Circuit.{RestBefore, queue_posted};
 ghost use Rattle.ca_model.specs.Speech.{Stored};
 ghost use Rattle.ca_wire.specs.declared.requests.Wanted.{Wanted};
-ghost use Rattle.ca_server_subscriptions.specs.ByRecord.{IsAloneOn, IsSole, receivers_of};
+ghost use Rattle.ca_server_subscriptions.specs.ByRecord.{IsOnlyOn, IsOnlyOne, receivers_of};
 ghost use Rattle.ca_server_subscriptions.specs.Pumping.{GivesUpdate, MayGive};
 ghost use Rattle.ca_server_subscriptions.specs.Owing.{AreEmpty, AreOn};
 ghost use Rattle.ca_server_subscriptions.specs.Passing.{PassesBy};
@@ -43,7 +43,7 @@ pub(crate) struct Subscriptions {
     // The place in `queued_subscription` of a subscription that is the only one on its record,
     // mostly the record that was posted to last: the next post to it then looks at no line. None if
     // no such place is known, as after each `begin` and `cancel`.
-    sole: Option<usize>,
+    only_one: Option<usize>,
     standing: IndexMap<SubKey, QueuedSubscription>,
     queues: Waiting,
     // A guess of the place in `queued_subscription` of the subscription whose update is taken next:
@@ -62,7 +62,7 @@ impl Model for Subscriptions {
 
     ghost Value = { Subscribed };
 
-    ghost use Rattle.ca_server_subscriptions.specs.ByRecord.{AreByRecord, IsSole};
+    ghost use Rattle.ca_server_subscriptions.specs.ByRecord.{AreByRecord, IsOnlyOne};
     ghost use Rattle.ca_server_subscriptions.specs.ByChannel.{AreByChannel};
     ghost use Rattle.ca_server_subscriptions.specs.Subscribed.{AreAskable, ArePlaced};
     ghost use Rattle.ca_server_subscriptions.specs.Subscribed.{subscriptions_in};
@@ -72,7 +72,7 @@ impl Model for Subscriptions {
 
     ghost invariant = { λ s.
         ArePlaced s.standing.entries s.queues × AreByRecord s.by_record s.standing.entries
-        × IsSole s.sole s.standing.entries × AreAskable s.standing.entries
+        × IsOnlyOne s.only_one s.standing.entries × AreAskable s.standing.entries
         × AreByChannel s.by_channel s.standing.entries };
 }
 
@@ -82,7 +82,7 @@ impl Subscriptions {
         ensures { IfOk result (λ subscriptions. subscriptions ≡ none_yet) }
     {
         Ok(Subscriptions {
-            sole: None,
+            only_one: None,
             standing: IndexMap::new(alloc),
             queues: Waiting::new(alloc)?,
             next: 0,
@@ -126,7 +126,7 @@ impl Subscriptions {
             sid: wanted.sid.number(),
             sub: wanted.id.number(),
         };
-        self.sole = None;
+        self.only_one = None;
         self.standing.reserve(1)?;
         self.by_channel.add(key)?;
         let queue = match self.queues.begin(key, update) {
@@ -158,7 +158,7 @@ impl Subscriptions {
             return;
         };
         let queue = standing.queue();
-        self.sole = None;
+        self.only_one = None;
         self.by_record
             .take_out(standing.name(), &self.standing, place);
         self.by_channel.take_out(&self.standing, place, key);
@@ -225,7 +225,7 @@ impl Subscriptions {
             (list_any (concerns name.now mask) self.old.subscriptions ≡ true) }
         ensures stay { OnErr result (self.new.subscriptions ≡ self.old.subscriptions) }
     {
-        if let Some(receiver) = only_at(self.sole, &self.standing, name) {
+        if let Some(receiver) = only_at(self.only_one, &self.standing, name) {
             self.next = receiver.place();
             self.queues
                 .post(slice::from_ref(&receiver), mask, value, meta)?;
@@ -257,7 +257,7 @@ impl Subscriptions {
             return Ok(false);
         };
         self.next = place_of(first, &self.standing);
-        self.sole = only_place(receivers, self.next, &self.standing, name);
+        self.only_one = only_place(receivers, self.next, &self.standing, name);
         self.queues.post(receivers, mask, value, meta)?;
         self.by_record.note(self.recent, self.next);
         Ok(true)
@@ -295,7 +295,7 @@ impl Subscriptions {
     /// post with this mask concerns it, and nothing waits while events are on: its update would be
     /// the next to be taken, and would leave all as it is. None says nothing.
     #[inline(always)]
-    pub fn sole(&mut self, name: &[u8], mask: u16) -> Option<Wanted>
+    pub fn only_one(&mut self, name: &[u8], mask: u16) -> Option<Wanted>
         ensures passes { IfSome result (λ w. PassesBy name.now mask w self.old) }
         ensures askable { IfSome result (λ w. IsAskable w) }
         ensures stays { self.new ≡ self.old }
@@ -303,13 +303,13 @@ impl Subscriptions {
         if !self.queues.is_idle() {
             return None;
         }
-        match only_subscription_at(self.sole, &self.standing, name) {
+        match only_subscription_at(self.only_one, &self.standing, name) {
             Some(standing) => standing.wanted_by(mask),
             None => self.seek_only(name, mask),
         }
     }
 
-    // What the only subscription on the record asked for, as `sole`, by the line of the record.
+    // What the only subscription on the record asked for, as `only_one`, by the line of the record.
     #[inline(never)]
     fn seek_only(&mut self, name: &[u8], mask: u16) -> Option<Wanted>
         requires on { AreOn self.old.queues }
@@ -320,9 +320,9 @@ impl Subscriptions {
     {
         let receivers = self.by_record.receivers(&mut self.recent, name);
         let place = place_of(receivers.first()?, &self.standing);
-        self.sole = only_place(receivers, place, &self.standing, name);
+        self.only_one = only_place(receivers, place, &self.standing, name);
         self.by_record.note(self.recent, place);
-        let standing = only_subscription_at(self.sole, &self.standing, name)?;
+        let standing = only_subscription_at(self.only_one, &self.standing, name)?;
         standing.wanted_by(mask)
     }
 
@@ -434,14 +434,14 @@ fn after(place: usize, n: usize) -> usize {
 // The only one on the record of this name, if it is at this place.
 #[inline(always)]
 fn only_at(
-    sole: Option<usize>,
+    only_one: Option<usize>,
     standing: &IndexMap<SubKey, QueuedSubscription>,
     name: &[u8],
 ) -> Option<Receiver>
-    requires { IsSole sole standing.now.entries }
+    requires { IsOnlyOne only_one standing.now.entries }
     ensures { IfSome result (λ r. receivers_of name.now standing.now.entries ≡ r ∷ []) }
 {
-    let place = sole?;
+    let place = only_one?;
     let Some((key, standing)) = standing.get_index(place) else {
         return None;
     };
@@ -454,14 +454,14 @@ fn only_at(
 // The only one on the record of this name, if it is at this place, as it is there.
 #[inline(always)]
 fn only_subscription_at<'a>(
-    sole: Option<usize>,
+    only_one: Option<usize>,
     standing: &'a IndexMap<SubKey, QueuedSubscription>,
     name: &[u8],
 ) -> Option<&'a QueuedSubscription>
-    requires { IsSole sole standing.now.entries }
-    ensures { IfSome result (λ s. IsAloneOn name.now s.now standing.now.entries) }
+    requires { IsOnlyOne only_one standing.now.entries }
+    ensures { IfSome result (λ s. IsOnlyOn name.now s.now standing.now.entries) }
 {
-    let place = sole?;
+    let place = only_one?;
     let Some((_, standing)) = standing.get_index(place) else {
         return None;
     };
@@ -496,7 +496,7 @@ fn only_place(
     name: &[u8],
 ) -> Option<usize>
     requires { receivers.now ≡ receivers_of name.now standing.now.entries }
-    ensures { IsSole result standing.now.entries }
+    ensures { IsOnlyOne result standing.now.entries }
 {
     if receivers.len() != 1 {
         return None;

@@ -12,7 +12,7 @@ use Rattle.ca_wire.specs.declared.requests.Wanted.{Wanted}
 use Rattle.ca_wire.specs.Message.{header_of}
 use Rattle.ca_wire.specs.Messages.{on_channel}
 use Rattle.ca_wire.specs.Stream.{NoneBegins, Faults, BadAt, NotBad}
-use Rattle.ca_wire.specs.Reading.{NoHeader, BeginsBare, BeginsHeader}
+use Rattle.ca_wire.specs.Reading.{NoHeader, BeginsHeaderOnly, BeginsHeader}
 use Rattle.ca_wire.proofs.Headers.{Narrow, narrowed, narrow-short, short-behind, extended-behind, length-short, length-extended, short-front, header-front, header-long}
 use Rattle.ca_wire.proofs.Numbers.{number16-front}
 
@@ -96,23 +96,23 @@ not-whole bytes head begins aligned within few = (
 
 -- ---- a message without payload, in 16 bytes
 
-bare-front : (bytes : List ℕ) (c : Command) (w : Wanted) → BeginsBare bytes c w → bytes ≡ short_header (header_of (on_channel c w [])) ++ drop 16 bytes
-bare-front bytes c w begins =
+header_only-front : (bytes : List ℕ) (c : Command) (w : Wanted) → BeginsHeaderOnly bytes c w → bytes ≡ short_header (header_of (on_channel c w [])) ++ drop 16 bytes
+header_only-front bytes c w begins =
     elim begins.header.form [
       | inl p ↦ sym (take-append-drop 16 bytes) ∙ ap (λ (t : List ℕ). t ++ drop 16 bytes) p.are
       | inr p ↦ absurd (omega (arith, ap length p.are, length-extended p.count16 (header_of (on_channel c w [])), length-take 16 bytes))
     ]
 
-bare-behind : (bytes : List ℕ) (c : Command) (w : Wanted) (n : ℕ) (rest : List ℕ) → BeginsBare bytes c w → n < 2 ^ 16 → bytes ≡ number16 n ++ rest
+header_only-behind : (bytes : List ℕ) (c : Command) (w : Wanted) (n : ℕ) (rest : List ℕ) → BeginsHeaderOnly bytes c w → n < 2 ^ 16 → bytes ≡ number16 n ++ rest
     → (n ≡ command_number c) × ((back : List ℕ) × (rest ≡ number16 0 ++ back))
-bare-behind bytes c w n rest begins small e =
-    let r = number16-front n (command_number c) rest _ small begins.header.fits.command (sym e ∙ bare-front bytes c w begins ∙ short-behind (header_of (on_channel c w [])) (drop 16 bytes)) in
+header_only-behind bytes c w n rest begins small e =
+    let r = number16-front n (command_number c) rest _ small begins.header.fits.command (sym e ∙ header_only-front bytes c w begins ∙ short-behind (header_of (on_channel c w [])) (drop 16 bytes)) in
     (r.0, (_, r.1))
 
-pub bare-command : (bytes : List ℕ) (c : Command) (w : Wanted) (n : ℕ) (rest : List ℕ) → BeginsBare bytes c w → n < 2 ^ 16 → bytes ≡ number16 n ++ rest → n ≡ command_number c
-bare-command bytes c w n rest begins small e = (bare-behind bytes c w n rest begins small e).0
+pub header_only-command : (bytes : List ℕ) (c : Command) (w : Wanted) (n : ℕ) (rest : List ℕ) → BeginsHeaderOnly bytes c w → n < 2 ^ 16 → bytes ≡ number16 n ++ rest → n ≡ command_number c
+header_only-command bytes c w n rest begins small e = (header_only-behind bytes c w n rest begins small e).0
 
-pub bare-size : (bytes : List ℕ) (c : Command) (w : Wanted) (n k : ℕ) (rest back : List ℕ) → BeginsBare bytes c w → n < 2 ^ 16 → k < 2 ^ 16 → bytes ≡ number16 n ++ rest → rest ≡ number16 k ++ back → k ≡ 0
-bare-size bytes c w n k rest back begins small few e f =
-    let r = (bare-behind bytes c w n rest begins small e).1 in
+pub header_only-size : (bytes : List ℕ) (c : Command) (w : Wanted) (n k : ℕ) (rest back : List ℕ) → BeginsHeaderOnly bytes c w → n < 2 ^ 16 → k < 2 ^ 16 → bytes ≡ number16 n ++ rest → rest ≡ number16 k ++ back → k ≡ 0
+header_only-size bytes c w n k rest back begins small few e f =
+    let r = (header_only-behind bytes c w n rest begins small e).1 in
     (number16-front k 0 back r.0 few (omega arith) (sym f ∙ r.1)).0

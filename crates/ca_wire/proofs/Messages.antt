@@ -76,9 +76,9 @@ nothing [] e = refl
 nothing (x ∷ xs) e = absurd (omega arith)
 
 -- a message with no payload is its header
-pub spelling-bare : (m : Fields) (h : Header) → h ≡ header_of m → h.size ≡ 0 → header_spelling h ≡ spelling m
+pub spelling-header_only : (m : Fields) (h : Header) → h ≡ header_of m → h.size ≡ 0 → header_spelling h ≡ spelling m
 unfolding spelling
-spelling-bare m h same none =
+spelling-header_only m h same none =
     let empty : m.payload ≡ [] = nothing m.payload (sym (ap (λ (g : Header). g.size) same) ∙ none) in
     ap header_spelling same ∙ sym (append-nil (header_spelling (header_of m))) ∙ ap (λ (t : List ℕ). header_spelling (header_of m) ++ t) (sym empty)
 

@@ -13,7 +13,7 @@ use Rattle.ca_wire.specs.Message.{header_of, Spells}
 use Rattle.ca_wire.specs.Stream.{Held}
 use Rattle.ca_wire.specs.Messages.{on_channel}
 use Rattle.ca_wire.specs.declared.requests.Wanted.{Wanted}
-use Rattle.ca_wire.specs.Reading.{BeginsBare, IsWhole, Takes, HasPayload, Nexts}
+use Rattle.ca_wire.specs.Reading.{BeginsHeaderOnly, IsWhole, Takes, HasPayload, Nexts}
 
 -- the bytes after a header that is there
 pub held-part : (lent held : List ℕ) (start size : ℕ) → lent ≡ held → take (start + size - start) (drop start lent) ≡ take size (drop start held)
@@ -47,8 +47,8 @@ takes-whole old new head m was stays whole same payload rest =
     }
 
 -- a message without payload, in 16 bytes
-pub takes-bare : (old new : Held) (c : Command) (w : Wanted) → old.closed ≡ false → new.closed ≡ false → BeginsBare old.bytes c w → new.bytes ≡ drop 16 old.bytes → Takes old (on_channel c w []) new
-takes-bare old new c w was stays begins rest =
+pub takes-header_only : (old new : Held) (c : Command) (w : Wanted) → old.closed ≡ false → new.closed ≡ false → BeginsHeaderOnly old.bytes c w → new.bytes ≡ drop 16 old.bytes → Takes old (on_channel c w []) new
+takes-header_only old new c w was stays begins rest =
     let head : Head = record { header = header_of (on_channel c w []); start = 16 } in
     let whole : IsWhole old.bytes head = record { header = begins.header; room = begins.room; aligned = refl; within = omega arith } in
     takes-whole old new head (on_channel c w []) was stays whole refl refl rest

@@ -9,7 +9,7 @@ use Rattle.ca_wire.specs.declared.scalar_message.ScalarMessage.{ScalarMessage}
 use Rattle.ca_wire.specs.declared.done.Done.{Done}
 use Rattle.ca_wire.specs.Header.{header_spelling, number16, number32, short_header}
 use Rattle.ca_wire.specs.Message.{header_of, spelling}
-use Rattle.ca_wire.specs.Messages.{alone, done}
+use Rattle.ca_wire.specs.Messages.{scalar, done}
 use Rattle.ca_wire.proofs.Headers.{spelling-short}
 
 eight-bytes : (a b c d e f g h : ℕ) → a < 256 → b < 256 → c < 256 → d < 256 → e < 256 → f < 256 → g < 256 → h < 256 → (i : ℕ) → get_or (a ∷ (b ∷ (c ∷ (d ∷ (e ∷ (f ∷ (g ∷ (h ∷ [])))))))) i 0 < 256
@@ -51,10 +51,10 @@ regrouped : (a b c d e f p : List ℕ) → (a ++ (b ++ (c ++ d))) ++ ((e ++ f) +
 regrouped a b c d e f p = simp append_assoc
 
 -- the three one after another
-pub three-words : (a : ScalarMessage) (x y : List ℕ) → x ≡ number16 (command_number a.command) ++ (number16 8 ++ (number16 a.data_type ++ number16 1)) → y ≡ number32 normal ++ number32 a.id → x ++ (y ++ to_be_bytes w64 a.payload) ≡ spelling (alone a)
+pub three-words : (a : ScalarMessage) (x y : List ℕ) → x ≡ number16 (command_number a.command) ++ (number16 8 ++ (number16 a.data_type ++ number16 1)) → y ≡ number32 normal ++ number32 a.id → x ++ (y ++ to_be_bytes w64 a.payload) ≡ spelling (scalar a)
 unfolding spelling short_header
 three-words a x y is at =
-    let h = header_of (alone a) in
+    let h = header_of (scalar a) in
     let short : header_spelling h ≡ short_header h = spelling-short h (omega arith) (omega arith) in
     ap (λ (t : List ℕ). t ++ (y ++ to_be_bytes w64 a.payload)) is
     ∙ ap (λ (t : List ℕ). (number16 (command_number a.command) ++ (number16 8 ++ (number16 a.data_type ++ number16 1))) ++ (t ++ to_be_bytes w64 a.payload)) at

@@ -24,8 +24,8 @@ use Rattle.ca_wire.specs.declared.replies.Answered.{Answered}
 
 -- a command alone: ECHO, EVENTS_OFF, EVENTS_ON ("CA_PROTO_ECHO", "CA_PROTO_EVENTS_OFF",
 -- "CA_PROTO_EVENTS_ON")
-abbrev pub bare : Command → Fields
-bare c =
+abbrev pub header_only : Command → Fields
+header_only c =
     record { command = command_number c; data_type = 0; count = 0; p1 = 0; p2 = 0; payload = [] }
 
 -- a request on a channel, with this payload
@@ -55,16 +55,16 @@ text_in payload = before_first (λ b. b == 0) payload
 -- VERSION: the circuit's priority is its type, the minor version its count ("CA_PROTO_VERSION")
 abbrev pub version_request : ℕ → Fields
 version_request priority =
-    record (bare command.Version) { data_type = priority; count = minor_version }
+    record (header_only command.Version) { data_type = priority; count = minor_version }
 
 -- CLIENT_NAME and HOST_NAME ("CA_PROTO_CLIENT_NAME", "CA_PROTO_HOST_NAME")
 abbrev pub name_request : Command → List ℕ → Fields
-name_request c text = record (bare c) { payload = text_payload text }
+name_request c text = record (header_only c) { payload = text_payload text }
 
 -- SEARCH: the CID twice; the type 5 asks that an unknown name gets no answer ("CA_PROTO_SEARCH")
 abbrev pub search_request : ℕ → List ℕ → Fields
 search_request cid name =
-    record (bare command.Search) {
+    record (header_only command.Search) {
       data_type = 5;
       count = minor_version;
       p1 = cid;
@@ -75,7 +75,7 @@ search_request cid name =
 -- CREATE_CHAN ("CA_PROTO_CREATE_CHAN")
 abbrev pub create_request : ℕ → List ℕ → Fields
 create_request cid name =
-    record (bare command.CreateChannel) {
+    record (header_only command.CreateChannel) {
       p1 = cid;
       p2 = minor_version;
       payload = text_payload name;
@@ -83,7 +83,7 @@ create_request cid name =
 
 -- CLEAR_CHANNEL: the SID and the CID; its reply is the same ("CA_PROTO_CLEAR_CHANNEL")
 abbrev pub clear_request : ℕ → ℕ → Fields
-clear_request sid cid = record (bare command.ClearChannel) { p1 = sid; p2 = cid }
+clear_request sid cid = record (header_only command.ClearChannel) { p1 = sid; p2 = cid }
 
 -- READ_NOTIFY ("CA_PROTO_READ_NOTIFY")
 abbrev pub read_request : Wanted → Fields
@@ -109,13 +109,13 @@ event_cancel_request w = on_channel command.EventCancel w []
 
 -- VERSION ("CA_PROTO_VERSION")
 abbrev pub version_reply : Fields
-version_reply = record (bare command.Version) { count = minor_version }
+version_reply = record (header_only command.Version) { count = minor_version }
 
 -- SEARCH, answered: the TCP port, in place of an address 0xFFFFFFFF, the CID, and the minor
 -- version ("CA_PROTO_SEARCH")
 abbrev pub search_reply : ℕ → Fields → Fields
 search_reply port m =
-    record (bare command.Search) {
+    record (header_only command.Search) {
       data_type = port;
       p1 = 2 ^ 32 - 1;
       p2 = m.p2;
@@ -125,7 +125,7 @@ search_reply port m =
 -- NOT_FOUND: the type and the CID of the search ("CA_PROTO_NOT_FOUND")
 abbrev pub not_found_reply : Fields → Fields
 not_found_reply m =
-    record (bare command.NotFound) {
+    record (header_only command.NotFound) {
       data_type = m.data_type;
       count = minor_version;
       p1 = m.p2;
@@ -134,13 +134,13 @@ not_found_reply m =
 
 -- ACCESS_RIGHTS: the CID, and the bits 1 to read and 2 to write ("CA_PROTO_ACCESS_RIGHTS")
 abbrev pub rights_reply : Fields → ℕ → Fields
-rights_reply m bits = record (bare command.AccessRights) { p1 = m.p1; p2 = bits }
+rights_reply m bits = record (header_only command.AccessRights) { p1 = m.p1; p2 = bits }
 
 -- CREATE_CHAN: the record's native type and greatest count, the CID and the SID
 -- ("CA_PROTO_CREATE_CHAN")
 abbrev pub created_reply : Fields → (data_type count sid : ℕ) → Fields
 created_reply m data_type count sid =
-    record (bare command.CreateChannel) {
+    record (header_only command.CreateChannel) {
       data_type = data_type;
       count = count;
       p1 = m.p1;
@@ -149,7 +149,7 @@ created_reply m data_type count sid =
 
 -- CREATE_CH_FAIL: the CID ("CA_PROTO_CREATE_CH_FAIL")
 abbrev pub failed_reply : Fields → Fields
-failed_reply m = record (bare command.CreateChannelFail) { p1 = m.p1 }
+failed_reply m = record (header_only command.CreateChannelFail) { p1 = m.p1 }
 
 -- CLEAR_CHANNEL: the two ids of the request ("CA_PROTO_CLEAR_CHANNEL")
 abbrev pub cleared_reply : Fields → Fields
@@ -171,8 +171,8 @@ abbrev pub cancel_reply : Fields → Fields
 cancel_reply m = record m { command = command_number command.EventAdd; payload = [] }
 
 -- an answer or an update with one element, whose payload is eight bytes
-abbrev pub alone : ScalarMessage → Fields
-alone a =
+abbrev pub scalar : ScalarMessage → Fields
+scalar a =
     record {
       command = command_number a.command;
       data_type = a.data_type;
@@ -202,7 +202,7 @@ no_cid = 2 ^ 32 - 1
 -- text ("CA_PROTO_ERROR")
 abbrev pub error_reply : ℕ → ℕ → Fields → Fields
 error_reply cid status m =
-    record (bare command.Error) {
+    record (header_only command.Error) {
       p1 = cid;
       p2 = status;
       payload = header_spelling (header_of m) ++ replicate 8 0;
@@ -223,7 +223,7 @@ update data_type count status id image =
 
 -- SERVER_DISCONN: the CID ("CA_PROTO_SERVER_DISCONN")
 abbrev pub disconnect : ℕ → Fields
-disconnect cid = record (bare command.ServerDisconnect) { p1 = cid }
+disconnect cid = record (header_only command.ServerDisconnect) { p1 = cid }
 
 -- ---- what is read of a message
 

@@ -30,17 +30,17 @@ pub record BeginsHeader (bytes : List ℕ) (head : Head) : Type 0 where
 
 -- A message of this command, which names this and has no payload, begins these
 -- bytes, in 16 of them.
-abbrev pub BeginsBare : List ℕ → Command → Wanted → Type 0
-BeginsBare bytes c w =
+abbrev pub BeginsHeaderOnly : List ℕ → Command → Wanted → Type 0
+BeginsHeaderOnly bytes c w =
     BeginsHeader bytes (record { header = header_of (on_channel c w []); start = 16 })
 
 -- No message of this command without payload begins these bytes, in 16 of them.
-abbrev pub NoBare : List ℕ → Command → Type 0
-NoBare bytes c = (w : Wanted) → BeginsBare bytes c w → ⊥
+abbrev pub NoHeaderOnly : List ℕ → Command → Type 0
+NoHeaderOnly bytes c = (w : Wanted) → BeginsHeaderOnly bytes c w → ⊥
 
 -- the header of a message of this command, which names this, with a payload of eight bytes
-abbrev pub short_of : Command → Wanted → Header
-short_of c w =
+abbrev pub scalar_header : Command → Wanted → Header
+scalar_header c w =
     record {
       command = command_number c;
       data_type = w.data_type;
@@ -52,18 +52,18 @@ short_of c w =
 
 -- A message of this command, which names this, with a payload of eight bytes, begins these bytes:
 -- its header in 16 of them.
-pub record BeginsShort (bytes : List ℕ) (c : Command) (w : Wanted) : Type 0 where
-  pub header : HeaderSpells (take 16 bytes) (short_of c w)
+pub record BeginsScalar (bytes : List ℕ) (c : Command) (w : Wanted) : Type 0 where
+  pub header : HeaderSpells (take 16 bytes) (scalar_header c w)
   pub room : 24 ≤ length bytes
 
 -- No message of this command with a payload of eight bytes begins these bytes, its
 -- header in 16 of them.
-abbrev pub NoShort : List ℕ → Command → Type 0
-NoShort bytes c = (w : Wanted) → BeginsShort bytes c w → ⊥
+abbrev pub NoScalar : List ℕ → Command → Type 0
+NoScalar bytes c = (w : Wanted) → BeginsScalar bytes c w → ⊥
 
 -- that message, if it begins these bytes
-abbrev pub short_in : List ℕ → Command → Wanted → Fields
-short_in bytes c w = on_channel c w (take 8 (drop 16 bytes))
+abbrev pub scalar_in : List ℕ → Command → Wanted → Fields
+scalar_in bytes c w = on_channel c w (take 8 (drop 16 bytes))
 
 -- A complete message begins these bytes: its header in the first `start` bytes, then
 -- `size` bytes of payload.
@@ -123,12 +123,12 @@ Nexts old (Err _) new = ⊥
 
 -- From old, the next message was asked for, if it is of this command, in 16 bytes without payload;
 -- with this answer, and left new.
-abbrev pub NextsBare : Command → Held → Option Wanted → Held → Type 0
-NextsBare c old (Some w) new = Nexts old (Ok (Some (on_channel c w []))) new
-NextsBare c old None new = (old.closed ≡ false → NoBare old.bytes c) × (new ≡ old)
+abbrev pub NextsHeaderOnly : Command → Held → Option Wanted → Held → Type 0
+NextsHeaderOnly c old (Some w) new = Nexts old (Ok (Some (on_channel c w []))) new
+NextsHeaderOnly c old None new = (old.closed ≡ false → NoHeaderOnly old.bytes c) × (new ≡ old)
 
 -- The first message was asked for, if it is of this command, with a payload of eight bytes, its
 -- header in 16; with this answer.
-abbrev pub FirstShort : Command → Held → Option Wanted → Type 0
-FirstShort c h (Some w) = (h.closed ≡ false) × BeginsShort h.bytes c w
-FirstShort c h None = h.closed ≡ false → NoShort h.bytes c
+abbrev pub FirstScalar : Command → Held → Option Wanted → Type 0
+FirstScalar c h (Some w) = (h.closed ≡ false) × BeginsScalar h.bytes c w
+FirstScalar c h None = h.closed ≡ false → NoScalar h.bytes c

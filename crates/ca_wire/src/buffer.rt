@@ -5,7 +5,7 @@ ghost use Rattle.std.specs.Prelude.{OnErr, OnOk, vec_capacity, vec_len};
 ghost use Rattle.ca_text.specs.Limits.{payload_limit};
 ghost use Rattle.ca_wire.specs.Made.{PutsMade};
 ghost use Rattle.ca_wire.specs.Message.{spelling};
-ghost use Rattle.ca_wire.specs.Messages.{alone, done};
+ghost use Rattle.ca_wire.specs.Messages.{scalar, done};
 
 use crate::done::{Done, spell_done};
 use crate::made::{Payload, spell_made};
@@ -100,7 +100,7 @@ impl Buffer {
     /// Puts the one spelling of this after the others. A refusal changes nothing.
     #[inline(always)]
     pub fn put_scalar(&mut self, said: ScalarMessage) -> Result<(), AllocError>
-        ensures ok { OnOk result (self.new ≡ self.old ++ spelling (alone said)) }
+        ensures ok { OnOk result (self.new ≡ self.old ++ spelling (scalar said)) }
         ensures err { OnErr result (self.new ≡ self.old) }
     {
         self.let_go();

@@ -1,6 +1,6 @@
 //! From bytes that come in any pieces to messages. A bad header ends that for good.
 ghost use Rattle.std.specs.Prelude.{◌≡◌, ◌≢◌, ◌≤◌, [], drop, false, length, IfOk, OnErr};
-ghost use Rattle.ca_wire.specs.Reading.{FirstShort, Gives, Nexts, NextsBare};
+ghost use Rattle.ca_wire.specs.Reading.{FirstScalar, Gives, Nexts, NextsHeaderOnly};
 
 use crate::buffer::Buffer;
 use crate::message::Message;
@@ -113,7 +113,7 @@ impl Deframer {
     /// leaves all as it was.
     #[inline(always)]
     pub fn next_without_payload(&mut self, command: Command) -> Option<Wanted>
-        ensures { NextsBare command self.old result self.new }
+        ensures { NextsHeaderOnly command self.old result self.new }
     {
         if self.closed {
             return None;
@@ -131,7 +131,7 @@ impl Deframer {
     /// and a payload of eight. It stays there.
     #[inline(always)]
     pub fn first_of_eight_bytes(&self, command: Command) -> Option<Wanted>
-        ensures { FirstShort command self.now result }
+        ensures { FirstScalar command self.now result }
     {
         if self.closed {
             return None;

@@ -32,8 +32,8 @@ pub use replies::{
     search_reply, update_head, version_header, version_reply,
 };
 pub use requests::{
-    ChannelIds, Wanted, bare, clear_request, create_request, event_add_request,
-    event_cancel_request, name_request, put_head, put_request, read_request, search_header,
-    search_request, version_request,
+    ChannelIds, Wanted, clear_request, create_request, event_add_request, event_cancel_request,
+    header_only, name_request, put_head, put_request, read_request, search_header, search_request,
+    version_request,
 };
 pub use scalar_message::ScalarMessage;

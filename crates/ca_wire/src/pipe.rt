@@ -5,7 +5,7 @@ ghost use Rattle.std.specs.Prelude.{OnErr, OnOk};
 ghost use Rattle.ca_text.specs.Limits.{payload_limit};
 ghost use Rattle.ca_wire.specs.Made.{PutsMade};
 ghost use Rattle.ca_wire.specs.Message.{spelling};
-ghost use Rattle.ca_wire.specs.Messages.{alone, done};
+ghost use Rattle.ca_wire.specs.Messages.{scalar, done};
 
 use crate::buffer::Buffer;
 use crate::done::Done;
@@ -85,7 +85,7 @@ impl Pipe {
     /// Puts the one spelling of this after what waits. A refusal changes nothing.
     #[inline(always)]
     pub fn put_scalar(&mut self, said: ScalarMessage) -> Result<(), AllocError>
-        ensures ok { OnOk result (self.new ≡ self.old ++ spelling (alone said)) }
+        ensures ok { OnOk result (self.new ≡ self.old ++ spelling (scalar said)) }
         ensures err { OnErr result (self.new ≡ self.old) }
     {
         self.buffer.put_scalar(said)

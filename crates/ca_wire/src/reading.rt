@@ -2,8 +2,9 @@
 //! header. Two faster readers recognize frequent requests by their first bytes.
 ghost use Rattle.std.specs.Prelude.{◌≡◌, ◌+◌, ◌≤◌, ◌++◌, length, MatchOption};
 ghost use Rattle.ca_wire.specs.Header.{number16, number32};
-ghost use Rattle.ca_wire.specs.Reading.{BeginsBare, BeginsHeader, BeginsShort, IsOne, NoBare};
-ghost use Rattle.ca_wire.specs.Reading.{NoHeader, NoShort};
+ghost use Rattle.ca_wire.specs.Reading.{BeginsHeaderOnly, BeginsHeader, BeginsScalar, IsOne};
+ghost use Rattle.ca_wire.specs.Reading.{NoHeaderOnly};
+ghost use Rattle.ca_wire.specs.Reading.{NoHeader, NoScalar};
 
 use crate::header::Header;
 use crate::ids::{Ioid, Sid};
@@ -96,7 +97,8 @@ pub(crate) fn head_at(bytes: &[u8]) -> Option<Head>
 /// bytes, is all of it.
 #[inline(always)]
 pub(crate) fn without_payload_at(bytes: &[u8], command: Command) -> Option<Wanted>
-    ensures { MatchOption result (NoBare bytes.now command) (BeginsBare bytes.now command) }
+    ensures { MatchOption result (NoHeaderOnly bytes.now command)
+        (BeginsHeaderOnly bytes.now command) }
 {
     if bytes.len() < 16 {
         return None;
@@ -125,7 +127,7 @@ pub(crate) fn without_payload_at(bytes: &[u8], command: Command) -> Option<Wante
 /// and a payload of eight.
 #[inline(always)]
 pub(crate) fn of_eight_bytes_at(bytes: &[u8], command: Command) -> Option<Wanted>
-    ensures { MatchOption result (NoShort bytes.now command) (BeginsShort bytes.now command) }
+    ensures { MatchOption result (NoScalar bytes.now command) (BeginsScalar bytes.now command) }
 {
     if bytes.len() < 24 {
         return None;

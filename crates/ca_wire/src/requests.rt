@@ -4,7 +4,8 @@ ghost use Rattle.std.specs.Prelude.{◌≡◌, ◌≢◌, ◌==◌, ◌+◌, ◌
 ghost use Rattle.std.specs.Prelude.{length, position};
 ghost use Rattle.ca_text.specs.Limits.{payload_limit};
 ghost use Rattle.ca_wire.specs.Message.{header_of};
-ghost use Rattle.ca_wire.specs.Messages.{bare, clear_request, create_request, event_add_request};
+ghost use Rattle.ca_wire.specs.Messages.{header_only, clear_request, create_request};
+ghost use Rattle.ca_wire.specs.Messages.{event_add_request};
 ghost use Rattle.ca_wire.specs.Messages.{event_cancel_request, ids_in, mask_payload, name_request};
 ghost use Rattle.ca_wire.specs.Messages.{on_channel, put_request, read_request, search_request};
 ghost use Rattle.ca_wire.specs.Messages.{text_in, version_request, wanted_in};
@@ -38,8 +39,8 @@ pub struct ChannelIds {
 // ---- how they are made. One without a payload does not allocate.
 
 /// A command alone: ECHO, EVENTS_OFF or EVENTS_ON.
-pub fn bare(alloc: Global, command: Command) -> Message
-    ensures { result ≡ bare command }
+pub fn header_only(alloc: Global, command: Command) -> Message
+    ensures { result ≡ header_only command }
 {
     Message::with_no_payload(alloc, command, 0, 0, 0, 0)
 }

@@ -6,7 +6,7 @@ ghost use Rattle.ca_text.specs.Command.{command_number};
 ghost use Rattle.ca_text.specs.Status.{normal};
 ghost use Rattle.ca_wire.specs.Header.{number16, number32};
 ghost use Rattle.ca_wire.specs.Message.{spelling};
-ghost use Rattle.ca_wire.specs.Messages.{alone};
+ghost use Rattle.ca_wire.specs.Messages.{scalar};
 
 use crate::ids::Ioid;
 use ca_text::{Command, Status};
@@ -25,7 +25,7 @@ pub struct ScalarMessage {
 /// Writes its one spelling at the end.
 #[inline(always)]
 pub(crate) fn spell_scalar(said: ScalarMessage, out: &mut Vec<u8>) -> Result<(), AllocError>
-    ensures ok { OnOk result (out.new.items ≡ out.old.items ++ spelling (alone said)) }
+    ensures ok { OnOk result (out.new.items ≡ out.old.items ++ spelling (scalar said)) }
     ensures err { OnErr result (out.new.items ≡ out.old.items) }
 {
     out.extend_from_slice(&three_words(

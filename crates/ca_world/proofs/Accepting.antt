@@ -18,7 +18,7 @@ use Rattle.ca_model.specs.History.{Entry, Line, OfCircuit, Sent}
 use Rattle.ca_model.specs.Server.{Open}
 use Rattle.ca_model.specs.ServerSteps.{HasEnd}
 use Rattle.ca_model.proofs.Tables.{given-none, one-at-index}
-use Rattle.ca_model.specs.ClientEvents.{HappensAccept, WantsFirst, client_closed, connected_as, lines_of, new_circuit, sent_on, told_by}
+use Rattle.ca_model.specs.ClientEvents.{HappensAccept, WantsFirst, client_closed, connected_as, lines_of, new_circuit, sent_on, closing_notices}
 use Rattle.ca_model.specs.Events.{Accept}
 use Rattle.ca_model.specs.Runs.{CanAccept, CanBe}
 use Rattle.ca_model.specs.World.{Names}
@@ -263,7 +263,7 @@ module _ (cs : List ClientSide) (ss : List ServerSide) (ks : List Joined) (cl : 
           let c = d.connects in
           let names : Names = (client_of x).names in
           let new : model.Joined = connected_as c.k (new_circuit i (client_of x) v.circuit s (server_of f.y) d.h) in
-          let lines : List Line = lines_of OfCircuit names (told_by c.k) in
+          let lines : List Line = lines_of OfCircuit names (closing_notices c.k) in
           let all : AllOn v.circuit c.sent = on-it names x.core x'.core v.circuit c.k c.sent c.connects in
           let old : map (sent_up i names c.sent) (map joined_of ks) ≡ map joined_of ks = others i names v.circuit c.sent (map joined_of ks) all (fresh-handle stands) in
           let own : sent_up i names c.sent new ≡ joined_of d.j = itself i (client_of x) v.circuit s (server_of f.y) d.h c.k c.sent x'.core c.connects ∙ sym c.circuit in

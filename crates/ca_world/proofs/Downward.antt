@@ -10,7 +10,7 @@ use Rattle.ca_text.specs.declared.refusal.Refusal.{Refusal}
 use Rattle.ca_text.specs.declared.refusal.Refusal.TheVariants.{BadEvent, OutOfMemory}
 use Rattle.ca_text.specs.Place.{At}
 use Rattle.ca_text.proofs.Places.{At-map, At-one, At-set}
-use Rattle.ca_wire.specs.Messages.{bare}
+use Rattle.ca_wire.specs.Messages.{header_only}
 use Rattle.ca_client_core.specs.ForHistories.{flow_at}
 use Rattle.ca_model.specs.Answers.{Sending}
 use Rattle.ca_model.specs.Client.{Client, Connection, connection_at}
@@ -67,11 +67,11 @@ grown-none (suc life) (l ∷ logs) = ap (λ (t : List (List _)). l ∷ t) (grown
 -- ---- what a read sends
 
 flow-one : (i : ℕ) (n : Names) (ks : List model.Joined) (k : ℕ) (j : model.Joined) (numbers : List ℕ) (f : Option Command) → At ks k j → j.client ≡ i → j.lists.client_open ≡ true → AreNumbered numbers ks i
-    → slice_set ks k (with_said (flow_said f) j) ≡ map (sent_up i n (map (λ (c : Command). of_circuit j.at_client (bare c)) (option_to_list f))) ks
+    → slice_set ks k (with_said (flow_said f) j) ≡ map (sent_up i n (map (λ (c : Command). of_circuit j.at_client (header_only c)) (option_to_list f))) ks
 flow-one i n ks k j numbers None at mine on numbered =
     ap (λ (u : List Sent). slice_set ks k (record j { lists = record j.lists { up = u } })) (append-nil j.lists.up) ∙ set-same ks k j at ∙ sym (none-up i n ks)
 flow-one i n ks k j numbers (Some c) at mine on numbered =
-    let s : Sending = of_circuit j.at_client (bare c) in
+    let s : Sending = of_circuit j.at_client (header_only c) in
     let a : IsAt ks i s.circuit k = record { j = j; at = at; mine = mine; is_open = on; here = refl } in
     sym (sent-one i n s numbers ks numbered k a)
 

@@ -171,7 +171,7 @@ pub record OneBehind (waited : ℕ) (bytes : List ℕ) (ms : List Fields) : Type
   pub m : Fields
   pub is : ms ≡ m ∷ []
   pub good : IsMessage m
-  pub bare : m.payload ≡ []
+  pub header_only : m.payload ≡ []
   pub begins : drop waited bytes ≡ spelling m ++ []
 
 pub one-behind : (waited : ℕ) (bytes : List ℕ) (ms : List Fields) → AreBehind waited bytes ms → waited < length bytes → OneBehind waited bytes ms
@@ -187,7 +187,7 @@ one-behind waited bytes ms behind more = elim behind.few [
         m = one.0;
         is = one.1;
         good = one.2;
-        bare = one.3;
+        header_only = one.3;
         begins = (λ t. drop (sym behind.long t) (are t)) ∙ drop-begun behind.begun (spelled (one.0 ∷ []));
       }
 ]
@@ -339,18 +339,18 @@ down-kept true i core name j = go (j.server == i && j.lists.server_open)
 down-kept false i core name j = refl
 
 -- the circuits are alike still without messages on one of them
-alike-bare : (i : ℕ) (core : Server) (ks : List model.Joined) (k : ℕ) (j : model.Joined) (d : List history.Told) → At ks k j → AllAlike i core ks → AllAlike i core (slice_set ks k (with_down d j))
-alike-bare i core ks k j d at all n c there mine on = elim (At-set ks k (with_down d j) n c there) [
+alike-header_only : (i : ℕ) (core : Server) (ks : List model.Joined) (k : ℕ) (j : model.Joined) (d : List history.Told) → At ks k j → AllAlike i core ks → AllAlike i core (slice_set ks k (with_down d j))
+alike-header_only i core ks k j d at all n c there mine on = elim (At-set ks k (with_down d j) n c there) [
   | inl here ↦
       let a : IsAlike (under core.circuits j.at_server) j = all k j at (sym (ap (λ (z : model.Joined). z.server) here.1) ∙ mine) (sym (ap (λ (z : model.Joined). z.lists.server_open) here.1) ∙ on) in
-      subst (λ (z : model.Joined). IsAlike (under core.circuits z.at_server) z) (sym here.1) (bare (under core.circuits j.at_server) a)
+      subst (λ (z : model.Joined). IsAlike (under core.circuits z.at_server) z) (sym here.1) (header_only (under core.circuits j.at_server) a)
   | inr other ↦ all n c other.0 mine on
 ]
   where
-    bare : (o : Option ServerCircuit) → IsAlike o j → IsAlike o (with_down d j)
-    bare None a = tt
-    bare (Some (Ended cause left)) a = tt
-    bare (Some (Open e)) a = record { keys = a.keys; apart = a.apart; queues = a.queues }
+    header_only : (o : Option ServerCircuit) → IsAlike o j → IsAlike o (with_down d j)
+    header_only None a = tt
+    header_only (Some (Ended cause left)) a = tt
+    header_only (Some (Open e)) a = record { keys = a.keys; apart = a.apart; queues = a.queues }
 
 -- the reply on its circuit
 replied-there : (p : PutPlace) (sent : List (Handle × Fields)) (ks : List model.Joined) (j : model.Joined) → At ks p.circuit j
@@ -359,15 +359,15 @@ replied-there p sent ks j at = ap (λ (o : Option model.Joined). unwrap_or (opti
 
 -- Numbers wait on circuits, of which one has its messages held aside; it has them
 -- again, and the reply.
-pub set-aside : (waits : Bool) (i : ℕ) (core : Server) (name : List ℕ) (p : PutPlace) (sent : List (Handle × Fields)) (ks bare after last : List model.Joined) (j c : model.Joined) (told : List history.Told) → At ks p.circuit j
-    → bare ≡ slice_set ks p.circuit (with_down [] j) → after ≡ numbered waits i core name bare → At after p.circuit c → told ≡ j.lists.down ++ about p.place history.Reply (map (λ (s : Handle × Fields). s.1) sent)
+pub set-aside : (waits : Bool) (i : ℕ) (core : Server) (name : List ℕ) (p : PutPlace) (sent : List (Handle × Fields)) (ks header_only after last : List model.Joined) (j c : model.Joined) (told : List history.Told) → At ks p.circuit j
+    → header_only ≡ slice_set ks p.circuit (with_down [] j) → after ≡ numbered waits i core name header_only → At after p.circuit c → told ≡ j.lists.down ++ about p.place history.Reply (map (λ (s : Handle × Fields). s.1) sent)
     → last ≡ slice_set after p.circuit (with_down told c) → last ≡ replied_in p sent (numbered waits i core name ks)
-set-aside waits i core name p sent ks bare after last j c told at bare_is after_is there told_is last_is =
+set-aside waits i core name p sent ks header_only after last j c told at bare_is after_is there told_is last_is =
     let f : model.Joined → model.Joined = if_waits waits i core name in
     let k : ℕ = p.circuit in
     let reply : List history.Told = about p.place history.Reply (map (λ (s : Handle × Fields). s.1) sent) in
     let is : after ≡ slice_set (map f ks) k (with_down [] (f j)) =
-    after_is ∙ numbered-map waits i core name bare ∙ ap (map f) bare_is ∙ set-map f ks k (with_down [] j) ∙ ap (slice_set (map f ks) k) (down-numbers waits [] i core name j) in
+    after_is ∙ numbered-map waits i core name header_only ∙ ap (map f) bare_is ∙ set-map f ks k (with_down [] j) ∙ ap (slice_set (map f ks) k) (down-numbers waits [] i core name j) in
     let mapped : At (map f ks) k (f j) = At-map f ks k j at in
     let c_is : c ≡ with_down [] (f j) = At-one after k c (with_down [] (f j)) there (subst (λ (z : List model.Joined). At z k (with_down [] (f j))) (sym is) (set-there (map f ks) k (f j) (with_down [] (f j)) mapped)) in
     last_is ∙ (λ t. slice_set (is t) k (with_down told (c_is t))) ∙ set-twice (map f ks) k (with_down [] (f j)) (with_down told (f j))
@@ -409,13 +409,13 @@ pub entries-fewer : (n m life : ℕ) (logs : List (Vec LogEntry Global)) → m �
 entries-fewer n m life logs few room log at = (let had = room log at in omega (arith, had, few))
 
 -- the circuits, of which one has its messages down held aside
-pub bare-is : (ks : List Joined) (k : ℕ) (j new : Joined) → joined_of new ≡ with_down [] (joined_of j) → map joined_of (slice_set ks k new) ≡ slice_set (map joined_of ks) k (with_down [] (joined_of j))
-bare-is ks k j new is = set-map joined_of ks k new ∙ ap (slice_set (map joined_of ks) k) is
+pub header_only-is : (ks : List Joined) (k : ℕ) (j new : Joined) → joined_of new ≡ with_down [] (joined_of j) → map joined_of (slice_set ks k new) ≡ slice_set (map joined_of ks) k (with_down [] (joined_of j))
+header_only-is ks k j new is = set-map joined_of ks k new ∙ ap (slice_set (map joined_of ks) k) is
 
 -- they are alike still
-pub bare-alike : (i : ℕ) (core : Server) (ks : List Joined) (k : ℕ) (j new : Joined) → At ks k j → joined_of new ≡ with_down [] (joined_of j) → AllAlike i core (map joined_of ks) → AllAlike i core (map joined_of (slice_set ks k new))
-bare-alike i core ks k j new at is all =
-    subst (AllAlike i core) (sym (bare-is ks k j new is)) (alike-bare i core (map joined_of ks) k (joined_of j) [] (At-map joined_of ks k j at) all)
+pub header_only-alike : (i : ℕ) (core : Server) (ks : List Joined) (k : ℕ) (j new : Joined) → At ks k j → joined_of new ≡ with_down [] (joined_of j) → AllAlike i core (map joined_of ks) → AllAlike i core (map joined_of (slice_set ks k new))
+header_only-alike i core ks k j new at is all =
+    subst (AllAlike i core) (sym (header_only-is ks k j new is)) (alike-header_only i core (map joined_of ks) k (joined_of j) [] (At-map joined_of ks k j at) all)
 
 -- on the circuit of the busy put the reply is after what waited
 pub reply-behind : (y core : Server) (name : List ℕ) (k waited : ℕ) (ks : List model.Joined) (j : model.Joined) (sent : List (Handle × Fields)) → IsBusyOn y name k ks → At ks k j → waited ≡ length (bytes_under (under y.circuits j.at_server)) → Finishes y name sent (Ok tt) core
@@ -426,16 +426,16 @@ reply-behind y core name k waited ks j sent busy at long finishes =
     subst (λ (z : ℕ × Handle). AreBehind z.0 (bytes_under (under core.circuits z.1)) (map (λ (s : Handle × Fields). s.1) sent)) (λ t. (sym size t, sym h t)) (finish-behind y core name sent busy.b finishes busy.is busy.fits)
 
 -- What the core, the numbers and the reply leave is a finish.
-pub finished-on : (i : ℕ) (y core : Server) (name : List ℕ) (put : Came) (waits : Bool) (sent : List (Handle × Fields)) (ks after : List Joined) (j bare c last : Joined) (told : List history.Told) → Finishes y name sent (Ok tt) core
-    → At ks put.circuit j → joined_of bare ≡ with_down [] (joined_of j) → map joined_of after ≡ numbered waits i y name (map joined_of (slice_set ks put.circuit bare)) → At after put.circuit c
+pub finished-on : (i : ℕ) (y core : Server) (name : List ℕ) (put : Came) (waits : Bool) (sent : List (Handle × Fields)) (ks after : List Joined) (j header_only c last : Joined) (told : List history.Told) → Finishes y name sent (Ok tt) core
+    → At ks put.circuit j → joined_of header_only ≡ with_down [] (joined_of j) → map joined_of after ≡ numbered waits i y name (map joined_of (slice_set ks put.circuit header_only)) → At after put.circuit c
     → told ≡ map told_of j.lists.down.items ++ about put.place history.Reply (map (λ (s : Handle × Fields). s.1) sent) → joined_of last ≡ with_down told (joined_of c)
     → Finished i name (place_of put) waits y (map joined_of ks) core (map joined_of (slice_set after put.circuit last))
-finished-on i y core name put waits sent ks after j bare c last told finishes at bare_is after_is there told_is last_is = record {
+finished-on i y core name put waits sent ks after j header_only c last told finishes at bare_is after_is there told_is last_is = record {
   sent = sent;
   finishes = finishes;
   circuits =
-      set-aside waits i y name (place_of put) sent (map joined_of ks) (map joined_of (slice_set ks put.circuit bare)) (map joined_of after) (map joined_of (slice_set after put.circuit last)) (joined_of j) (joined_of c) told
-      (At-map joined_of ks put.circuit j at) (bare-is ks put.circuit j bare bare_is) after_is (At-map joined_of after put.circuit c there) told_is
+      set-aside waits i y name (place_of put) sent (map joined_of ks) (map joined_of (slice_set ks put.circuit header_only)) (map joined_of after) (map joined_of (slice_set after put.circuit last)) (joined_of j) (joined_of c) told
+      (At-map joined_of ks put.circuit j at) (header_only-is ks put.circuit j header_only bare_is) after_is (At-map joined_of after put.circuit c there) told_is
       (set-map joined_of after put.circuit last ∙ ap (slice_set (map joined_of after) put.circuit) last_is);
 }
 
@@ -491,13 +491,13 @@ numbers-next i core name (w ∷ ws) next (Some v) ks is alike = ap (λ (b : Bool
 
 pub entries-next : (y : model.ServerSide) (r : model.RecordSide) (o : Option WaitingPut) (next : Option PutPlace) (value : Option Elements) → y.core.stamp ≡ record { seconds = 0; nanos = 0 } → option_map (λ (w : WaitingPut). w.value) o ≡ value
     → applied_of r.number next value ≡ next_entries y r o next
-entries-next y r None None value bare is = refl
-entries-next y r None (Some p) None bare is = refl
-entries-next y r None (Some p) (Some v) bare is = absurd cc
-entries-next y r (Some w) None value bare is = refl
-entries-next y r (Some w) (Some p) None bare is = absurd cc
-entries-next y r (Some w) (Some p) (Some v) bare is =
-    (λ t. history.Applied p.circuit p.place r.number (record { value = sym (some_is w.value v is) t; meta = written_meta (sym bare t) }) true ∷ [])
+entries-next y r None None value header_only is = refl
+entries-next y r None (Some p) None header_only is = refl
+entries-next y r None (Some p) (Some v) header_only is = absurd cc
+entries-next y r (Some w) None value header_only is = refl
+entries-next y r (Some w) (Some p) None header_only is = absurd cc
+entries-next y r (Some w) (Some p) (Some v) header_only is =
+    (λ t. history.Applied p.circuit p.place r.number (record { value = sym (some_is w.value v is) t; meta = written_meta (sym header_only t) }) true ∷ [])
 
 pub some-mapped : {A B : Type 0} (f : A → B) (o : Option A) → is_some (option_map f o) ≡ is_some o
 some-mapped f None = refl

@@ -10,7 +10,7 @@ use crate::world::World;
 use ca_arena::Handle;
 use ca_client_core::for_histories::flow_of;
 use ca_text::{Command, Refusal};
-use ca_wire::bare;
+use ca_wire::header_only;
 use ca_world_data::client::ClientSide;
 use ca_world_data::ends::ends_at;
 use ca_world_data::history::{Intent, Sent};
@@ -141,7 +141,7 @@ fn push_flow(alloc: Global, up: &mut Vec<Sent>, flow: Option<Command>)
         return;
     };
     up.push_reserved(Sent {
-        message: bare(alloc, command),
+        message: header_only(alloc, command),
         intent: Intent::OfCircuit,
     });
 }

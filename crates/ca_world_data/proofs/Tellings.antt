@@ -17,7 +17,7 @@ use Rattle.ca_model.specs.Answers as notice
 use Rattle.ca_model.specs.Client.{Channel, Client, ClientCircuit, Clearing, Connecting, Connection, Creating, Doomed, Leaving, Live, Phase, channel_on, circuit_to, connection_at, disconnections, farewell}
 use Rattle.ca_model.specs.ClientEnds.{StepsOn, after_taking}
 use Rattle.ca_model.specs.Ends.{Address}
-use Rattle.ca_model.specs.Hears.{Answers, Completes, Effect, Fails, FindsAt, Hears, PutsOn, Updates, any_failed, clear_answered, confirmed, created, failed, failing, found_at, heard_by, left, put_on, request_failed, rights_told, searched_by, subscription_failed, write_failed}
+use Rattle.ca_model.specs.Hears.{Answers, Completes, Effect, Fails, FindsAt, Hears, PutsOn, Updates, any_failed, clear_answered, confirmed, created, failed, failing, found_at, subscription_on, left, put_on, request_failed, rights_told, searched_by, subscription_failed, write_failed}
 use Rattle.ca_model.specs.Hears as hears
 use Rattle.ca_world_data.specs.ClientSteps.{TellsAtMost, notices_in}
 
@@ -112,8 +112,8 @@ module _ (x : Client) (c : Handle) (m : Fields) where
   failing-few : (h : Header) → IsFew (failing x c m h).notices
   failing-few h =
       go (h.command == command_number command.Write) (h.command == command_number command.EventAdd)
-      (write_failed x m (channel_on x c m.p1)) (subscription_failed x m (heard_by x c h.p2)) (any_failed x m (answered_by c h.command h.p2 x.requests))
-      (write-few (channel_on x c m.p1)) (subscription-few (heard_by x c h.p2)) (any-few (answered_by c h.command h.p2 x.requests))
+      (write_failed x m (channel_on x c m.p1)) (subscription_failed x m (subscription_on x c h.p2)) (any_failed x m (answered_by c h.command h.p2 x.requests))
+      (write-few (channel_on x c m.p1)) (subscription-few (subscription_on x c h.p2)) (any-few (answered_by c h.command h.p2 x.requests))
     where
       go : (a b : Bool) (f g k : Effect) → IsFew f.notices → IsFew g.notices → IsFew k.notices → IsFew (if a then f else if b then g else k).notices
       go true b f g k p q r = p
@@ -159,7 +159,7 @@ module _ (x : Client) (c : Handle) (m : Fields) where
   heard-tells e n each (hears.ServerDisconnect is effect) = subst (λ (z : Effect). length z.notices ≤ n + 1) (sym effect) (left-tells n each (channel_on x c m.p1))
   heard-tells e n each (hears.Reply is answers) = few-length e.notices n (answers-few (answered_by c m.command m.p2 x.requests) e answers)
   heard-tells e n each (hears.Confirmation is none effect) = few-length e.notices n (few-same e (confirmed x (confirmed_by c m.p2 x.subscriptions)) effect (confirmed-few (confirmed_by c m.p2 x.subscriptions)))
-  heard-tells e n each (hears.Update is some updates) = few-length e.notices n (updates-few (heard_by x c m.p2) e updates)
+  heard-tells e n each (hears.Update is some updates) = few-length e.notices n (updates-few (subscription_on x c m.p2) e updates)
   heard-tells e n each (hears.Error is fails) = few-length e.notices n (fails-few e fails)
   heard-tells e n each (hears.Other other effect) = few-length e.notices n (inl (ap (λ (z : Effect). z.notices) effect))
 

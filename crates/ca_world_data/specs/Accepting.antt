@@ -16,7 +16,8 @@ use Rattle.ca_model.specs.ClientEnds.{ClientConnects}
 use Rattle.ca_model.specs.Ends.{Address, same_address}
 use Rattle.ca_model.specs.History as history
 use Rattle.ca_model.specs.ServerSteps.{Accepts}
-use Rattle.ca_model.specs.ClientEvents.{connected_as, lines_of, new_circuit, place_of, told_by}
+use Rattle.ca_model.specs.ClientEvents.{connected_as, lines_of, new_circuit, place_of}
+use Rattle.ca_model.specs.ClientEvents.{closing_notices}
 use Rattle.ca_model.specs.World.{grown}
 use Rattle.ca_model.specs.World as model
 use Rattle.ca_world_data.specs.declared.client.ClientSide.{ClientSide}
@@ -97,7 +98,7 @@ pub record ConnectsSide (x : model.ClientSide) (logs : List (List history.Line))
   pub sent : List Sending
   pub connects : ClientConnects x.core j.at_client k sent x'.core
   pub side : x' ≡ record x { core = x'.core }
-  pub logged : logs' ≡ grown x.life (lines_of history.OfCircuit x.names (told_by k)) logs
+  pub logged : logs' ≡ grown x.life (lines_of history.OfCircuit x.names (closing_notices k)) logs
   pub circuit : j' ≡ with_said (map (stamped x.names) sent) (connected_as k j)
 
 -- a server that accepts no circuit has no room, or no memory

@@ -6,7 +6,7 @@ use Rattle.ca_text.specs.declared.command.Command.{Command}
 use Rattle.ca_text.specs.declared.refusal.Refusal.{Refusal}
 use Rattle.ca_text.specs.declared.refusal.Refusal.TheVariants as refusal
 use Rattle.ca_ids.specs.Table.{under}
-use Rattle.ca_wire.specs.Messages.{bare}
+use Rattle.ca_wire.specs.Messages.{header_only}
 use Rattle.ca_client_core.specs.ForHistories.{flow_at}
 use Rattle.ca_model.specs.Answers.{Sending}
 use Rattle.ca_model.specs.ClientEnds.{ClientGives}
@@ -20,7 +20,7 @@ use Rattle.ca_world_data.specs.Seen.{joined_of}
 
 -- what a client said that sends this command, or none
 abbrev pub flow_said : Option Command → List Sent
-flow_said (Some c) = record { message = bare c; intent = OfCircuit } ∷ []
+flow_said (Some c) = record { message = header_only c; intent = OfCircuit } ∷ []
 flow_said None = []
 
 -- a circuit on which the client said more

@@ -16,7 +16,7 @@ use Rattle.ca_world_script.specs.declared.verb.Verb.{Verb}
 use Rattle.ca_world_script.specs.Events.{Says, SaysAdd, SaysPost, verb_word}
 use Rattle.ca_world_data.specs.Settings.{is_taken}
 use Rattle.ca_world_script.specs.Lines.{SaysClient}
-use Rattle.ca_world_script.specs.Servers.{TakesLine, bare}
+use Rattle.ca_world_script.specs.Servers.{TakesLine, header_only}
 use Rattle.ca_world_script.specs.Types as types
 use Rattle.ca_world_script.specs.Types.{Added, none_added}
 
@@ -56,7 +56,7 @@ pub record AddsServer (old : Reading) (words : List (List ℕ)) (new : Reading) 
   pub says : SaysServer behind address.host address.port
   pub fresh : is_taken address old.servers ≡ false
   pub early : old.events ≡ []
-  pub after : new ≡ record old { servers = old.servers ++ bare address ∷ [] }
+  pub after : new ≡ record old { servers = old.servers ++ header_only address ∷ [] }
 
 -- a record or a rule of the last server, before the events
 pub record AddsTo (old : Reading) (words : List (List ℕ)) (new : Reading) : Type 0 where

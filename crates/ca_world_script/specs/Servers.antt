@@ -7,8 +7,8 @@ use Rattle.ca_records.specs.Rules.{Rule}
 use Rattle.ca_script.specs.Lines.{SaysRecord, SaysRule}
 
 -- a server at this address, without records and rules
-abbrev pub bare : Address → ServerSetting
-bare a = record { address = a; rules = []; records = [] }
+abbrev pub header_only : Address → ServerSetting
+header_only a = record { address = a; rules = []; records = [] }
 
 -- `record NAME TYPE COUNT quick|slow V1 V2 ..`: a record of a new name, after the others
 pub record TakesRecord (old : ServerSetting) (words : List (List ℕ))

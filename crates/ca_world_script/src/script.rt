@@ -128,8 +128,8 @@ fn add_server(alloc: Global, words: Words<'_>, script: &mut Script) -> Result<()
     if has_address(&script.servers, address) {
         return Err(Refusal::BadText);
     }
-    let bare = ServerSetting::new(address, Vec::new(alloc), Records::new(alloc));
-    script.servers.push(bare)?;
+    let header_only = ServerSetting::new(address, Vec::new(alloc), Records::new(alloc));
+    script.servers.push(header_only)?;
     Ok(())
 }
 

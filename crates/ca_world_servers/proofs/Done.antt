@@ -122,7 +122,7 @@ module _ (before : Server) (h : Handle) (rs : List RecordSide) (a : Ahead) (m : 
 
 -- the value is stored with no stamp
 stored-as : (before : Server) (value : Elements) (w : Coming) → before.stamp ≡ record { seconds = 0; nanos = 0 } → value ≡ elements w.value → written w ≡ stored_now before value
-stored-as before value w bare is = λ t. record { value = sym is t; meta = written_meta (sym bare t) }
+stored-as before value w header_only is = λ t. record { value = sym is t; meta = written_meta (sym header_only t) }
 
 -- ---- what is told
 
@@ -147,8 +147,8 @@ module _ (i : ℕ) (p : PutPlace) (before : Server) (h : Handle) (y : ServerSide
   -- of a write that is applied
   write-told : (name : List ℕ) (value : Elements) (busies : Bool) (w : Coming) (y' : ServerSide) (ks' : List Joined) (logs' : List (List Entry)) → name ≡ w.name.items → value ≡ elements w.value → before.stamp ≡ record { seconds = 0; nanos = 0 }
       → TellsWrite i p (Some busies) (Some w) y ks logs y' ks' logs' → TellsAction i p before h (Applies name value busies) y ks logs y' ks' logs'
-  write-told name value busies w y' ks' logs' names is bare (told, numbers) =
-      let stored : written w ≡ stored_now before value = stored-as before value w bare is in
+  write-told name value busies w y' ks' logs' names is header_only (told, numbers) =
+      let stored : written w ≡ stored_now before value = stored-as before value w header_only is in
       let left : busy_after busies w.name.items p records ≡ records_after before h p (Applies name value busies) records = ap (λ (n : List ℕ). busy_after busies n p records) (sym names) ∙ busy-as before h p name value busies records in
       record {
         side = told.side ∙ (λ t. record (server_of y) { records = left t });
@@ -160,8 +160,8 @@ module _ (i : ℕ) (p : PutPlace) (before : Server) (h : Handle) (y : ServerSide
   -- of a put that waits
   wait-told : (name : List ℕ) (value : Elements) (w : Coming) (y' : ServerSide) (logs' : List (List Entry)) → name ≡ w.name.items → value ≡ elements w.value → before.stamp ≡ record { seconds = 0; nanos = 0 }
       → TellsWait p (Some w) y logs y' logs' → TellsAction i p before h (Waits name value) y ks logs y' ks logs'
-  wait-told name value w y' logs' names is bare told =
-      let stored : written w ≡ stored_now before value = stored-as before value w bare is in
+  wait-told name value w y' logs' names is header_only told =
+      let stored : written w ≡ stored_now before value = stored-as before value w header_only is in
       record {
         side = told.side ∙ (λ t. record (server_of y) { records = with_record (sym names t) (with_waiting p) records });
         numbers = told.numbers;

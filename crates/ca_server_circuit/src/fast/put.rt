@@ -1,15 +1,15 @@
-//! The short way of a WRITE_NOTIFY of one element.
+//! The fast path of a WRITE_NOTIFY of one element.
 ghost use Rattle.std.specs.Prelude.{◌≡◌, MatchOption, Some, [], ◌∷◌, false, true};
 ghost use Rattle.ca_text.specs.declared.command.Command.{Command};
 ghost use Rattle.ca_text.specs.declared.command.Command.TheVariants as command;
-ghost use Rattle.ca_link.specs.Calls.{HasShort, IsOpen};
+ghost use Rattle.ca_link.specs.Calls.{HasScalar, IsOpen};
 ghost use Rattle.ca_link.specs.Link.{with_sent};
 ghost use Rattle.ca_records.specs.declared.puts.Begun.TheVariants.{Applied};
 ghost use Rattle.ca_records.specs.Store.{IsThere, records_of};
 ghost use Rattle.ca_wire.specs.Messages.{done, on_channel};
 ghost use Rattle.ca_server_circuit.specs.Handling.{AreServed, Puts};
 ghost use Rattle.ca_server_circuit.specs.Putting.{WritesTo};
-ghost use Rattle.ca_server_circuit.specs.Stepping.{DoesShort, done_for};
+ghost use Rattle.ca_server_circuit.specs.Stepping.{DoesScalar, done_for};
 
 use crate::end::End;
 use crate::fast::write::write_one;
@@ -33,9 +33,9 @@ impl End {
         wanted: &Wanted,
     ) -> Option<FollowUp>
         requires served { AreServed (records_of records.old) self.old.channels }
-        requires short { HasShort command.WriteNotify self.old.link wanted.now }
+        requires scalar { HasScalar command.WriteNotify self.old.link wanted.now }
         ensures { MatchOption result ((self.new ≡ self.old) × (records.new ≡ records.old))
-            (λ left. DoesShort Puts command.WriteNotify wanted.now circuit records.old self.old
+            (λ left. DoesScalar Puts command.WriteNotify wanted.now circuit records.old self.old
             left records.new self.new) }
     {
         if wanted.count != 1 {
@@ -72,9 +72,9 @@ impl End {
         wanted: &Wanted,
     ) -> Option<FollowUp>
         requires served { AreServed (records_of records.old) self.old.channels }
-        requires short { HasShort command.WriteNotify self.old.link wanted.now }
+        requires scalar { HasScalar command.WriteNotify self.old.link wanted.now }
         ensures { MatchOption result ((self.new ≡ self.old) × (records.new ≡ records.old))
-            (λ left. DoesShort Puts command.WriteNotify wanted.now circuit records.old self.old
+            (λ left. DoesScalar Puts command.WriteNotify wanted.now circuit records.old self.old
             left records.new self.new) }
     {
         let Sought::Served(seat) = self.seek(records, wanted.sid) else {

@@ -1,13 +1,13 @@
-//! The short way of a READ_NOTIFY of one element.
+//! The fast path of a READ_NOTIFY of one element.
 ghost use Rattle.std.specs.Prelude.{◌≡◌, ◌<◌, IfSome, OnErr, OnOk, [], ◌∷◌, length};
 ghost use Rattle.ca_arena.specs.declared.handle.Handle.{Handle};
 ghost use Rattle.ca_text.specs.Limits.{output_limit};
 ghost use Rattle.ca_link.specs.Calls.{IsOpen};
 ghost use Rattle.ca_link.specs.Link.{with_sent};
 ghost use Rattle.ca_records.specs.Store.{records_of};
-ghost use Rattle.ca_wire.specs.Messages.{alone, read_request};
+ghost use Rattle.ca_wire.specs.Messages.{scalar, read_request};
 ghost use Rattle.ca_server_circuit.specs.Handling.{AreServed};
-ghost use Rattle.ca_server_circuit.specs.Showing.{AnswersRead, answer_alone};
+ghost use Rattle.ca_server_circuit.specs.Showing.{AnswersRead, scalar_reply};
 ghost use Rattle.ca_server_circuit.specs.Stepping.{IsFast};
 
 use crate::bytes::know_bytes;
@@ -48,12 +48,12 @@ impl End {
 #[inline(always)]
 pub(crate) fn shown_scalar(of: &Record, rights: u32, wanted: &Wanted) -> Option<u64>
     ensures { IfSome result (λ n.
-        AnswersRead of.now rights (read_request wanted.now) (alone (answer_alone wanted.now n))) }
+        AnswersRead of.now rights (read_request wanted.now) (scalar (scalar_reply wanted.now n))) }
 {
     if !FAST || rights % 2 != 1 || wanted.count > 1 {
         return None;
     }
-    of.value().alone(wanted.data_type)
+    of.value().scalar(wanted.data_type)
 }
 
 /// Answers a read by one element.
@@ -61,7 +61,7 @@ pub(crate) fn shown_scalar(of: &Record, rights: u32, wanted: &Wanted) -> Option<
 pub(crate) fn send_scalar(link: &mut Link, wanted: &Wanted, payload: u64) -> Result<(), AllocError>
     requires { IsOpen link.old }
     ensures ok { OnOk result (link.new
-        ≡ with_sent (alone (answer_alone wanted.now payload) ∷ []) link.old) }
+        ≡ with_sent (scalar (scalar_reply wanted.now payload) ∷ []) link.old) }
     ensures err { OnErr result (link.new ≡ link.old) }
 {
     let said = ScalarMessage {

@@ -1,16 +1,16 @@
-//! The short way of a WRITE of one element.
+//! The fast path of a WRITE of one element.
 ghost use Rattle.std.specs.Prelude.{◌≡◌, MatchOption, Option, false, is_some, true};
 ghost use Rattle.ca_arena.specs.declared.handle.Handle.{Handle};
 ghost use Rattle.ca_text.specs.declared.command.Command.{Command};
 ghost use Rattle.ca_text.specs.declared.command.Command.TheVariants as command;
-ghost use Rattle.ca_link.specs.Calls.{HasShort};
+ghost use Rattle.ca_link.specs.Calls.{HasScalar};
 ghost use Rattle.ca_records.specs.declared.puts.Begun.TheVariants.{Applied};
 ghost use Rattle.ca_records.specs.declared.puts.Put.{Put};
 ghost use Rattle.ca_records.specs.Store.{IsThere, records_of};
 ghost use Rattle.ca_wire.specs.Messages.{on_channel};
 ghost use Rattle.ca_server_circuit.specs.Handling.{AreServed, Writes};
 ghost use Rattle.ca_server_circuit.specs.Putting.{WritesTo};
-ghost use Rattle.ca_server_circuit.specs.Stepping.{DoesShort};
+ghost use Rattle.ca_server_circuit.specs.Stepping.{DoesScalar};
 
 use crate::end::End;
 use crate::seek::Sought;
@@ -27,10 +27,10 @@ impl End {
         wanted: &Wanted,
     ) -> Option<FollowUp>
         requires served { AreServed (records_of records.old) self.old.channels }
-        requires short { HasShort command.Write self.old.link wanted.now }
+        requires scalar { HasScalar command.Write self.old.link wanted.now }
         ensures { MatchOption result ((self.new ≡ self.old) × (records.new ≡ records.old))
             (λ left. (h : Handle)
-            → DoesShort Writes command.Write wanted.now h records.old self.old
+            → DoesScalar Writes command.Write wanted.now h records.old self.old
             left records.new self.new) }
     {
         let Sought::Served(seat) = self.seek(records, wanted.sid) else {

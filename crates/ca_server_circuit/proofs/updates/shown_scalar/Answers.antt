@@ -1,8 +1,8 @@
 use Rattle.std.proofs.Common.{arith}
-use Rattle.ca_server_circuit.proofs.Pumps.{if-alone}
+use Rattle.ca_server_circuit.proofs.Pumps.{if-scalar}
 use Rattle.ca_server_circuit.proofs.updates.shown_scalar.Goals as goal
 
 pub returns : goal.returns
 returns c =
     let few = c.if-wanted-gt1.false in
-    if-alone c.args.wanted.now c.args.shown.now _ c.alone.result (omega (arith, few)) c.value.ensures.value c.alone.ensures.some
+    if-scalar c.args.wanted.now c.args.shown.now _ c.scalar.result (omega (arith, few)) c.value.ensures.value c.scalar.ensures.some

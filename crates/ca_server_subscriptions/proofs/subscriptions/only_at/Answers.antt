@@ -1,11 +1,11 @@
 use Rattle.std.proofs.Common.{[], ◌∷◌, List, sym, ap, ◌∙◌}
 use Rattle.ca_server_subscriptions.specs.ByRecord.{Receiver}
 use Rattle.ca_server_subscriptions.proofs.Placing.{Entry}
-use Rattle.ca_server_subscriptions.proofs.Receivers.{sole-on}
+use Rattle.ca_server_subscriptions.proofs.Receivers.{only_one-on}
 use Rattle.ca_server_subscriptions.proofs.subscriptions.only_at.Goals as goal
 
 pub returns : goal.returns
 returns c =
     let e : Entry = (c.in-Some.key.now, c.in-Some.standing.now) in
-    sole-on c.args.sole c.args.name.now c.args.standing.now.entries c.in_ok-place.place e c.requires c.in_ok-place.was (sym c.in-Some.ensures.entry) (sym c.is_on.ensures ∙ c.if-not-is_on.false)
+    only_one-on c.args.only_one c.args.name.now c.args.standing.now.entries c.in_ok-place.place e c.requires c.in_ok-place.was (sym c.in-Some.ensures.entry) (sym c.is_on.ensures ∙ c.if-not-is_on.false)
     ∙ ap (λ (r : Receiver). let rs : List Receiver = r ∷ [] in rs) (sym c.receiver.ensures)

@@ -2,7 +2,7 @@ use Rattle.std.proofs.Common.{◌≡◌, ◌++◌, take, refl, sym, ◌∙◌, s
 use Rattle.ca_wire.specs.declared.header.Header.{Header}
 use Rattle.ca_wire.specs.declared.requests.Wanted.{Wanted}
 use Rattle.ca_wire.specs.Header.{HeaderSpells, number16}
-use Rattle.ca_wire.specs.Reading.{BeginsHeader, short_of}
+use Rattle.ca_wire.specs.Reading.{BeginsHeader, scalar_header}
 use Rattle.ca_wire.proofs.Headers.{header-same}
 use Rattle.ca_wire.proofs.Fronts.{begins-short, six-numbers}
 use Rattle.ca_wire.proofs.Shorts.{short-command, short-size}
@@ -30,6 +30,6 @@ returns c =
     (six-numbers h c.args.bytes.now _ _ _ _ _ c.number32_at-id.result.1.now c.number16_at-number.ensures.front size c.number16_at-data_type.ensures.front count c.number32_at-sid.ensures.front c.number32_at-id.ensures.front) in
     let enough = c.if-bytes-lt24.false in
     record {
-      header = subst (λ (g : Header). HeaderSpells (take 16 c.args.bytes.now) g) (header-same h (short_of c.args.command w) (c.if-number.false ∙ c.number.ensures) refl refl refl (sym c.new.ensures) (sym c.new-2.ensures)) begins.header;
+      header = subst (λ (g : Header). HeaderSpells (take 16 c.args.bytes.now) g) (header-same h (scalar_header c.args.command w) (c.if-number.false ∙ c.number.ensures) refl refl refl (sym c.new.ensures) (sym c.new-2.ensures)) begins.header;
       room = omega (arith, enough);
     }

@@ -5,7 +5,7 @@ use Rattle.ca_wire.specs.Message.{header_of}
 use Rattle.ca_wire.specs.Messages.{on_channel}
 use Rattle.ca_wire.specs.Reading.{BeginsHeader}
 use Rattle.ca_wire.proofs.Headers.{header-same}
-use Rattle.ca_wire.proofs.Fronts.{bare-command, bare-size, begins-short, six-numbers}
+use Rattle.ca_wire.proofs.Fronts.{header_only-command, header_only-size, begins-short, six-numbers}
 use Rattle.ca_wire.proofs.reading.without_payload_at.Goals as goal
 
 pub returns-then-bytes-lt16 : goal.returns-then-bytes-lt16
@@ -13,11 +13,11 @@ returns-then-bytes-lt16 c w begins = (let room = begins.room in let few = c.if-b
 
 pub returns-then-number : goal.returns-then-number
 returns-then-number c w begins =
-    c.if-number.true (bare-command c.args.bytes.now c.args.command w _ _ begins (omega arith) c.number16_at-number.ensures.front ∙ sym c.number.ensures)
+    c.if-number.true (header_only-command c.args.bytes.now c.args.command w _ _ begins (omega arith) c.number16_at-number.ensures.front ∙ sym c.number.ensures)
 
 pub returns-then-size-ne0 : goal.returns-then-size-ne0
 returns-then-size-ne0 c w begins =
-    c.if-size-ne0.true (bare-size c.args.bytes.now c.args.command w _ _ _ _ begins (omega arith) (omega arith) c.number16_at-number.ensures.front c.number16_at-size.ensures.front)
+    c.if-size-ne0.true (header_only-size c.args.bytes.now c.args.command w _ _ _ _ begins (omega arith) (omega arith) c.number16_at-number.ensures.front c.number16_at-size.ensures.front)
 
 pub returns : goal.returns
 returns c =

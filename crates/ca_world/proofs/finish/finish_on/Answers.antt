@@ -14,7 +14,7 @@ use Rattle.ca_world_data.specs.declared.history.Told.{Told}
 use Rattle.ca_world_data.specs.declared.joined.Joined.{Joined}
 use Rattle.ca_world_data.specs.Seen.{joined_of, told_of}
 use Rattle.ca_world_data.proofs.Worlds.{found}
-use Rattle.ca_world.proofs.Finishings.{bare-alike, counts-set, finished-on, reply-behind}
+use Rattle.ca_world.proofs.Finishings.{header_only-alike, counts-set, finished-on, reply-behind}
 use Rattle.ca_world.proofs.finish.finish_on.Goals as goal
 
 pub post_next-requires-clause-alike : goal.post_next-requires-clause-alike
@@ -24,7 +24,7 @@ post_next-requires-clause-alike c =
     let j : Joined = c.index_mut.result.now in
     let within : k < length ks = omega (arith, c.requires.within) in
     let at : At ks k j = found ks k j j within c.index_mut.ensures.value in
-    bare-alike c.args.server c.args.core.now ks k j c.take_down-down.new.joined at c.take_down-down.ensures.circuit c.requires.alike
+    header_only-alike c.args.server c.args.core.now ks k j c.take_down-down.new.joined at c.take_down-down.ensures.circuit c.requires.alike
 
 pub post_next-requires-clause-counts : goal.post_next-requires-clause-counts
 post_next-requires-clause-counts c =

@@ -7,7 +7,7 @@ use Rattle.ca_client_tables.specs.declared.channel.Standing.{Standing}
 use Rattle.ca_client_tables.specs.declared.channel.Standing.TheVariants as standing
 use Rattle.ca_client_tables.specs.declared.channel.Phase.{Phase}
 use Rattle.ca_client_tables.specs.Forms.{native_of, standing_of}
-use Rattle.ca_client_core.proofs.Cleared.{bare-early, bare-searched, cleared-bare, cleared-live, waits-there}
+use Rattle.ca_client_core.proofs.Cleared.{header_only-early, header_only-searched, cleared-header_only, cleared-live, waits-there}
 use Rattle.ca_client_core.proofs.client.ClientCore.clear.Goals as goal
 
 pub let_unwanted_go-requires : goal.let_unwanted_go-requires
@@ -25,7 +25,7 @@ returns-in-Searching c =
     let h = c.args.channel in
     let at : standing_at x h ≡ Some Searching =
     sym c.standing.ensures ∙ ap (option_map standing_of) (c.in-Some.is ∙ ap (λ (s : Standing). Some s) c.in-Searching.is) in
-    cleared-bare x c.let_channel_go.new.self h Searching c.none.result c.none.ensures at refl (bare-searched x h at c.know.ensures) c.let_channel_go.ensures
+    cleared-header_only x c.let_channel_go.new.self h Searching c.none.result c.none.ensures at refl (header_only-searched x h at c.know.ensures) c.let_channel_go.ensures
 
 pub returns-in-Connecting : goal.returns-in-Connecting
 returns-in-Connecting c =
@@ -34,7 +34,7 @@ returns-in-Connecting c =
     let found : c.standing.result ≡ Some (standing.On c.in-On.circuit c.in-On.phase) = c.in-Some.is ∙ ap (λ (s : Standing). Some s) c.in-On.is in
     let at : standing_at x h ≡ Some (On c.in-On.circuit (phase.Connecting)) =
     sym c.standing.ensures ∙ ap (option_map standing_of) found ∙ ap (λ (p : Phase). option_map standing_of (Some (standing.On c.in-On.circuit p))) c.in-Connecting.is in
-    cleared-bare x c.let_unwanted_go.new.self h (On c.in-On.circuit phase.Connecting) c.none-in-Connecting.result c.none-in-Connecting.ensures at refl (bare-early x h c.in-On.circuit phase.Connecting at refl c.know.ensures)
+    cleared-header_only x c.let_unwanted_go.new.self h (On c.in-On.circuit phase.Connecting) c.none-in-Connecting.result c.none-in-Connecting.ensures at refl (header_only-early x h c.in-On.circuit phase.Connecting at refl c.know.ensures)
     (c.let_unwanted_go.ensures ∙ ap (λ (y : Client). unwanted c.in-On.circuit y) c.let_channel_go-in-Connecting.ensures)
 
 pub returns-in-Creating : goal.returns-in-Creating
@@ -44,7 +44,7 @@ returns-in-Creating c =
     let found : c.standing.result ≡ Some (standing.On c.in-On.circuit c.in-On.phase) = c.in-Some.is ∙ ap (λ (s : Standing). Some s) c.in-On.is in
     let at : standing_at x h ≡ Some (On c.in-On.circuit (phase.Creating c.in-Creating.field-0)) =
     sym c.standing.ensures ∙ ap (option_map standing_of) found ∙ ap (λ (p : Phase). option_map standing_of (Some (standing.On c.in-On.circuit p))) c.in-Creating.is in
-    cleared-bare x c.doom.new.self h (On c.in-On.circuit (phase.Creating c.in-Creating.field-0)) c.none-in-Creating.result c.none-in-Creating.ensures at refl (bare-early x h c.in-On.circuit (phase.Creating c.in-Creating.field-0) at refl c.know.ensures) c.doom.ensures
+    cleared-header_only x c.doom.new.self h (On c.in-On.circuit (phase.Creating c.in-Creating.field-0)) c.none-in-Creating.result c.none-in-Creating.ensures at refl (header_only-early x h c.in-On.circuit (phase.Creating c.in-Creating.field-0) at refl c.know.ensures) c.doom.ensures
 
 pub returns-in-Live : goal.returns-in-Live
 returns-in-Live c =

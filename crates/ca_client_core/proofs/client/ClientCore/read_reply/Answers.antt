@@ -8,5 +8,5 @@ pub returns-in-Message : goal.returns-in-Message
 returns-in-Message c =
     let x = c.args.self.now in
     let yes : c.is_reply.result ≡ true = search rules in
-    subst (λ (r : Reply). ReadsReply x c.args.circuit r c.complete.new.self) (sym c.told_by.ensures)
+    subst (λ (r : Reply). ReadsReply x c.args.circuit r c.complete.new.self) (sym c.as_reply.ensures)
     (reads-reply x c.args.circuit c.in-Message.head c.complete.result c.complete.new.self c.in-Message.ensures (c.is_reply.ensures yes) c.complete.ensures)

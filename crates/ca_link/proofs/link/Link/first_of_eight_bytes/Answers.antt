@@ -7,4 +7,4 @@ use Rattle.ca_link.proofs.link.Link.first_of_eight_bytes.Goals as goal
 
 pub returns : goal.returns
 returns c =
-    short-link c.args.command c.args.self.now c.first_of_eight_bytes.result (subst (λ (h : Held). wire.FirstShort c.args.command h c.first_of_eight_bytes.result) (ap (λ (l : LinkState). l.input) c.self.view_is) c.first_of_eight_bytes.ensures)
+    short-link c.args.command c.args.self.now c.first_of_eight_bytes.result (subst (λ (h : Held). wire.FirstScalar c.args.command h c.first_of_eight_bytes.result) (ap (λ (l : LinkState). l.input) c.self.view_is) c.first_of_eight_bytes.ensures)

@@ -13,7 +13,7 @@ use Rattle.ca_server_subscriptions.specs.Subscribed.{AreAskable, ArePlaced, Join
 use Rattle.ca_server_subscriptions.proofs.Channels.{channels-more}
 use Rattle.ca_server_subscriptions.proofs.Owing.{refused-none}
 use Rattle.ca_server_subscriptions.proofs.Placing.{begins-new, has-none, if-err, if-ok, new-key, not-there, some-room}
-use Rattle.ca_server_subscriptions.proofs.Receivers.{askable-more, begun-gone, begun-has, lines-more, none-sole}
+use Rattle.ca_server_subscriptions.proofs.Receivers.{askable-more, begun-gone, begun-has, lines-more, none-only_one}
 use Rattle.ca_server_subscriptions.proofs.subscriptions.Subscriptions.begin.Goals as goal
 
 pub begin-requires : goal.begin-requires
@@ -69,7 +69,7 @@ invariant_of-self-2 c =
       (begun c).0,
       lines-more c.self.inside.by_record c.add-2.new.self c.self.inside.standing.entries c.insert.new.self.entries (key, (s, c.in-Ok.queue)) c.as_slice.result.now c.new-receiver.result (sym name)
           c.new-receiver.ensures (grown c) adds c.self.invariant.1,
-      none-sole c.insert.new.self.entries,
+      none-only_one c.insert.new.self.entries,
       askable-more c.self.inside.standing.entries c.insert.new.self.entries (key, (s, c.in-Ok.queue)) (grown c) c.requires.askable c.self.invariant.3,
       channels-more c.self.inside.by_channel c.self.inside.standing.entries c.self.invariant.4 c.add.new.self c.insert.new.self.entries (key, (s, c.in-Ok.queue)) (grown c) c.in_ok-add.ensures.ok,
     )
@@ -104,7 +104,7 @@ invariant_of-self-in-Err c =
     let key : SubKey = record { sid = c.number.result; sub = c.number-2.result } in
     let stay : c.begin.new.self ≡ c.self.inside.queues = refused-none key c.args.update c.in-Err.field-0 c.self.inside.queues c.begin.new.self c.in-Err.ensures in
     let back = c.take_back.ensures.back (ids_in c.self.inside.by_channel) c.in_ok-add.ensures.ok ∙ c.self.invariant.4 in
-    rw (c.reserve.ensures.entries, stay) (c.self.invariant.0, c.self.invariant.1, none-sole es, c.self.invariant.3, back)
+    rw (c.reserve.ensures.entries, stay) (c.self.invariant.0, c.self.invariant.1, none-only_one es, c.self.invariant.3, back)
 
 pub invariant_of-self-then-is_err : goal.invariant_of-self-then-is_err
 invariant_of-self-then-is_err c =
@@ -113,7 +113,7 @@ invariant_of-self-then-is_err c =
     let same_lines = if-err c.add-2.result (sym c.is_err.ensures.value ∙ c.if-is_err.true) c.add-2.ensures.err in (
       subst (λ (xs : Standings). ArePlaced xs c.cancel.new.self) (sym still) (subst (λ (rs : List (Queue Stored)). ArePlaced es rs) (sym (gone c)) c.self.invariant.0),
       λ name. ap (λ (w : Lines). receivers_in w name) same_lines ∙ c.self.invariant.1 name ∙ ap (receivers_of name) (sym still),
-      none-sole c.reserve.new.self.entries,
+      none-only_one c.reserve.new.self.entries,
       subst (λ (xs : Standings). AreAskable xs) (sym still) c.self.invariant.3,
       subst (λ (xs : Standings). AreByChannel c.take_back-then-is_err.new.self xs) (sym still)
           (c.take_back-then-is_err.ensures.back (ids_in c.self.inside.by_channel) c.in_ok-add.ensures.ok ∙ c.self.invariant.4),

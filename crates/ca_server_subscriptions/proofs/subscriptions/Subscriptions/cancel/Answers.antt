@@ -4,7 +4,7 @@ use Rattle.std.proofs.lemmas.Slice.Eq.{bytes_eq-Decides}
 use Rattle.ca_server_subscriptions.proofs.Orders.{key-at}
 use Rattle.ca_server_subscriptions.proofs.Placing.{cancels-none, cancels-one, found-at, placed-cancelled, removed-is}
 use Rattle.ca_server_subscriptions.specs.ByRecord.{Drops}
-use Rattle.ca_server_subscriptions.proofs.Receivers.{askable-left, lines-less, none-sole}
+use Rattle.ca_server_subscriptions.proofs.Receivers.{askable-left, lines-less, none-only_one}
 use Rattle.ca_server_subscriptions.proofs.subscriptions.Subscriptions.cancel.Goals as goal
 
 pub returns-in_default : goal.returns-in_default
@@ -37,7 +37,7 @@ invariant_of-self c =
           (placed-cancelled es qs c.self.invariant.0 c.queue-queue.result c.args.key has),
       lines-less c.self.inside.by_record c.take_out.new.self es c.shift_remove.new.self.entries c.in-Some.standing.now.0.name c.args.key c.in-Some.standing.now c.self.invariant.0.apart (sym c.in-Some.ensures.value) refl left
           (subst (λ (name : List ℕ). Drops name c.args.key c.self.inside.by_record c.take_out.new.self) c.name.ensures (c.take_out.ensures.goes c.args.key (key-at c.args.key es c.in-Some.place c.in-Some.ensures.index))) c.self.invariant.1,
-      none-sole c.shift_remove.new.self.entries,
+      none-only_one c.shift_remove.new.self.entries,
       askable-left c.args.key es c.shift_remove.new.self.entries left c.self.invariant.3,
       channels-less c.self.inside.by_channel es c.self.invariant.4 c.take_out-2.new.self c.shift_remove.new.self.entries c.args.key left c.take_out-2.ensures.goes,
     )

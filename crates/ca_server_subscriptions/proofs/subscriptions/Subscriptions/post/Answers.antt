@@ -8,7 +8,7 @@ use Rattle.ca_queue.specs.Queue.{Queue}
 use Rattle.ca_server_subscriptions.specs.ByRecord.{Receiver, is_masked}
 use Rattle.ca_server_subscriptions.specs.Subscribed.{Subscribed, after_post, is_on, subscriptions_in}
 use Rattle.ca_server_subscriptions.proofs.Placing.{in-err}
-use Rattle.ca_server_subscriptions.proofs.Receivers.{any-concerned, posts-all, sole-is-on}
+use Rattle.ca_server_subscriptions.proofs.Receivers.{any-concerned, posts-all, only_one-is-on}
 use Rattle.ca_server_subscriptions.proofs.subscriptions.Subscriptions.post.Goals as goal
 
 pub post-requires-clause-placed : goal.post-requires-clause-placed
@@ -39,5 +39,5 @@ returns-in-Some-clause-ok c =
 
 pub returns-in-Some-clause-on : goal.returns-in-Some-clause-on
 returns-in-Some-clause-on c =
-    sym (sole-is-on c.args.name.now c.self.inside.standing.entries c.in-Some.receiver c.in-Some.ensures)
+    sym (only_one-is-on c.args.name.now c.self.inside.standing.entries c.in-Some.receiver c.in-Some.ensures)
     ∙ ap (λ (s : Subscribed). list_any (is_on c.args.name.now) s.subscriptions) c.self.view_is

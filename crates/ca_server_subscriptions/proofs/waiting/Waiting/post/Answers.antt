@@ -20,30 +20,30 @@ returns-then-not-is_for_any-clause-ok c =
 pub returns-in_err-renew-clause-placed : goal.returns-in_err-renew-clause-placed
 returns-in_err-renew-clause-placed c es p =
     let i = c.self.inside in
-    let alone = c.nothing_waits.ensures c.if-not-nothing_waits.false in
-    subst (λ (qs : List (Queue Stored)). ArePlaced es qs) (view-other i.owed.items i.owed.items i.update c.renew.new.self i.queues c.args.self.now c.self.view_is alone.2 alone.2) p
+    let only_one = c.nothing_waits.ensures c.if-not-nothing_waits.false in
+    subst (λ (qs : List (Queue Stored)). ArePlaced es qs) (view-other i.owed.items i.owed.items i.update c.renew.new.self i.queues c.args.self.now c.self.view_is only_one.2 only_one.2) p
 
 pub owe-requires : goal.owe-requires
-owe-requires c = (let alone = c.nothing_waits.ensures c.if-not-nothing_waits.false in alone.2)
+owe-requires c = (let only_one = c.nothing_waits.ensures c.if-not-nothing_waits.false in only_one.2)
 
 pub returns-in-Err-clause-placed : goal.returns-in-Err-clause-placed
 returns-in-Err-clause-placed c es p =
     let i = c.self.inside in
-    let alone = c.nothing_waits.ensures c.if-not-nothing_waits.false in
-    subst (λ (qs : List (Queue Stored)). ArePlaced es qs) (view-other i.owed.items c.clear.new.self.items i.update c.renew.new.self i.queues c.args.self.now c.self.view_is alone.2 c.clear.ensures.items) p
+    let only_one = c.nothing_waits.ensures c.if-not-nothing_waits.false in
+    subst (λ (qs : List (Queue Stored)). ArePlaced es qs) (view-other i.owed.items c.clear.new.self.items i.update c.renew.new.self i.queues c.args.self.now c.self.view_is only_one.2 c.clear.ensures.items) p
 
 -- nothing waited, so that the queues are what was seen
 were : (c : goal.In_default) → c.self.inside.queues ≡ c.args.self.now
 were c =
     let i = c.self.inside in
-    let alone = c.nothing_waits.ensures c.if-not-nothing_waits.false in
-    view-none i.owed.items i.update i.queues c.args.self.now c.self.view_is alone.2
+    let only_one = c.nothing_waits.ensures c.if-not-nothing_waits.false in
+    view-none i.owed.items i.update i.queues c.args.self.now c.self.view_is only_one.2
 
 pub invariant_of-self-in_default : goal.invariant_of-self-in_default
 invariant_of-self-in_default c =
     let i = c.self.inside in
-    let alone = c.nothing_waits.ensures c.if-not-nothing_waits.false in
-    owes i.events_on i.empty c.owe.new.owed.items c.args.receivers.now c.args.mask i.queues c.self.invariant.switched alone.1 (c.self.invariant.quiet alone.1)
+    let only_one = c.nothing_waits.ensures c.if-not-nothing_waits.false in
+    owes i.events_on i.empty c.owe.new.owed.items c.args.receivers.now c.args.mask i.queues c.self.invariant.switched only_one.1 (c.self.invariant.quiet only_one.1)
     (subst (λ (qs : List (Queue Stored)). ArePlacedIn c.args.receivers.now qs) (sym (were c)) c.requires.placed) (c.are_in_order.ensures c.if-not-are_in_order.false) c.in_default.ensures
 
 -- what is seen now

@@ -8,15 +8,15 @@ use Rattle.ca_dbr.specs.Shown.{shown}
 
 -- These elements are one, of the plain type of this number, and n has its bytes,
 -- with zeros up to eight.
-pub record IsAlone (e : Elements) (number n : ℕ) : Type 0 where
+pub record IsScalar (e : Elements) (number n : ℕ) : Type 0 where
   pub one : count_of e ≡ 1
   pub typed : base_number (base_of e) ≡ number
   pub shown : shown e 1 (base_of e) ≡ Ok e
   pub bytes : bytes_of e ++ replicate ((8 - length (bytes_of e) % 8) % 8) 0 ≡ bytes_8 n
 
 -- These elements are not one of the plain type of this number, unless that is STRING.
-abbrev pub IsNotAlone : Elements → ℕ → Type 0
-IsNotAlone e number = count_of e ≡ 1 → base_number (base_of e) ≡ number → base_of e ≡ base.String
+abbrev pub IsNotScalar : Elements → ℕ → Type 0
+IsNotScalar e number = count_of e ≡ 1 → base_number (base_of e) ≡ number → base_of e ≡ base.String
 
 -- There is one of these, and n has its bytes, of this size, with zeros up to eight.
 abbrev pub IsOneWord : {T : Type 0} → (T → List ℕ) → ℕ → List T → ℕ → Type 0

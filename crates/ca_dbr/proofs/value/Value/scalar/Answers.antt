@@ -1,7 +1,7 @@
 use Rattle.std.proofs.Common.{refl}
 use Rattle.ca_dbr.specs.Elements.{elements}
 use Rattle.ca_dbr.proofs.OneElement.{told-char, told-double, told-enum, told-float, told-int, told-long}
-use Rattle.ca_dbr.proofs.value.Value.alone.Goals as goal
+use Rattle.ca_dbr.proofs.value.Value.scalar.Goals as goal
 
 pub returns-in-Ints-clause-some : goal.returns-in-Ints-clause-some
 returns-in-Ints-clause-some c =

@@ -1,5 +1,5 @@
 use Rattle.ca_server_subscriptions.proofs.Passing.{if-passes}
-use Rattle.ca_server_subscriptions.proofs.subscriptions.Subscriptions.sole.Goals as goal
+use Rattle.ca_server_subscriptions.proofs.subscriptions.Subscriptions.only_one.Goals as goal
 
 pub returns-in-Some-clause-passes : goal.returns-in-Some-clause-passes
 returns-in-Some-clause-passes c =
