@@ -1,6 +1,6 @@
 //! The runs of `get`, `put` and `monitor`: a client with one channel, over `ca_client_context`.
-//! Begin at `done`, which waits until the channel is live, and is then one `match` on what is
-//! asked.
+//! Begin at `done`, which is one `match` on what is asked; each waits first until the channel is
+//! live.
 use crate::monitor_listener::{MonitorListener, MonitorUpdates, new_monitor_listener};
 use crate::printing::{print_done, print_value};
 use crate::tool_line::{Task, ToolLine};
@@ -130,12 +130,11 @@ fn done<R: Wait + Clock, K: Sink>(
 ) -> Result<(), Refusal> {
     let turns = Turns::new(rt, line.turns)?;
     let channel = context.open(rt, line.name.as_bytes(), 0)?;
-    let shape = live_at(rt, context, channel, &turns)?;
     match line.task {
-        Task::Get => get(rt, alloc, context, channel, shape, line.name, &turns, sink),
+        Task::Get => get(rt, alloc, context, channel, line.name, &turns, sink),
         Task::Put(text) => put(rt, alloc, context, channel, text, line.name, &turns, sink),
         Task::Monitor(updates) => monitor(
-            rt, alloc, context, channel, shape, updates, line.name, listener, &turns, sink,
+            rt, alloc, context, channel, updates, line.name, listener, &turns, sink,
         ),
     }
 }
@@ -158,12 +157,11 @@ fn get<R: Wait + Clock, K: Sink>(
     alloc: Global,
     context: &Context<MonitorListener>,
     channel: Handle,
-    shape: (u16, u32),
     name: &str,
     turns: &Turns,
     sink: &mut K,
 ) -> Result<(), Refusal> {
-    let (data_type, count) = shape;
+    let (data_type, count) = live_at(rt, context, channel, turns)?;
     let ticket = context.get(rt, channel, data_type, count)?;
     let value = value_in(outcome_of(rt, context, ticket, turns)?)?;
     print_value(alloc, name, &value, sink)
@@ -179,6 +177,7 @@ fn put<R: Wait + Clock, K: Sink>(
     turns: &Turns,
     sink: &mut K,
 ) -> Result<(), Refusal> {
+    live_at(rt, context, channel, turns)?;
     let value = text_value(alloc, text)?;
     let ticket = context.put_notify(rt, channel, value)?;
     is_done(outcome_of(rt, context, ticket, turns)?)?;
@@ -206,7 +205,6 @@ fn monitor<R: Wait + Clock, K: Sink>(
     alloc: Global,
     context: &Context<MonitorListener>,
     channel: Handle,
-    shape: (u16, u32),
     updates: u64,
     name: &str,
     listener: (MonitorListener, MonitorUpdates),
@@ -217,7 +215,7 @@ fn monitor<R: Wait + Clock, K: Sink>(
     let mut pair = listener;
     for _ in 0..u64::MAX {
         let (listener, mut heard) = pair;
-        let subscription = subscribe(rt, context, channel, shape, listener)?;
+        let subscription = subscribe(rt, context, channel, listener, turns)?;
         left = print_updates(rt, alloc, &mut heard, left, name, turns, sink)?;
         if left == 0 {
             break;
@@ -228,23 +226,30 @@ fn monitor<R: Wait + Clock, K: Sink>(
     Ok(())
 }
 
-// Has the listener hear changes of the value.
-fn subscribe<R: Wait>(
+// Has the listener hear changes of the value, once the channel is live. Refused as Disconnected if
+// the turns are used up.
+fn subscribe<R: Wait + Clock>(
     rt: &R,
     context: &Context<MonitorListener>,
     channel: Handle,
-    shape: (u16, u32),
     listener: MonitorListener,
+    turns: &Turns,
 ) -> Result<Handle, Refusal> {
-    let (data_type, count) = shape;
     // It is none only without an event.
     let Some(mask) = Mask::new(VALUES) else {
         return Err(Refusal::BadEvent);
     };
-    match context.monitor(rt, channel, data_type, count, mask, listener) {
-        Ok(subscription) => Ok(subscription),
-        Err((_, refusal)) => Err(refusal),
+    let mut listener = listener;
+    for _ in 0..u64::MAX {
+        let (data_type, count) = live_at(rt, context, channel, turns)?;
+        match context.monitor(rt, channel, data_type, count, mask, listener) {
+            Ok(subscription) => return Ok(subscription),
+            // The circuit ended meanwhile.
+            Err((back, Refusal::NotLive)) => listener = back,
+            Err((_, refusal)) => return Err(refusal),
+        }
     }
+    Err(Refusal::Disconnected)
 }
 
 // Prints n updates, or as many as there are if one was left out: how many are left to print.
