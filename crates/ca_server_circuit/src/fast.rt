@@ -3,7 +3,7 @@
 //! as a whole. If it applies it is a step as any other, by the same definition (`EndSteps`); if it
 //! does not, nothing has changed, and the plain path does the rest.
 //!
-//! Only speed depends on them: with `FAST` false the program is right, and is proved.
+//! Only speed depends on them: with `FAST` false no contract changes.
 ghost use Rattle.std.specs.Prelude.{◌≡◌, ◌<◌, length};
 ghost use Rattle.ca_text.specs.Limits.{output_limit};
 ghost use Rattle.ca_link.specs.Calls.{IsOpen};

