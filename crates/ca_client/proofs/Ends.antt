@@ -15,7 +15,7 @@ use Rattle.ca_model.proofs.Handles.{same-is}
 use Rattle.ca_model.proofs.Placed.{header_only-never}
 use Rattle.ca_model.proofs.Standings.{fails-anywhere, fails-searched, found-standing}
 use Rattle.ca_model.proofs.Tables.{all-freed-back, one-value}
-use Rattle.ca_model.specs.Placed.{HasNoRequests}
+use Rattle.ca_model.specs.Placed.{HasNothingOut}
 use Rattle.ca_client_core.specs.Notices.{completions}
 use Rattle.ca_client_core.proofs.Completing.{no-losses}
 use Rattle.ca_client.specs.Awaited.{IsListed, Waits}
@@ -122,13 +122,13 @@ pub told-clear : (h : Handle) (s : Standing) (x : Client) → IsPlaced x → IsL
 told-clear h s x placed l at = subst (λ (ns : List Notice). Told x ns (cleared h s x)) (append-none (disconnections (asks_on h) x)) (by s (found-standing x h s at))
   where
     -- no request is on a channel that was never live
-    never : HasNoRequests h x → (q : Handle) → Waits x q → Waits x q × ¬ (is_open (asks_on h) x.requests q ≡ true)
+    never : HasNothingOut h x → (q : Handle) → Waits x q → Waits x q × ¬ (is_open (asks_on h) x.requests q ≡ true)
     never header_only q w = (w, (λ e. (let r = open-back (asks_on h) x.requests q e in header_only.requests q r.0 r.1 (same-is r.0.channel h r.2))))
 
-    alike : (y : Client) → Same x y → HasNoRequests h x → Told x (disconnections (asks_on h) x ++ []) y
+    alike : (y : Client) → Same x y → HasNothingOut h x → Told x (disconnections (asks_on h) x ++ []) y
     alike y same header_only = told-ended x y (asks_on h) [] l (listed-same x y same l) (λ q w. never header_only q (waits-same x y q same w)) refl
 
-    header_only-so : (ch : Channel) → under x.channels h ≡ Some ch → ((on : Handle) → client.is_on_in was_live on ch ≡ false) → HasNoRequests h x
+    header_only-so : (ch : Channel) → under x.channels h ≡ Some ch → ((on : Handle) → client.is_on_in was_live on ch ≡ false) → HasNothingOut h x
     header_only-so ch there none = header_only-never h x placed (λ w on is. subst (λ (z : Channel). client.is_on_in was_live on z ≡ false) (one-value x.channels h ch w there is) (none on))
 
     after : (c : Handle) → Told x (disconnections (asks_on h) x ++ []) (with_standing (On c Clearing) h (all_over c h x))

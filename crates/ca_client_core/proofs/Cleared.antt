@@ -14,7 +14,7 @@ use Rattle.ca_model.specs.Client.{Channel, Client, ClientCircuit, Native, On, Ph
 use Rattle.ca_model.specs.Client as phase
 use Rattle.ca_model.specs.ClientCalls.{ClientClears, LiveChannel, cleared, clearing_sent, unsubscribed_all, unwanted}
 use Rattle.ca_model.specs.ClientEnds.{is_connecting}
-use Rattle.ca_model.specs.Placed.{HasNoRequests, IsPlaced, was_live}
+use Rattle.ca_model.specs.Placed.{HasNothingOut, IsPlaced, was_live}
 use Rattle.ca_model.proofs.Handles.{same-is}
 use Rattle.ca_model.proofs.Placed.{header_only-never}
 use Rattle.ca_model.proofs.Standings.{fails-anywhere, fails-searched, found-standing, never-cleared}
@@ -25,25 +25,25 @@ use Rattle.ca_client_core.proofs.Endings.{circuits_left, order_left}
 
 -- ---- nothing is attached to a channel that was not live
 
-pub header_only-searched : (x : Client) (h : Handle) → standing_at x h ≡ Some Searching → IsPlaced x → HasNoRequests h x
+pub header_only-searched : (x : Client) (h : Handle) → standing_at x h ≡ Some Searching → IsPlaced x → HasNothingOut h x
 header_only-searched x h at placed =
     let found = found-standing x h Searching at in
     header_only-never h x placed (λ ch on is. subst (λ (z : Channel). is_on_in was_live on z ≡ false) (one-value x.channels h found.0 ch found.1 is) (fails-searched was_live on found.0 found.2))
 
-pub header_only-early : (x : Client) (h c : Handle) (p : Phase) → standing_at x h ≡ Some (On c p) → was_live p ≡ false → IsPlaced x → HasNoRequests h x
+pub header_only-early : (x : Client) (h c : Handle) (p : Phase) → standing_at x h ≡ Some (On c p) → was_live p ≡ false → IsPlaced x → HasNothingOut h x
 header_only-early x h c p at never placed =
     let found = found-standing x h (On c p) at in
     header_only-never h x placed (λ ch on is. subst (λ (z : Channel). is_on_in was_live on z ≡ false) (one-value x.channels h found.0 ch found.1 is) (fails-anywhere was_live on c found.0 p found.2 never))
 
 -- nor after its subscriptions were freed
-pub header_only-freed : (h g : Handle) (x : Client) → HasNoRequests h x → HasNoRequests h (unsubscribed_all g x)
+pub header_only-freed : (h g : Handle) (x : Client) → HasNothingOut h x → HasNothingOut h (unsubscribed_all g x)
 header_only-freed h g x header_only = record {
   requests = header_only.requests;
   subscriptions = λ k d on is drains same. header_only.subscriptions k d on (all-freed-back (is_to g) x.subscriptions k d is).0 drains same;
 }
 
 -- and no request of it is open
-pub none-open : (h : Handle) (x : Client) → HasNoRequests h x → disconnections (asks_on h) x ≡ []
+pub none-open : (h : Handle) (x : Client) → HasNothingOut h x → disconnections (asks_on h) x ≡ []
 none-open h x header_only = ap (map (λ (q : Handle). notice.Completed q outcome.Disconnected)) (go x.issued)
   where
     closed : (q : Handle) (o : Option Request) → under x.requests q ≡ o → unwrap_or (option_map (λ (r : Request). asks_on h r && is_open_in r.stage) o) false ≡ false
@@ -78,7 +78,7 @@ waits-there x h c at placed =
 
 -- ---- what `clear` answers
 
-pub cleared-header_only : (x new : Client) (h : Handle) (s : Standing) (told : List Notice) → told ≡ [] → standing_at x h ≡ Some s → clearing_sent h s ≡ [] → HasNoRequests h x → new ≡ cleared h s x → (sent : List Sending) × ClientClears x h (Ok told) sent new
+pub cleared-header_only : (x new : Client) (h : Handle) (s : Standing) (told : List Notice) → told ≡ [] → standing_at x h ≡ Some s → clearing_sent h s ≡ [] → HasNothingOut h x → new ≡ cleared h s x → (sent : List Sending) × ClientClears x h (Ok told) sent new
 cleared-header_only x new h s told empty at none header_only is =
     ([], (s, at, empty ∙ sym (none-open h x header_only), (sym none, is ∙ ap (λ (sends : List Sending). sending sends (cleared h s x)) (sym none))))
 

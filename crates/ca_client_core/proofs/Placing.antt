@@ -23,7 +23,7 @@ use Rattle.ca_model.specs.ClientCalls.{all_over}
 use Rattle.ca_model.specs.ClientEnds.{is_connecting}
 use Rattle.ca_model.specs.Hears.{Effect, doing, without_drained}
 use Rattle.ca_model.specs.Hears as hears
-use Rattle.ca_model.specs.Placed.{ArePlaced, HasNoRequests, HasNoRequestsIn, IsPlaced, WasLive, WasLiveIn, was_live}
+use Rattle.ca_model.specs.Placed.{ArePlaced, HasNothingOut, HasNothingOutIn, IsPlaced, WasLive, WasLiveIn, was_live}
 use Rattle.ca_model.proofs.Changes.{freed-keeps, keeps-phase, keeps-staged, over-keeps, placed-opened, placed-subscribed}
 use Rattle.ca_model.proofs.Handles.{handle-or}
 use Rattle.ca_model.proofs.Hearing.{header_only-so, drained-header_only, keeps-request}
@@ -178,11 +178,11 @@ module _ (t : Table Channel) (q : Table Request) (s : Table Subscription) (cs : 
       ((keeps-phase c h (plain t q s cs) turn.channel turn.phase next turn.there turn.stands turn.waits turn.live).placed placed)
 
   -- one is searched for again
-  pub placed-again : (h : Handle) (u : Table Channel) → HasNoRequestsIn h q s → u ≡ with_changed (λ (here : Channel). record here { standing = Searching }) h t → ArePlaced u q s cs
+  pub placed-again : (h : Handle) (u : Table Channel) → HasNothingOutIn h q s → u ≡ with_changed (λ (here : Channel). record here { standing = Searching }) h t → ArePlaced u q s cs
   placed-again h u header_only is = subst (λ (z : Table Channel). ArePlaced z q s cs) (sym is) ((keeps-again h (plain t q s cs) (λ p. header_only)).placed placed)
 
   -- one is gone
-  pub placed-gone : (h : Handle) (u : Table Channel) → HasNoRequestsIn h q s → u ≡ with_freed h t → ArePlaced u q s cs
+  pub placed-gone : (h : Handle) (u : Table Channel) → HasNothingOutIn h q s → u ≡ with_freed h t → ArePlaced u q s cs
   placed-gone h u header_only is = subst (λ (z : Table Channel). ArePlaced z q s cs) (sym is) ((keeps-gone h (plain t q s cs) (λ p. header_only)).placed placed)
 
   -- one that was live is cleared, or left
@@ -251,9 +251,9 @@ turns-found x c cid h p next at waits live =
     record { channel = found.0; there = found.1; phase = p; stands = found.3; waits = waits; live = live }
 
 -- nothing is attached to one that was not live
-pub header_only-found : (x : Client) (c : Handle) (cid : ℕ) (h : Handle) (p : Phase) → channel_on x c cid ≡ Some (h, p) → was_live p ≡ false → IsPlaced x → HasNoRequests h x
+pub header_only-found : (x : Client) (c : Handle) (cid : ℕ) (h : Handle) (p : Phase) → channel_on x c cid ≡ Some (h, p) → was_live p ≡ false → IsPlaced x → HasNothingOut h x
 header_only-found x c cid h p at never placed = (let found = channel-on x c cid h p at in header_only-so c x h found.0 p found.1 found.3 never placed)
 
 -- nor to one whose ids no longer drain
-pub drained-found : (x : Client) (c : Handle) (cid : ℕ) (h : Handle) (p : Phase) → channel_on x c cid ≡ Some (h, p) → IsPlaced x → HasNoRequests h (without_drained c h x)
+pub drained-found : (x : Client) (c : Handle) (cid : ℕ) (h : Handle) (p : Phase) → channel_on x c cid ≡ Some (h, p) → IsPlaced x → HasNothingOut h (without_drained c h x)
 drained-found x c cid h p at placed = (let found = channel-on x c cid h p at in drained-header_only c x h found.0 p found.1 found.3 placed)

@@ -8,7 +8,7 @@ ghost use Rattle.ca_model.specs.Client.{without_channel};
 ghost use Rattle.ca_model.specs.ClientCalls.{ClientClears, all_over, unsubscribed_all, unwanted};
 ghost use Rattle.ca_client_core.specs.Clearing.{ClearsLive};
 ghost use Rattle.ca_client_core.specs.Turns.{MayTurn, WasLiveOn};
-ghost use Rattle.ca_model.specs.Placed.{HasNoRequests};
+ghost use Rattle.ca_model.specs.Placed.{HasNothingOut};
 
 use crate::client::ClientCore;
 use crate::notices::Notices;
@@ -64,7 +64,7 @@ impl ClientCore {
 
     // Nothing is on the way for a channel that was not live.
     fn let_channel_go(&mut self, channel: Handle)
-        requires { HasNoRequests channel self.old }
+        requires { HasNothingOut channel self.old }
         ensures { self.new ≡ without_channel (unsubscribed_all channel self.old) channel }
     {
         self.free_subscriptions(channel);

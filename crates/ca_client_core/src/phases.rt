@@ -7,7 +7,7 @@ ghost use Rattle.ca_client_tables.specs.Forms.{native_of, phase_of};
 ghost use Rattle.ca_client_core.specs.Hearing.{found_as};
 ghost use Rattle.ca_client_tables.specs.Listed.{is_live_in};
 ghost use Rattle.ca_client_core.specs.Turns.{MayTurn};
-ghost use Rattle.ca_model.specs.Placed.{HasNoRequests};
+ghost use Rattle.ca_model.specs.Placed.{HasNothingOut};
 
 use crate::client::ClientCore;
 use crate::searches::resume;
@@ -73,7 +73,7 @@ impl ClientCore {
 
     // The channel is searched for again, as from the beginning.
     pub(crate) fn seek_again(&mut self, channel: Handle)
-        requires { HasNoRequests channel self.old }
+        requires { HasNothingOut channel self.old }
         ensures { self.new ≡ searched_again self.old channel }
     {
         bring_back(&mut self.channels, channel);
@@ -86,7 +86,7 @@ impl ClientCore {
 
     // Nothing has the CID of this channel.
     pub(crate) fn remove_channel(&mut self, channel: Handle)
-        requires { HasNoRequests channel self.old }
+        requires { HasNothingOut channel self.old }
         ensures { self.new ≡ without_channel self.old channel }
     {
         let _ = self.channels.free(channel);

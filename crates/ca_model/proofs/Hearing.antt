@@ -18,7 +18,7 @@ use Rattle.ca_model.specs.ClientEnds.{Receives, ReceivesAll, beacon_heard, begun
 use Rattle.ca_model.specs.ClientEnds as ends
 use Rattle.ca_model.specs.Hears.{Answers, Completes, Effect, Fails, FindsAt, Hears, PutsOn, Updates, any_failed, becomes, clear_answered, confirmed, created, doing, failed, failing, found_at, subscription_on, left, native_in, put_on, request_failed, rights_told, searched_by, subscription_failed, with_circuit, without_drained, without_request, without_subscription, write_failed}
 use Rattle.ca_model.specs.Hears as hears
-use Rattle.ca_model.specs.Placed.{HasNoRequests, WasLive, was_live}
+use Rattle.ca_model.specs.Placed.{HasNothingOut, WasLive, was_live}
 use Rattle.ca_model.proofs.Standings.{is-on}
 use Rattle.ca_model.proofs.Standings.{on-one}
 use Rattle.ca_model.proofs.Handles.{handle-or, same-itself}
@@ -75,7 +75,7 @@ module _ (c : Handle) (x : Client) where
       keeps-doing x (with_standing (On c Clearing) h x) _ _ e is (keeps-phase c h x found.0 Doomed Clearing found.1 found.3 refl (λ f. refl))
 
   -- a channel in a phase that was not live has nothing attached
-  pub header_only-so : (h : Handle) (ch : Channel) (p : Phase) → under x.channels h ≡ Some ch → ch.standing ≡ On c p → was_live p ≡ false → IsPlaced x → HasNoRequests h x
+  pub header_only-so : (h : Handle) (ch : Channel) (p : Phase) → under x.channels h ≡ Some ch → ch.standing ≡ On c p → was_live p ≡ false → IsPlaced x → HasNothingOut h x
   header_only-so h ch p there stands never placed =
       header_only-never h x placed (λ w on is. subst (λ (z : Channel). is_on_in was_live on z ≡ false) (one-value x.channels h ch w there is) (fails-anywhere was_live on c ch p stands never))
 
@@ -101,7 +101,7 @@ module _ (c : Handle) (x : Client) where
       (keeps-subscriptions (monitor.channel_drained c h x.subscriptions) x (thin-all-freed test x.subscriptions) (λ p g d on is drains. inl (d, (all-freed-back test x.subscriptions g d is).0, refl, drains)))
       (keeps-requests (request.channel_gone h x.requests) y (thin-all-freed (asks_on h) x.requests) (λ q r is. (r, (all-freed-back (asks_on h) x.requests q r is).0, refl, refl)))
 
-  pub drained-header_only : (h : Handle) (ch : Channel) (p : Phase) → under x.channels h ≡ Some ch → ch.standing ≡ On c p → IsPlaced x → HasNoRequests h (without_drained c h x)
+  pub drained-header_only : (h : Handle) (ch : Channel) (p : Phase) → under x.channels h ≡ Some ch → ch.standing ≡ On c p → IsPlaced x → HasNothingOut h (without_drained c h x)
   drained-header_only h ch p there stands placed = record {
     requests = λ q r is same.
         let was = all-freed-back (asks_on h) x.requests q r is in

@@ -10,7 +10,7 @@ use Rattle.ca_requests.specs.Requests.{Request}
 use Rattle.ca_model.specs.Answers.{Sending}
 use Rattle.ca_model.specs.Client.{Channel, Client, ClientCircuit, Connection, On, Phase, Searching, Standing, connection_at, is_on_in, on_connection, phase_on, searched_again, sending, with_one_sent, with_requests, with_standing, without_channel}
 use Rattle.ca_model.specs.ClientEnds.{is_connecting}
-use Rattle.ca_model.specs.Placed.{HasNoRequests, WasLive, was_live}
+use Rattle.ca_model.specs.Placed.{HasNothingOut, WasLive, was_live}
 use Rattle.ca_model.proofs.Handles.{handle-or}
 use Rattle.ca_model.proofs.Tables.{changed-back, changed-other, changed-own, freed-back, freed-other}
 use Rattle.ca_model.specs.Placed.{IsPlaced}
@@ -146,7 +146,7 @@ keeps-stood s h x may = record {
 -- ---- a channel is gone, or searched for again
 
 -- so it is with one that was not live
-pub header_only-never : (h : Handle) (x : Client) → IsPlaced x → ((ch : Channel) (on : Handle) → under x.channels h ≡ Some ch → is_on_in was_live on ch ≡ false) → HasNoRequests h x
+pub header_only-never : (h : Handle) (x : Client) → IsPlaced x → ((ch : Channel) (on : Handle) → under x.channels h ≡ Some ch → is_on_in was_live on ch ≡ false) → HasNothingOut h x
 header_only-never h x p never = record {
   requests = λ q r is same. no_one r.channel r.circuit same (p.attached.requests q r is);
   subscriptions = λ g d on is drains same. no_one d.channel on same (p.attached.subscriptions g d on is drains);
@@ -155,7 +155,7 @@ header_only-never h x p never = record {
     no_one : (channel on : Handle) → channel ≡ h → WasLive x channel on → ⊥
     no_one channel on same was = both_ways (is_on_in was_live on was.0) (never was.0 on (subst (λ (k : Handle). under x.channels k ≡ Some was.0) same was.1)) was.2
 
-pub keeps-gone : (h : Handle) (x : Client) → (IsPlaced x → HasNoRequests h x) → Keeps x (without_channel x h)
+pub keeps-gone : (h : Handle) (x : Client) → (IsPlaced x → HasNothingOut h x) → Keeps x (without_channel x h)
 keeps-gone h x header_only = record {
   thins = record { channels = thin-freed h x.channels; requests = thin-itself x.requests; subscriptions = thin-itself x.subscriptions };
   placed = λ p. record {
@@ -171,7 +171,7 @@ keeps-gone h x header_only = record {
     live : (channel on : Handle) → (channel ≡ h → ⊥) → WasLive x channel on → WasLive (without_channel x h) channel on
     live channel on other was = (was.0, freed-other x.channels channel h was.0 was.1 other, was.2)
 
-pub keeps-again : (h : Handle) (x : Client) → (IsPlaced x → HasNoRequests h x) → Keeps x (searched_again x h)
+pub keeps-again : (h : Handle) (x : Client) → (IsPlaced x → HasNothingOut h x) → Keeps x (searched_again x h)
 keeps-again h x header_only = record {
   thins = record { channels = thin-changed there h x.channels; requests = thin-itself x.requests; subscriptions = thin-itself x.subscriptions };
   placed = λ p. record {

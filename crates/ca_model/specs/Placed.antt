@@ -63,15 +63,15 @@ abbrev pub IsPlaced : Client → Type 0
 IsPlaced x = ArePlaced x.channels x.requests x.subscriptions x.circuits
 
 -- No request is on the channel, and no id of a subscription to it drains.
-pub record HasNoRequestsIn (h : Handle) (asked : Table Request)
+pub record HasNothingOutIn (h : Handle) (asked : Table Request)
     (subscribed : Table Subscription) : Type 0 where
   pub requests : (q : Handle) (r : Request) → under asked q ≡ Some r → r.channel ≡ h → ⊥
   pub subscriptions : (g : Handle) (d : Subscription) (on : Handle) → under subscribed g ≡ Some d
       → drains_in on d.stage ≡ true → d.channel ≡ h → ⊥
 
 -- a client's channel is so
-abbrev pub HasNoRequests : Handle → Client → Type 0
-HasNoRequests h x = HasNoRequestsIn h x.requests x.subscriptions
+abbrev pub HasNothingOut : Handle → Client → Type 0
+HasNothingOut h x = HasNothingOutIn h x.requests x.subscriptions
 
 -- The table gave this handle.
 abbrev pub WasGiven : {T : Type 0} → Table T → Handle → Type 0

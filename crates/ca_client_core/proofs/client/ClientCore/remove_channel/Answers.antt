@@ -5,7 +5,7 @@ use Rattle.ca_search.specs.Searcher.{holds, without}
 use Rattle.ca_search.specs.Searches as search
 use Rattle.ca_model.specs.Client.{Channel, Client, without_channel}
 use Rattle.ca_client_tables.proofs.Ended.{client-gone}
-use Rattle.ca_model.specs.Placed.{HasNoRequests}
+use Rattle.ca_model.specs.Placed.{HasNothingOut}
 use Rattle.ca_client_core.proofs.Placing.{placed-gone}
 use Rattle.ca_client_core.proofs.Listing.{listed-gone}
 use Rattle.ca_client_core.proofs.client.ClientCore.remove_channel.Goals as goal
@@ -23,7 +23,7 @@ invariant_of-self c =
     record {
       client = client-gone i.channels c.free.new.self es ns h c.free.ensures.after out none c.self.invariant.client;
       placed =
-          placed-gone c.self.inside.channels c.self.inside.requests.table c.self.inside.monitors c.self.inside.circuits c.self.invariant.placed h c.free.new.self (subst (λ (y : Client). HasNoRequests h y) (sym c.self.view_is) c.requires) c.free.ensures.after;
+          placed-gone c.self.inside.channels c.self.inside.requests.table c.self.inside.monitors c.self.inside.circuits c.self.invariant.placed h c.free.new.self (subst (λ (y : Client). HasNothingOut h y) (sym c.self.view_is) c.requires) c.free.ensures.after;
       listed = listed-gone i.channels c.free.new.self i.lives.items h c.free.ensures.after c.self.invariant.listed;
     }
 

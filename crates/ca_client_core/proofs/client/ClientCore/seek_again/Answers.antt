@@ -4,7 +4,7 @@ use Rattle.ca_search.specs.Searcher.{with_one}
 use Rattle.ca_search.specs.Searches.{resumed}
 use Rattle.ca_model.specs.Client.{Channel, Searching, Client}
 use Rattle.ca_client_tables.proofs.Ended.{client-again}
-use Rattle.ca_model.specs.Placed.{HasNoRequests}
+use Rattle.ca_model.specs.Placed.{HasNothingOut}
 use Rattle.ca_client_core.proofs.Placing.{placed-again}
 use Rattle.ca_client_core.proofs.Listing.{listed-not}
 use Rattle.ca_client_core.proofs.client.ClientCore.seek_again.Goals as goal
@@ -20,6 +20,6 @@ invariant_of-self c =
     record {
       client = client-again i.channels c.bring_back.new.channels es ns (λ (here : Channel). record here { standing = Searching }) (resumed i.moment) h c.bring_back.ensures begins c.self.invariant.client;
       placed =
-          placed-again c.self.inside.channels c.self.inside.requests.table c.self.inside.monitors c.self.inside.circuits c.self.invariant.placed h c.bring_back.new.channels (subst (λ (y : Client). HasNoRequests h y) (sym c.self.view_is) c.requires) c.bring_back.ensures;
+          placed-again c.self.inside.channels c.self.inside.requests.table c.self.inside.monitors c.self.inside.circuits c.self.invariant.placed h c.bring_back.new.channels (subst (λ (y : Client). HasNothingOut h y) (sym c.self.view_is) c.requires) c.bring_back.ensures;
       listed = listed-not Searching h i.channels c.bring_back.new.channels i.lives.items refl c.bring_back.ensures c.self.invariant.listed;
     }
