@@ -14,16 +14,16 @@ use Rattle.ca_queue.specs.declared.entry.SubKey.{SubKey}
 use Rattle.ca_queue.specs.Keys.{same}
 use Rattle.ca_wire.specs.Fields.{Fields}
 use Rattle.ca_model.specs.Due.{KnownChannel, subscription_in}
-use Rattle.ca_model.specs.Sends.{Conduct, IsDisconnect, ReadsBetween}
+use Rattle.ca_model.specs.Sends.{Conduct, IsDisconnect, IsRefused, ReadsBetween}
 use Rattle.ca_model.specs.Server.{OpenChannel, Subscription, key_of}
 use Rattle.ca_model.specs.ServerSteps.{known_channel}
 use Rattle.ca_model.specs.Speech.{Clears, Creates, In, Is}
-use Rattle.ca_model.proofs.Tables.{freed-back, freed-few, freed-other, held-back, held-few, held-other, held-own, held-under, one-by-wire, under-wire, wire-under}
+use Rattle.ca_model.proofs.Tables.{freed-back, freed-few, freed-other, held-back, held-few, held-other, held-own, held-under, length-more, one-by-wire, under-wire, wire-under}
 use Rattle.ca_model.proofs.Thinner.{number-or}
 use Rattle.ca_laws_parts.proofs.Marks.{at-filter}
 use Rattle.ca_laws_parts.specs.Conduct.{with_all_sent, with_read}
 use Rattle.ca_laws_parts.proofs.Growing.{Grows, IsTold, grows-sent, longer}
-use Rattle.ca_laws_parts.proofs.Spoken.{NoCancel, NoClear, NoDisconnect, WasCleared, cancel-read, cancel-sent, clear-read, clear-sent, disconnect-sent, read-now, since-read, was-read, was-sent}
+use Rattle.ca_laws_parts.proofs.Spoken.{NoCancel, NoClear, NoDisconnect, NoErrors, WasCleared, cancel-read, cancel-sent, clear-read, clear-sent, disconnect-sent, read-now, refused-read, refused-sent, since-read, unrefused-now, was-read, was-sent}
 
 -- A channel that is open was created by the message at place i, under its SID and CID, and not
 -- cleared since; nor was its record removed, unless it is retired.
@@ -31,23 +31,61 @@ abbrev pub ChannelKnown : Conduct → (sid : ℕ) → OpenChannel → Type 0
 ChannelKnown k sid o =
     (i : ℕ) × (m : Fields) × At k.sent i m × Creates m sid × (m.p1 ≡ o.cid) × NoClear k i sid × (o.retired ≡ false → NoDisconnect k i o.cid)
 
--- A subscription is on a channel that is open and not retired; its EVENT_ADD was read there, and
--- no cancel of it since.
-abbrev pub SubKnown : Table OpenChannel → Conduct → (sid id : ℕ) → Type 0
-SubKnown t k sid id =
+-- A subscription is on a channel that is open and not retired; its EVENT_ADD was read there, among
+-- the first messages, and was not refused; and no cancel of it was read since.
+abbrev pub SubKnown : Table OpenChannel → Conduct → (upto sid id : ℕ) → Type 0
+SubKnown t k upto sid id =
     (h : Handle) × (o : OpenChannel) × (under t h ≡ Some o) × (wire_of h ≡ sid) × (o.retired ≡ false)
     × (i : ℕ) × (m : Fields) × At k.sent i m × Creates m sid × (m.p1 ≡ o.cid) × NoClear k i sid × NoDisconnect k i o.cid
     × (j : ℕ) × (add : Fields) × ReadsBetween k i (length k.sent) j add × Is command.EventAdd add × (add.p1 ≡ sid) × (add.p2 ≡ id)
-    × NoCancel k i j sid id
+    × NoCancel k i j sid id × (j < upto) × (IsRefused k j add → ⊥)
 
--- What is known of an open end with these channels and subscriptions.
-pub record EndKnown (t : Table OpenChannel) (subs : List Subscription) (k : Conduct) : Type 0 where
+-- What is known of an open end with these channels and subscriptions, whose EVENT_ADDs were among
+-- the first so many messages that were read.
+pub record EndKnownTo (upto : ℕ) (t : Table OpenChannel) (subs : List Subscription) (k : Conduct) : Type 0 where
   pub few : length t ≤ arena_slots
   pub channels : (h : Handle) (o : OpenChannel) → under t h ≡ Some o → ChannelKnown k (wire_of h) o
   pub cids : (h g : Handle) (o p : OpenChannel) → under t h ≡ Some o → under t g ≡ Some p → o.cid ≡ p.cid → h ≡ g
   pub sids : (i a : ℕ) (m : Fields) → At k.sent i m → Creates m a
       → WasCleared k i a ⊎ ((h : Handle) × (o : OpenChannel) × (under t h ≡ Some o) × (wire_of h ≡ a))
-  pub subscriptions : (s : Subscription) → In subs s → SubKnown t k s.wanted.sid s.wanted.id
+  pub subscriptions : (s : Subscription) → In subs s → SubKnown t k upto s.wanted.sid s.wanted.id
+
+abbrev pub EndKnown : Table OpenChannel → List Subscription → Conduct → Type 0
+EndKnown t subs k = EndKnownTo (length k.came) t subs k
+
+pub known-longer : (upto more : ℕ) (t : Table OpenChannel) (subs : List Subscription) (k : Conduct) → upto ≤ more → EndKnownTo upto t subs k → EndKnownTo more t subs k
+known-longer upto more t subs k le known = record {
+  few = known.few;
+  channels = known.channels;
+  cids = known.cids;
+  sids = known.sids;
+  subscriptions = λ s there. later s (known.subscriptions s there);
+}
+  where
+    later : (s : Subscription) → SubKnown t k upto s.wanted.sid s.wanted.id → SubKnown t k more s.wanted.sid s.wanted.id
+    later s b = (
+      b.0,
+      b.1,
+      b.2,
+      b.3,
+      b.4,
+      b.5,
+      b.6,
+      b.7,
+      b.8,
+      b.9,
+      b.10,
+      b.11,
+      b.12,
+      b.13,
+      b.14,
+      b.15,
+      b.16,
+      b.17,
+      b.18,
+      (let lt : b.12 < upto = b.19 in omega (arith, lt, le)),
+      b.20,
+    )
 
 -- ---- a message is read
 
@@ -61,7 +99,7 @@ module _ (t : Table OpenChannel) (subs : List Subscription) (e : Conduct) (m : F
       (c.0, c.1, c.2, c.3, c.4, clear-read e m told c.0 (wire_of h) other c.5, c.6)
 
   sub-heard : (u : Table OpenChannel) (sid id : ℕ) → ((h : Handle) (o : OpenChannel) → under t h ≡ Some o → wire_of h ≡ sid → under u h ≡ Some o) → (Clears m sid → ⊥)
-      → (Is command.EventCancel m → m.p1 ≡ sid → m.p2 ≢ id) → SubKnown t e sid id → SubKnown u heard sid id
+      → (Is command.EventCancel m → m.p1 ≡ sid → m.p2 ≢ id) → SubKnown t e (length e.came) sid id → SubKnown u heard (length e.came) sid id
   sub-heard u sid id keeps other stops s = (
     s.0,
     s.1,
@@ -82,10 +120,15 @@ module _ (t : Table OpenChannel) (subs : List Subscription) (e : Conduct) (m : F
     s.16,
     s.17,
     cancel-read e m told s.5 s.12 sid id stops s.18,
+    s.19,
+    λ refused.
+        (let lt : s.12 < length e.came = s.19 in
+        let same : length e.read ≡ length e.came = told.same in
+        s.20 (refused-read e m told s.12 s.13 (omega (arith, lt, same)) refused)),
   )
 
   -- a message that ends nothing
-  pub heard-quiet : ((sid : ℕ) → Clears m sid → ⊥) → (Is command.EventCancel m → ⊥) → EndKnown t subs heard
+  pub heard-quiet : ((sid : ℕ) → Clears m sid → ⊥) → (Is command.EventCancel m → ⊥) → EndKnownTo (length e.came) t subs heard
   heard-quiet no_clear no_stop = record {
     few = known.few;
     channels = λ h o there. channel-heard h o there (no_clear (wire_of h));
@@ -100,7 +143,7 @@ module _ (t : Table OpenChannel) (subs : List Subscription) (e : Conduct) (m : F
 
   -- a cancel
   pub heard-cancel : (key : SubKey) → Is command.EventCancel m → m.p1 ≡ key.sid → m.p2 ≡ key.sub
-      → EndKnown t (filter (λ (s : Subscription). not (same key (key_of s))) subs) heard
+      → EndKnownTo (length e.came) t (filter (λ (s : Subscription). not (same key (key_of s))) subs) heard
   heard-cancel key stops sid sub = record {
     few = known.few;
     channels = λ h o there. channel-heard h o there no-clear;
@@ -122,13 +165,13 @@ module _ (t : Table OpenChannel) (subs : List Subscription) (e : Conduct) (m : F
 
   -- a clear
   pub heard-clear : Is command.ClearChannel m
-      → EndKnown (unwrap_or (option_map (λ (c : Handle × OpenChannel). with_freed c.0 t) (by_wire t m.p1)) t) (filter (λ (s : Subscription). not (s.wanted.sid == m.p1)) subs) heard
+      → EndKnownTo (length e.came) (unwrap_or (option_map (λ (c : Handle × OpenChannel). with_freed c.0 t) (by_wire t m.p1)) t) (filter (λ (s : Subscription). not (s.wanted.sid == m.p1)) subs) heard
   heard-clear clears = go (by_wire t m.p1) refl
     where
       rest : (u : Table OpenChannel) → length u ≤ arena_slots
           → ((h : Handle) (o : OpenChannel) → under u h ≡ Some o → (under t h ≡ Some o) × (wire_of h ≡ m.p1 → ⊥))
           → ((h : Handle) (o : OpenChannel) → under t h ≡ Some o → (wire_of h ≡ m.p1 → ⊥) → under u h ≡ Some o)
-          → EndKnown u (filter (λ (s : Subscription). not (s.wanted.sid == m.p1)) subs) heard
+          → EndKnownTo (length e.came) u (filter (λ (s : Subscription). not (s.wanted.sid == m.p1)) subs) heard
       rest u few back keeps = record {
         few = few;
         channels = λ h o there. (let b = back h o there in channel-heard h o b.0 (λ it. b.1 (sym it.1)));
@@ -148,7 +191,7 @@ module _ (t : Table OpenChannel) (subs : List Subscription) (e : Conduct) (m : F
       }
 
       go : (o : Option (Handle × OpenChannel)) → by_wire t m.p1 ≡ o
-          → EndKnown (unwrap_or (option_map (λ (c : Handle × OpenChannel). with_freed c.0 t) o) t) (filter (λ (s : Subscription). not (s.wanted.sid == m.p1)) subs) heard
+          → EndKnownTo (length e.came) (unwrap_or (option_map (λ (c : Handle × OpenChannel). with_freed c.0 t) o) t) (filter (λ (s : Subscription). not (s.wanted.sid == m.p1)) subs) heard
       go (Some (g, p)) found =
           let w = wire-under t m.p1 (g, p) found in
           rest (with_freed g t) (let n : length (with_freed g t) ≡ length t = freed-few t g in let f : length t ≤ arena_slots = known.few in omega (arith, n, f))
@@ -172,7 +215,7 @@ module _ (t : Table OpenChannel) (subs : List Subscription) (e : Conduct) (m : F
     sids = quiet.sids;
     subscriptions = λ s at. elim (At-snoc subs (subscription_in m name) at.0 s at.1) [
       | inl old ↦ quiet.subscriptions s (at.0, old)
-      | inr new ↦ subst (λ (v : Subscription). SubKnown t heard v.wanted.sid v.wanted.id) (sym new.1) new-sub
+      | inr new ↦ subst (λ (v : Subscription). SubKnown t heard (length heard.came) v.wanted.sid v.wanted.id) (sym new.1) new-sub
     ];
   }
     where
@@ -180,9 +223,11 @@ module _ (t : Table OpenChannel) (subs : List Subscription) (e : Conduct) (m : F
       no-stop stops = (let n : ◌≡◌ {A = ℕ} 1 2 = sym adds ∙ stops in omega (arith, n))
 
       quiet : EndKnown t subs heard
-      quiet = heard-quiet (λ s clears. (let n : ◌≡◌ {A = ℕ} 1 12 = sym adds ∙ clears.0 in omega (arith, n))) no-stop
+      quiet =
+          known-longer (length e.came) (length heard.came) t subs heard (let n : length heard.came ≡ length e.came + 1 = length-more e.came m in omega (arith, n))
+          (heard-quiet (λ s clears. (let n : ◌≡◌ {A = ℕ} 1 12 = sym adds ∙ clears.0 in omega (arith, n))) no-stop)
 
-      new-sub : SubKnown t heard m.p1 m.p2
+      new-sub : SubKnown t heard (length heard.came) m.p1 m.p2
       new-sub =
           let b = At-mapped known_channel (held t) there.0 c there.1 in
           let h : Handle = b.0.0 in
@@ -214,6 +259,8 @@ module _ (t : Table OpenChannel) (subs : List Subscription) (e : Conduct) (m : F
               | inl old ↦ absurd (let lt : l < length e.came = At-within e.came l r old.1 in omega (arith, lt, late))
               | inr new ↦ absurd (let is : l ≡ length e.came = new.0 in omega (arith, is, late))
             ],
+            (let n : length heard.came ≡ length e.came + 1 = length-more e.came m in omega (arith, n)),
+            unrefused-now e m told m,
           )
 
 -- ---- messages are sent
@@ -223,11 +270,11 @@ abbrev pub NoneCreate : List Fields → Type 0
 NoneCreate ms = (q : ℕ) (m : Fields) → At ms q m → Is command.CreateChannel m → ⊥
 
 -- messages by which no channel is created: those for whose CIDs a SERVER_DISCONN goes
--- out are retired by then
-pub end-sent : (t : Table OpenChannel) (subs : List Subscription) (e : Conduct) (ms : List Fields) → IsTold e → EndKnown t subs e → NoneCreate ms
+-- out are retired by then; and no ERROR is among them, or a later message was read
+pub end-sent : (upto : ℕ) (t : Table OpenChannel) (subs : List Subscription) (e : Conduct) (ms : List Fields) → IsTold e → EndKnownTo upto t subs e → NoneCreate ms
     → ((q : ℕ) (m : Fields) (h : Handle) (o : OpenChannel) → At ms q m → IsDisconnect o.cid m → under t h ≡ Some o → o.retired ≡ false → ⊥)
-    → EndKnown t subs (with_all_sent ms e)
-end-sent t subs e ms told known none retired = record {
+    → NoErrors ms ⊎ (upto < length e.read) → EndKnownTo upto t subs (with_all_sent ms e)
+end-sent upto t subs e ms told known none retired errors = record {
   few = known.few;
   channels = λ h o there.
       let c = known.channels h o there in
@@ -264,15 +311,22 @@ end-sent t subs e ms told known none retired = record {
         k.16,
         k.17,
         cancel-sent e ms told k.5 k.12 s.wanted.sid s.wanted.id k.18,
+        k.19,
+        λ refused.
+            (let lt : k.12 < upto = k.19 in
+            k.20 (refused-sent e ms told k.12 k.13 (elim errors [
+              | inl none ↦ inl none
+              | inr past ↦ inr (omega (arith, lt, past))
+            ]) refused)),
       );
 }
 
 -- A channel is created: the reply is the last of these messages, under a SID that may be given, and
 -- its CID is in use by no other.
-pub end-created : (t : Table OpenChannel) (subs : List Subscription) (e : Conduct) (first last : Fields) (h : Handle) (o : OpenChannel) → IsTold e → EndKnown t subs e → MayGive t h
-    → (Is command.CreateChannel first → ⊥) → (Is command.ServerDisconnect first → ⊥) → Creates last (wire_of h) → last.p1 ≡ o.cid
-    → ((g : Handle) (p : OpenChannel) → under t g ≡ Some p → p.cid ≡ o.cid → ⊥) → EndKnown (with_held h o t) subs (with_all_sent (first ∷ last ∷ []) e)
-end-created t subs e first last h o told known may not_create not_lost makes cid fresh = record {
+pub end-created : (upto : ℕ) (t : Table OpenChannel) (subs : List Subscription) (e : Conduct) (first last : Fields) (h : Handle) (o : OpenChannel) → IsTold e → EndKnownTo upto t subs e → MayGive t h
+    → (Is command.CreateChannel first → ⊥) → (Is command.ServerDisconnect first → ⊥) → (Is command.Error first → ⊥) → Creates last (wire_of h) → last.p1 ≡ o.cid
+    → ((g : Handle) (p : OpenChannel) → under t g ≡ Some p → p.cid ≡ o.cid → ⊥) → EndKnownTo upto (with_held h o t) subs (with_all_sent (first ∷ last ∷ []) e)
+end-created upto t subs e first last h o told known may not_create not_lost not_error makes cid fresh = record {
   few = held-few t h o may known.few;
   channels = λ g p there. elim (held-back t g h o p there) [
     | inl own ↦ subst (λ (v : Handle × OpenChannel). ChannelKnown after (wire_of v.0) v.1) (λ i. (sym own.0 i, sym own.1 i)) new-channel
@@ -316,6 +370,8 @@ end-created t subs e first last h o told known may not_create not_lost makes cid
         k.16,
         k.17,
         cancel-sent e ms told k.5 k.12 s.wanted.sid s.wanted.id k.18,
+        k.19,
+        λ refused. k.20 (refused-sent e ms told k.12 k.13 (inl no-errors) refused),
       );
 }
   where
@@ -335,6 +391,11 @@ end-created t subs e first last h o told known may not_create not_lost makes cid
     none-lost zero m at is = not_lost (subst (λ (z : Fields). Is command.ServerDisconnect z) (sym (some_is first m at)) is)
     none-lost (suc zero) m at is = (let n : ◌≡◌ {A = ℕ} 18 27 = sym makes.0 ∙ ap (λ (z : Fields). z.command) (some_is last m at) ∙ is in omega (arith, n))
     none-lost (suc (suc q)) m at is = cc
+
+    no-errors : NoErrors ms
+    no-errors zero m at is = not_error (subst (λ (z : Fields). Is command.Error z) (sym (some_is first m at)) is)
+    no-errors (suc zero) m at is = (let n : ◌≡◌ {A = ℕ} 18 11 = sym makes.0 ∙ ap (λ (z : Fields). z.command) (some_is last m at) ∙ is in omega (arith, n))
+    no-errors (suc (suc q)) m at is = cc
 
     at-last : (q : ℕ) (m : Fields) → At ms q m → (a : ℕ) → Creates m a → wire_of h ≡ a
     at-last zero m at a creates = absurd (not_create (subst (λ (z : Fields). Is command.CreateChannel z) (sym (some_is first m at)) creates.0))

@@ -18,7 +18,7 @@ use Rattle.ca_ids.specs.Wire.{wire_of}
 use Rattle.ca_wire.specs.declared.requests.Wanted.{Wanted}
 use Rattle.ca_wire.specs.Fields.{Fields}
 use Rattle.ca_wire.specs.Messages.{disconnect}
-use Rattle.ca_model.specs.Sends.{Conduct, IsConnected, IsDisconnect, IsOpenAt, LegalServer, ReadsBetween}
+use Rattle.ca_model.specs.Sends.{Conduct, IsConnected, IsDisconnect, IsOpenAt, IsRefused, LegalServer, ReadsBetween}
 use Rattle.ca_model.specs.Server.{OpenChannel, ServerEnd, Subscription, key_of}
 use Rattle.ca_model.specs.ServerCalls.{channels_of, disconnects, end_without, is_on, retired}
 use Rattle.ca_model.specs.ServerSteps.{Leaves, Update}
@@ -32,7 +32,7 @@ use Rattle.ca_laws_parts.specs.Conduct.{with_all_sent}
 use Rattle.ca_laws_parts.proofs.Filtered.{filter-order, rows-apart}
 use Rattle.ca_laws_parts.proofs.Growing.{Grows, IsTold, grows-sent, longer}
 use Rattle.ca_laws_parts.proofs.EndKnown.{EndKnown, end-sent}
-use Rattle.ca_laws_parts.proofs.Spoken.{NoClear, NoDisconnect, cancel-sent, clear-sent, connected-now, disconnect-sent, legal-sent, open-now, since-sent, still-reads, was-sent}
+use Rattle.ca_laws_parts.proofs.Spoken.{NoClear, NoDisconnect, NoErrors, cancel-sent, clear-sent, connected-now, disconnect-sent, legal-sent, open-now, refused-sent, since-sent, still-reads, was-sent}
 
 -- ---- updates
 
@@ -72,9 +72,12 @@ module _ (t : Table OpenChannel) (subs : List Subscription) (k : Conduct) (ms : 
   not-else : (q : ℕ) (m : Fields) → At ms q m → (n : ℕ) → m.command ≡ n → (1 ≡ n → ⊥) → ⊥
   not-else q m at n is differ = differ (sym (each q m at).0 ∙ is)
 
+  no-errors : NoErrors ms
+  no-errors q m at is = not-else q m at 11 is (λ n. omega (arith, n))
+
   pub updates-legal : LegalServer updated
   updates-legal =
-      legal-sent k ms told legal (λ i q a b m r less at_m at_r makes also same. absurd (not-else q r at_r 18 also.0 (λ n. omega (arith, n))))
+      legal-sent k ms told legal (inl no-errors) (λ i q a b m r less at_m at_r makes also same. absurd (not-else q r at_r 18 also.0 (λ n. omega (arith, n))))
       (λ q m at is some. go q m at)
       (λ q m at is none. absurd ((each q m at).1 none))
       (λ q m at is. absurd (not-else q m at 27 is (λ n. omega (arith, n))))
@@ -83,6 +86,7 @@ module _ (t : Table OpenChannel) (subs : List Subscription) (k : Conduct) (ms : 
           → (i j cid : ℕ) × (add : Fields) × IsOpenAt updated (length k.sent + q) i cid (sid_in add) × IsConnected updated i (length k.sent + q) cid
           × ReadsBetween updated i (length k.sent + q) j add × Gives add (SubId m.p2)
           × ((l : ℕ) (r : Fields) → j < l → ReadsBetween updated i (length k.sent + q) l r → Is command.EventCancel r → r.p1 ≡ add.p1 → r.p2 ≢ add.p2)
+          × (IsRefused updated j add → ⊥)
       go q m at =
           let f = (each q m at).2 in
           let s = known.subscriptions f.0 f.1 in
@@ -96,11 +100,13 @@ module _ (t : Table OpenChannel) (subs : List Subscription) (k : Conduct) (ms : 
             still-reads k ms told s.5 (length k.sent + q) s.12 s.13 (omega arith) s.14,
             (s.15, s.17 ∙ sym f.2),
             λ l r late reads stops same also. s.18 l r late (since-sent k ms told s.5 (length k.sent + q) l r reads) stops (same ∙ sid_is) (also ∙ s.17),
+            λ refused. s.20 (refused-sent k ms told s.12 s.13 (inl no-errors) refused),
           )
 
   pub updates-known : EndKnown t subs updated
   updates-known =
-      end-sent t subs k ms told known (λ q m at is. not-else q m at 18 is (λ n. omega (arith, n))) (λ q m h o at lost there open_it. not-else q m at 27 lost.0 (λ n. omega (arith, n)))
+      end-sent (length k.came) t subs k ms told known (λ q m at is. not-else q m at 18 is (λ n. omega (arith, n))) (λ q m h o at lost there open_it. not-else q m at 27 lost.0 (λ n. omega (arith, n)))
+      (inl no-errors)
 
 -- ---- a record is removed
 
@@ -144,9 +150,12 @@ module _ (name : List ℕ) (e : ServerEnd) (k : Conduct) (told : IsTold k) (lega
     lost-only : (q : ℕ) (m : Fields) → At ms q m → (n : ℕ) → m.command ≡ n → (27 ≡ n → ⊥) → ⊥
     lost-only q m at n is differ = differ (sym (ap (λ (z : Fields). z.command) (lost-at q m (from q m at)).2) ∙ is)
 
+    no-errors-of : NoErrors ms
+    no-errors-of q m at is = lost-only q m at 11 is (λ n. omega (arith, n))
+
     pub removal-legal : LegalServer told-of
     removal-legal =
-        legal-sent k ms told legal (λ i q a b m r less at_m at_r makes also same. absurd (lost-only q r at_r 18 also.0 (λ n. omega (arith, n))))
+        legal-sent k ms told legal (inl no-errors-of) (λ i q a b m r less at_m at_r makes also same. absurd (lost-only q r at_r 18 also.0 (λ n. omega (arith, n))))
         (λ q m at is some. absurd (lost-only q m at 1 is (λ n. omega (arith, n)))) (λ q m at is none. absurd (lost-only q m at 1 is (λ n. omega (arith, n)))) (λ q m at is. go q m at)
       where
         go : (q : ℕ) (m : Fields) → At ms q m → (i sid : ℕ) × IsOpenAt told-of (length k.sent + q) i m.p1 sid × IsConnected told-of i (length k.sent + q) m.p1
@@ -252,6 +261,8 @@ module _ (name : List ℕ) (e : ServerEnd) (k : Conduct) (told : IsTold k) (lega
           x.16,
           x.17,
           cancel-sent k ms told x.5 x.12 s.wanted.sid s.wanted.id x.18,
+          x.19,
+          λ refused. x.20 (refused-sent k ms told x.12 x.13 (inl (no-errors-of (disconnects name e) (λ q m at. at))) refused),
         );
   }
     where

@@ -42,7 +42,7 @@ use Rattle.ca_laws_parts.proofs.Growing.{IsTold, told-read, told-sent}
 use Rattle.ca_laws_parts.specs.ServerRows.{ServerAndConduct, Call, Did, Does, IsCall, ByCall, ServersSendLegally, StepDoes, before, nothing, of_ok, on_circuit, only_sent, removal_sent}
 use Rattle.ca_laws_parts.specs.ServerRows as call
 use Rattle.ca_laws_parts.proofs.Carried.{Carries, carries-closed, carries-end, carries-ended, carries-itself, carries-next, carries-post, carries-reaches, carries-same, carries-then, records-circuits}
-use Rattle.ca_laws_parts.proofs.Dealing.{AreMute, deal, marks}
+use Rattle.ca_laws_parts.proofs.Dealing.{deal, marks}
 use Rattle.ca_laws_parts.proofs.EndKnown.{EndKnown}
 use Rattle.ca_laws_parts.proofs.Handling.{Known, known-carried, known-mute, so-dealt}
 use Rattle.ca_laws_parts.proofs.ServerSending.{leaves-all, removal-known, removal-legal, shows-id, updates-known, updates-legal}
@@ -250,15 +250,20 @@ module _ (c : Handle) (y new : Server) (k : Conduct) (known : Known c y k) where
 
   -- ---- finishes
 
-  mute-filtered : (sent : List (Handle × Fields)) → ((i : ℕ) (s : Handle × Fields) → At sent i s → marks s.1.command ≡ false)
-      → AreMute (map (λ (s : Handle × Fields). s.1) (filter (λ (s : Handle × Fields). same_handle s.0 c) sent))
-  mute-filtered sent each q m at =
+  -- what goes out as a put is finished: its reply
+  abbrev IsQuiet : Fields → Type 0
+  IsQuiet m = (marks m.command ≡ false) × (Is command.Error m → ⊥)
+
+  quiet-filtered : (sent : List (Handle × Fields)) → ((i : ℕ) (s : Handle × Fields) → At sent i s → IsQuiet s.1)
+      → (q : ℕ) (m : Fields) → At (map (λ (s : Handle × Fields). s.1) (filter (λ (s : Handle × Fields). same_handle s.0 c) sent)) q m → IsQuiet m
+  quiet-filtered sent each q m at =
       let b = At-mapped (λ (s : Handle × Fields). s.1) (filter (λ (s : Handle × Fields). same_handle s.0 c) sent) q m at in
       let f = at-filter (λ (s : Handle × Fields). same_handle s.0 c) sent q b.0 b.1 in
-      ap (λ (z : Fields). marks z.command) b.2 ∙ each f.0 b.0 f.1
+      subst (λ (z : Fields). IsQuiet z) (sym b.2) (each f.0 b.0 f.1)
 
-  mute-then : (d : Did) (ms : List Fields) → d ≡ only_sent ms → AreMute ms → Known c new k → Then c new d k
-  mute-then d ms is mute known-new = subst (λ (v : Did). Then c new v k) (sym is) (known-mute c new k ms mute known-new)
+  mute-then : (d : Did) (ms : List Fields) → d ≡ only_sent ms → ((q : ℕ) (m : Fields) → At ms q m → IsQuiet m) → Known c new k → Then c new d k
+  mute-then d ms is mute known-new =
+      subst (λ (v : Did). Then c new v k) (sym is) (known-mute c new k ms (λ q m at. (mute q m at).0) (λ q m at errs. (mute q m at).1 errs) known-new)
 
   nothing-sent : (sent : List (Handle × Fields)) (d : Did) → sent ≡ [] → d ≡ only_sent (map (λ (s : Handle × Fields). s.1) (filter (λ (s : Handle × Fields). same_handle s.0 c) sent)) → d ≡ nothing
   nothing-sent sent d none is = is ∙ ap (λ (l : List (Handle × Fields)). only_sent (map (λ (s : Handle × Fields). s.1) (filter (λ (s : Handle × Fields). same_handle s.0 c) l))) none
@@ -266,16 +271,20 @@ module _ (c : Handle) (y new : Server) (k : Conduct) (known : Known c y k) where
   finish-then : (name : List ℕ) (sent : List (Handle × Fields)) (answer : Result (Unit {0}) Refusal) (d : Did) → Finishes y name sent answer new
       → d ≡ only_sent (map (λ (s : Handle × Fields). s.1) (filter (λ (s : Handle × Fields). same_handle s.0 c) sent)) → Then c new d k
   finish-then name sent (Ok _) d does is =
-      mute-then d _ is (mute-filtered sent (each does.2)) (known-carried c y new k (finishes-fits y name sent new does known.fits).1 carries known)
+      mute-then d _ is (quiet-filtered sent (each does.2)) (known-carried c y new k (finishes-fits y name sent new does known.fits).1 carries known)
     where
       finish : Server
       finish = with_finish name does.0.r y
 
-      each : Replies finish does.0.p does.0.gone sent does.1 → (i : ℕ) (s : Handle × Fields) → At sent i s → marks s.1.command ≡ false
+      each : Replies finish does.0.p does.0.gone sent does.1 → (i : ℕ) (s : Handle × Fields) → At sent i s → IsQuiet s.1
       each (inl (e, awaited, are, same)) i s at = one i s (subst (λ (l : List (Handle × Fields)). At l i s) are at)
         where
-          one : (i : ℕ) (s : Handle × Fields) → At ((does.0.p.circuit, finish_reply does.0.p) ∷ []) i s → marks s.1.command ≡ false
-          one zero s at = ap (λ (z : Handle × Fields). marks z.1.command) (sym (some_is (does.0.p.circuit, finish_reply does.0.p) s at))
+          one : (i : ℕ) (s : Handle × Fields) → At ((does.0.p.circuit, finish_reply does.0.p) ∷ []) i s → IsQuiet s.1
+          one zero s at =
+              let is : (does.0.p.circuit, finish_reply does.0.p) ≡ s = some_is (does.0.p.circuit, finish_reply does.0.p) s at in (
+                ap (λ (z : Handle × Fields). marks z.1.command) (sym is),
+                λ errs. (let n : ◌≡◌ {A = ℕ} 19 11 = ap (λ (z : Handle × Fields). z.1.command) is ∙ errs in omega (arith, n)),
+              )
           one (suc i) s at = cc
       each (inr (why_not, are, same)) i s at = absurd (none i s (subst (λ (l : List (Handle × Fields)). At l i s) are at))
         where

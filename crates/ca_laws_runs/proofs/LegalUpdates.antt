@@ -1,5 +1,5 @@
 -- Each update that a server sends is for a subscription that stands, on a channel that is open.
-use Rattle.std.proofs.Common.{◌≡◌, ℕ, ◌<◌, ◌≤◌, inl, inr, Bool, true, false, not, List, [], ◌∷◌, ◌++◌, length, Option, Some, None, refl, sym, ap, subst, ◌∙◌, arith}
+use Rattle.std.proofs.Common.{◌≡◌, ℕ, ◌+◌, ◌<◌, ◌≤◌, inl, inr, Bool, true, false, not, List, [], ◌∷◌, ◌++◌, length, Option, Some, None, refl, sym, ap, subst, ◌∙◌, arith}
 use Rattle.std.specs.Prelude.{◌%◌, filter, map, slice_set, take}
 use Rattle.std.specs.List.{FoldsTo}
 use Rattle.std.specs.Str.{bytes_eq}
@@ -15,12 +15,12 @@ use Rattle.ca_wire.specs.Fields.{Fields}
 use Rattle.ca_model.specs.Answers.{Closing}
 use Rattle.ca_model.specs.Due.{key_in}
 use Rattle.ca_model.specs.History.{Cause, Circuit, Entry, Removal, Reply, Sent, Step, Told, Update}
-use Rattle.ca_model.specs.Sends.{Conduct}
+use Rattle.ca_model.specs.Sends.{Conduct, IsRefused}
 use Rattle.ca_model.specs.Server.{Server, Subscription}
 use Rattle.ca_model.specs.ServerSteps.{Pumps, Stepped}
 use Rattle.ca_model.specs.Speech.{Cid, Clears, Creates, Gives, Id, In, Is, SubId, sid_in}
 use Rattle.ca_model.proofs.Thinner.{three-ways}
-use Rattle.ca_model.specs.Channels.{IsOpen, before}
+use Rattle.ca_model.specs.Channels.{IsOpen, IsReply, before}
 use Rattle.ca_model.specs.Legal.{server_conduct}
 use Rattle.ca_model.specs.ClientEvents.{HappensAccept, WantsFirst, connected_as, new_circuit}
 use Rattle.ca_model.specs.Events.{Event}
@@ -36,6 +36,7 @@ use Rattle.ca_laws_parts.specs.Messages.{Messages}
 use Rattle.ca_laws_parts.proofs.Updates.{stamps-later}
 use Rattle.ca_laws_parts.specs.Moves as moves
 use Rattle.ca_laws_parts.specs.Seats.{HasSeat}
+use Rattle.ca_laws_parts.proofs.Causes.{is-reply, runs-caused}
 use Rattle.ca_laws_parts.proofs.Every.{ticks-frame}
 use Rattle.ca_laws_parts.proofs.Frames.{Frame}
 use Rattle.ca_laws_parts.proofs.HappensClient.{sent-frame}
@@ -56,11 +57,13 @@ use Rattle.ca_laws_runs.proofs.OrderKeeps.{run-served, run-server-steps}
 use Rattle.ca_laws_runs.proofs.Replied.{reached-answer}
 use Rattle.ca_laws_runs.specs.Causing.{AllSources, IsTaken}
 use Rattle.ca_laws_runs.specs.Follows.{AllFollow, Follows, Stands}
+use Rattle.ca_laws_runs.specs.FollowsAnswering.{AnsweredSo}
 use Rattle.ca_laws_runs.specs.Knew.{AllUnended, UnendedOn}
 use Rattle.ca_laws_runs.specs.Known.{IsOrigin, KnownOn}
 use Rattle.ca_laws_runs.specs.LegalEnds.{ServersAreLegal, ServersUpdateWhatStands, UpdatesWhatStands}
 use Rattle.ca_laws_runs.proofs.Acted.{run-follows}
 use Rattle.ca_laws_runs.proofs.Acting.{grown-back, taken-at, taken-below}
+use Rattle.ca_laws_runs.proofs.AnsweringRuns.{run-answered}
 use Rattle.ca_laws_runs.proofs.CausingEvents.{Nothing-new, Ready}
 use Rattle.ca_laws_runs.proofs.CausingFrame.{Back, FinishNews, IsStill, News, Onward, PumpNews, RemoveNews, Says, StepNews, Takes, back-frame, finish-back, pump-back, removed-back, step-back, still-back, unhandled-back}
 use Rattle.ca_laws_runs.proofs.CausingRuns.{ready, run-sources}
@@ -72,6 +75,7 @@ use Rattle.ca_laws_runs.proofs.FollowsWhole.{folds-snoc, logs-there}
 -- cancelled; and no SERVER_DISCONN for it was sent before.
 pub record UpdatedAs (c : Circuit) (k : ℕ) (t : Told) : Type 0 where
   pub p : ℕ
+  pub of : t.place ≡ p
   pub add : Sent
   pub sent : At c.up p add
   pub gives : Is command.EventAdd t.message → Gives add.message (SubId t.message.p2)
@@ -118,6 +122,7 @@ module _ (F : ℕ → News → Type 0) (l : ℕ) (c d : Joined) (log : ℕ) (ord
   updated-on : (k : ℕ) (t : Told) → At c.lists.down k t → UpdatedAs c.lists k t → UpdatedAs d.lists k t
   updated-on k t at r = record {
     p = r.p;
+    of = r.of;
     add = r.add;
     sent = on.lists.up r.p r.add r.sent;
     gives = r.gives;
@@ -406,9 +411,10 @@ module _ (s : Setting) (w : World) (k : ℕ) (j : Joined) (b : Beside s w) (on :
 
 -- an update of a subscription that stands, which is sent now
 module _ (s : Setting) (w : World) (k : ℕ) (j d : Joined) (b : Beside s w) (on : At w.circuits k j) (opened : j.lists.server_open ≡ true) (goes : places.PlacesOn ⊥ j d) where
-  fresh-update : (st : Standing) → In j.standing st → (n : ℕ) (t : Told) → length j.lists.down ≤ n → (Is command.EventAdd t.message → Concerns j.lists.up st.place (SubId t.message.p2)) → UpdatedAs d.lists n t
-  fresh-update st there n t late speaks = record {
+  fresh-update : (st : Standing) → In j.standing st → (n : ℕ) (t : Told) → length j.lists.down ≤ n → t.place ≡ st.place → (Is command.EventAdd t.message → Concerns j.lists.up st.place (SubId t.message.p2)) → UpdatedAs d.lists n t
+  fresh-update st there n t late of speaks = record {
     p = st.place;
+    of = of;
     add = add s w k j b on opened st there;
     sent = goes.up st.place (add s w k j b on opened st there) (sent s w k j b on opened st there);
     gives = λ is. gives-sub j.lists.up st.place t.message.p2 (add s w k j b on opened st there) (sent s w k j b on opened st there) (adds s w k j b on opened st there) (speaks is);
@@ -455,6 +461,7 @@ pump-fair s w new k j y f b on at opened back l c d at_c at_d = record {
       let same_g : g.0 ≡ j = At-one w.circuits l g.0 c g.1 at_c ∙ sym same in
       fresh-update s w k j d b on opened (subst (λ (z : Joined). places.PlacesOn ⊥ z d) same_g g.2) st.0 (x.keeps.0, st.1) i t
       (subst (λ (z : Joined). length z.lists.down ≤ i) (sym same) late)
+      st.2
       (λ is. subst (λ (p : ℕ). Concerns j.lists.up p (SubId t.message.p2)) st.2 (x.speaks (SubId t.message.p2) (inl (is, refl))));
 }
   where
@@ -569,10 +576,50 @@ run-right-updates s es stopped w ok (mid, folds, stops) =
 
 -- ---- what the statement says
 
+-- An ERROR was sent before any later message was handled.
+abbrev pub ErrorsAreFirst : Circuit → Type 0
+ErrorsAreFirst c =
+    (l q : ℕ) (u : Told) (g : Step) → At c.down l u → Is command.Error u.message → u.place < q → At c.handled q g → l < g.sent
+
+-- It is a reply; and there is no reply about an EVENT_ADD that has updates.
+pub record Refusals (c : Circuit) : Type 0 where
+  pub replies : (l : ℕ) (u : Told) → At c.down l u → Is command.Error u.message → u.cause ≡ Reply
+  pub first : ErrorsAreFirst c
+  pub none : (k a l : ℕ) (t u : Told) → At c.down k t → t.cause ≡ Update a → At c.down l u → u.place ≡ t.place → u.cause ≡ Reply → ⊥
+
 module _ (c : Joined) (log : ℕ) (after : ComeAfter c.lists) (order : InOrder c.lists.handled (length c.lists.up) (length c.lists.down) log) (right : UpdatedRight c.lists)
-    (cause : (k : ℕ) (t : Told) → At c.lists.down k t → Is command.EventAdd t.message → (t.message.payload ≡ [] → ⊥) → (a : ℕ) × (t.cause ≡ Update a)) where
+    (cause : (k : ℕ) (t : Told) → At c.lists.down k t → Is command.EventAdd t.message → (t.message.payload ≡ [] → ⊥) → (a : ℕ) × (t.cause ≡ Update a)) (refusals : Refusals c.lists) where
   abbrev did : Conduct
   did = server_conduct c.lists
+
+  -- what has updates was not refused: an ERROR between two steps is about the message of the first
+  unrefused : (k a : ℕ) (t : Told) → At c.lists.down k t → t.cause ≡ Update a → (add : Fields) → IsRefused did t.place add → ⊥
+  unrefused k a t at says add r =
+      let u = sent-at c.lists r.1 r.2 r.4 in
+      let errs : Is command.Error u.0.message = subst (λ (x : Fields). Is command.Error x) u.2 r.6.0 in
+      let g = At-mapped (λ (x : Step). x.sent) c.lists.handled t.place r.0 r.3 in
+      let b : r.0 ≡ g.0.sent = g.2 in
+      let from : r.0 ≤ r.1 = r.5 in
+      let h = after r.1 u.0 u.1 in
+      let by : h.0.sent ≤ r.1 = h.2 in
+      elim (three-ways u.0.place t.place) [
+        | inl early ↦ (let lt : r.1 < g.0.sent = refusals.first r.1 t.place u.0 g.0 u.1 errs early g.1 in omega (arith, lt, b, from))
+        | inr (inl own) ↦ refusals.none k a r.1 t u.0 at says u.1 own (refusals.replies r.1 u.0 u.1 errs)
+        | inr (inr later) ↦ elim (At-or c.lists.handled (t.place + 1)) [
+          | inr past ↦
+              let within : u.0.place < length c.lists.handled = At-within c.lists.handled u.0.place h.0 h.1 in
+              omega (arith, within, past, later)
+          | inl next ↦
+              let lt : r.1 < next.0.sent = r.7 next.0.sent (At-map (λ (x : Step). x.sent) c.lists.handled (t.place + 1) next.0 next.1) in
+              elim (three-ways (t.place + 1) u.0.place) [
+                | inl less ↦ (let rise : next.0.sent ≤ h.0.sent = (order.rise (t.place + 1) u.0.place next.0 h.0 less next.1 h.1).0 in omega (arith, lt, rise, by))
+                | inr (inl one) ↦
+                    let same : next.0.sent ≡ h.0.sent = ap (λ (x : Step). x.sent) (At-one c.lists.handled u.0.place next.0 h.0 (subst (λ (z : ℕ). At c.lists.handled z next.0) one next.1) h.1) in
+                    omega (arith, lt, same, by)
+                | inr (inr more) ↦ omega (arith, more, later)
+              ]
+        ]
+      ]
 
   pub legal-updates : UpdatesWhatStands did
   legal-updates k m at is full =
@@ -617,6 +664,7 @@ module _ (c : Joined) (log : ℕ) (after : ComeAfter c.lists) (order : InOrder c
             let until : reads.0 ≤ k = reads.4 in
             r.uncancelled l s.0 g.0 late g.1 (omega (arith, b, until)) s.1 (subst (λ (x : Fields). Is command.EventCancel x) s.2 cancels)
             (ap (λ (x : Fields). x.p1) (sym s.2) ∙ sids) (ap (λ (x : Fields). x.p2) (sym s.2) ∙ subs),
+        λ refused. unrefused k a.0 t.0 t.1 a.1 r.add.message (subst (λ (z : ℕ). IsRefused did z r.add.message) (sym r.of) refused),
       )
 
 pub run-updates : (s : Setting) (es : List Event) (stopped : Option Event) (w : World) → IsSetting s → AreEvents es → Runs s es stopped w → ServersUpdateWhatStands w
@@ -628,9 +676,37 @@ run-updates s es stopped w ok are runs n d at =
       l.1,
       l.2,
       subst (λ (v : Circuit). UpdatesWhatStands (server_conduct v)) (sym j.2)
-          (legal-updates c (log_length c.lists.server w.server_logs) (run-after s es stopped w ok runs n c j.1) (run-served s es stopped w ok runs n c j.1) (run-right-updates s es stopped w ok runs n c j.1) (cause c j.1)),
+          (legal-updates c (log_length c.lists.server w.server_logs) (run-after s es stopped w ok runs n c j.1) (run-served s es stopped w ok runs n c j.1) (run-right-updates s es stopped w ok runs n c j.1) (cause c j.1) (refusals c j.1)),
     )
   where
+    answered : (c : Joined) → At w.circuits n c → (k : ℕ) (h : Step) → At c.lists.handled k h → (log : List Entry) × AnsweredSo n (circuit_of c) log k h
+    answered c on k h there =
+        let r = run-answered s es stopped w ok runs n (circuit_of c) (At-map circuit_of w.circuits n c on) in
+        (r.1, r.3 k h there)
+
+    refusals : (c : Joined) → At w.circuits n c → Refusals c.lists
+    refusals c on =
+        let log = logs-there s w (ready s es stopped w ok runs).serves.stands.sound n c on in
+        let sources = run-sources s es stopped w ok runs n c log.0 on log.1 in
+        record {
+          replies = replies;
+          first = λ l q u g there errs lt handled.
+              let h = run-after s es stopped w ok runs n c on l u there in
+              let a = answered c on u.place h.0 h.1 in
+              let reply : IsReply c.lists u.place l u.message =
+              subst (λ (z : Cause). At c.lists.down l (record { message = u.message; place = u.place; cause = z })) (replies l u there errs) there in
+              elim (a.1.1 l u.message reply) [
+                | inl early ↦ (let next : h.0.sent + length a.1.0.replies ≤ g.sent = a.1.0.next q g lt handled in omega (arith, early, next))
+                | inr late ↦ absurd (let e : ◌≡◌ {A = ℕ} 11 19 = sym errs ∙ late.0 in omega (arith, e))
+              ];
+          none = λ k a l t u at says there same reply. (sources.updates k a t at says).unrefused l u there same reply;
+        }
+      where
+        replies : (l : ℕ) (u : Told) → At c.lists.down l u → Is command.Error u.message → u.cause ≡ Reply
+        replies l u there errs =
+            is-reply w (runs-caused s es stopped w ok are runs) n l c u on there
+            (λ lost. (let e : ◌≡◌ {A = ℕ} 11 27 = sym errs ∙ lost in omega (arith, e))) (λ adds. absurd (let e : ◌≡◌ {A = ℕ} 11 1 = sym errs ∙ adds in omega (arith, e)))
+
     cause : (c : Joined) → At w.circuits n c → (k : ℕ) (t : Told) → At c.lists.down k t → Is command.EventAdd t.message → (t.message.payload ≡ [] → ⊥) → (a : ℕ) × (t.cause ≡ Update a)
     cause c on k t there is full = go t.cause refl
       where

@@ -6,20 +6,21 @@ use Rattle.ca_text.specs.Place.{At}
 use Rattle.ca_wire.specs.Fields.{Fields}
 use Rattle.ca_model.specs.History.{Circuit, Entry, Line, Removal, Removed, Told}
 use Rattle.ca_model.specs.Sends.{Conduct, HasChannel, IsConnected, IsDisconnect, IsOnChannel}
-use Rattle.ca_model.specs.Sends.{IsOpenAt, LegalServer, ReadsBetween}
+use Rattle.ca_model.specs.Sends.{IsOpenAt, IsRefused, LegalServer, ReadsBetween}
 use Rattle.ca_model.specs.Speech.{Gives, Is, SubId, sid_in}
 use Rattle.ca_model.specs.Channels.{Created, IsUncleared, OfCircuits}
 use Rattle.ca_model.specs.Legal.{client_conduct, server_conduct}
 use Rattle.ca_model.specs.World.{World, told}
 
 -- An update is for an EVENT_ADD that was read on a channel that is open, and neither was its record
--- removed nor the subscription cancelled.
+-- removed nor the subscription cancelled or refused.
 abbrev pub UpdatesWhatStands : Conduct → Type 0
 UpdatesWhatStands e = (k : ℕ) (m : Fields) → At e.sent k m → Is command.EventAdd m → m.payload ≢ []
     → (i j cid : ℕ) × (add : Fields) × IsOpenAt e k i cid (sid_in add) × IsConnected e i k cid
     × ReadsBetween e i k j add × Gives add (SubId m.p2)
     × ((l : ℕ) (r : Fields) → j < l → ReadsBetween e i k l r → Is command.EventCancel r
     → r.p1 ≡ add.p1 → r.p2 ≢ add.p2)
+    × (IsRefused e j add → ⊥)
 
 -- So it is on each circuit of a world; and all that a server sends there is what it may send.
 abbrev pub ServersUpdateWhatStands : World → Type 0

@@ -12,9 +12,9 @@ ghost use Rattle.ca_laws_runs.specs.LegalEnds.{
 };
 
 /// After every run from a well-formed setting by well-formed events each update of a server is for
-/// an EVENT_ADD that it read on a channel that is open, of which it sent no SERVER_DISCONN, and
-/// whose EVENT_CANCEL it has not read. This is `updates` of the statement's `LegalServer`. It holds
-/// also of what an end sent that has ended.
+/// an EVENT_ADD that it read on a channel that is open, of which it sent no SERVER_DISCONN, which
+/// it did not refuse, and whose EVENT_CANCEL it has not read. This is `updates` of the statement's
+/// `LegalServer`. It holds also of what an end sent that has ended.
 pub fn servers_update_what_stands()
     ensures { (s : Setting) (es : List Event) (stopped : Option Event) (w : World) → IsSetting s
         → AreEvents es → Runs s es stopped w → ServersUpdateWhatStands w }

@@ -1,5 +1,5 @@
 -- Statement: what one end of a circuit may send, said by what it sent and what it read alone.
-use Rattle.std.specs.Prelude.{ℕ, ◌≡◌, ◌≢◌, ◌<◌, ◌≤◌, ◌%◌, ◌++◌, ◌⊎◌, List, []}
+use Rattle.std.specs.Prelude.{ℕ, ◌≡◌, ◌≢◌, ◌<◌, ◌≤◌, ◌+◌, ◌%◌, ◌++◌, ◌⊎◌, List, []}
 use Rattle.ca_text.specs.declared.command.Command.TheVariants as command
 use Rattle.ca_text.specs.Limits.{arena_slots}
 use Rattle.ca_text.specs.Place.{At}
@@ -120,10 +120,17 @@ abbrev pub IsConnected : Conduct → (i k cid : ℕ) → Type 0
 IsConnected e i k cid =
     (l : ℕ) (m : Fields) → i < l → l < k → At e.sent l m → IsDisconnect cid m → ⊥
 
+-- The request that was read at place j was refused: an ERROR that quotes it was sent before the
+-- next message was read.
+abbrev pub IsRefused : Conduct → (j : ℕ) → Fields → Type 0
+IsRefused e j request =
+    (b l : ℕ) × (m : Fields) × At e.read j b × At e.sent l m × (b ≤ l) × Quotes request m
+    × ((c : ℕ) → At e.read (j + 1) c → l < c)
+
 -- What a server sends on a circuit. A SID is given only if no open channel has its index. An update
 -- is for an EVENT_ADD that was read on a channel that is open, and neither was its record removed
--- nor the subscription cancelled. A confirmation answers the EVENT_CANCEL that was read just
--- before. Each open channel has one SERVER_DISCONN at most.
+-- nor the subscription cancelled or refused. A confirmation answers the EVENT_CANCEL that was read
+-- just before. Each open channel has one SERVER_DISCONN at most.
 pub record LegalServer (e : Conduct) : Type 0 where
   pub sids : (i k a b : ℕ) (m r : Fields) → i < k → At e.sent i m → At e.sent k r → Creates m a
       → Creates r b
@@ -135,6 +142,7 @@ pub record LegalServer (e : Conduct) : Type 0 where
       × ((l : ℕ) (r : Fields) → j < l → ReadsBetween e i k l r → Is command.EventCancel r
       → r.p1 ≡ add.p1
       → r.p2 ≢ add.p2)
+      × (IsRefused e j add → ⊥)
   pub confirmations : (k : ℕ) (m : Fields) → At e.sent k m → Is command.EventAdd m → m.payload ≡ []
       → (j : ℕ) × (r : Fields) × At e.came j r × At e.read j k × Is command.EventCancel r
       × (r.p1 ≡ m.p1)

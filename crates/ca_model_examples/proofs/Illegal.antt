@@ -1,27 +1,30 @@
 -- Of each of these histories one part of what is legal is broken, or none.
 use Rattle.std.proofs.Common.{◌≡◌, ◌≢◌, ℕ, ◌<◌, ◌≤◌, ◌⊎◌, inl, inr, List, [], ◌∷◌, refl, sym, ap, subst, ◌∙◌, arith}
-use Rattle.std.specs.Prelude.{Bool, true, false, None, Some, get_or, length, take}
+use Rattle.std.specs.Prelude.{Bool, true, false, None, Some, get_or, length, replicate, take}
 use Rattle.ca_text.specs.Place.{At}
 use Rattle.ca_text.proofs.Places.{At-within, some_is}
 use Rattle.ca_text.specs.declared.command.Command.TheVariants as command
 use Rattle.ca_dbr.specs.declared.value.Outcome.{Outcome}
 use Rattle.ca_dbr.specs.Elements.{Elements, bytes_of, signed_bytes_4}
 use Rattle.ca_wire.specs.Fields.{Fields, padded}
+use Rattle.ca_wire.specs.Header.{HeaderFits, header_spelling, number16}
+use Rattle.ca_wire.specs.Message.{header_of}
+use Rattle.ca_wire.proofs.Headers.{header-spells}
 use Rattle.ca_model.specs.Speech.{Cid, Ioid, Creates, Gives, Id, In, Is, SubId, name_in, sid_in}
 use Rattle.ca_model.specs.History.{Cancel, Clear, Create, Read, Request, Subscribe, Write, Intent, On, Sent, Told, Step, Circuit, Entry, Line, Added, Called, Noticed, Opened}
 use Rattle.ca_model.specs.Channels.{IsHeld, Meant}
-use Rattle.ca_model.specs.Sends.{Conduct, Frees, HasChannel, SameIndex, IsConnected, IsDisconnect, IsOnChannel, IsOpenAt, IsUncancelled, ReadsBetween}
+use Rattle.ca_model.specs.Sends.{Conduct, Frees, HasChannel, SameIndex, IsConnected, IsDisconnect, IsOnChannel, IsOpenAt, IsRefused, IsUncancelled, ReadsBetween}
 use Rattle.ca_model.specs.Legal.{BecomesLive, IsStanding, Legal, WasCalled, client_conduct, server_conduct}
 use Rattle.ca_model_examples.specs.Worlds.{putting, clearing, temp, adding, created_told, creating, disconnected, long, reading, step, temp_name, world}
 use Rattle.ca_model_examples.specs.Unsafe.{cancelling, opened, temp_removed, temp_there, updated}
-use Rattle.ca_model_examples.specs.Illegal.{added_again, asked_again, asked_with, both_asked, both_created, called_at, called_in, calls, cancel_called, clears_lost, confirm_out, created_again, created_read, goes_out, live_again, read_out, reads_out, alone, writing, unasked, sent_in, subscribe_called, told_closed, told_so, two_circuits, uncalled_in, update_out, write_called}
+use Rattle.ca_model_examples.specs.Illegal.{added_again, asked_again, asked_with, both_asked, both_created, called_at, called_in, calls, cancel_called, clears_lost, confirm_out, created_again, created_read, goes_out, live_again, read_out, reads_out, refused, refused_out, alone, writing, unasked, sent_in, subscribe_called, told_closed, told_so, two_circuits, uncalled_in, update_out, write_called}
 use Rattle.ca_model_examples.specs.Parts.{CalledSo, HeldSo, MaySend, Sending, SendsWrong, SentSo}
 use Rattle.ca_model_examples.specs.Parts as part
 use Rattle.ca_model_examples.proofs.Lists.{each-at, none-at, one-at, two-at}
 use Rattle.ca_model_examples.proofs.Quiet.{clash, none}
 use Rattle.ca_model_examples.proofs.Opened.{created-here}
 use Rattle.ca_model_examples.proofs.Creations.{channel-of, only-added, uncleared}
-use Rattle.ca_model_examples.proofs.Sent.{all-legal, all-on-sid, is, is-so, its-sent, on-channel-so, on-sid, quiet-sends, quiet-sent, sends}
+use Rattle.ca_model_examples.proofs.Sent.{all-legal, all-on-sid, is, is-so, its-sent, on-channel-so, on-sid, quiet-sends, quiet-sent, sends, unrefused}
 
 -- ---- what a client sends
 
@@ -214,10 +217,11 @@ abbrev UpdateFor : Circuit → ℕ → Fields → Type 0
 UpdateFor c k m =
     (i j cid : ℕ) × (add : Fields) × IsOpenAt (server_conduct c) k i cid (sid_in add) × IsConnected (server_conduct c) i k cid × ReadsBetween (server_conduct c) i k j add × Gives add (SubId m.p2)
     × ((l : ℕ) (r : Fields) → j < l → ReadsBetween (server_conduct c) i k l r → Is command.EventCancel r → r.p1 ≡ add.p1 → r.p2 ≢ add.p2)
+    × (IsRefused (server_conduct c) j add → ⊥)
 
 update-legal-each : (p : Sending) → MaySend p (sent_in (update_out (step 0 0 0 ∷ step 1 0 0 ∷ [])))
 update-legal-each part.OnChannel = sends part.OnChannel (update_out (step 0 0 0 ∷ step 1 0 0 ∷ [])) (calls (update_out (step 0 0 0 ∷ step 1 0 0 ∷ [])).up) temp_there refl refl (all-on-sid (update_out (step 0 0 0 ∷ step 1 0 0 ∷ [])) (calls (update_out (step 0 0 0 ∷ step 1 0 0 ∷ [])).up) temp_there ((adding 0 9).message) [] 1 refl refl refl refl refl refl refl) tt
-update-legal-each part.Updates = sends part.Updates (update_out (step 0 0 0 ∷ step 1 0 0 ∷ [])) (calls (update_out (step 0 0 0 ∷ step 1 0 0 ∷ [])).up) temp_there refl refl (λ k m at e full. each-at (λ (i : ℕ) (z : Fields). Is command.EventAdd z → UpdateFor (update_out (step 0 0 0 ∷ step 1 0 0 ∷ [])) i z) (server_conduct (update_out (step 0 0 0 ∷ step 1 0 0 ∷ []))).sent ((λ f. absurd (omega (arith, f))), ((λ f. (0, 1, 1, (adding 0 9).message, (created_told.message, refl, (refl, refl), refl, omega arith, λ j r reads clears. none (is 12) (server_conduct (update_out (step 0 0 0 ∷ step 1 0 0 ∷ []))).came refl j r reads.1 (is-so 12 r clears.0)), (λ l m a b. absurd (omega (arith, a, b))), (1, refl, refl, omega arith, omega arith), (refl, refl), λ l r after reads cancel. absurd (none (is 2) (server_conduct (update_out (step 0 0 0 ∷ step 1 0 0 ∷ []))).came refl l r reads.1 (is-so 2 r cancel)))), tt)) k m at e) tt
+update-legal-each part.Updates = sends part.Updates (update_out (step 0 0 0 ∷ step 1 0 0 ∷ [])) (calls (update_out (step 0 0 0 ∷ step 1 0 0 ∷ [])).up) temp_there refl refl (λ k m at e full. each-at (λ (i : ℕ) (z : Fields). Is command.EventAdd z → UpdateFor (update_out (step 0 0 0 ∷ step 1 0 0 ∷ [])) i z) (server_conduct (update_out (step 0 0 0 ∷ step 1 0 0 ∷ []))).sent ((λ f. absurd (omega (arith, f))), ((λ f. (0, 1, 1, (adding 0 9).message, (created_told.message, refl, (refl, refl), refl, omega arith, λ j r reads clears. none (is 12) (server_conduct (update_out (step 0 0 0 ∷ step 1 0 0 ∷ []))).came refl j r reads.1 (is-so 12 r clears.0)), (λ l m a b. absurd (omega (arith, a, b))), (1, refl, refl, omega arith, omega arith), (refl, refl), (λ l r after reads cancel. absurd (none (is 2) (server_conduct (update_out (step 0 0 0 ∷ step 1 0 0 ∷ []))).came refl l r reads.1 (is-so 2 r cancel))), unrefused (server_conduct (update_out (step 0 0 0 ∷ step 1 0 0 ∷ []))) refl 1 (adding 0 9).message)), tt)) k m at e) tt
 update-legal-each p = quiet-sends p (update_out (step 0 0 0 ∷ step 1 0 0 ∷ [])) (calls (update_out (step 0 0 0 ∷ step 1 0 0 ∷ [])).up) temp_there refl refl refl
 
 pub update-legal : Legal (sent_in (update_out (step 0 0 0 ∷ step 1 0 0 ∷ [])))
@@ -230,6 +234,44 @@ update-unread-rest p ne = quiet-sends p (update_out (step 0 0 0 ∷ [])) (calls 
 
 pub update-unread : SendsWrong part.Updates (sent_in (update_out (step 0 0 0 ∷ [])))
 update-unread = (update-unread-rest, λ h. (let u = its-sent part.Updates (update_out (step 0 0 0 ∷ [])) (calls (update_out (step 0 0 0 ∷ [])).up) temp_there refl refl h.0 1 (updated 0 21).message refl refl (λ e. cc) in let b = (one-at 0 u.1 u.6.0 u.6.2).1 in let early = u.6.3 in omega (arith, b, early)))
+
+refused-legal-each : (p : Sending) → MaySend p (sent_in (refused_out []))
+refused-legal-each part.OnChannel = sends part.OnChannel (refused_out []) (calls (refused_out []).up) temp_there refl refl (all-on-sid (refused_out []) (calls (refused_out []).up) temp_there ((adding 0 9).message) [] 1 refl refl refl refl refl refl refl) tt
+refused-legal-each p = quiet-sends p (refused_out []) (calls (refused_out []).up) temp_there refl refl refl
+
+pub refused-legal : Legal (sent_in (refused_out []))
+refused-legal = all-legal _ refused-legal-each
+
+refused-updated-rest : (p : Sending) → (p ≡ part.Updates → ⊥) → MaySend p (sent_in (refused_out (updated 0 21 ∷ [])))
+refused-updated-rest part.Updates ne = absurd (ne refl)
+refused-updated-rest part.OnChannel ne = sends part.OnChannel (refused_out (updated 0 21 ∷ [])) (calls (refused_out (updated 0 21 ∷ [])).up) temp_there refl refl (all-on-sid (refused_out (updated 0 21 ∷ [])) (calls (refused_out (updated 0 21 ∷ [])).up) temp_there ((adding 0 9).message) [] 1 refl refl refl refl refl refl refl) tt
+refused-updated-rest p ne = quiet-sends p (refused_out (updated 0 21 ∷ [])) (calls (refused_out (updated 0 21 ∷ [])).up) temp_there refl refl refl
+
+added-fits : HeaderFits (header_of (adding 0 9).message)
+unfolding number16
+added-fits = record { command = omega arith; data_type = omega arith; size = (let n : length (adding 0 9).message.payload ≡ 16 = refl in omega (arith, n)); count = omega arith; p1 = omega arith; p2 = omega arith }
+
+-- the ERROR quotes the EVENT_ADD
+is-refused : (more : List Told) → IsRefused (server_conduct (refused_out more)) 1 (adding 0 9).message
+is-refused more = (
+  1,
+  1,
+  refused.message,
+  refl,
+  refl,
+  omega arith,
+  (refl, (header_of (adding 0 9).message, header_spelling (header_of (adding 0 9).message), replicate 8 0, header-spells (header_of (adding 0 9).message) added-fits, refl, refl, refl)),
+  λ c at. absurd (let w = At-within (0 ∷ 1 ∷ []) 2 c at in omega (arith, w)),
+)
+
+pub refused-updated : SendsWrong part.Updates (sent_in (refused_out (updated 0 21 ∷ [])))
+refused-updated = (
+  refused-updated-rest,
+  λ h.
+      (let u = its-sent part.Updates (refused_out (updated 0 21 ∷ [])) (calls (refused_out (updated 0 21 ∷ [])).up) temp_there refl refl h.0 2 (updated 0 21).message refl refl (λ f. cc) in
+      let add = each-at (λ (i : ℕ) (z : Fields). Is command.EventAdd z → (i ≡ 1) × (z ≡ (adding 0 9).message)) (creating.message ∷ (adding 0 9).message ∷ []) ((λ f. absurd (omega (arith, f))), ((λ f. (refl, refl)), tt)) u.1 u.3 u.6.1 u.7.0 in
+      u.9 (subst (λ (z : ℕ × Fields). IsRefused (server_conduct (refused_out (updated 0 21 ∷ []))) z.0 z.1) (λ i. (sym add.0 i, sym add.1 i)) (is-refused (updated 0 21 ∷ [])))),
+)
 
 -- what a confirmation at this place has
 abbrev ConfirmFor : Circuit → ℕ → Fields → Type 0

@@ -7,7 +7,7 @@ use Rattle.ca_text.specs.declared.command.Command.TheVariants as command
 use Rattle.ca_dbr.specs.declared.value.Outcome.{Outcome}
 use Rattle.ca_wire.specs.Fields.{Fields}
 use Rattle.ca_model.specs.Speech.{Cid, Creates, Gives, Id, In, Ioid, Is, SubId}
-use Rattle.ca_model.specs.Sends.{Conduct, HasChannel, IsConnected, IsFree, IsOnChannel, IsOpenAt, LegalClient, LegalServer, ReadsBetween, SameIndex}
+use Rattle.ca_model.specs.Sends.{Conduct, HasChannel, IsConnected, IsFree, IsOnChannel, IsOpenAt, IsRefused, LegalClient, LegalServer, ReadsBetween, SameIndex}
 use Rattle.ca_model.specs.History.{Noticed, Circuit, On, Create, Line, Called, Clear, Cancel, Subscribe, Sent, Step}
 use Rattle.ca_model.specs.Channels.{IsHeld, Meant}
 use Rattle.ca_model.specs.Legal.{BecomesLive, LegalCircuit, client_conduct, server_conduct}
@@ -15,7 +15,7 @@ use Rattle.ca_model_examples.specs.Worlds.{adding, created_told, creating, step}
 use Rattle.ca_model_examples.specs.Moved.{moved, moved_entries, moved_lines}
 use Rattle.ca_model_examples.specs.Parts as part
 use Rattle.ca_model_examples.proofs.Lists.{each-at, at-take}
-use Rattle.ca_model_examples.proofs.Sent.{quiet-sent}
+use Rattle.ca_model_examples.proofs.Sent.{quiet-sent, unrefused}
 use Rattle.ca_model_examples.proofs.Reopened.{intent-of, noticed-intent}
 use Rattle.ca_model_examples.proofs.MovedActs.{no-removal, reply-at}
 
@@ -177,6 +177,7 @@ module _ (server live read value : ℕ) (stays : Bool) where
       → (i j cid : ℕ) × (add : Fields) × IsOpenAt sv k i cid add.p1 × IsConnected sv i k cid
       × ReadsBetween sv i k j add × Gives add (SubId m.p2)
       × ((l : ℕ) (r : Fields) → j < l → ReadsBetween sv i k l r → Is command.EventCancel r → r.p1 ≡ add.p1 → r.p2 ≡ add.p2 → ⊥)
+      × (IsRefused sv j add → ⊥)
 
   moved-server : LegalServer sv
   moved-server = record {
@@ -186,7 +187,7 @@ module _ (server live read value : ℕ) (stays : Bool) where
       (
         (λ is. absurd (omega (arith, is))),
         (
-          (λ is full. (1, 1, 1, (adding 0 9).message, (created_told.message, refl, (refl, refl), refl, omega arith, (λ j r reads clears. no-clear j r reads.1 clears.0)), (λ l z low high. absurd (omega (arith, low, high))), (2, refl, refl, omega arith, omega arith), (refl, refl), (λ l r after reads is. absurd (no-cancel l r reads.1 is)))),
+          (λ is full. (1, 1, 1, (adding 0 9).message, (created_told.message, refl, (refl, refl), refl, omega arith, (λ j r reads clears. no-clear j r reads.1 clears.0)), (λ l z low high. absurd (omega (arith, low, high))), (2, refl, refl, omega arith, omega arith), (refl, refl), (λ l r after reads is. absurd (no-cancel l r reads.1 is)), unrefused sv refl 1 (adding 0 9).message)),
           tt,
         ),
       ),

@@ -7,14 +7,14 @@ use Rattle.ca_text.specs.declared.command.Command.TheVariants as command
 use Rattle.ca_dbr.specs.declared.value.Outcome.{Outcome}
 use Rattle.ca_wire.specs.Fields.{Fields}
 use Rattle.ca_model.specs.Speech.{Cid, Clears, Creates, Gives, Id, In, Ioid, Is, SubId}
-use Rattle.ca_model.specs.Sends.{Conduct, HasChannel, IsConnected, IsDisconnect, IsFree, IsOnChannel, IsOpenAt, LegalClient, LegalServer, ReadsBetween, SameIndex}
+use Rattle.ca_model.specs.Sends.{Conduct, HasChannel, IsConnected, IsDisconnect, IsFree, IsOnChannel, IsOpenAt, IsRefused, LegalClient, LegalServer, ReadsBetween, SameIndex}
 use Rattle.ca_model.specs.History.{Noticed, Circuit, Intent, On, OfCircuit, Create, Line, Entry, Called, Subscribe, Sent, Told, Step, Removed, Removal}
 use Rattle.ca_model.specs.Channels.{Created, IsHeld, Joins, Meant, OfCircuits, OfClients}
 use Rattle.ca_model.specs.Legal.{BecomesLive, IsSent, Legal, LegalCircuit, WasCalled, client_conduct, server_conduct}
 use Rattle.ca_model_examples.specs.Worlds.{adding, clearing, created_told, creating, disconnected, step}
 use Rattle.ca_model_examples.specs.Safe.{reopened, reopened_entries, reopened_lines, reopened_world}
 use Rattle.ca_model_examples.proofs.Lists.{each-at, at-take, at-take-within, one-at}
-use Rattle.ca_model_examples.proofs.Sent.{one-apart}
+use Rattle.ca_model_examples.proofs.Sent.{one-apart, unrefused}
 
 abbrev cl : Conduct
 cl = client_conduct reopened
@@ -276,6 +276,7 @@ IsMeant k m =
     → (i j cid : ℕ) × (add : Fields) × IsOpenAt sv k i cid add.p1 × IsConnected sv i k cid
     × ReadsBetween sv i k j add × Gives add (SubId m.p2)
     × ((l : ℕ) (r : Fields) → j < l → ReadsBetween sv i k l r → Is command.EventCancel r → r.p1 ≡ add.p1 → r.p2 ≢ add.p2)
+    × (IsRefused sv j add → ⊥)
 
 reopened-server : LegalServer sv
 reopened-server = record {
@@ -285,7 +286,7 @@ reopened-server = record {
     (
       (λ is. absurd (omega (arith, is))),
       (
-        (λ is full. (1, 1, 1, (adding 0 9).message, (created_told.message, refl, (refl, refl), refl, omega arith, (λ j r reads clears. (let e = (clear-read 1 2 j r reads clears.0).1 in omega (arith, e)))), (λ l z low high. absurd (omega (arith, low, high))), (2, refl, refl, omega arith, omega arith), (refl, refl), (λ l r after reads is. absurd (no-cancel l r reads.1 is)))),
+        (λ is full. (1, 1, 1, (adding 0 9).message, (created_told.message, refl, (refl, refl), refl, omega arith, (λ j r reads clears. (let e = (clear-read 1 2 j r reads clears.0).1 in omega (arith, e)))), (λ l z low high. absurd (omega (arith, low, high))), (2, refl, refl, omega arith, omega arith), (refl, refl), (λ l r after reads is. absurd (no-cancel l r reads.1 is)), unrefused sv refl 1 (adding 0 9).message)),
         (
           (λ is. absurd (omega (arith, is))),
           (
@@ -295,7 +296,7 @@ reopened-server = record {
               (
                 (λ is. absurd (omega (arith, is))),
                 (
-                  (λ is full. (6, 4, 1, (adding 0 9).message, (created_told.message, refl, (refl, refl), refl, omega arith, (λ j r reads clears. (let e = (clear-read 6 7 j r reads clears.0).0 in omega (arith, e)))), (λ l z low high. absurd (omega (arith, low, high))), (7, refl, refl, omega arith, omega arith), (refl, refl), (λ l r after reads is. absurd (no-cancel l r reads.1 is)))),
+                  (λ is full. (6, 4, 1, (adding 0 9).message, (created_told.message, refl, (refl, refl), refl, omega arith, (λ j r reads clears. (let e = (clear-read 6 7 j r reads clears.0).0 in omega (arith, e)))), (λ l z low high. absurd (omega (arith, low, high))), (7, refl, refl, omega arith, omega arith), (refl, refl), (λ l r after reads is. absurd (no-cancel l r reads.1 is)), unrefused sv refl 4 (adding 0 9).message)),
                   tt,
                 ),
               ),

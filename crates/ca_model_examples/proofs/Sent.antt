@@ -13,7 +13,7 @@ use Rattle.ca_dbr.specs.Elements.{Elements, base_of, bytes_of, count_of}
 use Rattle.ca_dbr.specs.Types.{base_number}
 use Rattle.ca_model.specs.History.{Cancel, Clear, Create, Kind, Put, Read, Request, Subscribe, Write, Intent, On, OfCircuit, Sent, Step, Circuit, Entry, Line, Called, Opened, World}
 use Rattle.ca_model.specs.Channels.{OfCircuits}
-use Rattle.ca_model.specs.Sends.{Conduct, HasChannel, IsDisconnect, IsOnChannel, ReadsBetween, SameIndex}
+use Rattle.ca_model.specs.Sends.{Conduct, HasChannel, IsDisconnect, IsOnChannel, IsRefused, ReadsBetween, SameIndex}
 use Rattle.ca_model.specs.Legal.{Carries, IdsAreApart, IsGiven, Legal, WasCalled, client_conduct, server_conduct}
 use Rattle.ca_model_examples.specs.Worlds.{AnyDue, created_told, creating, world}
 use Rattle.ca_model_examples.specs.Parts.{Sending, CalledSo, HeldSo, MaySend, SentSo}
@@ -419,6 +419,10 @@ each-legal w l part.Anew = (λ n c at. (let h = l.circuits n c at in (h.0, h.1, 
 each-legal w l part.Ended = (λ n c at. (let h = l.circuits n c at in (h.0, h.1, h.2, h.3.ended)), (λ life x at. tt), tt)
 each-legal w l part.HasAdd = (λ n c at. (let h = l.circuits n c at in (h.0, h.1, h.2, tt)), l.subscriptions, tt)
 each-legal w l part.IdsApart = (λ n c at. (let h = l.circuits n c at in (h.0, h.1, h.2, tt)), (λ life x at. tt), l.ids)
+
+-- no EVENT_ADD is refused where no ERROR is sent
+pub unrefused : (e : Conduct) → not (any (is 11) e.sent) ≡ true → (j : ℕ) (add : Fields) → IsRefused e j add → ⊥
+unrefused e t j add r = none (is 11) e.sent t r.1 r.2 r.4 (is-so 11 r.2 r.6.0)
 
 -- ---- a message on the channel
 

@@ -3,8 +3,9 @@
 use Rattle.std.specs.Prelude.{ℕ, Bool, false, List, [], ◌∷◌, None, Some}
 use Rattle.std.specs.List.{flat_map}
 use Rattle.ca_text.specs.declared.command.Command.TheVariants as command
-use Rattle.ca_wire.specs.Messages.{cancel_reply, create_request, created_reply, event_add_request}
-use Rattle.ca_wire.specs.Messages.{put_request, rights_reply}
+use Rattle.ca_text.specs.Status.{bad_channel}
+use Rattle.ca_wire.specs.Messages.{cancel_reply, create_request, created_reply, error_reply}
+use Rattle.ca_wire.specs.Messages.{event_add_request, put_request, rights_reply}
 use Rattle.ca_model.specs.History.{Cancel, Request, Read, Write, Create, Subscribe, Intent, On}
 use Rattle.ca_model.specs.History.{OfCircuit, Sent, Told}
 use Rattle.ca_model.specs.History.{Step, Circuit, Line, Called, Opened, World}
@@ -66,6 +67,15 @@ abbrev pub update_out : List Step → Circuit
 update_out handled =
     circuit (creating ∷ adding 0 9 ∷ []) (created_told ∷ updated 0 21 ∷ []) handled
     (created_read ∷ [])
+
+-- An EVENT_ADD is refused as it is handled, and these messages follow.
+abbrev pub refused : Told
+refused = reply 1 (error_reply 1 bad_channel (adding 0 9).message)
+
+abbrev pub refused_out : List Told → Circuit
+refused_out more =
+    circuit (creating ∷ adding 0 9 ∷ []) (created_told ∷ refused ∷ more)
+    (step 0 0 0 ∷ step 1 0 0 ∷ []) (created_read ∷ [])
 
 -- A cancel is confirmed, and the server took these steps.
 abbrev pub confirm_out : List Step → Circuit

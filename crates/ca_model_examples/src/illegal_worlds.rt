@@ -10,12 +10,13 @@ ghost use Rattle.ca_model_examples.specs.Parts.{Ended, HasAdd, HasCall, Ids, May
 ghost use Rattle.ca_model_examples.specs.Parts.{IdsApart, Sending};
 ghost use Rattle.ca_model_examples.specs.Parts.{SendsWrong, Sids, ToldRemoved, Updates};
 ghost use Rattle.ca_model_examples.specs.Unsafe.{cancelling, opened, temp_removed, temp_there};
+ghost use Rattle.ca_model_examples.specs.Unsafe.{updated};
 ghost use Rattle.ca_model_examples.specs.Illegal.{added_again, both_asked, both_created, called_at};
 ghost use Rattle.ca_model_examples.specs.Illegal.{called_in, calls, cancel_called, clears_lost};
 ghost use Rattle.ca_model_examples.specs.Illegal.{confirm_out, created_read, write_called};
 ghost use Rattle.ca_model_examples.specs.Illegal.{goes_out, live_again, read_out, reads_out, alone};
 ghost use Rattle.ca_model_examples.specs.Illegal.{writing, unasked, sent_in, subscribed_in};
-ghost use Rattle.ca_model_examples.specs.Illegal.{two_circuits};
+ghost use Rattle.ca_model_examples.specs.Illegal.{refused_out, two_circuits};
 ghost use Rattle.ca_model_examples.specs.Illegal.{told_closed, told_so, uncalled_in, update_out};
 
 /// The parts are those of what is legal, and no more.
@@ -70,14 +71,16 @@ pub fn ids_are_in_use_on_one_circuit()
     ensures ended { Legal (two_circuits 1 false) }
 {}
 
-/// Two open channels have two SIDs; an update is for an EVENT_ADD that was read, and a
-/// confirmation for an EVENT_CANCEL that was; and a channel that was created has a SERVER_DISCONN
-/// once.
+/// Two open channels have two SIDs; an update is for an EVENT_ADD that was read and not refused,
+/// and a confirmation for an EVENT_CANCEL that was read; and a channel that was created has a
+/// SERVER_DISCONN once.
 pub fn what_a_server_may_send()
     ensures sids { Legal (sent_in (both_created 6)) }
     ensures sid_shared { SendsWrong Sids (sent_in (both_created 5)) }
     ensures update { Legal (sent_in (update_out (step 0 0 0 ∷ step 1 0 0 ∷ []))) }
     ensures update_too_soon { SendsWrong Updates (sent_in (update_out (step 0 0 0 ∷ []))) }
+    ensures refused { Legal (sent_in (refused_out [])) }
+    ensures update_of_refused { SendsWrong Updates (sent_in (refused_out (updated 0 21 ∷ []))) }
     ensures confirmation { Legal
         (sent_in (confirm_out (step 0 0 0 ∷ step 1 0 0 ∷ step 1 0 0 ∷ []))) }
     ensures confirmation_too_soon { SendsWrong Confirmations
